@@ -1,0 +1,8 @@
+-- What a sink has taken.
+use Rattle.std.specs.Prelude.{◌≡◌, ℕ, List, ◌++◌, take, Some, None}
+use Rattle.std.specs.declared.option.Option.{Option}
+
+-- a sink that tells its bytes has n bytes of the piece more; one that doesn't tell them tells nothing afterwards either
+abbrev pub Takes : Option (List ℕ) → Option (List ℕ) → List ℕ → ℕ → Type 0
+Takes (Some before) after piece n = after ≡ Some (before ++ take n piece)
+Takes None after piece n = after ≡ None

@@ -1,0 +1,7 @@
+//! The program memory.
+
+/// The 2,048 bytes of a program memory, by place. A place that nothing fills is 00.
+#[derive(Drop)]
+pub struct Image {
+    pub bytes: [u8; 2048],
+}

@@ -1,0 +1,12 @@
+//! The instruction set of the MCS-48: which bytes are which operation, and how an operation is written.
+//!
+//! This layer is the opcode table of the MCS-48 Family User's Manual (8049 profile: no rows of the 8041 and 8042,
+//! no external program memory). It knows bytes and operations. It knows no register, no flag and no cycle of a run:
+//! what an operation does to a processor is the layer above.
+#![tactic(auto)]
+
+mod image;
+mod operation;
+
+pub use image::Image;
+pub use operation::{AluOp, Code, ControlOp, Decoded, FlowOp, MoveOp, Op, PortOp, UnaryOp};
