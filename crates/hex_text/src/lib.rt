@@ -1,0 +1,44 @@
+//! Numbers as upper-case hexadecimal digits, as every text of the program writes them. Our own.
+//!
+//! This layer knows digits. It knows no line, no format and no file.
+#![tactic(auto)]
+
+ghost use Rattle.std.specs.Prelude.{◌≡◌, ◌<◌};
+ghost use Rattle.hex_text.specs.Digits.{hex_digit, hex_byte, hex_address, hex_word};
+
+/// The character of a digit below 16: `0` to `9`, then `A` to `F`.
+pub fn digit(value: u8) -> u8
+    requires { value < 16 }
+    ensures { result ≡ hex_digit value }
+{
+    if value < 10 {
+        b'0' + value
+    } else {
+        b'A' + (value - 10)
+    }
+}
+
+/// The two digits of a byte.
+pub fn byte(value: u8) -> [u8; 2]
+    ensures { result ≡ hex_byte value }
+{
+    [digit(value / 16), digit(value % 16)]
+}
+
+/// The three digits of an address below 4,096.
+pub fn address(value: u16) -> [u8; 3]
+    requires { value < 4096 }
+    ensures { result ≡ hex_address value }
+{
+    let [high, low] = byte((value % 256) as u8);
+    [digit((value / 256) as u8), high, low]
+}
+
+/// The four digits of a word.
+pub fn word(value: u16) -> [u8; 4]
+    ensures { result ≡ hex_word value }
+{
+    let [first, second] = byte((value / 256) as u8);
+    let [third, fourth] = byte((value % 256) as u8);
+    [first, second, third, fourth]
+}
