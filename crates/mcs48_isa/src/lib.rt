@@ -5,8 +5,10 @@
 //! what an operation does to a processor is the layer above.
 #![tactic(auto)]
 
+mod decoding;
 mod image;
 mod operation;
 
+pub use decoding::decode;
 pub use image::Image;
 pub use operation::{AluOp, Code, ControlOp, Decoded, FlowOp, MoveOp, Op, PortOp, UnaryOp};
