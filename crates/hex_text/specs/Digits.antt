@@ -10,9 +10,9 @@ hex_digit n = if nat_lt n 10 then 48 + n else 55 + n
 abbrev pub hex_byte : ℕ → List ℕ
 hex_byte byte = hex_digit (byte / 16) ∷ hex_digit (byte % 16) ∷ []
 
--- three digits of an address below 4,096
+-- three digits of an address of 12 bits
 abbrev pub hex_address : ℕ → List ℕ
-hex_address address = hex_digit (address / 256) ∷ hex_byte (address % 256)
+hex_address address = hex_digit (address / 256 % 16) ∷ hex_byte (address % 256)
 
 -- four digits of a word
 abbrev pub hex_word : ℕ → List ℕ

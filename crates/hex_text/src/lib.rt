@@ -25,13 +25,12 @@ pub fn byte(value: u8) -> [u8; 2]
     [digit(value / 16), digit(value % 16)]
 }
 
-/// The three digits of an address below 4,096.
+/// The three digits of an address of 12 bits. Of a greater number they are the low three digits.
 pub fn address(value: u16) -> [u8; 3]
-    requires { value < 4096 }
     ensures { result ≡ hex_address value }
 {
     let [high, low] = byte((value % 256) as u8);
-    [digit((value / 256) as u8), high, low]
+    [digit((value / 256 % 16) as u8), high, low]
 }
 
 /// The four digits of a word.
