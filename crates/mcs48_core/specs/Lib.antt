@@ -1,0 +1,13 @@
+pub mod Cpu
+pub mod Status
+pub mod View
+pub mod Reset
+pub mod Registers
+pub mod Moves
+pub mod Arithmetic
+pub mod Flow
+pub mod Ports
+pub mod Control
+pub mod Timer
+pub mod Step
+pub mod StateText

@@ -1,0 +1,73 @@
+-- The text that shows a processor's state, in five lines.
+use Rattle.std.specs.Prelude.{ℕ, ◌/◌, ◌%◌, Bool, true, if◌then◌else◌, List, [], ◌∷◌, ◌++◌, codes}
+use Rattle.std.specs.Fmt.{decimal, digit_glyph}
+use Rattle.mcs48_core.specs.declared.processor.Count.{Count}
+use Rattle.mcs48_core.specs.declared.processor.Count.TheVariants.{Off, Timer, Counter}
+use Rattle.mcs48_core.specs.Cpu.{Cpu}
+use Rattle.mcs48_core.specs.Status.{psw_of}
+use Rattle.mcs48_core.specs.Registers.{register}
+
+-- two hexadecimal digits, in upper case
+abbrev pub hex2 : ℕ → List ℕ
+hex2 n = digit_glyph true (n / 16 % 16) ∷ digit_glyph true (n % 16) ∷ []
+
+-- three hexadecimal digits, in upper case
+abbrev pub hex3 : ℕ → List ℕ
+hex3 n = digit_glyph true (n / 256 % 16) ∷ hex2 n
+
+-- a flag as a digit
+abbrev pub flag : Bool → List ℕ
+flag b = if b then codes "1" else codes "0"
+
+-- an enabling as a word
+abbrev pub switch : Bool → List ℕ
+switch b = if b then codes "on" else codes "off"
+
+-- how the timer runs, as a word
+abbrev pub run_word : Count → List ℕ
+run_word Off = codes "off"
+run_word Timer = codes "timer"
+run_word Counter = codes "counter"
+
+-- the end of a line
+abbrev pub line_end : List ℕ
+line_end = 10 ∷ []
+
+-- counter, accumulator, status, flag 1 and memory bank
+abbrev pub counter_line : Cpu → List ℕ
+counter_line m =
+    codes "pc " ++ hex3 m.pc ++ codes " a " ++ hex2 m.a ++ codes " psw " ++ hex2 (psw_of m)
+    ++ codes " f1 " ++ flag m.f1 ++ codes " mb " ++ flag m.mb ++ line_end
+
+-- timer, prescaler, timer flag, and how the timer runs
+abbrev pub timer_fields : Cpu → List ℕ
+timer_fields m =
+    codes "t " ++ hex2 m.t ++ codes " pre " ++ hex2 m.pre ++ codes " tf " ++ flag m.tf ++ codes " run " ++ run_word m.run
+
+-- timer and interrupts
+abbrev pub timer_line : Cpu → List ℕ
+timer_line m =
+    timer_fields m ++ codes " ext " ++ switch m.ext_on ++ codes " tim " ++ switch m.tim_on
+    ++ codes " rq " ++ flag m.rq ++ codes " svc " ++ flag m.svc ++ line_end
+
+-- the latches
+abbrev pub latch_line : Cpu → List ℕ
+latch_line m = codes "p1 " ++ hex2 m.p1 ++ codes " p2 " ++ hex2 m.p2 ++ codes " bus " ++ hex2 m.bus ++ line_end
+
+-- a register of the selected bank
+abbrev pub shown_register : ℕ → Cpu → List ℕ
+shown_register r m = codes " " ++ hex2 (register r m)
+
+-- the eight registers of the selected bank
+abbrev pub register_line : Cpu → List ℕ
+register_line m =
+    codes "r" ++ shown_register 0 m ++ shown_register 1 m ++ shown_register 2 m ++ shown_register 3 m
+    ++ shown_register 4 m ++ shown_register 5 m ++ shown_register 6 m ++ shown_register 7 m ++ line_end
+
+-- the steps and the cycles done
+abbrev pub count_line : ℕ → ℕ → List ℕ
+count_line steps cycles = codes "steps " ++ decimal steps ++ codes " cycles " ++ decimal cycles ++ line_end
+
+-- the whole text
+abbrev pub state_text_of : Cpu → ℕ → ℕ → List ℕ
+state_text_of m steps cycles = counter_line m ++ timer_line m ++ latch_line m ++ register_line m ++ count_line steps cycles
