@@ -14,3 +14,13 @@ from_each P a (suc k) each b l h =
       | yes above ↦ from_each P (suc a) k each.1 b above (omega arith)
       | no here ↦ let e : a ≡ b = omega (arith, here) in subst P e each.0
     ]
+
+-- the fact at each digit
+abbrev pub Sixteen : (ℕ → Type 0) → Type 0
+Sixteen P = P 0 × P 1 × P 2 × P 3 × P 4 × P 5 × P 6 × P 7 × P 8 × P 9 × P 10 × P 11 × P 12 × P 13 × P 14 × P 15
+
+pub pick : (P : ℕ → Type 0) → Sixteen P → (k : ℕ) → k < 16 → P k
+pick P each k h =
+    from_each P 0 16
+    ((each.0, (each.1, (each.2, (each.3, (each.4, (each.5, (each.6, (each.7, (each.8, (each.9, (each.10, (each.11, (each.12, (each.13, (each.14, (each.15, tt)))))))))))))))))
+    k (omega arith) (omega arith)

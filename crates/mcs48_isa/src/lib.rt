@@ -6,9 +6,11 @@
 #![tactic(auto)]
 
 mod decoding;
+mod encoding;
 mod image;
 mod operation;
 
 pub use decoding::decode;
+pub use encoding::encode;
 pub use image::Image;
 pub use operation::{AluOp, Code, ControlOp, Decoded, FlowOp, MoveOp, Op, PortOp, UnaryOp};
