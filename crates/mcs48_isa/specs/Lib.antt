@@ -1,3 +1,4 @@
 pub mod Encoding
 pub mod Operands
 pub mod Table
+pub mod Text
