@@ -15,6 +15,8 @@ mod processor;
 mod registers;
 mod resetting;
 mod stepping;
+#[cfg(test)]
+mod tests;
 mod text;
 mod timer;
 
