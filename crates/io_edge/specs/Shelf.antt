@@ -1,5 +1,5 @@
 -- What a shelf that tells its files answers.
-use Rattle.std.specs.Prelude.{◌≡◌, ℕ, ◌+◌, ◌-◌, ◌^◌, min, nat_eq, nat_lt, List, [], ◌∷◌, length, None, Some}
+use Rattle.std.specs.Prelude.{◌≡◌, ℕ, nat_eq, nat_lt, List, [], ◌∷◌, length, None, Some, Ok, Err}
 use Rattle.std.specs.Prelude.{if◌then◌else◌, MatchResult}
 use Rattle.std.specs.List.{list_any}
 use Rattle.std.specs.Str.{bytes_eq}
@@ -7,6 +7,7 @@ use Rattle.std.specs.declared.option.Option.{Option}
 use Rattle.std.specs.declared.result.Result.{Result}
 use Rattle.std.specs.declared.alloc.Global.{Global}
 use Rattle.std.specs.declared.vec.Vec.{Vec}
+use Rattle.io_edge.specs.Faults.{one_more}
 use Rattle.io_edge.specs.declared.shelf.FetchFault.{FetchFault}
 use Rattle.io_edge.specs.declared.shelf.FetchFault.TheVariants.{Failed, TooLong, Memory}
 
@@ -32,9 +33,9 @@ abbrev pub bytes_under : List ℕ → List File → Option (List ℕ)
 bytes_under name [] = None
 bytes_under name (file ∷ files) = if bytes_eq file.name name then Some file.bytes else bytes_under name files
 
--- the number of the next call; the count of calls is a u64 that stays at its greatest value
+-- the number of the next call
 abbrev pub next_call : Told → ℕ
-next_call shelf = min (shelf.calls + 1) (2 ^ 64 - 1)
+next_call shelf = one_more shelf.calls
 
 -- a call counts whatever it answers, and leaves the files and the failing numbers as they are
 abbrev pub after_fetch : Told → Told
@@ -55,3 +56,10 @@ abbrev pub IsFetch : Fetched → Result (Vec ℕ Global) FetchFault → Type 0
 IsFetch Fails result = MatchResult result (λ bytes. ⊥) (λ fault. fault ≡ Failed)
 IsFetch Long result = MatchResult result (λ bytes. ⊥) (λ fault. fault ≡ TooLong)
 IsFetch (Found found) result = MatchResult result (λ bytes. bytes.items ≡ found) (λ fault. fault ≡ Memory)
+
+-- the count of faults after a call with this answer; it rises exactly where the call failed
+abbrev pub faults_after : Result (Vec ℕ Global) FetchFault → ℕ → ℕ
+faults_after (Ok bytes) faults = faults
+faults_after (Err Failed) faults = one_more faults
+faults_after (Err TooLong) faults = faults
+faults_after (Err Memory) faults = faults

@@ -5,8 +5,19 @@
 //! sink has taken are told by the objects in memory alone: real files and streams tell nothing of content.
 #![tactic(auto)]
 
+mod count;
+mod file_shelf;
+mod memory_shelf;
+mod memory_sink;
 mod shelf;
 mod sink;
+mod stream_sink;
+#[cfg(test)]
+mod tests;
 
+pub use file_shelf::FileShelf;
+pub use memory_shelf::MemShelf;
+pub use memory_sink::MemSink;
 pub use shelf::{FetchFault, Shelf};
 pub use sink::{Sink, SinkFault};
+pub use stream_sink::StreamSink;

@@ -1,0 +1,129 @@
+//! The shelf of real files.
+
+ghost use Rattle.std.specs.Prelude.{◌≡◌, ℕ, ◌≤◌, None, IfOk, IfSome, OnErr, OnOk, vec_len};
+ghost use Rattle.std.specs.declared.option.Option.{Option};
+ghost use Rattle.std.specs.Option.{option_map};
+ghost use Rattle.io_edge.specs.Faults.{Rose};
+ghost use Rattle.io_edge.specs.Shelf.{Told, after_fetch, faults_after, fetched, IsFetch};
+
+use crate::shelf::{FetchFault, Shelf};
+use std::alloc::Global;
+use std::fs::{self, Files};
+use std::io::Read;
+use std::marker::Model;
+
+/// The files of a runtime, each named by its path. Each failure to open or to read one raises the count of faults.
+#[derive(Drop)]
+pub struct FileShelf<'a, R: Files> {
+    rt: &'a R,
+    faults: u64,
+}
+
+impl<'a, R: Files> Model for FileShelf<'a, R> {
+    ghost use Rattle.std.specs.Prelude.{ℕ};
+
+    ghost Value = { ℕ };
+
+    ghost view = { λ s. s.faults };
+}
+
+impl<'a, R: Files> FileShelf<'a, R> {
+    /// The files that this runtime reaches.
+    pub fn new(rt: &'a R) -> FileShelf<'a, R>
+        ensures { result ≡ 0 }
+    {
+        FileShelf { rt, faults: 0 }
+    }
+}
+
+impl<'a, R: Files> Shelf for FileShelf<'a, R> {
+    ghost faults = { λ s. s };
+
+    ghost told = { λ s. None };
+
+    fn fetch(&mut self, alloc: Global, name: &str, max: usize) -> Result<Vec<u8>, FetchFault>
+        ensures count { self.old ≤ self.new }
+        ensures failed { result ≡ Err FetchFault.Failed → Rose self.old self.new }
+        ensures size { IfOk result (λ bytes. vec_len bytes ≤ max) }
+        ensures kept { None ≡ option_map after_fetch None }
+        ensures told { IfSome None (λ shelf. IsFetch (fetched shelf name.now max) result) }
+        ensures exact { self.new ≡ faults_after result self.old }
+    {
+        let fetched = read_file(self.rt, alloc, name, max);
+        if let Err(FetchFault::Failed) = fetched {
+            self.faults = self.faults.saturating_add(1);
+        }
+        fetched
+    }
+}
+
+// The bytes of the file, at most `max` of them.
+fn read_file<R: Files>(rt: &R, alloc: Global, name: &str, max: usize) -> Result<Vec<u8>, FetchFault>
+    ensures { IfOk result (λ bytes. vec_len bytes ≤ max) }
+{
+    let mut file = fs::open(rt, name).map_err(|_| FetchFault::Failed)?;
+    read_all(&mut file, alloc, max)
+}
+
+// What the reader gives up to its end, at most `max` bytes.
+fn read_all<F: Read>(reader: &mut F, alloc: Global, max: usize) -> Result<Vec<u8>, FetchFault>
+    ensures { IfOk result (λ bytes. vec_len bytes ≤ max) }
+{
+    let mut bytes = Vec::new(alloc);
+    for _turn in 0..u64::MAX {
+        if read_some(reader, &mut bytes, max)? == 0 {
+            break;
+        }
+    }
+    Ok(bytes)
+}
+
+// Reads once, and at most one byte more than `max` allows. Answers how many bytes came, which is 0 at the end.
+fn read_some<F: Read>(reader: &mut F, bytes: &mut Vec<u8>, max: usize) -> Result<usize, FetchFault>
+    requires { vec_len bytes.old ≤ max }
+    ensures { OnOk result (vec_len bytes.new ≤ max) }
+{
+    let mut piece = [0; 4096];
+    let left = max - bytes.len();
+    let size = left.min(piece.len() - 1) + 1;
+    let count = reader
+        .read(&mut piece[..size])
+        .map_err(|_| FetchFault::Failed)?;
+    if count > left {
+        return Err(FetchFault::TooLong);
+    }
+    bytes
+        .extend_from_slice(&piece[..count])
+        .map_err(|_| FetchFault::Memory)?;
+    Ok(count)
+}
+
+#[cfg(test)]
+mod tests {
+    use super::*;
+    use std::io;
+
+    // Gives three bytes, and then an error.
+    #[derive(Drop)]
+    struct Broken {
+        reads: u8,
+    }
+
+    impl Read for Broken {
+        fn read(&mut self, buf: &mut [u8]) -> io::Result<usize> {
+            self.reads = self.reads.saturating_add(1);
+            if self.reads > 1 {
+                return Err(io::Error::from(io::ErrorKind::Other));
+            }
+            Ok(buf.len().min(3))
+        }
+    }
+
+    #[test]
+    fn a_file_that_breaks_off_is_not_taken_as_whole(rt: HostRuntime) {
+        match read_all(&mut Broken { reads: 0 }, rt.alloc(), 9) {
+            Err(fault) => assert_eq!(rt; fault, FetchFault::Failed),
+            Ok(bytes) => assert_eq!(rt; bytes.len(), 9, "an error was taken as the end"),
+        }
+    }
+}

@@ -1,0 +1,89 @@
+//! A sink into memory.
+
+ghost use Rattle.std.specs.Prelude.{◌≡◌, ℕ, ◌<◌, ◌≤◌, [], length, Some, IfOk, OnErr, OnOk};
+ghost use Rattle.io_edge.specs.Faults.{Rose};
+ghost use Rattle.io_edge.specs.Sink.{Takes};
+ghost use Rattle.io_edge.specs.MemorySink.{after_put, put_answer};
+
+use crate::count::is_among;
+use crate::sink::{Sink, SinkFault};
+use std::alloc::{AllocError, Global};
+use std::marker::Model;
+
+/// Room in memory for so many bytes, of which chosen puts fail.
+#[derive(Drop)]
+pub struct MemSink {
+    taken: Vec<u8>,
+    room: usize,
+    puts: u64,
+    fails: Vec<u32>,
+    faults: u64,
+}
+
+impl Model for MemSink {
+    ghost use Rattle.std.specs.Prelude.{ℕ, ◌≤◌, length, vec_capacity};
+    ghost use Rattle.io_edge.specs.MemorySink.{HeldBytes};
+
+    ghost Value = { HeldBytes };
+
+    ghost view = { λ s. record { taken = s.taken.items; room = s.room; puts = s.puts; fails = s.fails.items; faults = s.faults } };
+
+    ghost invariant = { λ s. (length s.taken.items ≤ s.room) × (s.room ≤ vec_capacity s.taken) };
+}
+
+impl MemSink {
+    /// An empty sink with room for so many bytes, all of which it takes from `alloc` at once. The puts whose numbers,
+    /// from 1, stand in `fails` fail, and so does each put for which no room is left.
+    pub fn new(alloc: Global, room: usize, fails: Vec<u32>) -> Result<MemSink, AllocError>
+        ensures taken { IfOk result (λ sink. sink.taken ≡ []) }
+        ensures room { IfOk result (λ sink. sink.room ≡ room) }
+        ensures puts { IfOk result (λ sink. sink.puts ≡ 0) }
+        ensures fails { IfOk result (λ sink. sink.fails ≡ fails.items) }
+        ensures faults { IfOk result (λ sink. sink.faults ≡ 0) }
+    {
+        Ok(MemSink {
+            taken: Vec::with_capacity(alloc, room)?,
+            room,
+            puts: 0,
+            fails,
+            faults: 0,
+        })
+    }
+
+    /// The bytes taken so far.
+    pub fn taken(&self) -> &[u8]
+        ensures bytes { result.now ≡ self.now.taken }
+        ensures within { length result.now ≤ self.now.room }
+    {
+        self.taken.as_slice()
+    }
+}
+
+impl Sink for MemSink {
+    ghost faults = { λ s. s.faults };
+
+    ghost taken = { λ s. Some s.taken };
+
+    fn put(&mut self, piece: &[u8]) -> Result<usize, SinkFault>
+        requires { 0 < length piece.now }
+        ensures count { self.old.faults ≤ self.new.faults }
+        ensures some { IfOk result (λ n. 0 < n) }
+        ensures within { IfOk result (λ n. n ≤ length piece.now) }
+        ensures took { IfOk result (λ n. Takes (Some self.old.taken) (Some self.new.taken) piece.now n) }
+        ensures steady { OnOk result (self.new.faults ≡ self.old.faults) }
+        ensures failed { OnErr result (Rose self.old.faults self.new.faults) }
+        ensures nothing { OnErr result (Some self.new.taken ≡ Some self.old.taken) }
+        ensures answer { result ≡ put_answer self.old piece.now }
+        ensures exact { self.new ≡ after_put self.old piece.now }
+    {
+        self.puts = self.puts.saturating_add(1);
+        let left = self.room - self.taken.len();
+        if left == 0 || is_among(self.puts, &self.fails) {
+            self.faults = self.faults.saturating_add(1);
+            return Err(SinkFault::Failed);
+        }
+        let size = piece.len().min(left);
+        let taken = self.taken.extend_from_slice(&piece[..size]);
+        taken.map(|_| size).map_err(|_| SinkFault::Failed)
+    }
+}

@@ -1,0 +1,85 @@
+//! The real shelf and sink over a real file, and the ones in memory.
+
+use crate::{FetchFault, FileShelf, MemShelf, MemSink, Shelf, Sink, SinkFault, StreamSink};
+use std::test::Fail;
+use std::{env, fs, process};
+
+// A path in the temporary folder that no other run has.
+fn own_path(rt: &HostRuntime, word: &str) -> Result<String, Fail> {
+    let folder = env::temp_dir(rt)?;
+    Ok(format!(in rt.alloc();
+        "{}/io_edge-{}-{word}",
+        folder.as_str(),
+        process::id(rt.process())
+    )?)
+}
+
+// Whether the answer is these bytes.
+fn gave(answer: Result<Vec<u8>, FetchFault>, bytes: &[u8]) -> bool {
+    match answer {
+        Ok(given) => given.as_slice() == bytes,
+        Err(_) => false,
+    }
+}
+
+// Whether the answer is this fault.
+fn refused(answer: Result<Vec<u8>, FetchFault>, fault: FetchFault) -> bool {
+    match answer {
+        Ok(_) => false,
+        Err(given) => given == fault,
+    }
+}
+
+#[test]
+fn files_are_read_up_to_the_limit(rt: HostRuntime) -> Result<(), Fail> {
+    let path = own_path(&rt, "read")?;
+    let text = [b'k'; 5000];
+    fs::write(&rt, path.as_str(), text.as_slice())?;
+    let mut shelf = FileShelf::new(&rt);
+    assert!(rt; gave(shelf.fetch(rt.alloc(), &path, usize::MAX), &text));
+    assert!(rt; gave(shelf.fetch(rt.alloc(), &path, 5000), &text));
+    assert!(rt; refused(shelf.fetch(rt.alloc(), &path, 4999), FetchFault::TooLong));
+    fs::remove_file(&rt, path.as_str())?;
+    assert!(rt; refused(shelf.fetch(rt.alloc(), &path, 5000), FetchFault::Failed));
+    Ok(())
+}
+
+#[test]
+fn a_stream_holds_what_was_put(rt: HostRuntime) -> Result<(), Fail> {
+    let path = own_path(&rt, "write")?;
+    let mut sink = StreamSink::new(fs::create(&rt, path.as_str())?);
+    assert_eq!(rt; sink.put(b"64 port AA\n"), Ok(11));
+    assert_eq!(rt; sink.put(b"beep\n"), Ok(5));
+    assert_eq!(rt;
+        fs::read(&rt, path.as_str())?.as_slice(),
+        b"64 port AA\nbeep\n".as_slice()
+    );
+    fs::remove_file(&rt, path.as_str())?;
+    Ok(())
+}
+
+#[test]
+fn memory_fails_where_it_is_told_to(rt: HostRuntime) -> Result<(), Fail> {
+    let mut files = Vec::new(rt.alloc());
+    files.push((
+        String::from_str(rt.alloc(), "f")?,
+        b"one".to_vec(rt.alloc())?,
+    ))?;
+    files.push((
+        String::from_str(rt.alloc(), "f")?,
+        b"two".to_vec(rt.alloc())?,
+    ))?;
+    let mut shelf = MemShelf::new(files, [2].to_vec(rt.alloc())?);
+    assert!(rt; gave(shelf.fetch(rt.alloc(), "f", 3), b"one"));
+    assert!(rt; refused(shelf.fetch(rt.alloc(), "f", 3), FetchFault::Failed));
+    assert!(rt; refused(shelf.fetch(rt.alloc(), "f", 2), FetchFault::TooLong));
+    assert!(rt; refused(shelf.fetch(rt.alloc(), "g", 3), FetchFault::Failed));
+
+    let mut sink = MemSink::new(rt.alloc(), 5, [2].to_vec(rt.alloc())?)?;
+    assert_eq!(rt; sink.put(b"abc"), Ok(3));
+    assert_eq!(rt; sink.put(b"def"), Err(SinkFault::Failed));
+    assert_eq!(rt; sink.put(b"def"), Ok(2));
+    assert_eq!(rt; sink.put(b"f"), Err(SinkFault::Failed));
+    assert_eq!(rt; sink.taken(), b"abcde".as_slice());
+    Ok(())
+}
