@@ -1,0 +1,49 @@
+-- What a line says.
+use Rattle.std.specs.Prelude.{ℕ, ◌+◌, ◌-◌, ◌*◌, ◌%◌, List, [], ◌∷◌, length, take, sum, None, Some, ◌==◌, ◌&&◌, nat_le, if◌then◌else◌}
+use Rattle.std.specs.Option.{option_and_then}
+use Rattle.std.specs.declared.option.Option.{Option}
+use Rattle.hexfile.specs.declared.record.Record as code
+
+infixl 10 ◌>>=◌
+abbrev pub ◌>>=◌ : {A B : Type 0} → Option A → (A → Option B) → Option B
+found >>= next = option_and_then next found
+
+-- the value of a hexadecimal digit: 0 to 9, or A to F in upper case
+abbrev pub digit_value : ℕ → Option ℕ
+digit_value character =
+    if nat_le 48 character && nat_le character 57 then Some (character - 48)
+    else (if nat_le 65 character && nat_le character 70 then Some (character - 55) else None)
+
+-- the bytes that digits write, the high digit of a byte first; none where a character is no digit, or a digit is left over
+abbrev pub bytes_of : List ℕ → Option (List ℕ)
+bytes_of [] = Some []
+bytes_of (digit ∷ []) = None
+bytes_of (first ∷ second ∷ digits) = do
+  high ← digit_value first
+  low ← digit_value second
+  bytes ← bytes_of digits
+  Some ((16 * high + low) ∷ bytes)
+
+-- the bytes of a line: a colon, and then digits
+abbrev pub line_bytes : List ℕ → Option (List ℕ)
+line_bytes [] = None
+line_bytes (mark ∷ digits) = if mark == 58 then bytes_of digits else None
+
+-- what a line says: the place of its first byte of data, its type, its data, and the sum of all its bytes modulo 256
+pub record Record : Type 0 where
+  pub address : ℕ
+  pub kind : ℕ
+  pub bytes : List ℕ
+  pub total : ℕ
+
+-- a line's bytes are the count, the address with its high byte first, the type, as many bytes of data as the count says, and a sum byte
+abbrev pub record_of : List ℕ → Option Record
+record_of (count ∷ high ∷ low ∷ kind ∷ rest) =
+    if length rest == count + 1
+    then Some (record { address = high * 256 + low; kind = kind; bytes = take count rest; total = sum (count ∷ high ∷ low ∷ kind ∷ rest) % 256 })
+    else None
+record_of bytes = None
+
+-- the record that the program keeps of a line, with its data as a list
+abbrev pub said_by : code.Record → Record
+said_by line = record { address = line.address; kind = line.kind; bytes = line.bytes.now; total = line.total }
