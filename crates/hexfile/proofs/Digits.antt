@@ -1,5 +1,5 @@
 -- Pairs of digits, one after another.
-use Rattle.std.proofs.Common.{◌≡◌, ℕ, ◌+◌, ◌*◌, ◌<◌, ◌≤◌, List, [], ◌∷◌, ◌++◌, length, get_or, drop, Option, None, Some, option_map, option_and_then, Bool, true, false, ◌==◌, ◌&&◌, if◌then◌else◌, MatchOption, refl, sym, ap, ◌∙◌, cond, append_assoc, arith}
+use Rattle.std.proofs.Common.{◌≡◌, ℕ, ◌+◌, ◌*◌, ◌<◌, ◌≤◌, List, [], ◌∷◌, ◌++◌, length, get_or, drop, Option, None, Some, option_map, Bool, true, false, ◌==◌, ◌&&◌, if◌then◌else◌, MatchOption, refl, ◌∙◌, append_assoc, arith}
 use Rattle.hexfile.specs.Record.{digit_value, bytes_of, record_of, Record, ◌>>=◌}
 use Rattle.hexfile.specs.Memory.{placed}
 use Rattle.hexfile.specs.Hex.{after_line}

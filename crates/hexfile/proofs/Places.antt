@@ -1,6 +1,6 @@
 -- A run of places that is filled from its front on.
-use Rattle.std.proofs.Common.{◌≡◌, ℕ, suc, ◌+◌, ◌<◌, ◌≤◌, List, [], ◌∷◌, ◌++◌, length, get_or, take, drop, set, map, Option, None, Some, refl, sym, ap, ◌∙◌, append_assoc, arith, drop-cons, add-one, rules}
-use Rattle.std.proofs.lemmas.List.{set_at, take_more, map-append, length-append, length-take, length-map}
+use Rattle.std.proofs.Common.{◌≡◌, ℕ, suc, ◌+◌, ◌<◌, ◌≤◌, List, [], ◌∷◌, ◌++◌, length, get_or, take, drop, set, map, Option, None, Some, ap, ◌∙◌, append_assoc, arith, drop-cons}
+use Rattle.std.proofs.lemmas.List.{set_at, take_more, map-append, length-map}
 use Rattle.std.proofs.lemmas.Grind.{common_steps}
 
 -- one byte more

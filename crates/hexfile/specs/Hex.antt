@@ -3,7 +3,7 @@ use Rattle.std.specs.Prelude.{ℕ, Bool, true, false, List, [], ◌∷◌, None,
 use Rattle.std.specs.List.{slice_split}
 use Rattle.std.specs.Str.{bytes_eq}
 use Rattle.std.specs.declared.option.Option.{Option}
-use Rattle.hexfile.specs.Record.{Record, line_bytes, record_of, ◌>>=◌}
+use Rattle.hexfile.specs.Record.{line_bytes, record_of, ◌>>=◌}
 use Rattle.hexfile.specs.Memory.{empty_memory, placed, image_of}
 
 -- the memory after a line of data; none where the line is no record of type 0 whose bytes sum to 0, or its data can't stand where it says

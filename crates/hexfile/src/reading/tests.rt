@@ -1,5 +1,7 @@
 //! Files by hand, with the bytes that they give.
 
+ghost use Rattle.std.specs.Prelude.{◌≤◌, length};
+
 use super::*;
 use std::test::Fail;
 
