@@ -17,12 +17,12 @@ after_line memory line = do
 abbrev pub end_line : List ℕ
 end_line = codes ":00000001FF"
 
--- nothing stands behind the last LF
+-- the pieces behind the end line's LF are one, and it is empty: no line follows
 abbrev pub ends_here : List (List ℕ) → Bool
 ends_here ([] ∷ []) = true
 ends_here pieces = false
 
--- what the pieces between LFs say, where the lines before them have filled the memory so: lines of data, and then the end
+-- the image that a text's lines give onto what the memory holds: lines of data, and then the end line, with nothing behind it
 abbrev pub image_after : List (Option ℕ) → List (List ℕ) → Option (List ℕ)
 image_after memory [] = None
 image_after memory (line ∷ pieces) =
@@ -30,6 +30,6 @@ image_after memory (line ∷ pieces) =
     then (if ends_here pieces then Some (image_of memory) else None)
     else (after_line memory line >>= (λ after. image_after after pieces))
 
--- the image that a text in the narrow form gives, and none for any other text
+-- the image that a text in the narrow form gives, and none for any other text: its lines are the pieces between LFs, and the last piece stands behind the last LF
 unfoldable pub hex_image : List ℕ → Option (List ℕ)
 hex_image text = image_after empty_memory (slice_split (λ character. character == 10) text)

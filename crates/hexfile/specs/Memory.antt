@@ -4,7 +4,7 @@ use Rattle.std.specs.List.{list_any, slice_range}
 use Rattle.std.specs.declared.option.Option.{Option}
 use Rattle.hexfile.specs.Record.{Record}
 
--- at first no place has a byte
+-- at first none of the 2,048 places has a byte
 unfoldable pub empty_memory : List (Option ℕ)
 empty_memory = replicate 2048 None
 

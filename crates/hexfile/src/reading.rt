@@ -60,7 +60,14 @@ fn image_in(text: &[u8]) -> Option<Image>
     None
 }
 
-/// The program memory that a HEX text gives.
+/// The program memory that a HEX text of at most 16,384 bytes gives. A place that no line gives is 00.
+///
+/// The text has the narrow form, which is our own part of Intel HEX (Intel, Hexadecimal Object File Format
+/// Specification): each line ends with LF, and its digits are upper case. Each line but the last is `:LLAAAATT`, LL
+/// bytes of data and a sum byte, with type 00; all bytes of a line sum to 0 modulo 256; no byte of data stands past
+/// place 2,047, and no place is given twice. The last line is `:00000001FF`.
+///
+/// Any other text is refused, with line 0 and number 0. It takes no memory.
 pub fn read_hex(bytes: &[u8]) -> Result<Image, HexFault>
     requires { length bytes.now ≤ 16384 }
     ensures image { IfOk result (λ image. hex_image bytes.now ≡ Some image.bytes) }
