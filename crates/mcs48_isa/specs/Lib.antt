@@ -1,4 +1,5 @@
 pub mod Encoding
+pub mod Listing
 pub mod Operands
 pub mod Table
 pub mod Text

@@ -8,11 +8,13 @@
 mod decoding;
 mod encoding;
 mod image;
+mod listing;
 mod op_texts;
 mod operation;
 
 pub use decoding::decode;
 pub use encoding::encode;
 pub use image::Image;
+pub use listing::list;
 pub use op_texts::op_text;
 pub use operation::{AluOp, Code, ControlOp, Decoded, FlowOp, MoveOp, Op, PortOp, UnaryOp};
