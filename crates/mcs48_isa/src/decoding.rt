@@ -2,7 +2,7 @@
 //!
 //! Source: MCS-48 Family User's Manual, instruction set.
 
-ghost use Rattle.std.specs.Prelude.{◌≡◌, slice_index, IfSome, ◌<◌};
+ghost use Rattle.std.specs.Prelude.{◌≡◌, slice_index, IfSome, ◌<◌, ◌+◌, ◌*◌, ◌/◌};
 ghost use Rattle.mcs48_isa.specs.Encoding.{code_of, taken};
 ghost use Rattle.mcs48_isa.specs.Operands.{IsOp};
 ghost use Rattle.mcs48_isa.specs.Table.{row_of};
@@ -27,11 +27,11 @@ fn two(op: Op) -> Option<Decoded>
     })
 }
 
-/// A byte without an instruction.
-fn none() -> Option<Decoded>
-    ensures { result ≡ None }
+/// The address of a JMP or CALL: its high bits are bits 5 to 7 of the first byte.
+fn address(first: u8, n: u8) -> u16
+    ensures { result ≡ first / 32 * 256 + n }
 {
-    None
+    (first as u16 >> 5) * 256 + n as u16
 }
 
 /// The row of the table for a first byte, and `n`, the byte after it.
@@ -40,19 +40,19 @@ fn read_row(first: u8, n: u8) -> Option<Decoded>
 {
     match first {
         0x00 => one(Op::Control(ControlOp::Nop), 1),
-        0x01 => none(),
+        0x01 => None,
         0x02 => one(Op::PortIo(PortOp::OutlBus), 2),
         0x03 => two(Op::Alu(AluOp::AddN(n))),
-        0x04 | 0x24 | 0x44 | 0x64 | 0x84 | 0xa4 | 0xc4 | 0xe4 => two(Op::Flow(FlowOp::Jmp(
-            (first as u16 >> 5) * 256 + n as u16,
-        ))),
+        0x04 | 0x24 | 0x44 | 0x64 | 0x84 | 0xa4 | 0xc4 | 0xe4 => two(Op::Flow(FlowOp::Jmp(address(
+            first, n,
+        )))),
         0x05 => one(Op::Control(ControlOp::EnI), 1),
-        0x06 => none(),
+        0x06 => None,
         0x07 => one(Op::Unary(UnaryOp::DecA), 1),
         0x08 => one(Op::PortIo(PortOp::InsBus), 2),
         0x09 => one(Op::PortIo(PortOp::InP1), 2),
         0x0a => one(Op::PortIo(PortOp::InP2), 2),
-        0x0b => none(),
+        0x0b => None,
         0x0c..=0x0f => one(Op::PortIo(PortOp::MovdAP(first & 7)), 2),
         0x10 | 0x11 => one(Op::Unary(UnaryOp::IncI(first & 1)), 1),
         0x12 | 0x32 | 0x52 | 0x72 | 0x92 | 0xb2 | 0xd2 | 0xf2 => two(Op::Flow(FlowOp::Jb(
@@ -60,29 +60,29 @@ fn read_row(first: u8, n: u8) -> Option<Decoded>
             n,
         ))),
         0x13 => two(Op::Alu(AluOp::AddcN(n))),
-        0x14 | 0x34 | 0x54 | 0x74 | 0x94 | 0xb4 | 0xd4 | 0xf4 => two(Op::Flow(FlowOp::Call(
-            (first as u16 >> 5) * 256 + n as u16,
-        ))),
+        0x14 | 0x34 | 0x54 | 0x74 | 0x94 | 0xb4 | 0xd4 | 0xf4 => two(Op::Flow(FlowOp::Call(address(
+            first, n,
+        )))),
         0x15 => one(Op::Control(ControlOp::DisI), 1),
         0x16 => two(Op::Flow(FlowOp::Jtf(n))),
         0x17 => one(Op::Unary(UnaryOp::IncA), 1),
         0x18..=0x1f => one(Op::Unary(UnaryOp::IncR(first & 7)), 1),
         0x20 | 0x21 => one(Op::Moves(MoveOp::XchI(first & 1)), 1),
-        0x22 => none(),
+        0x22 => None,
         0x23 => two(Op::Moves(MoveOp::MovAN(n))),
         0x25 => one(Op::Control(ControlOp::EnTcnti), 1),
         0x26 => two(Op::Flow(FlowOp::Jnt0(n))),
         0x27 => one(Op::Unary(UnaryOp::ClrA), 1),
         0x28..=0x2f => one(Op::Moves(MoveOp::XchR(first & 7)), 1),
         0x30 | 0x31 => one(Op::Moves(MoveOp::XchdI(first & 1)), 1),
-        0x33 => none(),
+        0x33 => None,
         0x35 => one(Op::Control(ControlOp::DisTcnti), 1),
         0x36 => two(Op::Flow(FlowOp::Jt0(n))),
         0x37 => one(Op::Unary(UnaryOp::CplA), 1),
-        0x38 => none(),
+        0x38 => None,
         0x39 => one(Op::PortIo(PortOp::OutlP1), 2),
         0x3a => one(Op::PortIo(PortOp::OutlP2), 2),
-        0x3b => none(),
+        0x3b => None,
         0x3c..=0x3f => one(Op::PortIo(PortOp::MovdPA(first & 7)), 2),
         0x40 | 0x41 => one(Op::Alu(AluOp::OrlI(first & 1)), 1),
         0x42 => one(Op::Moves(MoveOp::MovAT), 1),
@@ -99,27 +99,27 @@ fn read_row(first: u8, n: u8) -> Option<Decoded>
         0x58..=0x5f => one(Op::Alu(AluOp::AnlR(first & 7)), 1),
         0x60 | 0x61 => one(Op::Alu(AluOp::AddI(first & 1)), 1),
         0x62 => one(Op::Moves(MoveOp::MovTA), 1),
-        0x63 => none(),
+        0x63 => None,
         0x65 => one(Op::Control(ControlOp::StopTcnt), 1),
-        0x66 => none(),
+        0x66 => None,
         0x67 => one(Op::Unary(UnaryOp::RrcA), 1),
         0x68..=0x6f => one(Op::Alu(AluOp::AddR(first & 7)), 1),
         0x70 | 0x71 => one(Op::Alu(AluOp::AddcI(first & 1)), 1),
-        0x73 => none(),
+        0x73 => None,
         0x75 => one(Op::Control(ControlOp::Ent0Clk), 1),
         0x76 => two(Op::Flow(FlowOp::Jf1(n))),
         0x77 => one(Op::Unary(UnaryOp::RrA), 1),
         0x78..=0x7f => one(Op::Alu(AluOp::AddcR(first & 7)), 1),
         0x80 | 0x81 => one(Op::Moves(MoveOp::MovxAI(first & 1)), 2),
-        0x82 => none(),
+        0x82 => None,
         0x83 => one(Op::Flow(FlowOp::Ret), 2),
         0x85 => one(Op::Unary(UnaryOp::ClrF0), 1),
         0x86 => two(Op::Flow(FlowOp::Jni(n))),
-        0x87 => none(),
+        0x87 => None,
         0x88 => two(Op::PortIo(PortOp::OrlBus(n))),
         0x89 => two(Op::PortIo(PortOp::OrlP1(n))),
         0x8a => two(Op::PortIo(PortOp::OrlP2(n))),
-        0x8b => none(),
+        0x8b => None,
         0x8c..=0x8f => one(Op::PortIo(PortOp::OrldPA(first & 7)), 2),
         0x90 | 0x91 => one(Op::Moves(MoveOp::MovxIA(first & 1)), 2),
         0x93 => one(Op::Flow(FlowOp::Retr), 2),
@@ -129,25 +129,25 @@ fn read_row(first: u8, n: u8) -> Option<Decoded>
         0x98 => two(Op::PortIo(PortOp::AnlBus(n))),
         0x99 => two(Op::PortIo(PortOp::AnlP1(n))),
         0x9a => two(Op::PortIo(PortOp::AnlP2(n))),
-        0x9b => none(),
+        0x9b => None,
         0x9c..=0x9f => one(Op::PortIo(PortOp::AnldPA(first & 7)), 2),
         0xa0 | 0xa1 => one(Op::Moves(MoveOp::MovIA(first & 1)), 1),
-        0xa2 => none(),
+        0xa2 => None,
         0xa3 => one(Op::Moves(MoveOp::Movp), 2),
         0xa5 => one(Op::Unary(UnaryOp::ClrF1), 1),
-        0xa6 => none(),
+        0xa6 => None,
         0xa7 => one(Op::Unary(UnaryOp::CplC), 1),
         0xa8..=0xaf => one(Op::Moves(MoveOp::MovRA(first & 7)), 1),
         0xb0 | 0xb1 => two(Op::Moves(MoveOp::MovIN(first & 1, n))),
         0xb3 => one(Op::Flow(FlowOp::Jmpp), 2),
         0xb5 => one(Op::Unary(UnaryOp::CplF1), 1),
         0xb6 => two(Op::Flow(FlowOp::Jf0(n))),
-        0xb7 => none(),
+        0xb7 => None,
         0xb8..=0xbf => two(Op::Moves(MoveOp::MovRN(first & 7, n))),
-        0xc0 => none(),
-        0xc1 => none(),
-        0xc2 => none(),
-        0xc3 => none(),
+        0xc0 => None,
+        0xc1 => None,
+        0xc2 => None,
+        0xc3 => None,
         0xc5 => one(Op::Control(ControlOp::SelRb0), 1),
         0xc6 => two(Op::Flow(FlowOp::Jz(n))),
         0xc7 => one(Op::Moves(MoveOp::MovAPsw), 1),
@@ -155,19 +155,19 @@ fn read_row(first: u8, n: u8) -> Option<Decoded>
         0xd0 | 0xd1 => one(Op::Alu(AluOp::XrlI(first & 1)), 1),
         0xd3 => two(Op::Alu(AluOp::XrlN(n))),
         0xd5 => one(Op::Control(ControlOp::SelRb1), 1),
-        0xd6 => none(),
+        0xd6 => None,
         0xd7 => one(Op::Moves(MoveOp::MovPswA), 1),
         0xd8..=0xdf => one(Op::Alu(AluOp::XrlR(first & 7)), 1),
-        0xe0 => none(),
-        0xe1 => none(),
-        0xe2 => none(),
+        0xe0 => None,
+        0xe1 => None,
+        0xe2 => None,
         0xe3 => one(Op::Moves(MoveOp::Movp3), 2),
         0xe5 => one(Op::Control(ControlOp::SelMb0), 1),
         0xe6 => two(Op::Flow(FlowOp::Jnc(n))),
         0xe7 => one(Op::Unary(UnaryOp::RlA), 1),
         0xe8..=0xef => two(Op::Flow(FlowOp::Djnz(first & 7, n))),
         0xf0 | 0xf1 => one(Op::Moves(MoveOp::MovAI(first & 1)), 1),
-        0xf3 => none(),
+        0xf3 => None,
         0xf5 => one(Op::Control(ControlOp::SelMb1), 1),
         0xf6 => two(Op::Flow(FlowOp::Jc(n))),
         0xf7 => one(Op::Unary(UnaryOp::RlcA), 1),

@@ -11,6 +11,8 @@ mod image;
 mod listing;
 mod op_texts;
 mod operation;
+#[cfg(test)]
+mod tests;
 
 pub use decoding::decode;
 pub use encoding::encode;

@@ -1,4 +1,4 @@
-use Rattle.std.proofs.Common.{arith, sym, ◌∙◌}
+use Rattle.std.proofs.Common.{refl, arith, sym, ◌∙◌}
 use Rattle.mcs48_isa.proofs.Rows.{movd_ap, inc_i, inc_r, xch_i, xch_r, xchd_i, movd_pa, orl_i, orl_r, anl_i, anl_r, add_i, add_r, addc_i, addc_r, movx_ai, orld_pa, movx_ia, anld_pa, mov_ia, mov_ra, mov_in, mov_rn, dec_r, xrl_i, xrl_r, djnz, mov_ai, mov_ar}
 use Rattle.mcs48_isa.proofs.decoding.read_row.Goals as goal
 
@@ -6,7 +6,7 @@ pub returns-in-0 : goal.returns-in-0
 returns-in-0 c = rw c.in-0.is c.one.ensures
 
 pub returns-in-1 : goal.returns-in-1
-returns-in-1 c = rw c.in-1.is c.none.ensures
+returns-in-1 c = rw c.in-1.is refl
 
 pub returns-in-2 : goal.returns-in-2
 returns-in-2 c = rw c.in-2.is c.one-in-2.ensures
@@ -18,7 +18,7 @@ pub returns-in-5 : goal.returns-in-5
 returns-in-5 c = rw c.in-5.is c.one-in-5.ensures
 
 pub returns-in-6 : goal.returns-in-6
-returns-in-6 c = rw c.in-6.is c.none-in-6.ensures
+returns-in-6 c = rw c.in-6.is refl
 
 pub returns-in-7 : goal.returns-in-7
 returns-in-7 c = rw c.in-7.is c.one-in-7.ensures
@@ -33,7 +33,7 @@ pub returns-in-10 : goal.returns-in-10
 returns-in-10 c = rw c.in-10.is c.one-in-10.ensures
 
 pub returns-in-11 : goal.returns-in-11
-returns-in-11 c = rw c.in-11.is c.none-in-11.ensures
+returns-in-11 c = rw c.in-11.is refl
 
 pub returns-in-12-to-15 : goal.returns-in-12-to-15
 returns-in-12-to-15 c = c.one-in-12-to-15.ensures ∙ sym (movd_ap c.args.n c.args.first (grind arith) (grind arith))
@@ -60,7 +60,7 @@ pub returns-in-32 : goal.returns-in-32
 returns-in-32 c = c.one-in-32.ensures ∙ sym (xch_i c.args.n c.args.first (grind arith) (grind arith))
 
 pub returns-in-34 : goal.returns-in-34
-returns-in-34 c = rw c.in-34.is c.none-in-34.ensures
+returns-in-34 c = rw c.in-34.is refl
 
 pub returns-in-35 : goal.returns-in-35
 returns-in-35 c = rw c.in-35.is c.two-in-35.ensures
@@ -81,7 +81,7 @@ pub returns-in-48 : goal.returns-in-48
 returns-in-48 c = c.one-in-48.ensures ∙ sym (xchd_i c.args.n c.args.first (grind arith) (grind arith))
 
 pub returns-in-51 : goal.returns-in-51
-returns-in-51 c = rw c.in-51.is c.none-in-51.ensures
+returns-in-51 c = rw c.in-51.is refl
 
 pub returns-in-53 : goal.returns-in-53
 returns-in-53 c = rw c.in-53.is c.one-in-53.ensures
@@ -93,7 +93,7 @@ pub returns-in-55 : goal.returns-in-55
 returns-in-55 c = rw c.in-55.is c.one-in-55.ensures
 
 pub returns-in-56 : goal.returns-in-56
-returns-in-56 c = rw c.in-56.is c.none-in-56.ensures
+returns-in-56 c = rw c.in-56.is refl
 
 pub returns-in-57 : goal.returns-in-57
 returns-in-57 c = rw c.in-57.is c.one-in-57.ensures
@@ -102,7 +102,7 @@ pub returns-in-58 : goal.returns-in-58
 returns-in-58 c = rw c.in-58.is c.one-in-58.ensures
 
 pub returns-in-59 : goal.returns-in-59
-returns-in-59 c = rw c.in-59.is c.none-in-59.ensures
+returns-in-59 c = rw c.in-59.is refl
 
 pub returns-in-60-to-63 : goal.returns-in-60-to-63
 returns-in-60-to-63 c = c.one-in-60-to-63.ensures ∙ sym (movd_pa c.args.n c.args.first (grind arith) (grind arith))
@@ -153,13 +153,13 @@ pub returns-in-98 : goal.returns-in-98
 returns-in-98 c = rw c.in-98.is c.one-in-98.ensures
 
 pub returns-in-99 : goal.returns-in-99
-returns-in-99 c = rw c.in-99.is c.none-in-99.ensures
+returns-in-99 c = rw c.in-99.is refl
 
 pub returns-in-101 : goal.returns-in-101
 returns-in-101 c = rw c.in-101.is c.one-in-101.ensures
 
 pub returns-in-102 : goal.returns-in-102
-returns-in-102 c = rw c.in-102.is c.none-in-102.ensures
+returns-in-102 c = rw c.in-102.is refl
 
 pub returns-in-103 : goal.returns-in-103
 returns-in-103 c = rw c.in-103.is c.one-in-103.ensures
@@ -171,7 +171,7 @@ pub returns-in-112 : goal.returns-in-112
 returns-in-112 c = c.one-in-112.ensures ∙ sym (addc_i c.args.n c.args.first (grind arith) (grind arith))
 
 pub returns-in-115 : goal.returns-in-115
-returns-in-115 c = rw c.in-115.is c.none-in-115.ensures
+returns-in-115 c = rw c.in-115.is refl
 
 pub returns-in-117 : goal.returns-in-117
 returns-in-117 c = rw c.in-117.is c.one-in-117.ensures
@@ -189,7 +189,7 @@ pub returns-in-128 : goal.returns-in-128
 returns-in-128 c = c.one-in-128.ensures ∙ sym (movx_ai c.args.n c.args.first (grind arith) (grind arith))
 
 pub returns-in-130 : goal.returns-in-130
-returns-in-130 c = rw c.in-130.is c.none-in-130.ensures
+returns-in-130 c = rw c.in-130.is refl
 
 pub returns-in-131 : goal.returns-in-131
 returns-in-131 c = rw c.in-131.is c.one-in-131.ensures
@@ -201,7 +201,7 @@ pub returns-in-134 : goal.returns-in-134
 returns-in-134 c = rw c.in-134.is c.two-in-134.ensures
 
 pub returns-in-135 : goal.returns-in-135
-returns-in-135 c = rw c.in-135.is c.none-in-135.ensures
+returns-in-135 c = rw c.in-135.is refl
 
 pub returns-in-136 : goal.returns-in-136
 returns-in-136 c = rw c.in-136.is c.two-in-136.ensures
@@ -213,7 +213,7 @@ pub returns-in-138 : goal.returns-in-138
 returns-in-138 c = rw c.in-138.is c.two-in-138.ensures
 
 pub returns-in-139 : goal.returns-in-139
-returns-in-139 c = rw c.in-139.is c.none-in-139.ensures
+returns-in-139 c = rw c.in-139.is refl
 
 pub returns-in-140-to-143 : goal.returns-in-140-to-143
 returns-in-140-to-143 c = c.one-in-140-to-143.ensures ∙ sym (orld_pa c.args.n c.args.first (grind arith) (grind arith))
@@ -243,7 +243,7 @@ pub returns-in-154 : goal.returns-in-154
 returns-in-154 c = rw c.in-154.is c.two-in-154.ensures
 
 pub returns-in-155 : goal.returns-in-155
-returns-in-155 c = rw c.in-155.is c.none-in-155.ensures
+returns-in-155 c = rw c.in-155.is refl
 
 pub returns-in-156-to-159 : goal.returns-in-156-to-159
 returns-in-156-to-159 c = c.one-in-156-to-159.ensures ∙ sym (anld_pa c.args.n c.args.first (grind arith) (grind arith))
@@ -252,7 +252,7 @@ pub returns-in-160 : goal.returns-in-160
 returns-in-160 c = c.one-in-160.ensures ∙ sym (mov_ia c.args.n c.args.first (grind arith) (grind arith))
 
 pub returns-in-162 : goal.returns-in-162
-returns-in-162 c = rw c.in-162.is c.none-in-162.ensures
+returns-in-162 c = rw c.in-162.is refl
 
 pub returns-in-163 : goal.returns-in-163
 returns-in-163 c = rw c.in-163.is c.one-in-163.ensures
@@ -261,7 +261,7 @@ pub returns-in-165 : goal.returns-in-165
 returns-in-165 c = rw c.in-165.is c.one-in-165.ensures
 
 pub returns-in-166 : goal.returns-in-166
-returns-in-166 c = rw c.in-166.is c.none-in-166.ensures
+returns-in-166 c = rw c.in-166.is refl
 
 pub returns-in-167 : goal.returns-in-167
 returns-in-167 c = rw c.in-167.is c.one-in-167.ensures
@@ -282,22 +282,22 @@ pub returns-in-182 : goal.returns-in-182
 returns-in-182 c = rw c.in-182.is c.two-in-182.ensures
 
 pub returns-in-183 : goal.returns-in-183
-returns-in-183 c = rw c.in-183.is c.none-in-183.ensures
+returns-in-183 c = rw c.in-183.is refl
 
 pub returns-in-184-to-191 : goal.returns-in-184-to-191
 returns-in-184-to-191 c = c.two-in-184-to-191.ensures ∙ sym (mov_rn c.args.n c.args.first (grind arith) (grind arith))
 
 pub returns-in-192 : goal.returns-in-192
-returns-in-192 c = rw c.in-192.is c.none-in-192.ensures
+returns-in-192 c = rw c.in-192.is refl
 
 pub returns-in-193 : goal.returns-in-193
-returns-in-193 c = rw c.in-193.is c.none-in-193.ensures
+returns-in-193 c = rw c.in-193.is refl
 
 pub returns-in-194 : goal.returns-in-194
-returns-in-194 c = rw c.in-194.is c.none-in-194.ensures
+returns-in-194 c = rw c.in-194.is refl
 
 pub returns-in-195 : goal.returns-in-195
-returns-in-195 c = rw c.in-195.is c.none-in-195.ensures
+returns-in-195 c = rw c.in-195.is refl
 
 pub returns-in-197 : goal.returns-in-197
 returns-in-197 c = rw c.in-197.is c.one-in-197.ensures
@@ -321,7 +321,7 @@ pub returns-in-213 : goal.returns-in-213
 returns-in-213 c = rw c.in-213.is c.one-in-213.ensures
 
 pub returns-in-214 : goal.returns-in-214
-returns-in-214 c = rw c.in-214.is c.none-in-214.ensures
+returns-in-214 c = rw c.in-214.is refl
 
 pub returns-in-215 : goal.returns-in-215
 returns-in-215 c = rw c.in-215.is c.one-in-215.ensures
@@ -330,13 +330,13 @@ pub returns-in-216-to-223 : goal.returns-in-216-to-223
 returns-in-216-to-223 c = c.one-in-216-to-223.ensures ∙ sym (xrl_r c.args.n c.args.first (grind arith) (grind arith))
 
 pub returns-in-224 : goal.returns-in-224
-returns-in-224 c = rw c.in-224.is c.none-in-224.ensures
+returns-in-224 c = rw c.in-224.is refl
 
 pub returns-in-225 : goal.returns-in-225
-returns-in-225 c = rw c.in-225.is c.none-in-225.ensures
+returns-in-225 c = rw c.in-225.is refl
 
 pub returns-in-226 : goal.returns-in-226
-returns-in-226 c = rw c.in-226.is c.none-in-226.ensures
+returns-in-226 c = rw c.in-226.is refl
 
 pub returns-in-227 : goal.returns-in-227
 returns-in-227 c = rw c.in-227.is c.one-in-227.ensures
@@ -357,7 +357,7 @@ pub returns-in-240 : goal.returns-in-240
 returns-in-240 c = c.one-in-240.ensures ∙ sym (mov_ai c.args.n c.args.first (grind arith) (grind arith))
 
 pub returns-in-243 : goal.returns-in-243
-returns-in-243 c = rw c.in-243.is c.none-in-243.ensures
+returns-in-243 c = rw c.in-243.is refl
 
 pub returns-in-245 : goal.returns-in-245
 returns-in-245 c = rw c.in-245.is c.one-in-245.ensures
