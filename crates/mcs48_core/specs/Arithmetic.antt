@@ -8,22 +8,26 @@ use Rattle.mcs48_core.specs.Cpu.{Cpu}
 use Rattle.mcs48_core.specs.Status.{bit, digit}
 use Rattle.mcs48_core.specs.Registers.{past, register, with_register, indirect, with_indirect}
 
--- A with a number and a carry added; both carry flags are set
-abbrev pub added : ℕ → ℕ → Cpu → Cpu
-added x carry m = record m {
-  a = (m.a + x + carry) % 256;
-  c = nat_le 256 (m.a + x + carry);
-  ac = nat_le 16 (m.a % 16 + x % 16 + carry);
-}
+-- A after a sum; the carry says that it went past FF, and the half carry that the sum of the low digits went past F
+abbrev pub with_sum : ℕ → ℕ → Cpu → Cpu
+with_sum sum low m = record m { a = sum % 256; c = nat_le 256 sum; ac = nat_le 16 low }
+
+-- ADD
+abbrev pub added : ℕ → Cpu → Cpu
+added x m = with_sum (m.a + x) (m.a % 16 + x % 16) m
+
+-- ADDC
+abbrev pub added_with_carry : ℕ → Cpu → Cpu
+added_with_carry x m = with_sum (m.a + x + digit m.c) (m.a % 16 + x % 16 + digit m.c) m
 
 -- one equation a row
 abbrev pub alu : AluOp → Cpu → Cpu
-alu (AddR r) m = added (register r m) 0 m
-alu (AddI i) m = added (indirect i m) 0 m
-alu (AddN n) m = added n 0 (past m)
-alu (AddcR r) m = added (register r m) (digit m.c) m
-alu (AddcI i) m = added (indirect i m) (digit m.c) m
-alu (AddcN n) m = added n (digit m.c) (past m)
+alu (AddR r) m = added (register r m) m
+alu (AddI i) m = added (indirect i m) m
+alu (AddN n) m = added n (past m)
+alu (AddcR r) m = added_with_carry (register r m) m
+alu (AddcI i) m = added_with_carry (indirect i m) m
+alu (AddcN n) m = added_with_carry n (past m)
 alu (AnlR r) m = record m { a = bit_and m.a (register r m) }
 alu (AnlI i) m = record m { a = bit_and m.a (indirect i m) }
 alu (AnlN n) m = record (past m) { a = bit_and m.a n }

@@ -11,3 +11,4 @@ pub mod Control
 pub mod Timer
 pub mod Step
 pub mod StateText
+pub mod Path

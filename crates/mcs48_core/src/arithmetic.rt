@@ -3,21 +3,36 @@
 ghost use Rattle.std.specs.Prelude.{◌≡◌, ◌+◌, ◌*◌, ◌/◌, ◌%◌};
 ghost use Rattle.mcs48_isa.specs.Operands.{IsAlu, IsUnary};
 ghost use Rattle.mcs48_core.specs.Status.{digit};
-ghost use Rattle.mcs48_core.specs.Arithmetic.{added, alu, adjusted, unary};
+ghost use Rattle.mcs48_core.specs.Arithmetic.{with_sum, added, added_with_carry, alu, adjusted, unary};
 
 use crate::processor::Mcu;
 use crate::registers::bit_of;
 use mcs48_isa::{AluOp, UnaryOp};
 
 impl Mcu {
-    /// Adds to A with a carry, and sets both carry flags.
-    fn add(&mut self, x: u8, carry: bool)
-        ensures { self.new ≡ added x (digit carry) self.old }
+    /// Puts a sum into A and sets both carry flags, the half carry by the sum of the low digits.
+    fn set_sum(&mut self, sum: u16, low: u8)
+        ensures { self.new ≡ with_sum sum low self.old }
     {
-        let sum = self.a as u16 + x as u16 + carry as u16;
-        self.set_half_carry(self.a % 16 + x % 16 + carry as u8 >= 16);
-        self.set_carry(sum >= 256);
         self.a = (sum % 256) as u8;
+        self.set_carry(sum >= 256);
+        self.set_half_carry(low >= 16);
+    }
+
+    /// ADD.
+    fn add(&mut self, x: u8)
+        ensures { self.new ≡ added x self.old }
+    {
+        self.set_sum(self.a as u16 + x as u16, self.a % 16 + x % 16);
+    }
+
+    /// ADDC.
+    fn add_with_carry(&mut self, x: u8)
+        ensures { self.new ≡ added_with_carry x self.old }
+    {
+        let carry = self.carry() as u8;
+        let sum = self.a as u16 + x as u16 + carry as u16;
+        self.set_sum(sum, self.a % 16 + x % 16 + carry);
     }
 
     /// Does an operation of A with an operand, with the counter behind its first byte.
@@ -26,17 +41,17 @@ impl Mcu {
         ensures { self.new ≡ alu op self.old }
     {
         match op {
-            AluOp::AddR(r) => self.add(self.register(r), false),
-            AluOp::AddI(i) => self.add(self.indirect(i), false),
+            AluOp::AddR(r) => self.add(self.register(r)),
+            AluOp::AddI(i) => self.add(self.indirect(i)),
             AluOp::AddN(n) => {
                 self.advance();
-                self.add(n, false);
+                self.add(n);
             }
-            AluOp::AddcR(r) => self.add(self.register(r), self.carry()),
-            AluOp::AddcI(i) => self.add(self.indirect(i), self.carry()),
+            AluOp::AddcR(r) => self.add_with_carry(self.register(r)),
+            AluOp::AddcI(i) => self.add_with_carry(self.indirect(i)),
             AluOp::AddcN(n) => {
                 self.advance();
-                self.add(n, self.carry());
+                self.add_with_carry(n);
             }
             AluOp::AnlR(r) => self.a &= self.register(r),
             AluOp::AnlI(i) => self.a &= self.indirect(i),

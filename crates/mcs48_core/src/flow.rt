@@ -58,7 +58,7 @@ impl Mcu {
     }
 
     /// Makes a jump, a call or a return, with the counter behind its first byte.
-    pub(crate) fn go(&mut self, op: FlowOp, image: &Image, pins: &Pins)
+    pub(crate) fn redirect(&mut self, op: FlowOp, image: &Image, pins: &Pins)
         requires { IsFlow op }
         ensures { self.new ≡ flow op image.now.bytes pins.now self.old }
     {

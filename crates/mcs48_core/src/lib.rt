@@ -8,6 +8,7 @@
 mod arithmetic;
 mod control;
 mod flow;
+mod law;
 mod levels;
 mod moves;
 mod ports;
@@ -20,6 +21,7 @@ mod tests;
 mod text;
 mod timer;
 
+pub use law::a_path_of_thirty_six_instructions;
 pub use levels::Pins;
 pub use processor::{Count, Mcu};
 pub use resetting::reset;

@@ -31,7 +31,7 @@ impl Mcu {
             Op::Moves(op) => self.make_move(op, image),
             Op::Alu(op) => self.operate(op),
             Op::Unary(op) => self.change(op),
-            Op::Flow(op) => self.go(op, image, pins),
+            Op::Flow(op) => self.redirect(op, image, pins),
             Op::PortIo(op) => self.transfer(op, pins),
             Op::Control(op) => self.control(op),
         }
