@@ -1,0 +1,94 @@
+-- What a call says, and what causes it.
+use Rattle.std.specs.Prelude.{◌≡◌, ℕ, ◌⊎◌, List, [], ◌∷◌, None, Some, Ok, Err}
+use Rattle.std.specs.Option.{option_map}
+use Rattle.std.specs.declared.alloc.Global.{Global}
+use Rattle.std.specs.declared.option.Option.{Option}
+use Rattle.std.specs.declared.result.Result.{Result}
+use Rattle.std.specs.declared.vec.Vec.{Vec}
+use Rattle.hexfile.specs.Hex.{hex_image}
+use Rattle.io_edge.specs.Shelf.{Told, Fetched, Fails, Long, Found, after_fetch, fetched}
+use Rattle.mcs48_isa.specs.Listing.{listing_of}
+use Rattle.mcs48_core.specs.StateText.{state_text_of}
+use Rattle.kbd48_app.specs.declared.exit.Exit.{Exit}
+use Rattle.kbd48_app.specs.declared.exit.Exit.TheVariants.{Done, Write}
+use Rattle.kbd48_app.specs.declared.refusal.Refusal.{Refusal}
+use Rattle.kbd48_app.specs.declared.refusal.Refusal.TheVariants.{Words, Read, HexTooLong, Hex, Stuck, Memory}
+use Rattle.kbd48_app.specs.declared.words.Command.{Command}
+use Rattle.kbd48_app.specs.declared.words.Command.TheVariants.{Step, Listing}
+use Rattle.kbd48_app.specs.Refusals.{exit_of, line_of}
+use Rattle.kbd48_app.specs.Said.{TakesAll, TakesPart}
+use Rattle.kbd48_app.specs.Stepping.{Progress, Stands, Stopped, after_steps}
+
+-- a text, or a refusal
+abbrev pub Answer : Type 0
+Answer = Result (List ℕ) Refusal
+
+-- `step` of a run that stands or has stopped after its steps
+abbrev pub run_said : ℕ → Progress → Answer
+run_said count (Stands cpu cycles) = Ok (state_text_of cpu count cycles)
+run_said count (Stopped stuck) = Err (Stuck stuck)
+
+-- a command of the image of its file, where the file is HEX
+abbrev pub image_said : Command → Option (List ℕ) → Answer
+image_said command None = Err (Hex (record { line = 0; number = 0 }))
+image_said (Step count) (Some bytes) = run_said count (after_steps bytes count)
+image_said Listing (Some bytes) = Ok (listing_of bytes)
+
+-- a command of its file's bytes
+abbrev pub file_said : Command → List ℕ → Answer
+file_said command bytes = image_said command (hex_image bytes)
+
+-- a command of what the fetch of its file came to
+abbrev pub fetch_said : Command → Fetched → Answer
+fetch_said command (Found bytes) = file_said command bytes
+fetch_said command Long = Err HexTooLong
+fetch_said command Fails = Err Read
+
+-- the limit of a HEX file, in bytes
+abbrev pub hex_limit : ℕ
+hex_limit = 16384
+
+-- what the fetch may come to: of a shelf that tells its files it is one thing alone
+abbrev pub MayFetch : Option Told → List ℕ → Fetched → Type 0
+MayFetch (Some shelf) name outcome = outcome ≡ fetched shelf name hex_limit
+MayFetch None name outcome = Unit {0}
+
+-- the file that a command names
+abbrev pub name_in : List (List ℕ) → List ℕ
+name_in (command ∷ name ∷ others) = name
+name_in words = []
+
+-- memory may be wanting where a command is carried out
+abbrev pub MayAnswerOf : Answer → Answer → Type 0
+MayAnswerOf said answer = (answer ≡ Err Memory) ⊎ (answer ≡ said)
+
+-- what may be answered to the words, over a shelf: words without a command are refused, and a command answers what it
+-- says of its file
+abbrev pub MayAnswer : Option Command → List ℕ → Option Told → Answer → Type 0
+MayAnswer None name shelf answer = answer ≡ Err Words
+MayAnswer (Some command) name shelf answer =
+    (outcome : Fetched) × MayFetch shelf name outcome × MayAnswerOf (fetch_said command outcome) answer
+
+-- what a shelf tells afterwards: a command makes one fetch, and words without a command make none
+abbrev pub told_after : Option Command → Option Told → Option Told
+told_after (Some command) shelf = option_map after_fetch shelf
+told_after None shelf = shelf
+
+-- the exit and the text of an answer
+abbrev pub exit_said : Answer → Exit
+exit_said (Ok text) = Done
+exit_said (Err refusal) = exit_of refusal
+
+abbrev pub text_said : Answer → List ℕ
+text_said (Ok text) = text
+text_said (Err refusal) = line_of refusal
+
+-- the sink takes the whole text of the answer, or a put fails, and then what it took is a prefix
+abbrev pub Says : Answer → Option (List ℕ) → Option (List ℕ) → Exit → Type 0
+Says answer before after exit =
+    ((exit ≡ exit_said answer) × TakesAll before after (text_said answer)) ⊎ ((exit ≡ Write) × TakesPart before after (text_said answer))
+
+-- an answer of the code, whose text is a vector
+abbrev pub answer_of : Result (Vec ℕ Global) Refusal → Answer
+answer_of (Ok text) = Ok text.items
+answer_of (Err refusal) = Err refusal

@@ -1,0 +1,102 @@
+//! Why a call printed one line in place of its text.
+
+ghost use Rattle.std.specs.Prelude.{◌≡◌, ◌+◌, ◌≤◌, ◌++◌, length};
+ghost use Rattle.arrayvec.specs.ArrayVec.{array_vec_len};
+ghost use Rattle.kbd48_app.specs.Refusals.{exit_of, line_of};
+
+use crate::exit::Exit;
+use arrayvec::ArrayVec;
+use hexfile::HexFault;
+use mcs48_core::Stuck;
+
+/// Why a call printed one line in place of its text.
+#[derive(Clone, Copy, Debug, Drop)]
+pub enum Refusal {
+    /// The words have none of the accepted forms.
+    Words,
+    /// The shelf failed.
+    Read,
+    /// The HEX file has more bytes than its limit.
+    HexTooLong,
+    /// The HEX file has this fault.
+    Hex(HexFault),
+    /// A step met a byte without an instruction.
+    Stuck(Stuck),
+    /// Memory was wanting.
+    Memory,
+}
+
+/// A refusal's line. None is longer, and none takes memory.
+pub type Line = ArrayVec<u8, 96>;
+
+/// Appends a text, for which there is room.
+fn append(line: &mut Line, text: &[u8])
+    requires { array_vec_len line.old + length text.now ≤ 96 }
+    ensures { line.new.items ≡ line.old.items ++ text.now }
+{
+    let _ = line.try_extend_from_slice(text);
+}
+
+/// A line that is always the same.
+fn fixed_line(text: &str) -> Line
+    requires { length text.now ≤ 96 }
+    ensures { result.items ≡ text.now }
+{
+    let mut line = Line::new();
+    append(&mut line, text.as_bytes());
+    line
+}
+
+fn hex_line(fault: HexFault) -> Line
+    ensures { result.items ≡ line_of (Refusal.Hex fault) }
+{
+    let mut line = fixed_line("input: hex line ");
+    append(&mut line, itoa::Buffer::new().format(fault.line).as_bytes());
+    append(&mut line, b" fault ");
+    append(
+        &mut line,
+        itoa::Buffer::new().format(fault.number).as_bytes(),
+    );
+    append(&mut line, b"\n");
+    line
+}
+
+fn stuck_line(stuck: Stuck) -> Line
+    ensures { result.items ≡ line_of (Refusal.Stuck stuck) }
+{
+    let mut line = fixed_line("stuck: pc ");
+    append(&mut line, &hex_text::address(stuck.pc));
+    append(&mut line, b" byte ");
+    append(&mut line, &hex_text::byte(stuck.byte));
+    append(&mut line, b"\n");
+    line
+}
+
+impl Refusal {
+    /// The exit that it ends the call with.
+    pub fn exit(&self) -> Exit
+        ensures { result ≡ exit_of self.now }
+    {
+        match self {
+            Refusal::Words => Exit::Words,
+            Refusal::Read => Exit::Read,
+            Refusal::HexTooLong | Refusal::Hex(_) => Exit::Input,
+            Refusal::Stuck(_) => Exit::Stuck,
+            Refusal::Memory => Exit::Memory,
+        }
+    }
+
+    /// The line that is printed, with its LF.
+    pub fn line(&self) -> Line
+        ensures { result.items ≡ line_of self.now }
+    {
+        match self {
+            Refusal::Words => fixed_line("words: not a command of kbd48\n"),
+            Refusal::Read => fixed_line("read: the shelf failed\n"),
+            Refusal::HexTooLong => fixed_line("input: hex too long\n"),
+            Refusal::Hex(fault) => hex_line(*fault),
+            Refusal::Stuck(stuck) => stuck_line(*stuck),
+            Refusal::Memory => fixed_line("memory: none left\n"),
+        }
+    }
+}

@@ -1,0 +1,57 @@
+//! `step`: a run of the processor from reset, with all pins high.
+
+ghost use Rattle.std.specs.Prelude.{◌≡◌, MatchResult};
+ghost use Rattle.kbd48_app.specs.Answers.{answer_of, run_said, MayAnswerOf};
+ghost use Rattle.kbd48_app.specs.Stepping.{after_steps, Stands, Stopped};
+
+use crate::refusal::Refusal;
+use mcs48_core::{Mcu, Pins, Stuck, reset, state_text};
+use mcs48_isa::Image;
+use std::alloc::Global;
+
+/// All pins high.
+const HIGH: Pins = Pins {
+    p1: 0xff,
+    p2: 0xff,
+    bus: 0xff,
+    t0: true,
+    t1: true,
+    int_pin: true,
+};
+
+/// The processor after a run, and the machine cycles that the run took.
+#[derive(Drop)]
+struct Ran {
+    mcu: Mcu,
+    cycles: u64,
+}
+
+/// Runs so many steps from reset.
+fn run(image: &Image, count: u32) -> Result<Ran, Stuck>
+    ensures ran { MatchResult result
+        (λ ran. after_steps image.now.bytes count ≡ Stands ran.mcu ran.cycles)
+        (λ stuck. after_steps image.now.bytes count ≡ Stopped stuck) }
+{
+    let mut mcu = reset();
+    let mut cycles = 0;
+    for _step in 0..count {
+        match mcu.step(image, HIGH) {
+            Ok(spent) => cycles += u64::from(spent),
+            Err(stuck) => return Err(stuck),
+        }
+    }
+    Ok(Ran { mcu, cycles })
+}
+
+/// The state after so many steps of an image from reset.
+pub fn step(alloc: Global, image: &Image, count: u32) -> Result<Vec<u8>, Refusal>
+    ensures { MayAnswerOf (run_said count (after_steps image.now.bytes count)) (answer_of result) }
+{
+    match run(image, count) {
+        Err(stuck) => Err(Refusal::Stuck(stuck)),
+        Ok(ran) => match state_text(alloc, &ran.mcu, u64::from(count), ran.cycles) {
+            Ok(text) => Ok(text),
+            Err(_) => Err(Refusal::Memory),
+        },
+    }
+}

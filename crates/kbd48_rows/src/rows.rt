@@ -1,0 +1,68 @@
+//! A row of the table, and how it is run.
+
+use io_edge::{MemShelf, MemSink};
+use kbd48_app::{Exit, kbd48};
+use std::alloc::{AllocError, Global};
+
+/// The words after the program's name, the file that is called `f`, and what is expected.
+pub struct Row {
+    pub words: &'static [&'static str],
+    pub file: &'static str,
+    pub exit: Exit,
+    pub text: &'static str,
+}
+
+/// What a run came to.
+#[derive(Drop)]
+pub struct Outcome {
+    pub exit: Exit,
+    pub sink: MemSink,
+}
+
+fn owned(alloc: Global, words: &[&str]) -> Result<Vec<String>, AllocError> {
+    let mut all = Vec::new(alloc);
+    for word in words {
+        all.push(String::from_str(alloc, word)?)?;
+    }
+    Ok(all)
+}
+
+/// A shelf with one file, of which the fetches with these numbers fail.
+pub fn shelf_of(alloc: Global, file: &[u8], fails: &[u32]) -> Result<MemShelf, AllocError> {
+    let mut files = Vec::new(alloc);
+    files.push((String::from_str(alloc, "f")?, Vec::from_slice(alloc, file)?))?;
+    Ok(MemShelf::new(files, Vec::from_slice(alloc, fails)?))
+}
+
+/// Runs the program over this shelf and a sink of so much room, of which the puts with these numbers fail.
+pub fn run(
+    alloc: Global,
+    words: &[&str],
+    shelf: &mut MemShelf,
+    room: usize,
+    fails: &[u32],
+) -> Result<Outcome, AllocError> {
+    let mut sink = MemSink::new(alloc, room, Vec::from_slice(alloc, fails)?)?;
+    let exit = kbd48(alloc, &owned(alloc, words)?, shelf, &mut sink);
+    Ok(Outcome { exit, sink })
+}
+
+impl Outcome {
+    /// The sink took exactly this text.
+    pub fn printed(&self, text: &str) -> bool {
+        self.sink.taken() == text.as_bytes()
+    }
+}
+
+impl Row {
+    /// Runs the row over a shelf and a sink that don't fail.
+    pub fn outcome(&self, alloc: Global) -> Result<Outcome, AllocError> {
+        run(
+            alloc,
+            self.words,
+            &mut shelf_of(alloc, self.file.as_bytes(), &[])?,
+            4096,
+            &[],
+        )
+    }
+}
