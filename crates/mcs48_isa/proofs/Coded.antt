@@ -1,5 +1,5 @@
 -- The row that the bytes of an operation begin.
-use Rattle.std.proofs.Common.{◌≡◌, ℕ, ◌+◌, ◌*◌, ◌/◌, ◌%◌, ◌<◌, IsSomeAnd, Some, None, slice_index, refl, arith, subst}
+use Rattle.std.proofs.Common.{◌≡◌, ℕ, ◌+◌, ◌*◌, ◌/◌, ◌%◌, ◌<◌, IsSomeAnd, Some, None, refl, arith, subst}
 use Rattle.std.specs.declared.option.Option.{Option}
 use Rattle.mcs48_isa.specs.declared.operation.Decoded.{Decoded}
 use Rattle.mcs48_isa.specs.declared.operation.MoveOp.{MoveOp}

@@ -1,5 +1,5 @@
 -- The operands that an operation may have.
-use Rattle.std.specs.Prelude.{ℕ, ◌<◌, ◌≤◌}
+use Rattle.std.specs.Prelude.{◌<◌, ◌≤◌}
 use Rattle.mcs48_isa.specs.declared.operation.Op.{Op}
 use Rattle.mcs48_isa.specs.declared.operation.Op.TheVariants.{Moves, Alu, Unary, Flow, PortIo}
 use Rattle.mcs48_isa.specs.declared.operation.MoveOp.{MoveOp}

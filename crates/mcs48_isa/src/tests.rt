@@ -36,7 +36,10 @@ fn operations_have_their_text(rt: HostRuntime) -> Result<(), Fail> {
         ([0x9a, 0xc0], 0x000, b"ANL P2,#0C0H".as_slice()),
         ([0xb1, 0x05], 0x000, b"MOV @R1,#005H".as_slice()),
     ] {
-        let row = decode(bytes).ok_or("no instruction")?;
+        assert!(rt; at < 2048);
+        let Some(row) = decode(bytes) else {
+            return Err("no instruction".into());
+        };
         let text = op_text(rt.alloc(), row.op, at)?;
         assert_eq!(rt; text.as_slice(), want);
     }

@@ -1,4 +1,4 @@
-use Rattle.std.proofs.Common.{slice_index, arith, ◌∙◌, sym}
+use Rattle.std.proofs.Common.{arith, ◌∙◌, sym}
 use Rattle.mcs48_isa.proofs.Lines.{end_of-zero, end_of-other}
 use Rattle.mcs48_isa.proofs.listing.listing_end.Goals as goal
 use Rattle.mcs48_isa.proofs.listing.listing_end.Goals.{then-byte-ne0, else-byte-ne0}
