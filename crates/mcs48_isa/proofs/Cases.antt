@@ -24,3 +24,14 @@ pick P each k h =
     from_each P 0 16
     ((each.0, (each.1, (each.2, (each.3, (each.4, (each.5, (each.6, (each.7, (each.8, (each.9, (each.10, (each.11, (each.12, (each.13, (each.14, (each.15, tt)))))))))))))))))
     k (omega arith) (omega arith)
+
+-- the fact at each pointer register, register or bit, and port of the expander
+pub pointers : (P : ℕ → Type 0) → P 0 × P 1 → (i : ℕ) → i < 2 → P i
+pointers P each i h = from_each P 0 2 (each.0, (each.1, tt)) i (omega arith) (omega arith)
+
+pub registers : (P : ℕ → Type 0) → P 0 × P 1 × P 2 × P 3 × P 4 × P 5 × P 6 × P 7 → (r : ℕ) → r < 8 → P r
+registers P each r h =
+    from_each P 0 8 (each.0, (each.1, (each.2, (each.3, (each.4, (each.5, (each.6, (each.7, tt)))))))) r (omega arith) (omega arith)
+
+pub ports : (P : ℕ → Type 0) → P 4 × P 5 × P 6 × P 7 → (p : ℕ) → (4 ≤ p) × (p < 8) → P p
+ports P each p h = from_each P 4 4 (each.0, (each.1, (each.2, (each.3, tt)))) p h.0 (omega (arith, h.1))

@@ -1,6 +1,8 @@
 -- The bytes of an operation: the opcode table read from the operation, a line for each of its texts.
-use Rattle.std.specs.Prelude.{ℕ, ◌+◌, ◌*◌, ◌/◌, ◌%◌, nat_eq, [], ◌∷◌, if◌then◌else◌}
+use Rattle.std.specs.Prelude.{ℕ, ◌+◌, ◌*◌, ◌/◌, ◌%◌, nat_eq, [], ◌∷◌, if◌then◌else◌, slice_index}
+use Rattle.std.specs.declared.option.Option.{Option}
 use Rattle.mcs48_isa.specs.declared.operation.Code.{Code}
+use Rattle.mcs48_isa.specs.declared.operation.Decoded.{Decoded}
 use Rattle.mcs48_isa.specs.declared.operation.MoveOp.{MoveOp}
 use Rattle.mcs48_isa.specs.declared.operation.AluOp.{AluOp}
 use Rattle.mcs48_isa.specs.declared.operation.UnaryOp.{UnaryOp}
@@ -15,6 +17,7 @@ use Rattle.mcs48_isa.specs.declared.operation.UnaryOp.TheVariants.{IncA, IncR, I
 use Rattle.mcs48_isa.specs.declared.operation.FlowOp.TheVariants.{Jmp, Call, Ret, Retr, Jmpp, Djnz, Jb, Jc, Jnc, Jz, Jnz, Jt0, Jnt0, Jt1, Jnt1, Jf0, Jf1, Jtf, Jni}
 use Rattle.mcs48_isa.specs.declared.operation.PortOp.TheVariants.{InP1, InP2, InsBus, OutlP1, OutlP2, OutlBus, AnlP1, AnlP2, AnlBus, OrlP1, OrlP2, OrlBus, MovdAP, MovdPA, OrldPA, AnldPA}
 use Rattle.mcs48_isa.specs.declared.operation.ControlOp.TheVariants.{Nop, EnI, DisI, EnTcnti, DisTcnti, SelRb0, SelRb1, SelMb0, SelMb1, StrtT, StrtCnt, StopTcnt, Ent0Clk}
+use Rattle.mcs48_isa.specs.Table.{row_of}
 
 -- one byte
 abbrev pub one_byte : ℕ → Code
@@ -152,3 +155,7 @@ code_of (Control op) = code_of_control op
 -- of two bytes those that an operation of this length takes, 00 in place of the other
 abbrev pub taken : ℕ → ℕ → ℕ → Code
 taken len b n = record { bytes = b ∷ (if nat_eq len 2 then n else 0) ∷ []; len = len }
+
+-- the row that the bytes of a code begin
+abbrev pub row_of_code : Code → Option Decoded
+row_of_code code = row_of (slice_index code.bytes 0) (slice_index code.bytes 1)

@@ -2,10 +2,9 @@
 //!
 //! Source: MCS-48 Family User's Manual, instruction set.
 
-ghost use Rattle.std.specs.Prelude.{◌≡◌, ◌<◌, slice_index, IsSomeAnd};
-ghost use Rattle.mcs48_isa.specs.Encoding.{code_of, code_of_move, code_of_alu, code_of_unary, code_of_flow, code_of_port, code_of_control, one_byte, two_bytes, jump_bytes};
+ghost use Rattle.std.specs.Prelude.{◌≡◌, ◌<◌, IsSomeAnd};
+ghost use Rattle.mcs48_isa.specs.Encoding.{code_of, code_of_move, code_of_alu, code_of_unary, code_of_flow, code_of_port, code_of_control, one_byte, two_bytes, jump_bytes, row_of_code};
 ghost use Rattle.mcs48_isa.specs.Operands.{IsOp, IsMove, IsAlu, IsUnary, IsFlow, IsPort};
-ghost use Rattle.mcs48_isa.specs.Table.{row_of};
 
 use crate::operation::{AluOp, Code, ControlOp, FlowOp, MoveOp, Op, PortOp, UnaryOp};
 
@@ -191,8 +190,8 @@ fn control_code(op: ControlOp) -> Code
 pub fn encode(op: Op) -> Code
     requires { IsOp op }
     ensures code { result ≡ code_of op }
-    ensures operation { IsSomeAnd (row_of (slice_index result.bytes 0) (slice_index result.bytes 1)) (λ d. d.op ≡ op) }
-    ensures length { IsSomeAnd (row_of (slice_index result.bytes 0) (slice_index result.bytes 1)) (λ d. d.len ≡ result.len) }
+    ensures operation { IsSomeAnd (row_of_code result) (λ d. d.op ≡ op) }
+    ensures length { IsSomeAnd (row_of_code result) (λ d. d.len ≡ result.len) }
 {
     match op {
         Op::Moves(op) => move_code(op),

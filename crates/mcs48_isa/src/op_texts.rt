@@ -36,7 +36,8 @@ fn push_digit_value(
     operand: u8,
 ) -> Result<(), AllocError>
     requires { number < 10 }
-    ensures { OnOk result (text.new.items ≡ text.old.items ++ (head.now ++ digit number ++ codes ",#" ++ value operand)) }
+    ensures { OnOk result
+        (text.new.items ≡ text.old.items ++ (head.now ++ digit number ++ codes ",#" ++ value operand)) }
 {
     push_digit(text, head, number, b"")?;
     push_value(text, b",#", operand)
@@ -62,7 +63,8 @@ fn push_digit_address(
 ) -> Result<(), AllocError>
     requires digit { number < 10 }
     requires within { place < 2048 }
-    ensures { OnOk result (text.new.items ≡ text.old.items ++ (head.now ++ digit number ++ middle.now ++ address place)) }
+    ensures { OnOk result
+        (text.new.items ≡ text.old.items ++ (head.now ++ digit number ++ middle.now ++ address place)) }
 {
     push_digit(text, head, number, b"")?;
     push_address(text, middle, place)
