@@ -1,19 +1,12 @@
 -- The text that shows a processor's state, in five lines.
-use Rattle.std.specs.Prelude.{ℕ, ◌/◌, ◌%◌, Bool, true, if◌then◌else◌, List, [], ◌∷◌, ◌++◌, codes}
-use Rattle.std.specs.Fmt.{decimal, digit_glyph}
+use Rattle.std.specs.Prelude.{ℕ, Bool, if◌then◌else◌, List, [], ◌∷◌, ◌++◌, codes}
+use Rattle.std.specs.Fmt.{decimal}
+use Rattle.hex_text.specs.Digits.{hex_byte, hex_address}
 use Rattle.mcs48_core.specs.declared.processor.Count.{Count}
 use Rattle.mcs48_core.specs.declared.processor.Count.TheVariants.{Off, Timer, Counter}
 use Rattle.mcs48_core.specs.Cpu.{Cpu}
 use Rattle.mcs48_core.specs.Status.{psw_of}
 use Rattle.mcs48_core.specs.Registers.{register}
-
--- two hexadecimal digits, in upper case
-abbrev pub hex2 : ℕ → List ℕ
-hex2 n = digit_glyph true (n / 16 % 16) ∷ digit_glyph true (n % 16) ∷ []
-
--- three hexadecimal digits, in upper case
-abbrev pub hex3 : ℕ → List ℕ
-hex3 n = digit_glyph true (n / 256 % 16) ∷ hex2 n
 
 -- a flag as a digit
 abbrev pub flag : Bool → List ℕ
@@ -36,13 +29,13 @@ line_end = 10 ∷ []
 -- counter, accumulator, status, flag 1 and memory bank
 abbrev pub counter_line : Cpu → List ℕ
 counter_line m =
-    codes "pc " ++ hex3 m.pc ++ codes " a " ++ hex2 m.a ++ codes " psw " ++ hex2 (psw_of m)
+    codes "pc " ++ hex_address m.pc ++ codes " a " ++ hex_byte m.a ++ codes " psw " ++ hex_byte (psw_of m)
     ++ codes " f1 " ++ flag m.f1 ++ codes " mb " ++ flag m.mb ++ line_end
 
 -- timer, prescaler, timer flag, and how the timer runs
 abbrev pub timer_fields : Cpu → List ℕ
 timer_fields m =
-    codes "t " ++ hex2 m.t ++ codes " pre " ++ hex2 m.pre ++ codes " tf " ++ flag m.tf ++ codes " run " ++ run_word m.run
+    codes "t " ++ hex_byte m.t ++ codes " pre " ++ hex_byte m.pre ++ codes " tf " ++ flag m.tf ++ codes " run " ++ run_word m.run
 
 -- timer and interrupts
 abbrev pub timer_line : Cpu → List ℕ
@@ -52,11 +45,11 @@ timer_line m =
 
 -- the latches
 abbrev pub latch_line : Cpu → List ℕ
-latch_line m = codes "p1 " ++ hex2 m.p1 ++ codes " p2 " ++ hex2 m.p2 ++ codes " bus " ++ hex2 m.bus ++ line_end
+latch_line m = codes "p1 " ++ hex_byte m.p1 ++ codes " p2 " ++ hex_byte m.p2 ++ codes " bus " ++ hex_byte m.bus ++ line_end
 
 -- a register of the selected bank
 abbrev pub shown_register : ℕ → Cpu → List ℕ
-shown_register r m = codes " " ++ hex2 (register r m)
+shown_register r m = codes " " ++ hex_byte (register r m)
 
 -- the eight registers of the selected bank
 abbrev pub register_line : Cpu → List ℕ

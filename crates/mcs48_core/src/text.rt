@@ -1,38 +1,10 @@
 //! The text that shows a processor's state.
 
-ghost use Rattle.std.specs.Prelude.{◌≡◌, ◌<◌, ◌++◌, true, IfOk, OnOk};
-ghost use Rattle.std.specs.Fmt.{digit_glyph};
-ghost use Rattle.mcs48_core.specs.StateText.{hex2, hex3, flag, switch, run_word, counter_line, timer_fields, timer_line, latch_line, register_line, count_line, state_text_of};
+ghost use Rattle.std.specs.Prelude.{◌≡◌, ◌++◌, IfOk, OnOk};
+ghost use Rattle.mcs48_core.specs.StateText.{flag, switch, run_word, counter_line, timer_fields, timer_line, latch_line, register_line, count_line, state_text_of};
 
 use crate::processor::{Count, Mcu};
 use std::alloc::{AllocError, Global};
-
-/// A hexadecimal digit, in upper case.
-fn hex_digit(d: u8) -> u8
-    requires { d < 16 }
-    ensures { result ≡ digit_glyph true d }
-{
-    if d < 10 { b'0' + d } else { b'A' + (d - 10) }
-}
-
-/// Two hexadecimal digits.
-fn hex2(n: u8) -> [u8; 2]
-    ensures { result ≡ hex2 n }
-{
-    [hex_digit(n / 16 % 16), hex_digit(n % 16)]
-}
-
-/// Three hexadecimal digits.
-fn hex3(n: u16) -> [u8; 3]
-    requires { n < 4096 }
-    ensures { result ≡ hex3 n }
-{
-    [
-        hex_digit((n / 256 % 16) as u8),
-        hex_digit((n / 16 % 16) as u8),
-        hex_digit((n % 16) as u8),
-    ]
-}
 
 /// A flag as a digit.
 fn flag(b: bool) -> &'static [u8]
@@ -72,9 +44,9 @@ fn counter_line(alloc: Global, mcu: &Mcu) -> Result<Vec<u8>, AllocError>
     ensures { IfOk result (λ line. line.items ≡ counter_line mcu.now) }
 {
     let mut line = Vec::new(alloc);
-    put(&mut line, b"pc ", &hex3(mcu.pc))?;
-    put(&mut line, b" a ", &hex2(mcu.a))?;
-    put(&mut line, b" psw ", &hex2(mcu.status()))?;
+    put(&mut line, b"pc ", &hex_text::address(mcu.pc))?;
+    put(&mut line, b" a ", &hex_text::byte(mcu.a))?;
+    put(&mut line, b" psw ", &hex_text::byte(mcu.status()))?;
     put(&mut line, b" f1 ", flag(mcu.f1))?;
     put(&mut line, b" mb ", flag(mcu.mb))?;
     line.push(b'\n')?;
@@ -86,8 +58,8 @@ fn timer_fields(alloc: Global, mcu: &Mcu) -> Result<Vec<u8>, AllocError>
     ensures { IfOk result (λ line. line.items ≡ timer_fields mcu.now) }
 {
     let mut line = Vec::new(alloc);
-    put(&mut line, b"t ", &hex2(mcu.t))?;
-    put(&mut line, b" pre ", &hex2(mcu.pre))?;
+    put(&mut line, b"t ", &hex_text::byte(mcu.t))?;
+    put(&mut line, b" pre ", &hex_text::byte(mcu.pre))?;
     put(&mut line, b" tf ", flag(mcu.tf))?;
     put(&mut line, b" run ", run_word(mcu.run))?;
     Ok(line)
@@ -111,9 +83,9 @@ fn latch_line(alloc: Global, mcu: &Mcu) -> Result<Vec<u8>, AllocError>
     ensures { IfOk result (λ line. line.items ≡ latch_line mcu.now) }
 {
     let mut line = Vec::new(alloc);
-    put(&mut line, b"p1 ", &hex2(mcu.p1))?;
-    put(&mut line, b" p2 ", &hex2(mcu.p2))?;
-    put(&mut line, b" bus ", &hex2(mcu.bus))?;
+    put(&mut line, b"p1 ", &hex_text::byte(mcu.p1))?;
+    put(&mut line, b" p2 ", &hex_text::byte(mcu.p2))?;
+    put(&mut line, b" bus ", &hex_text::byte(mcu.bus))?;
     line.push(b'\n')?;
     Ok(line)
 }
@@ -123,14 +95,14 @@ fn register_line(alloc: Global, mcu: &Mcu) -> Result<Vec<u8>, AllocError>
     ensures { IfOk result (λ line. line.items ≡ register_line mcu.now) }
 {
     let mut line = Vec::new(alloc);
-    put(&mut line, b"r ", &hex2(mcu.register(0)))?;
-    put(&mut line, b" ", &hex2(mcu.register(1)))?;
-    put(&mut line, b" ", &hex2(mcu.register(2)))?;
-    put(&mut line, b" ", &hex2(mcu.register(3)))?;
-    put(&mut line, b" ", &hex2(mcu.register(4)))?;
-    put(&mut line, b" ", &hex2(mcu.register(5)))?;
-    put(&mut line, b" ", &hex2(mcu.register(6)))?;
-    put(&mut line, b" ", &hex2(mcu.register(7)))?;
+    put(&mut line, b"r ", &hex_text::byte(mcu.register(0)))?;
+    put(&mut line, b" ", &hex_text::byte(mcu.register(1)))?;
+    put(&mut line, b" ", &hex_text::byte(mcu.register(2)))?;
+    put(&mut line, b" ", &hex_text::byte(mcu.register(3)))?;
+    put(&mut line, b" ", &hex_text::byte(mcu.register(4)))?;
+    put(&mut line, b" ", &hex_text::byte(mcu.register(5)))?;
+    put(&mut line, b" ", &hex_text::byte(mcu.register(6)))?;
+    put(&mut line, b" ", &hex_text::byte(mcu.register(7)))?;
     line.push(b'\n')?;
     Ok(line)
 }
