@@ -1,0 +1,5 @@
+pub mod Bits
+pub mod Commands
+pub mod Controller
+pub mod ScanCodes
+pub mod Translation

@@ -1,0 +1,38 @@
+-- The translation of what the keyboard sends, and its reception.
+use Rattle.std.specs.Prelude.{ℕ, Bool, true, false, ◌&&◌, Option, Some, None, ◌==◌, if◌then◌else◌}
+use Rattle.std.specs.Option.{option_map_or}
+use Rattle.ctl_core.specs.Bits.{has_bit, with_bit}
+use Rattle.ctl_core.specs.ScanCodes.{translated}
+use Rattle.ctl_core.specs.Controller.{ControllerState, put_out}
+use Rattle.ctl_core.specs.declared.translation.Translated.{Translated}
+use Rattle.ctl_core.specs.declared.controller.Received.{Received}
+use Rattle.ctl_core.specs.declared.controller.Received.TheVariants.{Put, Marked, Bad}
+
+-- the byte of a code, with bit 7 set where a break was begun; the mark ends
+abbrev pub coded : Bool → ℕ → Option ℕ → Translated
+coded mark byte (Some code) = record { byte = Some (if mark then with_bit 0x80 code else code); mark = false }
+coded mark byte None = record { byte = Some byte; mark = mark }
+
+-- by the translate bit, the break mark and a byte: what is put out, or nothing, and the new mark
+abbrev pub translation : Bool → Bool → ℕ → Translated
+translation false mark byte = record { byte = Some byte; mark = mark }
+translation true mark byte =
+    if byte == 0xf0 then record { byte = None; mark = true } else coded mark byte (translated byte)
+
+-- whether the command byte has the translate bit
+abbrev pub translates : ControllerState → Bool
+translates s = has_bit 0x40 s.command_byte
+
+-- what a received byte comes to: wrong parity, the beginning of a break, or a byte put out
+abbrev pub received_as : ControllerState → ℕ → Bool → Received
+received_as s byte false = Bad
+received_as s byte true = if translates s && byte == 0xf0 then Marked else Put
+
+-- the state with a byte put out, or none, and the new mark
+abbrev pub arrived : Translated → ControllerState → ControllerState
+arrived t s = let marked = record s { break_mark = t.mark } in option_map_or (λ byte. put_out byte marked) t.byte marked
+
+-- the state after a byte was received; with wrong parity it stays
+abbrev pub after_received : ControllerState → ℕ → Bool → ControllerState
+after_received s byte false = s
+after_received s byte true = arrived (translation (translates s) s.break_mark byte) s

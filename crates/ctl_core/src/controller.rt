@@ -1,0 +1,234 @@
+//! The controller's buffers, its command byte and what it does with a byte.
+
+ghost use Rattle.std.specs.Prelude.{◌≡◌, ◌↔◌, false, IsErr, IsSome, IfErr, OnErr, OnOk, option_map};
+ghost use Rattle.ctl_core.specs.Commands.{after_taken, commanded, passed, taken};
+ghost use Rattle.ctl_core.specs.Controller.{at_start, emptied, put_out, status_of, written};
+ghost use Rattle.ctl_core.specs.Translation.{after_received, received_as};
+
+use crate::bits::{CommandByte, Status};
+use crate::command::{Command, Parameter, decode_command};
+use crate::port::{Input, InputFull, Port};
+use crate::translation::{Translated, translate_marked};
+use bitflags::Flags;
+use std::marker::Model;
+
+/// What taking a byte of the input buffer did beyond the controller itself: nothing, a byte for the keyboard, a byte for
+/// the output port, or a pulse of its lines, of which each 0 bit of the number is pulsed.
+#[derive(Clone, Copy, Debug, PartialEq, Eq, Drop)]
+pub enum Did {
+    Nothing,
+    ToKeyboard(u8),
+    Output(u8),
+    Pulse(u8),
+}
+
+/// What a byte from the keyboard came to: it was put out, it began a break, or it had wrong parity.
+#[derive(Clone, Copy, Debug, PartialEq, Eq, Drop)]
+pub enum Received {
+    Put,
+    Marked,
+    Bad,
+}
+
+/// The controller without its wires.
+#[derive(Drop)]
+pub struct Controller {
+    input: Option<Input>,
+    output_full: bool,
+    output: u8,
+    command_byte: CommandByte,
+    awaited: Option<Parameter>,
+    output_port: u8,
+    break_mark: bool,
+    parity: bool,
+    last_to_64: bool,
+}
+
+impl Model for Controller {
+    ghost use Rattle.ctl_core.specs.Controller.{ControllerState};
+
+    ghost Value = { ControllerState };
+
+    ghost view = { λ s. record {
+      input = s.input;
+      output_full = s.output_full;
+      output = s.output;
+      command_byte = s.command_byte.0;
+      awaited = s.awaited;
+      output_port = s.output_port;
+      break_mark = s.break_mark;
+      parity = s.parity;
+      last_to_64 = s.last_to_64;
+    } };
+}
+
+impl Controller {
+    /// The controller at its start: both buffers empty, the command byte 45.
+    pub fn new() -> Controller
+        ensures { result ≡ at_start }
+    {
+        Controller {
+            input: None,
+            output_full: false,
+            output: 0,
+            command_byte: CommandByte::from_bits_retain(0x45),
+            awaited: None,
+            output_port: 0xcf,
+            break_mark: false,
+            parity: false,
+            last_to_64: false,
+        }
+    }
+
+    /// The host writes a port. It fills the input buffer; where that is full already, nothing changes.
+    pub fn host_write(&mut self, port: Port, byte: u8) -> Result<(), InputFull>
+        ensures full { IsErr result ↔ IsSome self.old.input }
+        ensures status { IfErr result (λ fault. fault.status ≡ status_of self.old) }
+        ensures unchanged { OnErr result (self.new ≡ self.old) }
+        ensures written { OnOk result (self.new ≡ written port byte self.old) }
+    {
+        if self.input.is_some() {
+            return Err(InputFull {
+                status: self.status(),
+            });
+        }
+        self.input = Some(Input { port, byte });
+        self.last_to_64 = port == Port::P64;
+        Ok(())
+    }
+
+    /// The host reads port 60h: the last byte put out, 00 at first. It empties the output buffer.
+    pub fn host_read60(&mut self) -> u8
+        ensures byte { result ≡ self.old.output }
+        ensures emptied { self.new ≡ emptied self.old }
+    {
+        self.output_full = false;
+        self.output
+    }
+
+    /// The host reads port 64h: the status.
+    pub fn status(&self) -> u8
+        ensures { result ≡ status_of self.now }
+    {
+        let mut status = Status::UNLOCKED;
+        status.set(Status::OUTPUT_FULL, self.output_full);
+        status.set(Status::INPUT_FULL, self.input.is_some());
+        status.set(
+            Status::SYSTEM,
+            self.command_byte.contains(CommandByte::SYSTEM),
+        );
+        status.set(Status::COMMAND, self.last_to_64);
+        status.set(Status::PARITY, self.parity);
+        status.bits()
+    }
+
+    /// Whether the output buffer is full.
+    pub fn output_full(&self) -> bool
+        ensures { result ≡ self.now.output_full }
+    {
+        self.output_full
+    }
+
+    /// The command byte.
+    pub fn command_byte(&self) -> u8
+        ensures { result ≡ self.now.command_byte }
+    {
+        self.command_byte.bits()
+    }
+
+    /// Takes the byte of the input buffer and does what it says, while the output buffer is empty. `None` exactly where
+    /// the input buffer is empty.
+    pub fn take_input(&mut self) -> Option<Did>
+        requires { self.old.output_full ≡ false }
+        ensures some { IsSome result ↔ IsSome self.old.input }
+        ensures told { result ≡ option_map (λ t. t.did) (taken self.old) }
+        ensures after { self.new ≡ after_taken self.old }
+    {
+        let Input { port, byte } = self.input.take()?;
+        let awaited = self.awaited.take();
+        Some(match port {
+            Port::P60 => self.pass(awaited, byte),
+            Port::P64 => self.obey(decode_command(byte)),
+        })
+    }
+
+    // A byte of port 60h, with the parameter that was awaited.
+    fn pass(&mut self, awaited: Option<Parameter>, byte: u8) -> Did
+        ensures told { result ≡ (passed awaited byte self.old).did }
+        ensures after { self.new ≡ (passed awaited byte self.old).state }
+    {
+        match awaited {
+            Some(Parameter::CommandByte) => {
+                self.command_byte = CommandByte::from_bits_retain(byte);
+                Did::Nothing
+            }
+            Some(Parameter::OutputPort) => {
+                self.output_port = byte;
+                Did::Output(byte)
+            }
+            None => {
+                self.command_byte.remove(CommandByte::DISABLE);
+                Did::ToKeyboard(byte)
+            }
+        }
+    }
+
+    // A command, once a wait for a parameter has ended.
+    fn obey(&mut self, command: Command) -> Did
+        ensures told { result ≡ (commanded command self.old).did }
+        ensures after { self.new ≡ (commanded command self.old).state }
+    {
+        match command {
+            Command::ReadCommandByte => {
+                let byte = self.command_byte.bits();
+                self.put_out(byte);
+            }
+            Command::WriteCommandByte => self.awaited = Some(Parameter::CommandByte),
+            Command::SelfTest => self.put_out(0x55),
+            Command::InterfaceTest => self.put_out(0x00),
+            Command::Disable => self.command_byte.insert(CommandByte::DISABLE),
+            Command::Enable => self.command_byte.remove(CommandByte::DISABLE),
+            Command::ReadInputPort => self.put_out(0xb0),
+            Command::ReadOutputPort => {
+                let byte = self.output_port;
+                self.put_out(byte);
+            }
+            Command::WriteOutputPort => self.awaited = Some(Parameter::OutputPort),
+            Command::PulseOutput(lines) => return Did::Pulse(lines),
+            Command::Unlisted => {}
+        }
+        Did::Nothing
+    }
+
+    /// A byte from the keyboard, while the output buffer is empty, and whether its parity was right. It is put out, by
+    /// the translation that the command byte asks for, or begins a break. With wrong parity nothing changes.
+    pub fn receive(&mut self, byte: u8, good: bool) -> Received
+        requires { self.old.output_full ≡ false }
+        ensures bad { (result ≡ Received.Bad) ↔ (good ≡ false) }
+        ensures answer { result ≡ received_as self.old byte good }
+        ensures after { self.new ≡ after_received self.old byte good }
+    {
+        if !good {
+            return Received::Bad;
+        }
+        let translating = self.command_byte.contains(CommandByte::TRANSLATE);
+        let Translated { byte, mark } = translate_marked(translating, self.break_mark, byte);
+        self.break_mark = mark;
+        match byte {
+            Some(byte) => {
+                self.put_out(byte);
+                Received::Put
+            }
+            None => Received::Marked,
+        }
+    }
+
+    // Puts a byte into the output buffer.
+    fn put_out(&mut self, byte: u8)
+        ensures { self.new ≡ put_out byte self.old }
+    {
+        self.output_full = true;
+        self.output = byte;
+        self.parity = false;
+    }
+}
