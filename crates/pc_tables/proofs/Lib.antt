@@ -1,0 +1,4 @@
+pub mod Every
+pub mod First
+pub mod KeyLaws
+pub mod WordLaws
