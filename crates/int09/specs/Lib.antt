@@ -1,0 +1,4 @@
+pub mod Bits
+pub mod Bios
+pub mod Flags
+pub mod Rules

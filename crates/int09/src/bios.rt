@@ -1,0 +1,117 @@
+//! The state of INT 09h, and its calls.
+
+ghost use Rattle.std.specs.Prelude.{◌≡◌, ◌≤◌, length, slice_get, IfOk};
+
+use super::bits::{Downs, Shifts};
+use arrayvec::ArrayVec;
+use circular_buffer::HeapCircularBuffer;
+use pc_tables::Item;
+use std::alloc::{AllocError, Global};
+use std::marker::Model;
+
+/// The state of INT 09h. A clause sees it as a `State`: the bytes at 40:17 and 40:18, the number typed under Alt, the
+/// marks of FA and FE, and the list of at most 15 words.
+#[derive(Drop)]
+pub struct Bios {
+    pub(crate) shifts: Shifts,
+    pub(crate) downs: Downs,
+    pub(crate) number: u8,
+    pub(crate) ack: bool,
+    pub(crate) resend: bool,
+    pub(crate) words: HeapCircularBuffer<u16>,
+}
+
+impl Model for Bios {
+    ghost use Rattle.std.specs.Prelude.{◌≡◌};
+    ghost use Rattle.int09.specs.Bios.{State};
+
+    ghost Value = { State };
+
+    ghost view = { λ b. record {
+      shifts = b.shifts.0;
+      downs = b.downs.0;
+      number = b.number;
+      ack = b.ack;
+      resend = b.resend;
+      words = b.words.items;
+    } };
+
+    ghost invariant = { λ b. b.words.capacity ≡ 15 };
+}
+
+/// The state's parts but for the words: the byte at 40:17 (bits 0 right shift, 1 left shift, 2 Ctrl, 3 Alt, 4 Scroll,
+/// 5 Num, 6 Caps, 7 Insert), that at 40:18 (bits 2 SysReq, 3 pause, 4 to 7 the keys of Scroll, Num, Caps and Insert are
+/// down), whether FA and FE have come, and the number typed under Alt.
+#[derive(Clone, Copy, Debug, PartialEq, Eq)]
+pub struct Flags9 {
+    pub b17: u8,
+    pub b18: u8,
+    pub ack: bool,
+    pub resend: bool,
+    pub number: u8,
+}
+
+impl Bios {
+    ghost use Rattle.int09.specs.Bios.{start, first_word, without_first};
+    ghost use Rattle.int09.specs.Flags.{flags_of};
+    ghost use Rattle.int09.specs.Rules.{fed};
+
+    /// The state at the start, all clear, with the memory for 15 words. No other call takes memory.
+    pub fn new(alloc: Global) -> Result<Bios, AllocError>
+        ensures { IfOk result (λ bios. bios ≡ start) }
+    {
+        let words = HeapCircularBuffer::with_capacity(alloc, 15)?;
+        Ok(Bios {
+            shifts: Shifts(0),
+            downs: Downs(0),
+            number: 0,
+            ack: false,
+            resend: false,
+            words,
+        })
+    }
+
+    /// Treats a byte that was read from port 60h, and answers what is said of it, in order.
+    pub fn feed(&mut self, byte: u8) -> ArrayVec<Item, 2>
+        ensures after { self.new ≡ (fed byte self.old).after }
+        ensures items { result.items ≡ (fed byte self.old).items }
+    {
+        self.treat(byte)
+    }
+
+    /// Takes the first word; None exactly where the buffer is empty.
+    pub fn take(&mut self) -> Option<u16>
+        ensures word { result ≡ first_word self.old }
+        ensures after { self.new ≡ without_first self.old }
+    {
+        self.words.pop_front()
+    }
+
+    /// The state's parts but for the words.
+    pub fn flags(&self) -> Flags9
+        ensures { result ≡ flags_of self.now }
+    {
+        Flags9 {
+            b17: self.shifts.0,
+            b18: self.downs.0,
+            ack: self.ack,
+            resend: self.resend,
+            number: self.number,
+        }
+    }
+
+    /// How many words the buffer holds, at most 15.
+    pub fn count(&self) -> usize
+        ensures count { result ≡ length self.now.words }
+        ensures range { result ≤ 15 }
+    {
+        self.words.len()
+    }
+
+    /// The word at this place, from 0, the one to be taken next; None exactly from `count` on.
+    pub fn word_at(&self, i: usize) -> Option<u16>
+        ensures { result ≡ slice_get self.now.words i }
+    {
+        self.words.get(i).copied()
+    }
+}
