@@ -1,7 +1,8 @@
 //! The items of a log, and their texts.
 
-ghost use Rattle.std.specs.Prelude.{◌≡◌, ◌/◌, ◌%◌, ◌<◌, ◌++◌, IfOk};
-ghost use Rattle.pc_tables.specs.Items.{digit_char, digit_text, byte_text, word_text, text_of};
+ghost use Rattle.std.specs.Prelude.{◌≡◌, ◌++◌, IfOk};
+ghost use Rattle.hex_text.specs.Digits.{hex_byte, hex_word};
+ghost use Rattle.pc_tables.specs.Items.{low_digit, text_of};
 
 use std::alloc::{AllocError, Global};
 
@@ -45,41 +46,31 @@ pub enum Item {
     SysBreak,
 }
 
-fn digit(value: u8) -> u8
-    ensures { result ≡ digit_char (value % 16) }
+/// A name and digits behind it.
+fn named(alloc: Global, name: &[u8], digits: &[u8]) -> Result<Vec<u8>, AllocError>
+    ensures { IfOk result (λ text. text.items ≡ name.now ++ digits.now) }
 {
-    let low = value % 16;
-    if low < 10 {
-        b'0' + low
-    } else {
-        b'A' + (low - 10)
-    }
+    let mut text = name.to_vec(alloc)?;
+    text.extend_from_slice(digits)?;
+    Ok(text)
 }
 
 fn with_digit(alloc: Global, name: &[u8], value: u8) -> Result<Vec<u8>, AllocError>
-    ensures { IfOk result (λ text. text.items ≡ name.now ++ digit_text value) }
+    ensures { IfOk result (λ text. text.items ≡ name.now ++ low_digit value) }
 {
-    let mut text = name.to_vec(alloc)?;
-    text.push(digit(value))?;
-    Ok(text)
+    named(alloc, name, &[hex_text::digit(value % 16)])
 }
 
 fn with_byte(alloc: Global, name: &[u8], byte: u8) -> Result<Vec<u8>, AllocError>
-    ensures { IfOk result (λ text. text.items ≡ name.now ++ byte_text byte) }
+    ensures { IfOk result (λ text. text.items ≡ name.now ++ hex_byte byte) }
 {
-    let mut text = name.to_vec(alloc)?;
-    text.extend_from_slice(&[digit(byte / 16), digit(byte)])?;
-    Ok(text)
+    named(alloc, name, &hex_text::byte(byte))
 }
 
 fn with_word(alloc: Global, name: &[u8], word: u16) -> Result<Vec<u8>, AllocError>
-    ensures { IfOk result (λ text. text.items ≡ name.now ++ word_text word) }
+    ensures { IfOk result (λ text. text.items ≡ name.now ++ hex_word word) }
 {
-    let high = (word / 256) as u8;
-    let low = (word % 256) as u8;
-    let mut text = name.to_vec(alloc)?;
-    text.extend_from_slice(&[digit(high / 16), digit(high), digit(low / 16), digit(low)])?;
-    Ok(text)
+    named(alloc, name, &hex_text::word(word))
 }
 
 /// The item's text, in upper-case hexadecimal, without the tick before it and the line's end behind it.
