@@ -2,3 +2,6 @@ pub mod Numbers
 pub mod Taken
 pub mod Steps
 pub mod Outcomes
+pub mod Forms
+pub mod Keys
+pub mod Heard

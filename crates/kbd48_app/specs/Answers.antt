@@ -1,5 +1,5 @@
 -- What a call says, and what causes it.
-use Rattle.std.specs.Prelude.{◌≡◌, ℕ, ◌⊎◌, List, [], ◌∷◌, None, Some, Ok, Err}
+use Rattle.std.specs.Prelude.{◌≡◌, ℕ, ◌⊎◌, List, None, Some, Ok, Err}
 use Rattle.std.specs.Option.{option_map}
 use Rattle.std.specs.declared.alloc.Global.{Global}
 use Rattle.std.specs.declared.option.Option.{Option}
@@ -14,9 +14,13 @@ use Rattle.kbd48_app.specs.declared.exit.Exit.TheVariants.{Done, Write}
 use Rattle.kbd48_app.specs.declared.refusal.Refusal.{Refusal}
 use Rattle.kbd48_app.specs.declared.refusal.Refusal.TheVariants.{Words, Read, HexTooLong, Hex, Stuck, Memory}
 use Rattle.kbd48_app.specs.declared.words.Command.{Command}
-use Rattle.kbd48_app.specs.declared.words.Command.TheVariants.{Step, Listing}
+use Rattle.kbd48_app.specs.declared.words.Command.TheVariants.{OverFile, Feed}
+use Rattle.kbd48_app.specs.declared.words.FileCommand.{FileCommand}
+use Rattle.kbd48_app.specs.declared.words.FileCommand.TheVariants.{Step, Listing}
+use Rattle.kbd48_app.specs.Feeding.{fed_text}
 use Rattle.kbd48_app.specs.Refusals.{exit_of, line_of}
 use Rattle.kbd48_app.specs.Said.{TakesAll, TakesPart}
+use Rattle.kbd48_app.specs.Words.{command_of, name_in, bytes_in}
 use Rattle.kbd48_app.specs.Stepping.{Progress, Stands, Stopped, after_steps}
 
 -- a text, or a refusal
@@ -29,17 +33,17 @@ run_said count (Stands cpu cycles) = Ok (state_text_of cpu count cycles)
 run_said count (Stopped stuck) = Err (Stuck stuck)
 
 -- a command of the image of its file, where the file is HEX
-abbrev pub image_said : Command → Option (List ℕ) → Answer
+abbrev pub image_said : FileCommand → Option (List ℕ) → Answer
 image_said command None = Err (Hex (record { line = 0; number = 0 }))
 image_said (Step count) (Some bytes) = run_said count (after_steps bytes count)
 image_said Listing (Some bytes) = Ok (listing_of bytes)
 
 -- a command of its file's bytes
-abbrev pub file_said : Command → List ℕ → Answer
+abbrev pub file_said : FileCommand → List ℕ → Answer
 file_said command bytes = image_said command (hex_image bytes)
 
 -- a command of what the fetch of its file came to
-abbrev pub fetch_said : Command → Fetched → Answer
+abbrev pub fetch_said : FileCommand → Fetched → Answer
 fetch_said command (Found bytes) = file_said command bytes
 fetch_said command Long = Err HexTooLong
 fetch_said command Fails = Err Read
@@ -53,25 +57,29 @@ abbrev pub MayFetch : Option Told → List ℕ → Fetched → Type 0
 MayFetch (Some shelf) name outcome = outcome ≡ fetched shelf name hex_limit
 MayFetch None name outcome = Unit {0}
 
--- the file that a command names
-abbrev pub name_in : List (List ℕ) → List ℕ
-name_in (command ∷ name ∷ others) = name
-name_in words = []
-
 -- memory may be wanting where a command is carried out
 abbrev pub MayAnswerOf : Answer → Answer → Type 0
 MayAnswerOf said answer = (answer ≡ Err Memory) ⊎ (answer ≡ said)
 
--- what may be answered to the words, over a shelf: words without a command are refused, and a command answers what it
--- says of its file
-abbrev pub MayAnswer : Option Command → List ℕ → Option Told → Answer → Type 0
-MayAnswer None name shelf answer = answer ≡ Err Words
-MayAnswer (Some command) name shelf answer =
+-- what a command over a file may say, by what its one fetch comes to
+abbrev pub MayAnswerOver : FileCommand → List ℕ → Option Told → Answer → Type 0
+MayAnswerOver command name shelf answer =
     (outcome : Fetched) × MayFetch shelf name outcome × MayAnswerOf (fetch_said command outcome) answer
 
--- what a shelf tells afterwards: a command makes one fetch, and words without a command make none
+-- what may be said of a command: over its file, or, of `words`, what its bytes give; words without a command are refused
+abbrev pub MayAnswerAs : Option Command → List (List ℕ) → Option Told → Answer → Type 0
+MayAnswerAs None words shelf answer = answer ≡ Err Words
+MayAnswerAs (Some Feed) words shelf answer = MayAnswerOf (Ok (fed_text (bytes_in words))) answer
+MayAnswerAs (Some (OverFile command)) words shelf answer = MayAnswerOver command (name_in words) shelf answer
+
+-- what may be said to the words, over a shelf
+abbrev pub MayAnswer : List (List ℕ) → Option Told → Answer → Type 0
+MayAnswer words shelf answer = MayAnswerAs (command_of words) words shelf answer
+
+-- what a shelf tells afterwards: a command over a file makes one fetch, and no other words make any
 abbrev pub told_after : Option Command → Option Told → Option Told
-told_after (Some command) shelf = option_map after_fetch shelf
+told_after (Some (OverFile command)) shelf = option_map after_fetch shelf
+told_after (Some Feed) shelf = shelf
 told_after None shelf = shelf
 
 -- the exit and the text of an answer

@@ -1,15 +1,16 @@
 //! From the words and the files to the answer: a text, or the refusal that stands in its place.
 
-ghost use Rattle.std.specs.Prelude.{◌≡◌, ◌≤◌, map, option_map, string_bytes, length};
+ghost use Rattle.std.specs.Prelude.{◌≡◌, ◌≤◌, map, option_map, string_bytes, length, Ok};
 ghost use Rattle.io_edge.specs.Faults.{Rose};
 ghost use Rattle.io_edge.specs.Shelf.{after_fetch};
-ghost use Rattle.kbd48_app.specs.Answers.{answer_of, file_said, name_in, MayAnswer, MayAnswerOf, told_after};
+ghost use Rattle.kbd48_app.specs.Answers.{answer_of, file_said, MayAnswer, MayAnswerOf, MayAnswerOver, told_after};
 ghost use Rattle.kbd48_app.specs.Words.{command_of};
 ghost use Rattle.mcs48_isa.specs.Listing.{listing_of};
 
+use crate::feeding::feed;
 use crate::refusal::Refusal;
 use crate::stepping::step;
-use crate::words::{Command, read_command};
+use crate::words::{Command, FileCommand, read_command};
 use hexfile::read_hex;
 use io_edge::{FetchFault, Shelf};
 use mcs48_isa::{Image, list};
@@ -29,15 +30,15 @@ fn listing(alloc: Global, image: &Image) -> Result<Vec<u8>, Refusal>
 }
 
 /// Carries a command out over the bytes of its file.
-fn carry_out(alloc: Global, command: Command, file: &[u8]) -> Result<Vec<u8>, Refusal>
+fn carry_out(alloc: Global, command: FileCommand, file: &[u8]) -> Result<Vec<u8>, Refusal>
     requires { length file.now ≤ HEX_LIMIT }
     ensures { MayAnswerOf (file_said command file.now) (answer_of result) }
 {
     match read_hex(file) {
         Err(fault) => Err(Refusal::Hex(fault)),
         Ok(image) => match command {
-            Command::Step { count } => step(alloc, &image, count),
-            Command::Listing => listing(alloc, &image),
+            FileCommand::Step { count } => step(alloc, &image, count),
+            FileCommand::Listing => listing(alloc, &image),
         },
     }
 }
@@ -45,11 +46,11 @@ fn carry_out(alloc: Global, command: Command, file: &[u8]) -> Result<Vec<u8>, Re
 /// Fetches the file of a command, and carries the command out.
 fn answer_over<F: Shelf>(
     alloc: Global,
-    command: Command,
+    command: FileCommand,
     name: &str,
     shelf: &mut F,
 ) -> Result<Vec<u8>, Refusal>
-    ensures answer { MayAnswer (Some command) name.now (F.told shelf.old) (answer_of result) }
+    ensures answer { MayAnswerOver command name.now (F.told shelf.old) (answer_of result) }
     ensures read { result ≡ Err Refusal.Read → Rose (F.faults shelf.old) (F.faults shelf.new) }
     ensures fetches { F.told shelf.new ≡ option_map after_fetch (F.told shelf.old) }
 {
@@ -63,12 +64,13 @@ fn answer_over<F: Shelf>(
 
 /// The answer to the words.
 pub fn answer<F: Shelf>(alloc: Global, words: &[String], shelf: &mut F) -> Result<Vec<u8>, Refusal>
-    ensures answer { let texts = map string_bytes words.now in MayAnswer (command_of texts) (name_in texts) (F.told shelf.old) (answer_of result) }
+    ensures answer { MayAnswer (map string_bytes words.now) (F.told shelf.old) (answer_of result) }
     ensures read { result ≡ Err Refusal.Read → Rose (F.faults shelf.old) (F.faults shelf.new) }
     ensures fetches { F.told shelf.new ≡ told_after (command_of (map string_bytes words.now)) (F.told shelf.old) }
 {
     match read_command(words) {
         None => Err(Refusal::Words),
-        Some(command) => answer_over(alloc, command, &words[1], shelf),
+        Some(Command::Feed) => feed(alloc, &words[1..]),
+        Some(Command::OverFile(command)) => answer_over(alloc, command, &words[1], shelf),
     }
 }

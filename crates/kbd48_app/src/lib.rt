@@ -8,6 +8,8 @@
 
 mod answering;
 mod exit;
+mod feeding;
+mod law;
 mod refusal;
 mod saying;
 mod stepping;
@@ -15,4 +17,6 @@ mod top;
 mod words;
 
 pub use exit::Exit;
+pub use law::each_key_gives_its_scan_code;
 pub use top::kbd48;
+pub use words::form;

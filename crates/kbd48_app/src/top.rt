@@ -2,7 +2,7 @@
 
 ghost use Rattle.std.specs.Prelude.{◌≡◌, ◌<◌, ◌⊎◌, map, string_bytes, None, Err};
 ghost use Rattle.io_edge.specs.Faults.{Rose};
-ghost use Rattle.kbd48_app.specs.Answers.{Answer, Says, answer_of, name_in, MayAnswer, told_after};
+ghost use Rattle.kbd48_app.specs.Answers.{Answer, Says, answer_of, MayAnswer, told_after};
 ghost use Rattle.kbd48_app.specs.Said.{TakesAll, TakesPart};
 ghost use Rattle.kbd48_app.specs.Words.{command_of};
 
@@ -47,8 +47,7 @@ fn conclude<K: Sink>(out: &mut K, answer: &Result<Vec<u8>, Refusal>) -> Exit
 /// All that is said goes to the sink line by line, each line offered whole in one `put`. A sink that fails ends the call
 /// with `Write`; want of memory with `Memory`, which never comes for words outside the forms.
 pub fn kbd48<F: Shelf, K: Sink>(alloc: Global, words: &[String], shelf: &mut F, out: &mut K) -> Exit
-    ensures says { let texts = map string_bytes words.now in
-        (answer : Answer) × MayAnswer (command_of texts) (name_in texts) (F.told shelf.old) answer
+    ensures says { (answer : Answer) × MayAnswer (map string_bytes words.now) (F.told shelf.old) answer
         × Says answer (K.taken out.old) (K.taken out.new) result }
     ensures words { result ≡ Exit.Words → command_of (map string_bytes words.now) ≡ None }
     ensures read { result ≡ Exit.Read → Rose (F.faults shelf.old) (F.faults shelf.new) }

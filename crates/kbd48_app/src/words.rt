@@ -3,18 +3,29 @@
 ghost use Rattle.std.specs.Prelude.{◌≡◌, map, string_bytes};
 ghost use Rattle.std.specs.Char.{is_ascii_digit};
 ghost use Rattle.std.specs.List.{list_all};
-ghost use Rattle.kbd48_app.specs.Words.{is_name, is_short_number, count_of, command_of};
+ghost use Rattle.kbd48_app.specs.Words.{is_name, is_short_number, count_of, digit_of, byte_of, is_byte, are_bytes, step_of, list_of, feed_of, command_of, is_form};
 
 /// The greatest COUNT.
 const MOST_STEPS: u32 = 1_000_000;
 
-/// A command with its numbers, as the words give it. The names stand in the words behind the command.
+/// The most BYTEs.
+const MOST_BYTES: usize = 4096;
+
+/// A command over one file, with its numbers. The file's name is the word behind the command.
 #[derive(Clone, Copy, Debug, PartialEq, Eq, Drop)]
-pub enum Command {
+pub enum FileCommand {
     /// `step` NAME COUNT
     Step { count: u32 },
     /// `list` NAME
     Listing,
+}
+
+/// A command, as the words give it.
+#[derive(Clone, Copy, Debug, PartialEq, Eq, Drop)]
+pub enum Command {
+    OverFile(FileCommand),
+    /// `words` BYTE ..: the bytes are the words behind the command.
+    Feed,
 }
 
 fn is_name(word: &str) -> bool
@@ -51,16 +62,90 @@ fn count(word: &str) -> Option<u32>
     }
 }
 
+/// The value of a hexadecimal digit of either case.
+fn digit(character: u8) -> Option<u8>
+    ensures { result ≡ digit_of character }
+{
+    match character {
+        b'0'..=b'9' => Some(character - b'0'),
+        b'A'..=b'F' => Some(character - b'A' + 10),
+        b'a'..=b'f' => Some(character - b'a' + 10),
+        _ => None,
+    }
+}
+
+/// The value of a BYTE.
+pub fn read_byte(word: &str) -> Option<u8>
+    ensures { result ≡ byte_of word.now }
+{
+    match word.as_bytes() {
+        [first, second] => {
+            let high = digit(*first)?;
+            let low = digit(*second)?;
+            Some(16 * high + low)
+        }
+        _ => None,
+    }
+}
+
+/// Each word is a BYTE.
+fn each_is_byte(words: &[String]) -> bool
+    ensures { result ≡ list_all (λ word. is_byte (string_bytes word)) words.now }
+{
+    words.iter().all(|word| read_byte(word).is_some())
+}
+
+/// The words are BYTEs, as many as `words` takes.
+#[tactic(auto, using(crate::proofs::Forms::bytes_by_words))]
+fn are_bytes(words: &[String]) -> bool
+    ensures { result ≡ are_bytes (map string_bytes words.now) }
+{
+    !words.is_empty() && words.len() <= MOST_BYTES && each_is_byte(words)
+}
+
+fn read_step(words: &[String]) -> Option<Command>
+    ensures { result ≡ step_of (map string_bytes words.now) }
+{
+    match words {
+        [name, steps] if is_name(name) => {
+            let count = count(steps)?;
+            Some(Command::OverFile(FileCommand::Step { count }))
+        }
+        _ => None,
+    }
+}
+
+fn read_list(words: &[String]) -> Option<Command>
+    ensures { result ≡ list_of (map string_bytes words.now) }
+{
+    match words {
+        [name] if is_name(name) => Some(Command::OverFile(FileCommand::Listing)),
+        _ => None,
+    }
+}
+
+fn read_feed(words: &[String]) -> Option<Command>
+    ensures { result ≡ feed_of (map string_bytes words.now) }
+{
+    are_bytes(words).then_some(Command::Feed)
+}
+
 /// The command of the words, or none where the words are outside the accepted forms.
 pub fn read_command(words: &[String]) -> Option<Command>
     ensures { result ≡ command_of (map string_bytes words.now) }
 {
-    match words {
-        [command, name, steps] if command.as_str() == "step" && is_name(name) => {
-            let count = count(steps)?;
-            Some(Command::Step { count })
-        }
-        [command, name] if command.as_str() == "list" && is_name(name) => Some(Command::Listing),
+    let (command, words) = words.split_first()?;
+    match command.as_str() {
+        "step" => read_step(words),
+        "list" => read_list(words),
+        "words" => read_feed(words),
         _ => None,
     }
+}
+
+/// Whether the words that follow the program's name have one of the accepted forms. It takes no memory.
+pub fn form(words: &[String]) -> bool
+    ensures { result ≡ is_form (map string_bytes words.now) }
+{
+    read_command(words).is_some()
 }

@@ -10,3 +10,5 @@ mod listing;
 mod rows;
 #[cfg(test)]
 mod step;
+#[cfg(test)]
+mod words;

@@ -5,6 +5,7 @@ use kbd48_app::{Exit, kbd48};
 use std::alloc::{AllocError, Global};
 
 /// The words after the program's name, the file that is called `f`, and what is expected.
+#[derive(Drop)]
 pub struct Row {
     pub words: &'static [&'static str],
     pub file: &'static str,
@@ -19,7 +20,8 @@ pub struct Outcome {
     pub sink: MemSink,
 }
 
-fn owned(alloc: Global, words: &[&str]) -> Result<Vec<String>, AllocError> {
+/// The words, each a text of its own.
+pub fn owned(alloc: Global, words: &[&str]) -> Result<Vec<String>, AllocError> {
     let mut all = Vec::new(alloc);
     for word in words {
         all.push(String::from_str(alloc, word)?)?;
