@@ -1,8 +1,6 @@
 -- Pairs of digits, one after another.
-use Rattle.std.proofs.Common.{◌≡◌, ℕ, ◌+◌, ◌*◌, ◌<◌, ◌≤◌, List, [], ◌∷◌, ◌++◌, length, get_or, drop, Option, None, Some, option_map, Bool, true, false, ◌==◌, ◌&&◌, if◌then◌else◌, MatchOption, refl, ◌∙◌, append_assoc, arith}
-use Rattle.hexfile.specs.Record.{digit_value, bytes_of, record_of, Record, ◌>>=◌}
-use Rattle.hexfile.specs.Memory.{placed}
-use Rattle.hexfile.specs.Hex.{after_line}
+use Rattle.std.proofs.Common.{◌≡◌, ℕ, ◌+◌, ◌*◌, ◌<◌, ◌≤◌, List, [], ◌∷◌, ◌++◌, length, get_or, drop, Option, None, Some, option_map, option_and_then, Bool, true, false, ◌==◌, if◌then◌else◌, MatchOption, refl, ◌∙◌, append_assoc, arith}
+use Rattle.hexfile.specs.Record.{digit_value, bytes_of, record_of, record_in, ◌>>=◌}
 use Rattle.std.proofs.lemmas.Bool.Decides.{nat_tests}
 
 -- the byte of two digits, in front of the bytes of the rest
@@ -60,15 +58,15 @@ record_of-long (count ∷ high ∷ []) h b = refl
 record_of-long (count ∷ high ∷ low ∷ []) h b = refl
 record_of-long (count ∷ high ∷ low ∷ kind ∷ rest) h b = grind (arith, nat_tests)
 
-decoded-long : {X : Type 0} (digits : List ℕ) (found : Option (List ℕ)) (next : Record → Option X) → IsDecoded digits found → 520 < length digits → (found >>= (λ bytes. record_of bytes >>= next)) ≡ None
-decoded-long digits None next d h = refl
-decoded-long digits (Some bytes) next d h = rw (record_of-long bytes (omega arith) d.1) refl
-
 -- so more than 520 digits are no record
-pub after_line-long : (memory : List (Option ℕ)) (line : List ℕ) → 521 < length line → after_line memory line ≡ None
-after_line-long memory [] h = refl
-after_line-long memory (mark ∷ digits) h = marked (mark == 58)
+pub record_in-long : (line : List ℕ) → 521 < length line → record_in line ≡ None
+record_in-long [] h = refl
+record_in-long (mark ∷ digits) h = marked (mark == 58)
   where
-    marked : (b : Bool) → ((if b then bytes_of digits else None) >>= (λ bytes. record_of bytes >>= (λ found. if found.total == 0 && found.kind == 0 then placed memory found else None))) ≡ None
-    marked true = decoded-long digits (bytes_of digits) _ (IsDecoded-bytes_of digits) (omega arith)
+    decoded : (found : Option (List ℕ)) → IsDecoded digits found → option_and_then record_of found ≡ None
+    decoded None d = refl
+    decoded (Some bytes) d = record_of-long bytes (omega arith) d.1
+
+    marked : (b : Bool) → option_and_then record_of (if b then bytes_of digits else None) ≡ None
+    marked true = decoded (bytes_of digits) (IsDecoded-bytes_of digits)
     marked false = refl

@@ -1,3 +1,3 @@
 pub mod Digits
 pub mod Places
-pub mod Lines
+pub mod Splits

@@ -1,5 +1,8 @@
 -- A run of places that is filled from its front on.
-use Rattle.std.proofs.Common.{◌≡◌, ℕ, suc, ◌+◌, ◌<◌, ◌≤◌, List, [], ◌∷◌, ◌++◌, length, get_or, take, drop, set, map, Option, None, Some, ap, ◌∙◌, append_assoc, arith, drop-cons}
+use Rattle.std.proofs.Common.{◌≡◌, ℕ, suc, ◌+◌, ◌<◌, ◌≤◌, List, [], ◌∷◌, ◌++◌, length, get_or, take, drop, set, map, Option, None, Some, ap, ◌∙◌, append_assoc, arith, drop-cons, false}
+use Rattle.std.proofs.lemmas.Bool.Decides.{nat_tests}
+use Rattle.hexfile.specs.Record.{Record}
+use Rattle.hexfile.specs.Memory.{is_past}
 use Rattle.std.proofs.lemmas.List.{set_at, take_more, map-append, length-map}
 use Rattle.std.proofs.lemmas.Grind.{common_steps}
 
@@ -16,3 +19,7 @@ filled_more memory old address i bytes within fits is =
     ap (map Some) (take_more bytes i 0 within) ∙ map-append Some (take i bytes) (get_or bytes i 0 ∷ []) in
     rw (is, drop-cons old (address + i) None lt, more, ← next)
     (set_at front (get_or old (address + i) None) (drop (suc (address + i)) old) (Some (get_or bytes i 0)) (address + i) long ∙ simp append_assoc)
+
+-- data that aren't past the last place end there at the latest
+pub end_within : (line : Record) → 0 < length line.bytes → is_past line ≡ false → line.address + length line.bytes ≤ 2048
+end_within line h p = grind (arith, nat_tests)

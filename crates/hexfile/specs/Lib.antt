@@ -1,3 +1,4 @@
 pub mod Record
 pub mod Memory
+pub mod Rules
 pub mod Hex

@@ -1,5 +1,5 @@
 -- A program memory while a file fills it: each of its places with the byte that the file gave to it, or none.
-use Rattle.std.specs.Prelude.{ℕ, ◌+◌, Bool, ◌&&◌, ◌||◌, List, ◌++◌, length, take, drop, map, replicate, None, Some, nat_lt, is_some, unwrap_or, if◌then◌else◌}
+use Rattle.std.specs.Prelude.{ℕ, ◌+◌, Bool, ◌&&◌, List, ◌++◌, length, take, drop, map, replicate, None, Some, nat_lt, is_some, unwrap_or}
 use Rattle.std.specs.List.{list_any, slice_range}
 use Rattle.std.specs.declared.option.Option.{Option}
 use Rattle.hexfile.specs.Record.{Record}
@@ -20,11 +20,9 @@ is_past line = nat_lt 0 (length line.bytes) && nat_lt 2048 (end_of line)
 abbrev pub is_given_twice : List (Option ℕ) → Record → Bool
 is_given_twice memory line = list_any is_some (slice_range memory line.address (end_of line))
 
--- the memory with a line's data from its address on; none where one of these bytes can't stand there
-abbrev pub placed : List (Option ℕ) → Record → Option (List (Option ℕ))
-placed memory line =
-    if is_past line || is_given_twice memory line then None
-    else Some (take line.address memory ++ map Some line.bytes ++ drop (end_of line) memory)
+-- the memory with a line's data from its address on
+abbrev pub with_data : List (Option ℕ) → Record → List (Option ℕ)
+with_data memory line = take line.address memory ++ map Some line.bytes ++ drop (end_of line) memory
 
 -- a place that has no byte is 00
 abbrev pub image_of : List (Option ℕ) → List ℕ

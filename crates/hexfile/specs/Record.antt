@@ -8,11 +8,12 @@ infixl 10 ◌>>=◌
 abbrev pub ◌>>=◌ : {A B : Type 0} → Option A → (A → Option B) → Option B
 found >>= next = option_and_then next found
 
--- the value of a hexadecimal digit: 0 to 9, or A to F in upper case
+-- the value of a hexadecimal digit: 0 to 9, or A to F in either case
 abbrev pub digit_value : ℕ → Option ℕ
 digit_value character =
     if nat_le 48 character && nat_le character 57 then Some (character - 48)
-    else (if nat_le 65 character && nat_le character 70 then Some (character - 55) else None)
+    else (if nat_le 65 character && nat_le character 70 then Some (character - 55)
+    else (if nat_le 97 character && nat_le character 102 then Some (character - 87) else None))
 
 -- the bytes that digits write, the high digit of a byte first; none where a character is no digit, or a digit is left over
 abbrev pub bytes_of : List ℕ → Option (List ℕ)
@@ -43,6 +44,10 @@ record_of (count ∷ high ∷ low ∷ kind ∷ rest) =
     then Some (record { address = high * 256 + low; kind = kind; bytes = take count rest; total = sum (count ∷ high ∷ low ∷ kind ∷ rest) % 256 })
     else None
 record_of bytes = None
+
+-- what a line says; none where it hasn't the form
+abbrev pub record_in : List ℕ → Option Record
+record_in line = option_and_then record_of (line_bytes line)
 
 -- the record that the program keeps of a line, with its data as a list
 abbrev pub said_by : code.Record → Record

@@ -1,12 +1,15 @@
 //! HEX files: the text form in which a program memory is kept and sent to a programmer.
 //!
 //! This layer knows characters, lines, records and places. It knows nothing of what the bytes in the memory mean.
-//! The form is Intel HEX (Intel, Hexadecimal Object File Format Specification). The narrow form that is read here is
-//! our own: lines of data and the one end line, each ended by LF, in upper case.
+//! The form is Intel HEX (Intel, Hexadecimal Object File Format Specification). That addresses stay in the one program
+//! memory, so that an upper part must be 0000, and that a start address has no effect, is our own, as is the one
+//! spelling that is written.
 #![tactic(auto)]
 
 mod fault;
+mod lines;
 mod memory;
+mod progress;
 mod reading;
 mod record;
 

@@ -1,30 +1,22 @@
 //! Reading a HEX file.
 
-ghost use Rattle.std.specs.Prelude.{◌≡◌, ◌≤◌, ◌++◌, ◌∷◌, ◌==◌, All, false, length, MatchOption, IfOk, OnErr, IfErr, IfSome};
-ghost use Rattle.std.specs.Option.{option_map};
-ghost use Rattle.hexfile.specs.Hex.{hex_image, after_line};
+ghost use Rattle.std.specs.Prelude.{◌≡◌, ◌≤◌, Ok, Err, length, IfOk, IfErr};
+ghost use Rattle.std.specs.Option.{option_map, option_and_then};
+ghost use Rattle.hexfile.specs.Record.{said_by, record_of, record_in};
+ghost use Rattle.hexfile.specs.Hex.{hex_of, after_line, fault_at};
 
-use crate::fault::{HexFault, NOT_NARROW};
-use crate::memory::{Memory, PLACES, image_of, place};
+use crate::fault::{HexFault, Rule, number_of};
+use crate::lines::next_line;
+use crate::memory::{PLACES, image_of};
+use crate::progress::{Progress, broken_by, obey};
 use crate::record::{LONGEST, decoded, parsed};
+use arrayvec::ArrayVec;
 use mcs48_isa::Image;
 
-/// The line that ends a file.
-const END_LINE: &[u8] = b":00000001FF";
-
-/// Splits a text behind its first LF: the line without the LF, and what stands behind it. None where it has no LF.
-fn split_line(text: &[u8]) -> Option<(&[u8], &[u8])>
-    ensures { MatchOption result (All (λ byte. (byte == 10) ≡ false) text.now)
-        (λ parts. (text.now ≡ parts.0.now ++ 10 ∷ parts.1.now) × All (λ byte. (byte == 10) ≡ false) parts.0.now) }
-{
-    let end = text.iter().position(|byte| *byte == b'\n')?;
-    Some((&text[..end], &text[end + 1..]))
-}
-
-/// Puts what a line of data says into the memory. None where it is no line of data, its sum is wrong, or its data can't
-/// be placed.
-fn take_line(memory: &mut Memory, line: &[u8]) -> Option<()>
-    ensures { option_map (λ _. memory.new) result ≡ after_line memory.old line.now }
+/// The bytes of a line. None where it has no record: it is no colon with pairs of digits, or has more of them than a
+/// count can say.
+fn line_bytes(line: &[u8]) -> Option<ArrayVec<u8, LONGEST>>
+    ensures { option_and_then record_of (option_map (λ bytes. bytes.items) result) ≡ record_in line.now }
 {
     let [b':', digits @ ..] = line else {
         return None;
@@ -32,49 +24,67 @@ fn take_line(memory: &mut Memory, line: &[u8]) -> Option<()>
     if digits.len() > 2 * LONGEST {
         return None;
     }
-    let bytes = decoded(digits)?;
-    let said = parsed(bytes.as_slice())?;
-    if said.total != 0 || said.kind != 0 {
-        return None;
-    }
-    place(memory, &said)
+    decoded(digits)
 }
 
-/// The image that a text in the narrow form gives.
-fn image_in(text: &[u8]) -> Option<Image>
-    ensures { option_map (λ image. image.bytes) result ≡ hex_image text.now }
+/// Does what a line says. The first rule that it breaks, with nothing done, where it breaks one.
+fn take_line(progress: &mut Progress, line: &[u8]) -> Result<(), Rule>
+    ensures done { IfOk result (λ _. after_line progress.old line.now ≡ Ok progress.new) }
+    ensures broken { IfErr result (λ rule. after_line progress.old line.now ≡ Err rule) }
 {
-    let mut memory = [None; PLACES];
-    let mut rest = text;
-    while let Some((line, after)) = split_line(rest) {
-        if line == END_LINE {
-            return if after.is_empty() {
-                Some(image_of(&memory))
-            } else {
-                None
-            };
-        }
-        take_line(&mut memory, line)?;
-        rest = after;
+    if line.is_empty() {
+        return Ok(());
     }
-    None
+    let bytes = line_bytes(line).ok_or(Rule::Form)?;
+    let said = parsed(bytes.as_slice()).ok_or(Rule::Form)?;
+    if let Some(rule) = broken_by(progress, &said) {
+        return Err(rule);
+    }
+    obey(progress, &said);
+    Ok(())
+}
+
+/// A rule that a line breaks.
+fn fault_at(line: u32, rule: Rule) -> HexFault
+    ensures { result ≡ fault_at line rule }
+{
+    HexFault {
+        line,
+        number: number_of(rule),
+    }
 }
 
 /// The program memory that a HEX text of at most 16,384 bytes gives. A place that no line gives is 00.
 ///
-/// The text has the narrow form, which is our own part of Intel HEX (Intel, Hexadecimal Object File Format
-/// Specification): each line ends with LF, and its digits are upper case. Each line but the last is `:LLAAAATT`, LL
-/// bytes of data and a sum byte, with type 00; all bytes of a line sum to 0 modulo 256; no byte of data stands past
-/// place 2,047, and no place is given twice. The last line is `:00000001FF`.
+/// Lines end with LF, or with CR and LF; the last may have no end. An empty line says nothing. Any other line is
+/// `:LLAAAATT`, LL bytes of data and a sum byte, in hexadecimal digits of either case (Intel, Hexadecimal Object File
+/// Format Specification). Type 00 gives data. Type 01 with LL 00 ends the file. Types 02 and 04 must have the value
+/// 0000. Types 03 and 05 have LL 04 and no effect.
 ///
-/// Any other text is refused, with line 0 and number 0. It takes no memory.
+/// Any other text is refused with the first line that breaks a rule, and the lowest number of a rule that it breaks:
+/// 1 form, 2 sum, 3 type, 4 a byte of data past place 2,047, 5 a place that is given twice, 7 a line after the end. A
+/// text without an end has number 6, at its number of lines plus one. It takes no memory.
 pub fn read_hex(bytes: &[u8]) -> Result<Image, HexFault>
     requires { length bytes.now ≤ 16384 }
-    ensures image { IfOk result (λ image. hex_image bytes.now ≡ Some image.bytes) }
-    ensures refused { OnErr result (hex_image bytes.now ≡ None) }
-    ensures fault { IfErr result (λ fault. fault ≡ record { line = 0; number = 0 }) }
+    ensures image { IfOk result (λ image. hex_of bytes.now ≡ Ok image.bytes) }
+    ensures fault { IfErr result (λ fault. hex_of bytes.now ≡ Err fault) }
 {
-    image_in(bytes).ok_or(NOT_NARROW)
+    let mut progress = Progress {
+        memory: [None; PLACES],
+        ended: false,
+    };
+    let mut rest = bytes;
+    let mut number = 1;
+    while let Some((line, after)) = next_line(rest) {
+        take_line(&mut progress, line).map_err(|rule| fault_at(number, rule))?;
+        rest = after;
+        number += 1;
+    }
+    if progress.ended {
+        Ok(image_of(&progress.memory))
+    } else {
+        Err(fault_at(number, Rule::NoEnd))
+    }
 }
 
 #[cfg(test)]

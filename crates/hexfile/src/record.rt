@@ -14,7 +14,7 @@ pub(crate) const LONGEST: usize = 260;
 pub(crate) struct Record<'a> {
     /// The place of the first byte of data, 0 to 65,535.
     pub(crate) address: u16,
-    /// The type of the line: 0 is data.
+    /// The type of the line, 0 to 255.
     pub(crate) kind: u8,
     /// The data, 0 to 255 bytes.
     pub(crate) bytes: &'a [u8],
@@ -22,13 +22,14 @@ pub(crate) struct Record<'a> {
     pub(crate) total: u8,
 }
 
-/// The value of a hexadecimal digit in upper case.
+/// The value of a hexadecimal digit of either case.
 fn digit_of(character: u8) -> Option<u8>
     ensures { result ≡ digit_value character }
 {
     match character {
         b'0'..=b'9' => Some(character - b'0'),
         b'A'..=b'F' => Some(character - b'A' + 10),
+        b'a'..=b'f' => Some(character - b'a' + 10),
         _ => None,
     }
 }
