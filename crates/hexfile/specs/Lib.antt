@@ -2,3 +2,4 @@ pub mod Record
 pub mod Memory
 pub mod Rules
 pub mod Hex
+pub mod Spelling

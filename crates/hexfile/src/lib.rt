@@ -12,6 +12,8 @@ mod memory;
 mod progress;
 mod reading;
 mod record;
+mod writing;
 
 pub use fault::HexFault;
 pub use reading::read_hex;
+pub use writing::write_hex;

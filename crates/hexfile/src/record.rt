@@ -51,7 +51,7 @@ pub(crate) fn decoded(digits: &[u8]) -> Option<ArrayVec<u8, LONGEST>>
 }
 
 /// The sum of bytes modulo 256.
-fn total_of(bytes: &[u8]) -> u8
+pub(crate) fn total_of(bytes: &[u8]) -> u8
     ensures { result ≡ sum bytes.now % 256 }
 {
     let mut total = 0u8;
