@@ -5,3 +5,4 @@ pub mod Outcomes
 pub mod Forms
 pub mod Keys
 pub mod Heard
+pub mod Complete

@@ -5,18 +5,21 @@ use Rattle.std.specs.declared.alloc.Global.{Global}
 use Rattle.std.specs.declared.option.Option.{Option}
 use Rattle.std.specs.declared.result.Result.{Result}
 use Rattle.std.specs.declared.vec.Vec.{Vec}
-use Rattle.hexfile.specs.Hex.{hex_image}
+use Rattle.hexfile.specs.Hex.{HexOutcome, hex_of}
+use Rattle.hexfile.specs.Spelling.{hex_text_of}
+use Rattle.mcs48_asm.specs.Assembly.{assembly_of}
 use Rattle.io_edge.specs.Shelf.{Told, Fetched, Fails, Long, Found, after_fetch, fetched}
 use Rattle.mcs48_isa.specs.Listing.{listing_of}
 use Rattle.mcs48_core.specs.StateText.{state_text_of}
 use Rattle.kbd48_app.specs.declared.exit.Exit.{Exit}
 use Rattle.kbd48_app.specs.declared.exit.Exit.TheVariants.{Done, Write}
 use Rattle.kbd48_app.specs.declared.refusal.Refusal.{Refusal}
-use Rattle.kbd48_app.specs.declared.refusal.Refusal.TheVariants.{Words, Read, HexTooLong, Hex, Stuck, Memory}
+use Rattle.kbd48_app.specs.declared.refusal.Refusal.TheVariants.{Words, Read, TooLong, Hex, Asm, Stuck, Memory}
 use Rattle.kbd48_app.specs.declared.words.Command.{Command}
 use Rattle.kbd48_app.specs.declared.words.Command.TheVariants.{OverFile, Feed}
 use Rattle.kbd48_app.specs.declared.words.FileCommand.{FileCommand}
-use Rattle.kbd48_app.specs.declared.words.FileCommand.TheVariants.{Step, Listing}
+use Rattle.kbd48_app.specs.declared.words.FileCommand.TheVariants.{Step, Listing, Assemble}
+use Rattle.kbd48_app.specs.Kinds.{limit_of, kind_of}
 use Rattle.kbd48_app.specs.Feeding.{fed_text}
 use Rattle.kbd48_app.specs.Refusals.{exit_of, line_of}
 use Rattle.kbd48_app.specs.Said.{TakesAll, TakesPart}
@@ -32,30 +35,32 @@ abbrev pub run_said : ℕ → Progress → Answer
 run_said count (Stands cpu cycles) = Ok (state_text_of cpu count cycles)
 run_said count (Stopped stuck) = Err (Stuck stuck)
 
--- a command of the image of its file, where the file is HEX
-abbrev pub image_said : FileCommand → Option (List ℕ) → Answer
-image_said command None = Err (Hex (record { line = 0; number = 0 }))
-image_said (Step count) (Some bytes) = run_said count (after_steps bytes count)
-image_said Listing (Some bytes) = Ok (listing_of bytes)
+-- what is said of the image of a HEX file, or the file's first fault
+abbrev pub of_image : (List ℕ → Answer) → HexOutcome → Answer
+of_image said (Ok image) = said image
+of_image said (Err fault) = Err (Hex fault)
+
+-- the HEX text of a source's image, or the source's first fault
+abbrev pub assembled : Result (List ℕ) (ℕ × ℕ) → Answer
+assembled (Ok image) = Ok (hex_text_of image)
+assembled (Err fault) = Err (Asm fault.0 fault.1)
 
 -- a command of its file's bytes
 abbrev pub file_said : FileCommand → List ℕ → Answer
-file_said command bytes = image_said command (hex_image bytes)
+file_said (Step count) bytes = of_image (λ image. run_said count (after_steps image count)) (hex_of bytes)
+file_said Listing bytes = of_image (λ image. Ok (listing_of image)) (hex_of bytes)
+file_said Assemble bytes = assembled (assembly_of bytes)
 
 -- a command of what the fetch of its file came to
 abbrev pub fetch_said : FileCommand → Fetched → Answer
 fetch_said command (Found bytes) = file_said command bytes
-fetch_said command Long = Err HexTooLong
+fetch_said command Long = Err (TooLong (kind_of command))
 fetch_said command Fails = Err Read
 
--- the limit of a HEX file, in bytes
-abbrev pub hex_limit : ℕ
-hex_limit = 16384
-
 -- what the fetch may come to: of a shelf that tells its files it is one thing alone
-abbrev pub MayFetch : Option Told → List ℕ → Fetched → Type 0
-MayFetch (Some shelf) name outcome = outcome ≡ fetched shelf name hex_limit
-MayFetch None name outcome = Unit {0}
+abbrev pub MayFetch : Option Told → List ℕ → ℕ → Fetched → Type 0
+MayFetch (Some shelf) name limit outcome = outcome ≡ fetched shelf name limit
+MayFetch None name limit outcome = Unit {0}
 
 -- memory may be wanting where a command is carried out
 abbrev pub MayAnswerOf : Answer → Answer → Type 0
@@ -64,7 +69,7 @@ MayAnswerOf said answer = (answer ≡ Err Memory) ⊎ (answer ≡ said)
 -- what a command over a file may say, by what its one fetch comes to
 abbrev pub MayAnswerOver : FileCommand → List ℕ → Option Told → Answer → Type 0
 MayAnswerOver command name shelf answer =
-    (outcome : Fetched) × MayFetch shelf name outcome × MayAnswerOf (fetch_said command outcome) answer
+    (outcome : Fetched) × MayFetch shelf name (limit_of (kind_of command)) outcome × MayAnswerOf (fetch_said command outcome) answer
 
 -- what may be said of a command: over its file, or, of `words`, what its bytes give; words without a command are refused
 abbrev pub MayAnswerAs : Option Command → List (List ℕ) → Option Told → Answer → Type 0

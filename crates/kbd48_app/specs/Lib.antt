@@ -1,4 +1,5 @@
 pub mod Words
+pub mod Kinds
 pub mod Exits
 pub mod Refusals
 pub mod Said
@@ -6,3 +7,4 @@ pub mod Stepping
 pub mod Feeding
 pub mod TranslationLaw
 pub mod Answers
+pub mod Complete

@@ -9,7 +9,8 @@ use Rattle.std.specs.Str.Parse.{digits_value}
 use Rattle.std.specs.declared.option.Option.{Option}
 use Rattle.kbd48_app.specs.declared.words.Command.{Command}
 use Rattle.kbd48_app.specs.declared.words.Command.TheVariants.{OverFile, Feed}
-use Rattle.kbd48_app.specs.declared.words.FileCommand.TheVariants.{Step, Listing}
+use Rattle.kbd48_app.specs.declared.words.FileCommand.{FileCommand}
+use Rattle.kbd48_app.specs.declared.words.FileCommand.TheVariants.{Step, Listing, Assemble}
 
 -- a NAME isn't empty and doesn't begin with `-`
 abbrev pub is_name : List ℕ → Bool
@@ -48,10 +49,10 @@ step_of (name ∷ count ∷ []) =
     if is_name name then option_map (λ steps. OverFile (Step steps)) (count_of count) else None
 step_of words = None
 
--- `list` NAME
-abbrev pub list_of : List (List ℕ) → Option Command
-list_of (name ∷ []) = if is_name name then Some (OverFile Listing) else None
-list_of words = None
+-- a command with a NAME alone: `list` NAME, `asm` NAME
+abbrev pub named_of : FileCommand → List (List ℕ) → Option Command
+named_of command (name ∷ []) = if is_name name then Some (OverFile command) else None
+named_of command words = None
 
 -- `words` BYTE ..: 1 to 4,096 of them
 abbrev pub are_bytes : List (List ℕ) → Bool
@@ -65,8 +66,9 @@ abbrev pub command_of : List (List ℕ) → Option Command
 command_of [] = None
 command_of (command ∷ words) =
     if bytes_eq command (codes "step") then step_of words
-    else (if bytes_eq command (codes "list") then list_of words
-    else (if bytes_eq command (codes "words") then feed_of words else None))
+    else (if bytes_eq command (codes "list") then named_of Listing words
+    else (if bytes_eq command (codes "asm") then named_of Assemble words
+    else (if bytes_eq command (codes "words") then feed_of words else None)))
 
 -- the words have an accepted form
 abbrev pub is_form : List (List ℕ) → Bool

@@ -9,6 +9,7 @@
 mod answering;
 mod exit;
 mod feeding;
+mod kind;
 mod law;
 mod refusal;
 mod saying;

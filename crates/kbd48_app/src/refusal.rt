@@ -1,10 +1,12 @@
 //! Why a call printed one line in place of its text.
 
-ghost use Rattle.std.specs.Prelude.{◌≡◌, ◌+◌, ◌≤◌, ◌++◌, length};
+ghost use Rattle.std.specs.Prelude.{◌≡◌, ◌+◌, ◌≤◌, ◌++◌, codes, length};
 ghost use Rattle.arrayvec.specs.ArrayVec.{array_vec_len};
-ghost use Rattle.kbd48_app.specs.Refusals.{exit_of, line_of};
+ghost use Rattle.kbd48_app.specs.Kinds.{name_of};
+ghost use Rattle.kbd48_app.specs.Refusals.{exit_of, fault_line, line_of};
 
 use crate::exit::Exit;
+use crate::kind::Kind;
 use arrayvec::ArrayVec;
 use hexfile::HexFault;
 use mcs48_core::Stuck;
@@ -16,10 +18,12 @@ pub enum Refusal {
     Words,
     /// The shelf failed.
     Read,
-    /// The HEX file has more bytes than its limit.
-    HexTooLong,
+    /// The file has more bytes than its kind may have.
+    TooLong(Kind),
     /// The HEX file has this fault.
     Hex(HexFault),
+    /// The line of the assembler source, counted from 1, and its fault.
+    Asm { line: u32, number: u8 },
     /// A step met a byte without an instruction.
     Stuck(Stuck),
     /// Memory was wanting.
@@ -47,16 +51,31 @@ fn fixed_line(text: &str) -> Line
     line
 }
 
-fn hex_line(fault: HexFault) -> Line
-    ensures { result.items ≡ line_of (Refusal.Hex fault) }
+/// `input:` and the kind of the file.
+fn input_line(kind: Kind) -> Line
+    ensures { result.items ≡ codes "input: " ++ name_of kind }
 {
-    let mut line = fixed_line("input: hex line ");
-    append(&mut line, itoa::Buffer::new().format(fault.line).as_bytes());
+    let mut line = fixed_line("input: ");
+    append(&mut line, kind.name().as_bytes());
+    line
+}
+
+fn long_line(kind: Kind) -> Line
+    ensures { result.items ≡ line_of (Refusal.TooLong kind) }
+{
+    let mut line = input_line(kind);
+    append(&mut line, b" too long\n");
+    line
+}
+
+fn fault_line(kind: Kind, at: u32, number: u8) -> Line
+    ensures { result.items ≡ fault_line kind at number }
+{
+    let mut line = input_line(kind);
+    append(&mut line, b" line ");
+    append(&mut line, itoa::Buffer::new().format(at).as_bytes());
     append(&mut line, b" fault ");
-    append(
-        &mut line,
-        itoa::Buffer::new().format(fault.number).as_bytes(),
-    );
+    append(&mut line, itoa::Buffer::new().format(number).as_bytes());
     append(&mut line, b"\n");
     line
 }
@@ -80,7 +99,7 @@ impl Refusal {
         match self {
             Refusal::Words => Exit::Words,
             Refusal::Read => Exit::Read,
-            Refusal::HexTooLong | Refusal::Hex(_) => Exit::Input,
+            Refusal::TooLong(_) | Refusal::Hex(_) | Refusal::Asm { .. } => Exit::Input,
             Refusal::Stuck(_) => Exit::Stuck,
             Refusal::Memory => Exit::Memory,
         }
@@ -93,8 +112,9 @@ impl Refusal {
         match self {
             Refusal::Words => fixed_line("words: not a command of kbd48\n"),
             Refusal::Read => fixed_line("read: the shelf failed\n"),
-            Refusal::HexTooLong => fixed_line("input: hex too long\n"),
-            Refusal::Hex(fault) => hex_line(*fault),
+            Refusal::TooLong(kind) => long_line(*kind),
+            Refusal::Hex(fault) => fault_line(Kind::Hex, fault.line, fault.number),
+            Refusal::Asm { line, number } => fault_line(Kind::Asm, *line, *number),
             Refusal::Stuck(stuck) => stuck_line(*stuck),
             Refusal::Memory => fixed_line("memory: none left\n"),
         }

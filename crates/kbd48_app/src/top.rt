@@ -1,8 +1,9 @@
 //! The top call.
 
-ghost use Rattle.std.specs.Prelude.{◌≡◌, ◌<◌, ◌⊎◌, map, string_bytes, None, Err};
+ghost use Rattle.std.specs.Prelude.{◌≡◌, ◌-◌, ◌^◌, ◌<◌, ◌⊎◌, map, string_bytes, None, Err};
 ghost use Rattle.io_edge.specs.Faults.{Rose};
 ghost use Rattle.kbd48_app.specs.Answers.{Answer, Says, answer_of, MayAnswer, told_after};
+ghost use Rattle.kbd48_app.specs.Complete.{IsFaultless, IsLeft};
 ghost use Rattle.kbd48_app.specs.Said.{TakesAll, TakesPart};
 ghost use Rattle.kbd48_app.specs.Words.{command_of};
 
@@ -53,6 +54,10 @@ pub fn kbd48<F: Shelf, K: Sink>(alloc: Global, words: &[String], shelf: &mut F, 
     ensures read { result ≡ Exit.Read → Rose (F.faults shelf.old) (F.faults shelf.new) }
     ensures write { result ≡ Exit.Write → Rose (K.faults out.old) (K.faults out.new) }
     ensures put_failed { K.faults out.old < K.faults out.new → result ≡ Exit.Write }
+    // Where nothing stands in the way, and no put failed, only want of memory is left, or in `step` a byte without an instruction.
+    ensures complete { IsFaultless (map string_bytes words.now) (F.told shelf.old)
+        → K.faults out.new ≡ K.faults out.old → K.faults out.old < 2 ^ 64 - 1
+        → IsLeft (command_of (map string_bytes words.now)) result }
     ensures fetches { F.told shelf.new ≡ told_after (command_of (map string_bytes words.now)) (F.told shelf.old) }
 {
     let answer = answer(alloc, words, shelf);

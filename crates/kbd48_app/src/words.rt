@@ -3,7 +3,9 @@
 ghost use Rattle.std.specs.Prelude.{◌≡◌, map, string_bytes};
 ghost use Rattle.std.specs.Char.{is_ascii_digit};
 ghost use Rattle.std.specs.List.{list_all};
-ghost use Rattle.kbd48_app.specs.Words.{is_name, is_short_number, count_of, digit_of, byte_of, is_byte, are_bytes, step_of, list_of, feed_of, command_of, is_form};
+ghost use Rattle.kbd48_app.specs.Words.{is_name, is_short_number, count_of, digit_of, byte_of, is_byte, are_bytes, step_of, named_of, feed_of, command_of, is_form};
+
+use crate::kind::Kind;
 
 /// The greatest COUNT.
 const MOST_STEPS: u32 = 1_000_000;
@@ -18,6 +20,8 @@ pub enum FileCommand {
     Step { count: u32 },
     /// `list` NAME
     Listing,
+    /// `asm` NAME
+    Assemble,
 }
 
 /// A command, as the words give it.
@@ -26,6 +30,20 @@ pub enum Command {
     OverFile(FileCommand),
     /// `words` BYTE ..: the bytes are the words behind the command.
     Feed,
+}
+
+impl FileCommand {
+    ghost use Rattle.kbd48_app.specs.Kinds.{kind_of};
+
+    /// The kind of the file that the command names.
+    pub fn kind(self) -> Kind
+        ensures { result ≡ kind_of self }
+    {
+        match self {
+            FileCommand::Step { .. } | FileCommand::Listing => Kind::Hex,
+            FileCommand::Assemble => Kind::Asm,
+        }
+    }
 }
 
 fn is_name(word: &str) -> bool
@@ -115,11 +133,12 @@ fn read_step(words: &[String]) -> Option<Command>
     }
 }
 
-fn read_list(words: &[String]) -> Option<Command>
-    ensures { result ≡ list_of (map string_bytes words.now) }
+/// A command that takes a NAME alone.
+fn read_named(command: FileCommand, words: &[String]) -> Option<Command>
+    ensures { result ≡ named_of command (map string_bytes words.now) }
 {
     match words {
-        [name] if is_name(name) => Some(Command::OverFile(FileCommand::Listing)),
+        [name] if is_name(name) => Some(Command::OverFile(command)),
         _ => None,
     }
 }
@@ -137,7 +156,8 @@ pub fn read_command(words: &[String]) -> Option<Command>
     let (command, words) = words.split_first()?;
     match command.as_str() {
         "step" => read_step(words),
-        "list" => read_list(words),
+        "list" => read_named(FileCommand::Listing, words),
+        "asm" => read_named(FileCommand::Assemble, words),
         "words" => read_feed(words),
         _ => None,
     }

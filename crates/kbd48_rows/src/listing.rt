@@ -1,6 +1,6 @@
 //! `list`: the listing of an image, and its refusals.
 
-use crate::rows::Row;
+use crate::rows::{Row, check};
 use kbd48_app::Exit;
 use std::test::Fail;
 
@@ -28,9 +28,9 @@ static ROWS: [Row; 5] = [
     },
     Row {
         words: &["list", "f"],
-        file: ":00000001ff\n",
+        file: ":00000001FE\n",
         exit: Exit::Input,
-        text: "input: hex line 0 fault 0\n",
+        text: "input: hex line 1 fault 2\n",
     },
     Row {
         words: &["list", "f", "0"],
@@ -42,10 +42,6 @@ static ROWS: [Row; 5] = [
 
 #[test]
 fn rows_print_their_text(rt: HostRuntime) -> Result<(), Fail> {
-    for row in &ROWS {
-        let outcome = row.outcome(rt.alloc())?;
-        assert_eq!(rt; outcome.exit, row.exit, "{}", row.text);
-        assert!(rt; outcome.printed(row.text), "{}", row.text);
-    }
+    check(&rt, rt.alloc(), &ROWS)?;
     Ok(())
 }

@@ -3,6 +3,7 @@
 use io_edge::{MemShelf, MemSink};
 use kbd48_app::{Exit, kbd48};
 use std::alloc::{AllocError, Global};
+use std::process::Abort;
 
 /// The words after the program's name, the file that is called `f`, and what is expected.
 #[derive(Drop)]
@@ -67,4 +68,14 @@ impl Row {
             &[],
         )
     }
+}
+
+/// Runs each row, and compares its exit and its text with what is expected.
+pub fn check(rt: &impl Abort, alloc: Global, rows: &[Row]) -> Result<(), AllocError> {
+    for row in rows {
+        let outcome = row.outcome(alloc)?;
+        assert_eq!(rt; outcome.exit, row.exit, "{}", row.text);
+        assert!(rt; outcome.printed(row.text), "{}", row.text);
+    }
+    Ok(())
 }

@@ -1,6 +1,6 @@
 //! `step`: the state after so many steps, and each of its refusals.
 
-use crate::rows::{Row, run, shelf_of};
+use crate::rows::{Row, check, run, shelf_of};
 use kbd48_app::Exit;
 use std::test::Fail;
 
@@ -8,7 +8,7 @@ const HALF_CARRY: &str = ":04000000237F030156\n:00000001FF\n";
 
 const TIMER: &str = ":020000000409F1\n:0200070017934D\n:0800090023FF62272555040FB7\n:00000001FF\n";
 
-static ROWS: [Row; 12] = [
+static ROWS: [Row; 14] = [
     Row {
         words: &["step", "f", "0"],
         file: ":00000001FF\n",
@@ -100,12 +100,33 @@ static ROWS: [Row; 12] = [
         exit: Exit::Words,
         text: "words: not a command of kbd48\n",
     },
+    // Digits of lower case and lines that end with CR LF; and a start address, which has no effect.
+    Row {
+        words: &["step", "f", "2"],
+        file: ":04000000237f030156\r\n:00000001ff\r\n",
+        exit: Exit::Done,
+        text: "pc 004 a 80 psw 48 f1 0 mb 0\n\
+               t 00 pre 00 tf 0 run off ext off tim off rq 0 svc 0\n\
+               p1 FF p2 FF bus FF\n\
+               r 00 00 00 00 00 00 00 00\n\
+               steps 2 cycles 4\n",
+    },
+    Row {
+        words: &["step", "f", "2"],
+        file: ":04000000237F030156\n:0400000500000000F7\n:00000001FF\n",
+        exit: Exit::Done,
+        text: "pc 004 a 80 psw 48 f1 0 mb 0\n\
+               t 00 pre 00 tf 0 run off ext off tim off rq 0 svc 0\n\
+               p1 FF p2 FF bus FF\n\
+               r 00 00 00 00 00 00 00 00\n\
+               steps 2 cycles 4\n",
+    },
     // A file without its end line.
     Row {
         words: &["step", "f", "1"],
         file: ":04000000237F030156\n",
         exit: Exit::Input,
-        text: "input: hex line 0 fault 0\n",
+        text: "input: hex line 2 fault 6\n",
     },
     // A name that isn't on the shelf.
     Row {
@@ -118,11 +139,7 @@ static ROWS: [Row; 12] = [
 
 #[test]
 fn rows_print_their_text(rt: HostRuntime) -> Result<(), Fail> {
-    for row in &ROWS {
-        let outcome = row.outcome(rt.alloc())?;
-        assert_eq!(rt; outcome.exit, row.exit, "{}", row.text);
-        assert!(rt; outcome.printed(row.text), "{}", row.text);
-    }
+    check(&rt, rt.alloc(), &ROWS)?;
     Ok(())
 }
 

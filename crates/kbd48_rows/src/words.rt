@@ -1,6 +1,6 @@
 //! `words`: what INT 09h says of keyboard bytes, and the words that aren't bytes.
 
-use crate::rows::{Row, owned};
+use crate::rows::{Row, check, owned};
 use kbd48_app::{Exit, form};
 use std::test::Fail;
 
@@ -79,11 +79,7 @@ static ROWS: [Row; 10] = [
 
 #[test]
 fn rows_print_their_text(rt: HostRuntime) -> Result<(), Fail> {
-    for row in &ROWS {
-        let outcome = row.outcome(rt.alloc())?;
-        assert_eq!(rt; outcome.exit, row.exit, "{}", row.text);
-        assert!(rt; outcome.printed(row.text), "{}", row.text);
-    }
+    check(&rt, rt.alloc(), &ROWS)?;
     Ok(())
 }
 

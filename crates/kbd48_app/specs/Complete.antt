@@ -1,0 +1,40 @@
+-- When a call can't be refused.
+use Rattle.std.specs.Prelude.{◌≡◌, ◌⊎◌, ℕ, List, None, Some, Ok}
+use Rattle.std.specs.declared.option.Option.{Option}
+use Rattle.hexfile.specs.Hex.{hex_of}
+use Rattle.io_edge.specs.Shelf.{Told, Found, fetched}
+use Rattle.mcs48_asm.specs.Assembly.{assembly_of}
+use Rattle.kbd48_app.specs.declared.exit.Exit.{Exit}
+use Rattle.kbd48_app.specs.declared.exit.Exit.TheVariants.{Done, Memory, Stuck}
+use Rattle.kbd48_app.specs.declared.words.Command.{Command}
+use Rattle.kbd48_app.specs.declared.words.Command.TheVariants.{OverFile, Feed}
+use Rattle.kbd48_app.specs.declared.words.FileCommand.{FileCommand}
+use Rattle.kbd48_app.specs.declared.words.FileCommand.TheVariants.{Step, Listing, Assemble}
+use Rattle.kbd48_app.specs.Kinds.{limit_of, kind_of}
+use Rattle.kbd48_app.specs.Words.{command_of, name_in}
+
+-- the bytes are a file without a fault
+abbrev pub IsSound : FileCommand → List ℕ → Type 0
+IsSound (Step count) bytes = (image : List ℕ) × (hex_of bytes ≡ Ok image)
+IsSound Listing bytes = (image : List ℕ) × (hex_of bytes ≡ Ok image)
+IsSound Assemble bytes = (image : List ℕ) × (assembly_of bytes ≡ Ok image)
+
+-- the shelf tells its files, the next call isn't one that fails, and under the name is a file within its limit and without a fault
+abbrev pub IsServed : FileCommand → List ℕ → Option Told → Type 0
+IsServed command name None = ⊥
+IsServed command name (Some shelf) =
+    (bytes : List ℕ) × (fetched shelf name (limit_of (kind_of command)) ≡ Found bytes) × IsSound command bytes
+
+-- the words have a form, and its file, if it names one, is served
+abbrev pub IsFaultlessAs : Option Command → List (List ℕ) → Option Told → Type 0
+IsFaultlessAs None words shelf = ⊥
+IsFaultlessAs (Some Feed) words shelf = Unit {0}
+IsFaultlessAs (Some (OverFile command)) words shelf = IsServed command (name_in words) shelf
+
+abbrev pub IsFaultless : List (List ℕ) → Option Told → Type 0
+IsFaultless words shelf = IsFaultlessAs (command_of words) words shelf
+
+-- the exits that are left then: all was done, memory was wanting, or, in `step` alone, a byte without an instruction was met
+abbrev pub IsLeft : Option Command → Exit → Type 0
+IsLeft (Some (OverFile (Step count))) exit = (exit ≡ Done) ⊎ (exit ≡ Memory) ⊎ (exit ≡ Stuck)
+IsLeft command exit = (exit ≡ Done) ⊎ (exit ≡ Memory)

@@ -1,0 +1,20 @@
+-- The kinds of files: their limits in bytes, and how refusals name them.
+use Rattle.std.specs.Prelude.{ℕ, List, codes}
+use Rattle.kbd48_app.specs.declared.kind.Kind.{Kind}
+use Rattle.kbd48_app.specs.declared.kind.Kind.TheVariants.{Hex, Asm}
+use Rattle.kbd48_app.specs.declared.words.FileCommand.{FileCommand}
+use Rattle.kbd48_app.specs.declared.words.FileCommand.TheVariants.{Step, Listing, Assemble}
+
+abbrev pub limit_of : Kind → ℕ
+limit_of Hex = 16384
+limit_of Asm = 262144
+
+abbrev pub name_of : Kind → List ℕ
+name_of Hex = codes "hex"
+name_of Asm = codes "asm"
+
+-- the kind of the file that a command names
+abbrev pub kind_of : FileCommand → Kind
+kind_of (Step count) = Hex
+kind_of Listing = Hex
+kind_of Assemble = Asm

@@ -1,0 +1,34 @@
+//! The kinds of files.
+
+ghost use Rattle.std.specs.Prelude.{◌≡◌};
+
+/// A kind of file.
+#[derive(Clone, Copy, Debug, PartialEq, Eq, Drop)]
+pub enum Kind {
+    Hex,
+    Asm,
+}
+
+impl Kind {
+    ghost use Rattle.kbd48_app.specs.Kinds.{limit_of, name_of};
+
+    /// The most bytes that a file of this kind may have.
+    pub fn limit(self) -> usize
+        ensures { result ≡ limit_of self }
+    {
+        match self {
+            Kind::Hex => 16_384,
+            Kind::Asm => 262_144,
+        }
+    }
+
+    /// The kind as refusals name it.
+    pub fn name(self) -> &'static str
+        ensures { result.now ≡ name_of self }
+    {
+        match self {
+            Kind::Hex => "hex",
+            Kind::Asm => "asm",
+        }
+    }
+}

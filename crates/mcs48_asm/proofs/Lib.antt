@@ -1,0 +1,11 @@
+pub mod Worked
+pub mod Trims
+pub mod Splits
+pub mod Texts
+pub mod Keeps
+pub mod Counts
+pub mod Parts
+pub mod Ranges
+pub mod Steps
+pub mod Passes
+pub mod Outcomes

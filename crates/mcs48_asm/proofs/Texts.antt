@@ -1,0 +1,87 @@
+-- The texts of operands.
+use Rattle.std.proofs.Common.{◌≡◌, ℕ, ◌==◌, Bool, true, false, cond, List, [], ◌∷◌, length, map, None, refl, ap, sym, ◌∙◌, arith}
+use Rattle.std.specs.List.{slice_split, onto_first}
+use Rattle.std.proofs.lemmas.Bool.Decides.{nat_tests}
+use Rattle.mcs48_asm.specs.declared.rows.Operand.{Operand}
+use Rattle.mcs48_asm.specs.declared.rows.Shape.TheVariants.{Without, One, Two}
+use Rattle.mcs48_asm.specs.Characters.{is_comma, is_colon}
+use Rattle.mcs48_asm.specs.Words.{trimmed}
+use Rattle.std.specs.Str.Lines.{lines, lines_of_parts, strip_carriage_return}
+use Rattle.mcs48_asm.specs.Statements.{flawed, line_of_parts}
+use Rattle.mcs48_asm.specs.Rows.{read_all, operands_of}
+
+-- a list of lists with a first element
+pub record IsCons (parts : List (List ℕ)) : Type 0 where
+  pub first : List ℕ
+  pub rest : List (List ℕ)
+  pub is : parts ≡ first ∷ rest
+
+onto_first-is_cons : (c : ℕ) (parts : List (List ℕ)) → IsCons (onto_first c parts)
+onto_first-is_cons c [] = record { first = c ∷ []; rest = []; is = refl }
+onto_first-is_cons c (part ∷ parts) = record { first = c ∷ part; rest = parts; is = refl }
+
+cond-is_cons : (b : Bool) (c : ℕ) (parts : List (List ℕ)) → IsCons (cond b ([] ∷ parts) (onto_first c parts))
+cond-is_cons true c parts = record { first = []; rest = parts; is = refl }
+cond-is_cons false c parts = onto_first-is_cons c parts
+
+-- a text has a first part
+pub split-is_cons : (p : ℕ → Bool) (xs : List ℕ) → IsCons (slice_split p xs)
+split-is_cons p [] = record { first = []; rest = []; is = refl }
+split-is_cons p (x ∷ xs) = cond-is_cons (p x) x (slice_split p xs)
+
+filled : (c : ℕ) (cs : List ℕ) → (length (c ∷ cs) == 0) ≡ false
+filled c cs = grind (arith, nat_tests)
+
+-- operands that stand there
+pub operands_are : (text : List ℕ) → (length text == 0) ≡ false → operands_of text ≡ map trimmed (slice_split is_comma text)
+operands_are text h = rw h refl
+
+pub read_none-some : (text : List ℕ) → (length text == 0) ≡ false → None ≡ read_all Without (operands_of text)
+read_none-some text h =
+    let parts = split-is_cons is_comma text in
+    sym (ap (read_all Without) (operands_are text h ∙ ap (map trimmed) parts.is))
+
+pub read_one-one : (operand : Operand) (text : List ℕ) → (length text == 0) ≡ false → slice_split is_comma text ≡ text ∷ [] → read_all (One operand) (trimmed text ∷ []) ≡ read_all (One operand) (operands_of text)
+read_one-one operand text h one = sym (ap (read_all (One operand)) (operands_are text h ∙ ap (map trimmed) one))
+
+pub read_one-more : (operand : Operand) (text front back : List ℕ) → (length text == 0) ≡ false → slice_split is_comma text ≡ front ∷ slice_split is_comma back → None ≡ read_all (One operand) (operands_of text)
+read_one-more operand text front back h split =
+    let parts = split-is_cons is_comma back in
+    sym (ap (read_all (One operand)) (operands_are text h ∙ ap (map trimmed) (split ∙ ap (λ rest. front ∷ rest) parts.is)))
+
+pub read_two-one : (first second : Operand) (text : List ℕ) → slice_split is_comma text ≡ text ∷ [] → None ≡ read_all (Two first second) (operands_of text)
+read_two-one first second [] one = refl
+read_two-one first second (c ∷ cs) one = sym (ap (read_all (Two first second)) (operands_are (c ∷ cs) (filled c cs) ∙ ap (map trimmed) one))
+
+two_parts : (text front back : List ℕ) (rest : List (List ℕ)) → slice_split is_comma text ≡ front ∷ slice_split is_comma back → slice_split is_comma back ≡ back ∷ rest → (length text == 0) ≡ false
+two_parts [] front back rest split other = absurd (cc)
+two_parts (c ∷ cs) front back rest split other = filled c cs
+
+pub read_two-two : (first second : Operand) (text front back : List ℕ) → slice_split is_comma text ≡ front ∷ slice_split is_comma back → slice_split is_comma back ≡ back ∷ []
+    → read_all (Two first second) (trimmed front ∷ trimmed back ∷ []) ≡ read_all (Two first second) (operands_of text)
+read_two-two first second text front back split other =
+    sym (ap (read_all (Two first second)) (operands_are text (two_parts text front back [] split other) ∙ ap (map trimmed) (split ∙ ap (λ rest. front ∷ rest) other)))
+
+more_parts : (text front back middle : List ℕ) (rest : List (List ℕ)) → slice_split is_comma text ≡ front ∷ slice_split is_comma back → slice_split is_comma back ≡ middle ∷ rest → (length text == 0) ≡ false
+more_parts [] front back middle rest split other = absurd (cc)
+more_parts (c ∷ cs) front back middle rest split other = filled c cs
+
+pub read_two-more : (first second : Operand) (text front back middle last : List ℕ) → slice_split is_comma text ≡ front ∷ slice_split is_comma back → slice_split is_comma back ≡ middle ∷ slice_split is_comma last
+    → None ≡ read_all (Two first second) (operands_of text)
+read_two-more first second text front back middle last split other =
+    let parts = split-is_cons is_comma last in
+    sym (ap (read_all (Two first second)) (operands_are text (more_parts text front back middle (slice_split is_comma last) split other)
+    ∙ ap (map trimmed) (split ∙ ap (λ rest. front ∷ rest) (other ∙ ap (λ rest. middle ∷ rest) parts.is))))
+
+-- a line and the lines behind it
+pub lines-first : (text front rest : List ℕ) → slice_split (λ c. c == 10) text ≡ front ∷ slice_split (λ c. c == 10) rest → lines text ≡ strip_carriage_return front ∷ lines rest
+lines-first text front rest split =
+    let parts = split-is_cons (λ c. c == 10) rest in
+    ap lines_of_parts (split ∙ ap (λ more. front ∷ more) parts.is) ∙ sym (ap (λ more. strip_carriage_return front ∷ lines_of_parts more) parts.is)
+
+-- a text with two colons
+pub line_of_parts-more : (text front back middle last : List ℕ) → slice_split is_colon text ≡ front ∷ slice_split is_colon back → slice_split is_colon back ≡ middle ∷ slice_split is_colon last
+    → flawed 1 ≡ line_of_parts (slice_split is_colon text)
+line_of_parts-more text front back middle last split other =
+    let parts = split-is_cons is_colon last in
+    sym (ap line_of_parts (split ∙ ap (λ rest. front ∷ rest) (other ∙ ap (λ rest. middle ∷ rest) parts.is)))

@@ -1,0 +1,14 @@
+use Rattle.std.proofs.Common.{◌≡◌, is_none, length}
+use Rattle.std.specs.List.{list_any}
+use Rattle.mcs48_asm.specs.Names.{meaning}
+use Rattle.mcs48_asm.specs.Statements.{parts_of}
+use Rattle.mcs48_asm.specs.Views.{kept_value, kept_part}
+use Rattle.mcs48_asm.proofs.faults.has_unknown_part.Given as goal
+
+abbrev pub invariant-loop-part : goal.invariant-loop-part
+invariant-loop-part l =
+    list_any (λ part. is_none (meaning (kept_value l.names.entries) (kept_part part))) (parts_of l.text)
+    ≡ list_any (λ part. is_none (meaning (kept_value l.names.entries) (kept_part part))) (parts_of l.rest)
+
+abbrev pub decreases-loop-part : goal.decreases-loop-part
+decreases-loop-part l = length l.rest

@@ -1,0 +1,14 @@
+use Rattle.std.proofs.Common.{◌≡◌, ◌%◌, ◌++◌, map, length}
+use Rattle.mcs48_asm.specs.Names.{taken}
+use Rattle.mcs48_asm.specs.Statements.{parts_of}
+use Rattle.mcs48_asm.specs.Views.{kept_value, kept_part}
+use Rattle.mcs48_asm.proofs.meaning.data_bytes.Given as goal
+
+-- the bytes so far, and those of the parts that are left
+abbrev pub invariant-loop-part : goal.invariant-loop-part
+invariant-loop-part l =
+    l.bytes.items ++ map (λ part. taken (kept_value l.names.entries) (kept_part part) % 256) (parts_of l.rest)
+    ≡ map (λ part. taken (kept_value l.names.entries) (kept_part part) % 256) (parts_of l.text)
+
+abbrev pub decreases-loop-part : goal.decreases-loop-part
+decreases-loop-part l = length l.rest

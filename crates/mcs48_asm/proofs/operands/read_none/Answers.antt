@@ -1,0 +1,5 @@
+use Rattle.mcs48_asm.proofs.Texts.{read_none-some}
+use Rattle.mcs48_asm.proofs.operands.read_none.Goals as goal
+
+pub returns-else-is_empty : goal.returns-else-is_empty
+returns-else-is_empty c = read_none-some c.args.text.now (cc)

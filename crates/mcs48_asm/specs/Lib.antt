@@ -1,0 +1,11 @@
+pub mod Characters
+pub mod Words
+pub mod Values
+pub mod Rows
+pub mod Statements
+pub mod Places
+pub mod Names
+pub mod Faults
+pub mod Assembly
+pub mod Views
+pub mod Answers

@@ -1,0 +1,102 @@
+-- What a line says.
+use Rattle.std.specs.Prelude.{ℕ, ◌+◌, ◌%◌, Bool, List, [], ◌∷◌, ◌==◌, ◌&&◌, ◌||◌, not, is_some, length, map, Some, None, Ok, Err, if◌then◌else◌, codes}
+use Rattle.std.specs.List.{list_all, slice_split, before_first}
+use Rattle.std.specs.Option.{option_map, option_and_then, option_or, ok_or}
+use Rattle.std.specs.Str.{bytes_eq}
+use Rattle.std.specs.declared.option.Option.{Option}
+use Rattle.std.specs.declared.result.Result.{Result}
+use Rattle.mcs48_asm.specs.declared.rows.Row.{Row}
+use Rattle.mcs48_asm.specs.Characters.{is_word_character, is_comma, is_colon, is_semicolon, is_allowed}
+use Rattle.mcs48_asm.specs.Words.{trimmed, run_of, tail_of, first_word, second_word, is_name}
+use Rattle.mcs48_asm.specs.Values.{Value, value_of, number_of}
+use Rattle.mcs48_asm.specs.Rows.{Argument, spelled, instructions, is_instruction, read_all, operands_of}
+
+-- a statement: nothing; an instruction with its first byte and the value that it takes; ORG with its place; DB with its values; EQU with its name and number
+pub data Statement : Type 0 where
+  Nothing : Statement
+  Instruction : ℕ → Option Argument → Statement
+  Origin : ℕ → Statement
+  Data : List Value → Statement
+  Equate : List ℕ → ℕ → Statement
+
+-- the values that texts write, where each of them writes one
+abbrev pub values_of : List (List ℕ) → Option (List Value)
+values_of [] = Some []
+values_of (text ∷ texts) = option_and_then (λ value. option_map (λ values. value ∷ values) (values_of texts)) (value_of text)
+
+-- the parts of a text between commas, without the blanks round them
+abbrev pub parts_of : List ℕ → List (List ℕ)
+parts_of text = map trimmed (slice_split is_comma text)
+
+-- name EQU number
+abbrev pub equate_of : List ℕ → Option Statement
+equate_of text =
+    if is_name (run_of text) && bytes_eq (run_of (tail_of text)) (codes "EQU")
+    then option_map (Equate (run_of text)) (number_of (tail_of (tail_of text)))
+    else None
+
+-- ORG number
+abbrev pub origin_of : List ℕ → Option Statement
+origin_of text = if bytes_eq (run_of text) (codes "ORG") then option_map Origin (number_of (tail_of text)) else None
+
+-- DB value, value, ..
+abbrev pub data_of : List ℕ → Option Statement
+data_of text =
+    if bytes_eq (run_of text) (codes "DB")
+    then option_map Data (values_of (parts_of (tail_of text)))
+    else None
+
+-- the instruction of a row whose first word and operands these are; the number of a register or a port is added to the first byte
+abbrev pub instruction_in : Row → List ℕ → List ℕ → Option Statement
+instruction_in row word operands =
+    if bytes_eq (spelled row.0) word
+    then option_map (λ said. Instruction ((row.2 + said.offset) % 256) said.argument) (read_all row.1 (operands_of operands))
+    else None
+
+-- the instruction of the first row that fits
+abbrev pub first_fit : List Row → List ℕ → List ℕ → Option Statement
+first_fit [] word operands = None
+first_fit (row ∷ rows) word operands = option_or (instruction_in row word operands) (first_fit rows word operands)
+
+-- the statement that a text without blanks round it writes, or its fault: 2 where it is of no kind, 3 where its operands don't fit
+abbrev pub statement_of : List ℕ → Result Statement ℕ
+statement_of text =
+    if length text == 0 then Ok Nothing
+    else (if bytes_eq (second_word text) (codes "EQU") then ok_or (equate_of text) 3
+    else (if bytes_eq (first_word text) (codes "ORG") then ok_or (origin_of text) 3
+    else (if bytes_eq (first_word text) (codes "DB") then ok_or (data_of text) 3
+    else (if is_instruction (first_word text) then ok_or (first_fit instructions (run_of text) (tail_of text)) 3
+    else Err 2))))
+
+-- a line: its fault 1, 2 or 3 of form, where it has one, and then it says nothing; its label, and its statement
+pub record Line : Type 0 where
+  pub flaw : Option ℕ
+  pub label : Option (List ℕ)
+  pub statement : Statement
+
+abbrev pub flawed : ℕ → Line
+flawed number = record { flaw = Some number; label = None; statement = Nothing }
+
+abbrev pub line_with : Option (List ℕ) → Result Statement ℕ → Line
+line_with label (Ok statement) = record { flaw = None; label = label; statement = statement }
+line_with label (Err number) = flawed number
+
+-- the line that the parts between colons write: a statement, or a label and a statement
+abbrev pub line_of_parts : List (List ℕ) → Line
+line_of_parts (text ∷ []) = line_with None (statement_of (trimmed text))
+line_of_parts (front ∷ text ∷ []) = if is_name (trimmed front) then line_with (Some (trimmed front)) (statement_of (trimmed text)) else flawed 1
+line_of_parts _ = flawed 1
+
+-- an unbroken run of letters, digits and _ is a name or a number
+abbrev pub is_known_word : List ℕ → Bool
+is_known_word word = length word == 0 || is_name word || is_some (number_of word)
+
+-- each character may stand there, and each word is a name or a number
+abbrev pub is_spelled : List ℕ → Bool
+is_spelled text = list_all is_allowed text && list_all is_known_word (slice_split (λ c. not (is_word_character c)) text)
+
+-- what a line says: what stands before the comment
+abbrev pub line_of : List ℕ → Line
+line_of line =
+    let text = before_first is_semicolon line in
+    if is_spelled text then line_of_parts (slice_split is_colon text) else flawed 1

@@ -1,0 +1,143 @@
+//! What a line says.
+
+ghost use Rattle.std.specs.Prelude.{◌≡◌, ◌∷◌, ◌<◌, not, [], IfSome, MatchOption, length};
+ghost use Rattle.std.specs.List.{list_all, slice_split};
+ghost use Rattle.std.specs.Option.{option_map};
+ghost use Rattle.std.specs.Str.Lines.{lines, strip_carriage_return};
+ghost use Rattle.mcs48_asm.specs.Characters.{is_word_character, is_allowed, is_colon};
+ghost use Rattle.mcs48_asm.specs.Words.{trimmed};
+ghost use Rattle.mcs48_asm.specs.Statements.{statement_of, flawed, line_with, line_of_parts, is_known_word, is_spelled, line_of};
+ghost use Rattle.mcs48_asm.specs.Views.{found_seen, line_seen};
+
+use crate::characters::{is_allowed, is_word_character};
+use crate::pieces::{before_comment, split_once};
+use crate::statement::{Statement, statement_of};
+use crate::values::number_of;
+use crate::words::{is_name, trimmed};
+
+/// The fault of a line whose spelling is wrong.
+const SYNTAX: u8 = 1;
+
+/// A line. Where it has a fault of form, it says nothing.
+#[derive(Clone, Copy)]
+pub(crate) struct Line<'a> {
+    /// The fault 1, 2 or 3 of form, where the line has one.
+    pub(crate) flaw: Option<u8>,
+    /// The label.
+    pub(crate) label: Option<&'a [u8]>,
+    /// The statement.
+    pub(crate) statement: Statement<'a>,
+}
+
+/// A line without the carriage return at its end.
+fn strip_carriage_return(line: &[u8]) -> &[u8]
+    ensures { result.now ≡ strip_carriage_return line.now }
+{
+    match line {
+        [front @ .., b'\r'] => front,
+        _ => line,
+    }
+}
+
+/// The first line of a text, and the text behind it.
+pub(crate) fn next_line(text: &[u8]) -> Option<(&[u8], &[u8])>
+    ensures line { MatchOption result (lines text.now ≡ []) (λ parts. lines text.now ≡ parts.0.now ∷ lines parts.1.now) }
+    ensures shorter { IfSome result (λ parts. length parts.1.now < length text.now) }
+{
+    match split_once(b'\n', text) {
+        Some((line, rest)) => Some((strip_carriage_return(line), rest)),
+        None if text.is_empty() => None,
+        None => Some((text, &text[text.len()..])),
+    }
+}
+
+/// A line with a fault of form.
+fn flawed<'a>(number: u8) -> Line<'a>
+    ensures { line_seen result ≡ flawed number }
+{
+    Line {
+        flaw: Some(number),
+        label: None,
+        statement: Statement::Nothing,
+    }
+}
+
+/// Whether each character may stand before a comment.
+fn are_allowed(text: &[u8]) -> bool
+    ensures { result ≡ list_all is_allowed text.now }
+{
+    text.iter().all(|character| is_allowed(*character))
+}
+
+/// Whether a word is nothing, a name or a number.
+fn is_known_word(word: &[u8]) -> bool
+    ensures { result ≡ is_known_word word.now }
+{
+    word.is_empty() || is_name(word) || number_of(word).is_some()
+}
+
+/// Whether each word of a text is a name or a number.
+fn are_known_words(text: &[u8]) -> bool
+    ensures { result ≡ list_all is_known_word (slice_split (λ character. not (is_word_character character)) text.now) }
+{
+    text.split(|character| !is_word_character(*character))
+        .all(|word| is_known_word(word))
+}
+
+/// Whether each character may stand before a comment, and each word is a name or a number.
+fn is_spelled(text: &[u8]) -> bool
+    ensures { result ≡ is_spelled text.now }
+{
+    are_allowed(text) && are_known_words(text)
+}
+
+/// A line with this label, where it has one, and with what a statement gave.
+fn line_with<'a>(label: Option<&'a [u8]>, text: &'a [u8]) -> Line<'a>
+    ensures { line_seen result ≡ line_with (option_map (λ name. name.now) label.entry) (statement_of (trimmed text.now)) }
+{
+    match statement_of(trimmed(text)) {
+        Ok(statement) => Line {
+            flaw: None,
+            label,
+            statement,
+        },
+        Err(number) => flawed(number),
+    }
+}
+
+/// The line that a label and what stands behind its colon give.
+fn labelled<'a>(label: &'a [u8], text: &'a [u8]) -> Line<'a>
+    ensures { line_seen result ≡ line_of_parts (label.now ∷ text.now ∷ []) }
+{
+    let name = trimmed(label);
+    if is_name(name) {
+        line_with(Some(name), text)
+    } else {
+        flawed(SYNTAX)
+    }
+}
+
+/// The line that a text gives in which each character and each word may stand.
+fn line_in(text: &[u8]) -> Line<'_>
+    ensures { line_seen result ≡ line_of_parts (slice_split is_colon text.now) }
+{
+    let Some((label, rest)) = split_once(b':', text) else {
+        return line_with(None, text);
+    };
+    match split_once(b':', rest) {
+        None => labelled(label, rest),
+        Some(_) => flawed(SYNTAX),
+    }
+}
+
+/// What a line says, its letters in upper case.
+pub(crate) fn line_of(line: &[u8]) -> Line<'_>
+    ensures { line_seen result ≡ line_of line.now }
+{
+    let text = before_comment(line);
+    if is_spelled(text) {
+        line_in(text)
+    } else {
+        flawed(SYNTAX)
+    }
+}

@@ -1,0 +1,104 @@
+//! Numbers and values.
+
+ghost use Rattle.std.specs.Prelude.{◌≡◌, ◌≤◌, nat_lt};
+ghost use Rattle.std.specs.List.{list_all};
+ghost use Rattle.std.specs.Option.{option_map};
+ghost use Rattle.mcs48_asm.specs.Values.{digit_value, are_digits, written, capped, number_in, number_of, name_value, value_of};
+ghost use Rattle.mcs48_asm.specs.Views.{kept_part, value_seen};
+
+use crate::argument::Value;
+use crate::words::{is_name, split_word};
+
+/// What stands for all numbers past 65,535.
+const MOST: u32 = 65_536;
+
+/// The value of a digit, 0 to 9 or A to F; any other character is 16, which is no digit of a base.
+fn digit_value(character: u8) -> u32
+    ensures value { result ≡ digit_value character }
+    ensures small { result ≤ 16 }
+{
+    match character {
+        b'0'..=b'9' => u32::from(character - b'0'),
+        b'A'..=b'F' => u32::from(character - b'A') + 10,
+        _ => 16,
+    }
+}
+
+/// Whether each character of a text is a digit of a base.
+fn are_all_below(base: u32, digits: &[u8]) -> bool
+    ensures { result ≡ list_all (λ digit. nat_lt (digit_value digit) base) digits.now }
+{
+    digits.iter().all(|digit| digit_value(*digit) < base)
+}
+
+/// Whether a text is made of digits of a base, at least one.
+fn are_digits(base: u32, digits: &[u8]) -> bool
+    ensures { result ≡ are_digits base digits.now }
+{
+    !digits.is_empty() && are_all_below(base, digits)
+}
+
+/// The number that digits of a base write, or 65,536 where it is more.
+fn written(base: u32, digits: &[u8]) -> u32
+    requires some { 1 ≤ base }
+    requires small { base ≤ 16 }
+    ensures { result ≡ capped (written base digits.now) }
+{
+    let mut number = 0;
+    for digit in digits {
+        number = (number * base + digit_value(*digit)).min(MOST);
+    }
+    number
+}
+
+/// The number that a text of digits gives.
+fn number_in(base: u32, digits: &[u8]) -> Option<u32>
+    requires some { 1 ≤ base }
+    requires small { base ≤ 16 }
+    ensures { result ≡ number_in base digits.now }
+{
+    are_digits(base, digits).then(|| written(base, digits))
+}
+
+/// The number that a word writes, or 65,536 where it is more.
+pub(crate) fn number_of(word: &[u8]) -> Option<u32>
+    ensures { result ≡ number_of word.now }
+{
+    match word {
+        [b'0'..=b'9', .., b'H'] => number_in(16, &word[..word.len() - 1]),
+        [.., b'H'] => None,
+        [front @ .., b'B'] => number_in(2, front),
+        _ => number_in(10, word),
+    }
+}
+
+/// What a text that is no number gives: a name, or LOW and a name.
+fn name_value(text: &[u8]) -> Option<Value<'_>>
+    ensures { option_map value_seen result ≡ name_value text.now }
+{
+    if is_name(text) {
+        return Some(Value::Named(text));
+    }
+    let (word, name) = split_word(text);
+    (word == b"LOW".as_slice() && is_name(name)).then_some(Value::Low(name))
+}
+
+/// The value that a text writes.
+pub(crate) fn value_of(text: &[u8]) -> Option<Value<'_>>
+    ensures { option_map value_seen result ≡ value_of text.now }
+{
+    match number_of(text) {
+        Some(number) => Some(Value::Number(number)),
+        None => name_value(text),
+    }
+}
+
+/// The value that a part of DB's text writes.
+pub(crate) fn part_value(part: &[u8]) -> Value<'_>
+    ensures { value_seen result ≡ kept_part part.now }
+{
+    match value_of(part) {
+        Some(value) => value,
+        None => Value::Number(0),
+    }
+}
