@@ -19,10 +19,14 @@ row_text place row = if list_all (λ byte. byte == 0) row then [] else line_text
 abbrev pub row_at : List ℕ → ℕ → List ℕ
 row_at bytes number = row_text (16 * number) (slice_range bytes (16 * number) (16 * number + 16))
 
+-- the text of the 128 rows, in order
+unfoldable pub rows_text : List ℕ → List ℕ
+rows_text bytes = flat_map (row_at bytes) (range_with_len 0 128)
+
 -- the line that ends a file, with its LF
 abbrev pub end_text : List ℕ
 end_text = codes ":00000001FF" ++ 10 ∷ []
 
--- the text of an image: its rows in order, and the end
+-- the text of an image: its rows, and the end
 unfoldable pub hex_text_of : List ℕ → List ℕ
-hex_text_of bytes = flat_map (row_at bytes) (range_with_len 0 128) ++ end_text
+hex_text_of bytes = rows_text bytes ++ end_text

@@ -1,9 +1,10 @@
 //! Writing a HEX file.
 
-ghost use Rattle.std.specs.Prelude.{◌≡◌, ◌<◌, ◌++◌, ◌==◌, OnOk, IfOk};
+ghost use Rattle.std.specs.Prelude.{◌≡◌, ◌<◌, ◌≤◌, ◌++◌, ◌==◌, All, Ok, OnOk, IfOk, length};
 ghost use Rattle.std.specs.List.{flat_map, list_all};
 ghost use Rattle.hex_text.specs.Digits.{hex_byte};
-ghost use Rattle.hexfile.specs.Spelling.{sum_byte, line_text, row_text, hex_text_of};
+ghost use Rattle.hexfile.specs.Hex.{hex_of};
+ghost use Rattle.hexfile.specs.Spelling.{sum_byte, line_text, row_text, rows_text, hex_text_of};
 
 use crate::record::total_of;
 use mcs48_isa::Image;
@@ -58,19 +59,30 @@ fn push_row(text: &mut Vec<u8>, place: u16, row: &[u8]) -> Result<(), AllocError
     push_line(text, &head, row)
 }
 
+/// Appends the data lines of the 128 rows.
+fn push_rows(text: &mut Vec<u8>, bytes: &[u8; 2048]) -> Result<(), AllocError>
+    ensures rows { OnOk result (text.new.items ≡ text.old.items ++ rows_text bytes.now) }
+    ensures bytes { OnOk result (All (λ byte. byte < 256) bytes.now) }
+{
+    for row in 0..128 {
+        let first = ROW * row;
+        push_row(text, first as u16, &bytes[first..first + ROW])?;
+    }
+    Ok(())
+}
+
 /// The HEX text of a program memory: for each of the 128 rows of 16 places, in order, that holds a byte other than 00,
-/// one data line of 16 bytes; then the end line `:00000001FF`. Digits are upper case, and each line ends with LF.
-/// `AllocError` where memory runs out.
+/// one data line of 16 bytes; then the end line `:00000001FF`. Digits are upper case, and each line ends with LF. The
+/// text has at most 5,644 bytes, and `read_hex` of it gives the same memory. `AllocError` where memory runs out.
 ///
 /// Source: our own spelling of Intel HEX (Intel, Hexadecimal Object File Format Specification).
 pub fn write_hex(alloc: Global, image: &Image) -> Result<Vec<u8>, AllocError>
-    ensures { IfOk result (λ text. text.items ≡ hex_text_of image.now.bytes) }
+    ensures text { IfOk result (λ text. text.items ≡ hex_text_of image.now.bytes) }
+    ensures back { IfOk result (λ text. hex_of text.items ≡ Ok image.now.bytes) }
+    ensures within { IfOk result (λ text. length text.items ≤ 5644) }
 {
     let mut text = Vec::new(alloc);
-    for row in 0..128 {
-        let first = ROW * row;
-        push_row(&mut text, first as u16, &image.bytes[first..first + ROW])?;
-    }
+    push_rows(&mut text, &image.bytes)?;
     text.extend_from_slice(b":00000001FF\n")?;
     Ok(text)
 }
