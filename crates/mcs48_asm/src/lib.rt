@@ -27,3 +27,6 @@ mod words;
 pub use assembling::assemble;
 pub use examples::example_faults;
 pub use fault::AsmFault;
+
+#[cfg(test)]
+mod tests;

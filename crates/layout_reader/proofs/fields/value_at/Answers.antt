@@ -1,0 +1,6 @@
+use Rattle.std.proofs.Common.{option_map, ap, ◌∙◌}
+use Rattle.toml.proofs.Views.{table_get}
+use Rattle.layout_reader.proofs.fields.value_at.Goals as goal
+
+pub returns : goal.returns
+returns c = table_get c.get.result c.args.name.now c.args.fields.now.entries c.get.ensures.value

@@ -1,0 +1,138 @@
+//! The fields of a table of the document.
+
+ghost use Rattle.std.specs.Prelude.{◌≡◌, ◌<◌, IfSome, option_map};
+ghost use Rattle.toml.specs.Data.{get_member};
+ghost use Rattle.toml.specs.View.{array_view, table_view, view};
+ghost use Rattle.layout_reader.specs.Fields.{is_field, has_other_field, has_field, text_at, whole_at, byte_at, key_at};
+ghost use Rattle.layout_reader.specs.Fields.{list_at, is_not_text, is_not_whole, is_not_list};
+
+use pc_tables::{Key, key_named};
+use toml::value::Array;
+use toml::{Table, Value};
+
+/// The two levels of the document at which fields stand.
+#[derive(Clone, Copy, Debug, PartialEq, Eq, Drop)]
+pub(crate) enum Level {
+    Top,
+    Entry,
+}
+
+impl Level {
+    /// Whether a table of this level may have a field with this name.
+    #[tactic(auto, unfolding(crate::specs::Fields::is_field))]
+    pub(crate) fn has(self, name: &str) -> bool
+        ensures { result ≡ is_field self name.now }
+    {
+        match self {
+            Level::Top => name == "format" || name == "key" || name == "name" || name == "rate",
+            Level::Entry => name == "key" || name == "column" || name == "row" || name == "sends",
+        }
+    }
+}
+
+/// Whether the table has a field that its level doesn't know.
+pub(crate) fn has_other_field(fields: &Table, level: Level) -> bool
+    ensures { result ≡ has_other_field level (table_view fields.now) }
+{
+    for name in fields.keys() {
+        if !level.has(name.as_str()) {
+            return true;
+        }
+    }
+    false
+}
+
+/// What stands at a name.
+pub(crate) fn value_at<'a>(fields: &'a Table, name: &str) -> Option<&'a Value>
+    ensures { option_map (λ value. view value.now) result ≡ get_member name.now (table_view fields.now) }
+{
+    fields.get(name)
+}
+
+/// Whether the table has a field with this name.
+#[tactic(auto, unfolding(crate::specs::Fields::has_field))]
+pub(crate) fn has_field(fields: &Table, name: &str) -> bool
+    ensures { result ≡ has_field name.now (table_view fields.now) }
+{
+    value_at(fields, name).is_some()
+}
+
+/// The text at a name, where there is one.
+#[tactic(auto, unfolding(crate::specs::Fields::text_at))]
+pub(crate) fn text_at<'a>(fields: &'a Table, name: &str) -> Option<&'a str>
+    ensures { option_map (λ text. text.now) result ≡ text_at name.now (table_view fields.now) }
+{
+    match value_at(fields, name) {
+        Some(value) => value.as_str(),
+        None => None,
+    }
+}
+
+/// The whole number at a name, where there is one.
+#[tactic(auto, unfolding(crate::specs::Fields::whole_at))]
+pub(crate) fn whole_at(fields: &Table, name: &str) -> Option<i64>
+    ensures { result ≡ whole_at name.now (table_view fields.now) }
+{
+    match value_at(fields, name) {
+        Some(value) => value.as_integer(),
+        None => None,
+    }
+}
+
+/// The elements of the list at a name, where there is one.
+#[tactic(auto, unfolding(crate::specs::Fields::list_at))]
+pub(crate) fn list_at<'a>(fields: &'a Table, name: &str) -> Option<&'a Array>
+    ensures { option_map (λ elements. array_view elements.now) result ≡ list_at name.now (table_view fields.now) }
+{
+    match value_at(fields, name) {
+        Some(value) => value.as_array(),
+        None => None,
+    }
+}
+
+/// The whole number at a name, where there is one from 0 to 255.
+#[tactic(auto, unfolding(crate::specs::Fields::byte_at))]
+pub(crate) fn byte_at(fields: &Table, name: &str) -> Option<u8>
+    ensures { result ≡ byte_at name.now (table_view fields.now) }
+{
+    match whole_at(fields, name) {
+        Some(whole) => u8::try_from(whole).ok(),
+        None => None,
+    }
+}
+
+/// The key that the text at a name names.
+#[tactic(auto, using(crate::proofs::Laws::key_range), unfolding(crate::specs::Fields::key_at))]
+pub(crate) fn key_at(fields: &Table, name: &str) -> Option<Key>
+    ensures key { result ≡ key_at name.now (table_view fields.now) }
+    ensures range { IfSome result (λ key. key < 84) }
+{
+    match text_at(fields, name) {
+        Some(text) => key_named(text),
+        None => None,
+    }
+}
+
+/// Whether something else than a text stands at the name.
+#[tactic(auto, unfolding(crate::specs::Fields::is_not_text))]
+pub(crate) fn is_not_text(fields: &Table, name: &str) -> bool
+    ensures { result ≡ is_not_text name.now (table_view fields.now) }
+{
+    has_field(fields, name) && text_at(fields, name).is_none()
+}
+
+/// Whether something else than a whole number stands at the name.
+#[tactic(auto, unfolding(crate::specs::Fields::is_not_whole))]
+pub(crate) fn is_not_whole(fields: &Table, name: &str) -> bool
+    ensures { result ≡ is_not_whole name.now (table_view fields.now) }
+{
+    has_field(fields, name) && whole_at(fields, name).is_none()
+}
+
+/// Whether something else than a list stands at the name.
+#[tactic(auto, unfolding(crate::specs::Fields::is_not_list))]
+pub(crate) fn is_not_list(fields: &Table, name: &str) -> bool
+    ensures { result ≡ is_not_list name.now (table_view fields.now) }
+{
+    has_field(fields, name) && list_at(fields, name).is_none()
+}

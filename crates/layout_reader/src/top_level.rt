@@ -1,0 +1,80 @@
+//! The top level of the document.
+
+ghost use Rattle.std.specs.Prelude.{◌≡◌, ◌<◌, IfSome, IfOk};
+ghost use Rattle.toml.specs.View.{table_view, items_view};
+ghost use Rattle.layout_reader.specs.TopLevel.{rate_in, elements_in, is_empty, rate_from};
+
+use crate::cause::Cause;
+use crate::fields::{
+    Level, byte_at, has_field, has_other_field, is_not_list, is_not_text, is_not_whole, list_at,
+    whole_at,
+};
+use toml::{Table, Value};
+
+/// The rate byte of the keyboard at power-on, where the document names none: 10.9 characters a second after 500 ms.
+pub(crate) const DEFAULT_RATE: u8 = 44;
+
+/// The rate of the document; None where it is out of range.
+#[tactic(auto, unfolding(crate::specs::TopLevel::rate_in))]
+fn rate_in(top: &Table) -> Option<u8>
+    ensures rate { result ≡ rate_in (table_view top.now) }
+    ensures range { IfSome result (λ rate. rate < 128) }
+{
+    if !has_field(top, "rate") {
+        return Some(DEFAULT_RATE);
+    }
+    match byte_at(top, "rate") {
+        Some(rate) if rate < 128 => Some(rate),
+        _ => None,
+    }
+}
+
+/// The elements of the document's list of entries.
+#[tactic(auto, unfolding(crate::specs::TopLevel::elements_in))]
+pub(crate) fn elements_in(top: &Table) -> &[Value]
+    ensures { items_view result.now ≡ elements_in (table_view top.now) }
+{
+    match list_at(top, "key") {
+        Some(elements) => elements.as_slice(),
+        None => &[],
+    }
+}
+
+/// Whether the document's list of entries is empty.
+#[tactic(auto, using(crate::proofs::Names::is_empty_view))]
+fn has_no_entries(top: &Table) -> bool
+    ensures { result ≡ is_empty (elements_in (table_view top.now)) }
+{
+    elements_in(top).is_empty()
+}
+
+/// The rate, or the first fault of the top level in the order of judgement.
+#[tactic(auto, unfolding(crate::specs::TopLevel::rate_from))]
+pub(crate) fn rate_from(top: &Table) -> Result<u8, Cause>
+    ensures rate { result ≡ rate_from (table_view top.now) }
+    ensures range { IfOk result (λ rate. rate < 128) }
+{
+    if has_other_field(top, Level::Top) {
+        return Err(Cause::UnknownField);
+    }
+    if !has_field(top, "format") || !has_field(top, "key") {
+        return Err(Cause::MissingField);
+    }
+    if is_not_whole(top, "format")
+        || is_not_list(top, "key")
+        || is_not_text(top, "name")
+        || is_not_whole(top, "rate")
+    {
+        return Err(Cause::WrongKind);
+    }
+    if whole_at(top, "format") != Some(1) {
+        return Err(Cause::WrongFormat);
+    }
+    let Some(rate) = rate_in(top) else {
+        return Err(Cause::RateOutOfRange);
+    };
+    if has_no_entries(top) {
+        return Err(Cause::NoEntries);
+    }
+    Ok(rate)
+}
