@@ -1,5 +1,7 @@
 -- Where nothing stands in the way.
 use Rattle.std.proofs.Common.{◌≡◌, ℕ, ◌-◌, ◌^◌, ◌<◌, List, Some, None, Ok, ap, sym, ◌∙◌, subst, inl, inr, refl, arith}
+use Rattle.layout_reader.specs.Faults.{Refusal as LayoutRefusal}
+use Rattle.layout_reader.specs.Layouts.{KeyLayout}
 use Rattle.std.specs.declared.option.Option.{Option}
 use Rattle.std.specs.declared.result.Result.{Result}
 use Rattle.hexfile.specs.Hex.{HexOutcome}
@@ -11,8 +13,8 @@ use Rattle.kbd48_app.specs.declared.exit.Exit.TheVariants as exits
 use Rattle.kbd48_app.specs.declared.words.Command.{Command}
 use Rattle.kbd48_app.specs.declared.words.Command.TheVariants.{OverFile, Feed}
 use Rattle.kbd48_app.specs.declared.words.FileCommand.{FileCommand}
-use Rattle.kbd48_app.specs.declared.words.FileCommand.TheVariants.{Step, Listing, Assemble}
-use Rattle.kbd48_app.specs.Answers.{Answer, exit_said, file_said, fetch_said, of_image, assembled, run_said, MayAnswerAs, MayAnswerOf, MayAnswer, Says}
+use Rattle.kbd48_app.specs.declared.words.FileCommand.TheVariants.{Step, Listing, Assemble, Compile}
+use Rattle.kbd48_app.specs.Answers.{Answer, exit_said, file_said, fetch_said, of_image, assembled, compiled, run_said, MayAnswerAs, MayAnswerOf, MayAnswer, Says}
 use Rattle.kbd48_app.specs.Complete.{IsSound, IsFaultless, IsFaultlessAs, IsLeft}
 use Rattle.kbd48_app.specs.Stepping.{Progress, Stands, Stopped, after_steps}
 use Rattle.kbd48_app.specs.Words.{command_of}
@@ -29,6 +31,7 @@ sound_left (Step count) bytes sound =
     (run_left count (after_steps sound.0 count) Feed)
 sound_left Listing bytes sound = inl (ap (λ (o : HexOutcome). exit_said (of_image (λ image. Ok (listing_of image)) o)) sound.1)
 sound_left Assemble bytes sound = inl (ap (λ (o : Result (List ℕ) (ℕ × ℕ)). exit_said (assembled o)) sound.1)
+sound_left Compile bytes sound = inl (ap (λ (o : Result KeyLayout LayoutRefusal). exit_said (compiled o)) sound.1)
 
 -- want of memory is always left
 memory_left : (command : Command) → IsLeft (Some command) exits.Memory
@@ -36,6 +39,7 @@ memory_left Feed = inr refl
 memory_left (OverFile (Step count)) = inr (inl refl)
 memory_left (OverFile Listing) = inr refl
 memory_left (OverFile Assemble) = inr refl
+memory_left (OverFile Compile) = inr refl
 
 answer_left : (command : Command) (said answer : Answer) → IsLeft (Some command) (exit_said said) → MayAnswerOf said answer → IsLeft (Some command) (exit_said answer)
 answer_left command said answer left may =

@@ -10,16 +10,19 @@ use Rattle.kbd48_app.specs.declared.refusal.Refusal.TheVariants.{Memory, Words}
 use Rattle.kbd48_app.specs.declared.words.Command.{Command}
 use Rattle.kbd48_app.specs.declared.words.Command.TheVariants.{OverFile, Feed}
 use Rattle.kbd48_app.specs.declared.words.FileCommand.{FileCommand}
-use Rattle.kbd48_app.specs.declared.words.FileCommand.TheVariants.{Step, Listing, Assemble}
+use Rattle.kbd48_app.specs.declared.words.FileCommand.TheVariants.{Step, Listing, Assemble, Compile}
 use Rattle.hexfile.specs.Hex.{HexOutcome, hex_of}
 use Rattle.mcs48_isa.specs.Listing.{listing_of}
 use Rattle.mcs48_asm.specs.Assembly.{assembly_of}
+use Rattle.layout_reader.specs.Documents.{layout_of_document}
+use Rattle.layout_reader.specs.Faults.{Refusal as LayoutRefusal}
+use Rattle.layout_reader.specs.Layouts.{KeyLayout}
 use Rattle.std.specs.declared.result.Result.{Result}
 use Rattle.kbd48_app.specs.Kinds.{limit_of, kind_of}
 use Rattle.kbd48_app.specs.Stepping.{Progress, Stands, Stopped, after_steps}
 use Rattle.std.specs.List.{filter_map}
 use Rattle.kbd48_app.specs.Feeding.{fed_text}
-use Rattle.kbd48_app.specs.Answers.{Answer, file_said, fetch_said, of_image, assembled, run_said, MayAnswer, MayAnswerAs, MayAnswerOf, MayAnswerOver}
+use Rattle.kbd48_app.specs.Answers.{Answer, file_said, fetch_said, of_image, assembled, compiled, run_said, MayAnswer, MayAnswerAs, MayAnswerOf, MayAnswerOver}
 use Rattle.kbd48_app.specs.Words.{command_of, byte_of}
 
 -- memory may be wanting whatever the fetch came to
@@ -45,16 +48,17 @@ as_they_say : (words : List (List ℕ)) (command : Option Command) (shelf : Opti
 as_they_say words command shelf answer is h = subst (λ (c : Option Command). MayAnswerAs c words shelf answer) (sym is) h
 
 -- a word alone is no form
-no_form : (a b c d : Bool) (command : Command) → (if a then None else (if b then None else (if c then None else (if d then None else None)))) ≡ Some command → ⊥
-no_form true b c d command h = cc
-no_form false true c d command h = cc
-no_form false false true d command h = cc
-no_form false false false true command h = cc
-no_form false false false false command h = cc
+no_form : (a b c d e : Bool) (command : Command) → (if a then None else (if b then None else (if c then None else (if d then None else (if e then None else None))))) ≡ Some command → ⊥
+no_form true b c d e command h = cc
+no_form false true c d e command h = cc
+no_form false false true d e command h = cc
+no_form false false false true e command h = cc
+no_form false false false false true command h = cc
+no_form false false false false false command h = cc
 
 one_word : (word : List ℕ) (command : Command) → command_of (word ∷ []) ≡ Some command → ⊥
 one_word word command h =
-    no_form (bytes_eq word (codes "step")) (bytes_eq word (codes "list")) (bytes_eq word (codes "asm")) (bytes_eq word (codes "words")) command h
+    no_form (bytes_eq word (codes "step")) (bytes_eq word (codes "list")) (bytes_eq word (codes "asm")) (bytes_eq word (codes "compile")) (bytes_eq word (codes "words")) command h
 
 -- a command over a file has a word behind it
 pub has_name : (words : List (String Global)) (command : FileCommand) → command_of (map string_bytes words) ≡ Some (OverFile command) → 1 < length words
@@ -78,11 +82,16 @@ never_assembled : (outcome : Result (List ℕ) (ℕ × ℕ)) → let words : Ans
 never_assembled (Ok image) h = cc
 never_assembled (Err fault) h = cc
 
+never_compiled : (outcome : Result KeyLayout LayoutRefusal) → let words : Answer = Err Words in words ≡ compiled outcome → ⊥
+never_compiled (Ok layout) h = cc
+never_compiled (Err refusal) h = cc
+
 never_file : (command : FileCommand) (bytes : List ℕ) → let words : Answer = Err Words in words ≡ file_said command bytes → ⊥
 never_file (Step count) bytes h =
     never_image (λ image. run_said count (after_steps image count)) (hex_of bytes) (λ image. never_run count (after_steps image count)) h
 never_file Listing bytes h = never_image (λ image. Ok (listing_of image)) (hex_of bytes) (λ image is. cc) h
 never_file Assemble bytes h = never_assembled (assembly_of bytes) h
+never_file Compile bytes h = never_compiled (layout_of_document bytes) h
 
 -- a command over a file never refuses the words
 never_words : (command : FileCommand) (outcome : Fetched) → let words : Answer = Err Words in words ≡ fetch_said command outcome → ⊥

@@ -8,17 +8,21 @@ use Rattle.std.specs.declared.vec.Vec.{Vec}
 use Rattle.hexfile.specs.Hex.{HexOutcome, hex_of}
 use Rattle.hexfile.specs.Spelling.{hex_text_of}
 use Rattle.mcs48_asm.specs.Assembly.{assembly_of}
+use Rattle.layout_reader.specs.Documents.{layout_of_document}
+use Rattle.layout_reader.specs.Faults.{Refusal as LayoutRefusal}
+use Rattle.layout_reader.specs.Layouts.{KeyLayout}
+use Rattle.fw_compile.specs.Image.{image_of}
 use Rattle.io_edge.specs.Shelf.{Told, Fetched, Fails, Long, Found, after_fetch, fetched}
 use Rattle.mcs48_isa.specs.Listing.{listing_of}
 use Rattle.mcs48_core.specs.StateText.{state_text_of}
 use Rattle.kbd48_app.specs.declared.exit.Exit.{Exit}
 use Rattle.kbd48_app.specs.declared.exit.Exit.TheVariants.{Done, Write}
 use Rattle.kbd48_app.specs.declared.refusal.Refusal.{Refusal}
-use Rattle.kbd48_app.specs.declared.refusal.Refusal.TheVariants.{Words, Read, TooLong, Hex, Asm, Stuck, Memory}
+use Rattle.kbd48_app.specs.declared.refusal.Refusal.TheVariants.{Words, Read, TooLong, Hex, Asm, Layout, Stuck, Memory}
 use Rattle.kbd48_app.specs.declared.words.Command.{Command}
 use Rattle.kbd48_app.specs.declared.words.Command.TheVariants.{OverFile, Feed}
 use Rattle.kbd48_app.specs.declared.words.FileCommand.{FileCommand}
-use Rattle.kbd48_app.specs.declared.words.FileCommand.TheVariants.{Step, Listing, Assemble}
+use Rattle.kbd48_app.specs.declared.words.FileCommand.TheVariants.{Step, Listing, Assemble, Compile}
 use Rattle.kbd48_app.specs.Kinds.{limit_of, kind_of}
 use Rattle.kbd48_app.specs.Feeding.{fed_text}
 use Rattle.kbd48_app.specs.Refusals.{exit_of, line_of}
@@ -45,11 +49,17 @@ abbrev pub assembled : Result (List ℕ) (ℕ × ℕ) → Answer
 assembled (Ok image) = Ok (hex_text_of image)
 assembled (Err fault) = Err (Asm fault.0 fault.1)
 
+-- the HEX text of a layout's image, or the layout's first fault
+abbrev pub compiled : Result KeyLayout LayoutRefusal → Answer
+compiled (Ok layout) = Ok (hex_text_of (image_of layout))
+compiled (Err refusal) = Err (Layout refusal.entry refusal.number)
+
 -- a command of its file's bytes
 abbrev pub file_said : FileCommand → List ℕ → Answer
 file_said (Step count) bytes = of_image (λ image. run_said count (after_steps image count)) (hex_of bytes)
 file_said Listing bytes = of_image (λ image. Ok (listing_of image)) (hex_of bytes)
 file_said Assemble bytes = assembled (assembly_of bytes)
+file_said Compile bytes = compiled (layout_of_document bytes)
 
 -- a command of what the fetch of its file came to
 abbrev pub fetch_said : FileCommand → Fetched → Answer

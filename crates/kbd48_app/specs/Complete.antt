@@ -4,12 +4,14 @@ use Rattle.std.specs.declared.option.Option.{Option}
 use Rattle.hexfile.specs.Hex.{hex_of}
 use Rattle.io_edge.specs.Shelf.{Told, Found, fetched}
 use Rattle.mcs48_asm.specs.Assembly.{assembly_of}
+use Rattle.layout_reader.specs.Documents.{layout_of_document}
+use Rattle.layout_reader.specs.Layouts.{KeyLayout}
 use Rattle.kbd48_app.specs.declared.exit.Exit.{Exit}
 use Rattle.kbd48_app.specs.declared.exit.Exit.TheVariants.{Done, Memory, Stuck}
 use Rattle.kbd48_app.specs.declared.words.Command.{Command}
 use Rattle.kbd48_app.specs.declared.words.Command.TheVariants.{OverFile, Feed}
 use Rattle.kbd48_app.specs.declared.words.FileCommand.{FileCommand}
-use Rattle.kbd48_app.specs.declared.words.FileCommand.TheVariants.{Step, Listing, Assemble}
+use Rattle.kbd48_app.specs.declared.words.FileCommand.TheVariants.{Step, Listing, Assemble, Compile}
 use Rattle.kbd48_app.specs.Kinds.{limit_of, kind_of}
 use Rattle.kbd48_app.specs.Words.{command_of, name_in}
 
@@ -18,6 +20,7 @@ abbrev pub IsSound : FileCommand → List ℕ → Type 0
 IsSound (Step count) bytes = (image : List ℕ) × (hex_of bytes ≡ Ok image)
 IsSound Listing bytes = (image : List ℕ) × (hex_of bytes ≡ Ok image)
 IsSound Assemble bytes = (image : List ℕ) × (assembly_of bytes ≡ Ok image)
+IsSound Compile bytes = (layout : KeyLayout) × (layout_of_document bytes ≡ Ok layout)
 
 -- the shelf tells its files, the next call isn't one that fails, and under the name is a file within its limit and without a fault
 abbrev pub IsServed : FileCommand → List ℕ → Option Told → Type 0

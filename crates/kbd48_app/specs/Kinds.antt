@@ -1,20 +1,23 @@
 -- The kinds of files: their limits in bytes, and how refusals name them.
 use Rattle.std.specs.Prelude.{ℕ, List, codes}
 use Rattle.kbd48_app.specs.declared.kind.Kind.{Kind}
-use Rattle.kbd48_app.specs.declared.kind.Kind.TheVariants.{Hex, Asm}
+use Rattle.kbd48_app.specs.declared.kind.Kind.TheVariants.{Hex, Asm, Layout}
 use Rattle.kbd48_app.specs.declared.words.FileCommand.{FileCommand}
-use Rattle.kbd48_app.specs.declared.words.FileCommand.TheVariants.{Step, Listing, Assemble}
+use Rattle.kbd48_app.specs.declared.words.FileCommand.TheVariants.{Step, Listing, Assemble, Compile}
 
 abbrev pub limit_of : Kind → ℕ
 limit_of Hex = 16384
 limit_of Asm = 262144
+limit_of Layout = 65536
 
 abbrev pub name_of : Kind → List ℕ
 name_of Hex = codes "hex"
 name_of Asm = codes "asm"
+name_of Layout = codes "layout"
 
 -- the kind of the file that a command names
 abbrev pub kind_of : FileCommand → Kind
 kind_of (Step count) = Hex
 kind_of Listing = Hex
 kind_of Assemble = Asm
+kind_of Compile = Layout

@@ -7,7 +7,7 @@ use Rattle.kbd48_app.specs.Kinds.{name_of}
 use Rattle.kbd48_app.specs.declared.kind.Kind.{Kind}
 use Rattle.kbd48_app.specs.declared.kind.Kind.TheVariants as kinds
 use Rattle.kbd48_app.specs.declared.refusal.Refusal.{Refusal}
-use Rattle.kbd48_app.specs.declared.refusal.Refusal.TheVariants.{Words, Read, TooLong, Hex, Asm, Stuck, Memory}
+use Rattle.kbd48_app.specs.declared.refusal.Refusal.TheVariants.{Words, Read, TooLong, Hex, Asm, Layout, Stuck, Memory}
 
 abbrev pub exit_of : Refusal → Exit
 exit_of Words = exits.Words
@@ -15,19 +15,21 @@ exit_of Read = exits.Read
 exit_of (TooLong kind) = exits.Input
 exit_of (Hex fault) = exits.Input
 exit_of (Asm line number) = exits.Input
+exit_of (Layout entry number) = exits.Input
 exit_of (Stuck stuck) = exits.Stuck
 exit_of Memory = exits.Memory
 
--- the line of a file's first fault
-abbrev pub fault_line : Kind → ℕ → ℕ → List ℕ
-fault_line kind line number =
-    codes "input: " ++ name_of kind ++ codes " line " ++ decimal line ++ codes " fault " ++ decimal number ++ codes "\n"
+-- the line of a file's first fault, with the word for where it stands
+abbrev pub fault_line : Kind → List ℕ → ℕ → ℕ → List ℕ
+fault_line kind unit place number =
+    codes "input: " ++ name_of kind ++ unit ++ decimal place ++ codes " fault " ++ decimal number ++ codes "\n"
 
 abbrev pub line_of : Refusal → List ℕ
 line_of Words = codes "words: not a command of kbd48\n"
 line_of Read = codes "read: the shelf failed\n"
 line_of (TooLong kind) = codes "input: " ++ name_of kind ++ codes " too long\n"
-line_of (Hex fault) = fault_line kinds.Hex fault.line fault.number
-line_of (Asm line number) = fault_line kinds.Asm line number
+line_of (Hex fault) = fault_line kinds.Hex (codes " line ") fault.line fault.number
+line_of (Asm line number) = fault_line kinds.Asm (codes " line ") line number
+line_of (Layout entry number) = fault_line kinds.Layout (codes " entry ") entry number
 line_of (Stuck stuck) = codes "stuck: pc " ++ hex_address stuck.pc ++ codes " byte " ++ hex_byte stuck.byte ++ codes "\n"
 line_of Memory = codes "memory: none left\n"

@@ -10,7 +10,7 @@ use Rattle.std.specs.declared.option.Option.{Option}
 use Rattle.kbd48_app.specs.declared.words.Command.{Command}
 use Rattle.kbd48_app.specs.declared.words.Command.TheVariants.{OverFile, Feed}
 use Rattle.kbd48_app.specs.declared.words.FileCommand.{FileCommand}
-use Rattle.kbd48_app.specs.declared.words.FileCommand.TheVariants.{Step, Listing, Assemble}
+use Rattle.kbd48_app.specs.declared.words.FileCommand.TheVariants.{Step, Listing, Assemble, Compile}
 
 -- a NAME isn't empty and doesn't begin with `-`
 abbrev pub is_name : List ℕ → Bool
@@ -49,7 +49,7 @@ step_of (name ∷ count ∷ []) =
     if is_name name then option_map (λ steps. OverFile (Step steps)) (count_of count) else None
 step_of words = None
 
--- a command with a NAME alone: `list` NAME, `asm` NAME
+-- a command with a NAME alone: `list` NAME, `asm` NAME, `compile` NAME
 abbrev pub named_of : FileCommand → List (List ℕ) → Option Command
 named_of command (name ∷ []) = if is_name name then Some (OverFile command) else None
 named_of command words = None
@@ -68,7 +68,8 @@ command_of (command ∷ words) =
     if bytes_eq command (codes "step") then step_of words
     else (if bytes_eq command (codes "list") then named_of Listing words
     else (if bytes_eq command (codes "asm") then named_of Assemble words
-    else (if bytes_eq command (codes "words") then feed_of words else None)))
+    else (if bytes_eq command (codes "compile") then named_of Compile words
+    else (if bytes_eq command (codes "words") then feed_of words else None))))
 
 -- the words have an accepted form
 abbrev pub is_form : List (List ℕ) → Bool

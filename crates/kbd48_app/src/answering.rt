@@ -3,11 +3,12 @@
 ghost use Rattle.std.specs.Prelude.{◌≡◌, ◌≤◌, map, option_map, string_bytes, length, Ok, Err, MatchResult};
 ghost use Rattle.io_edge.specs.Faults.{Rose};
 ghost use Rattle.io_edge.specs.Shelf.{after_fetch};
-ghost use Rattle.kbd48_app.specs.Answers.{answer_of, assembled, file_said, MayAnswer, MayAnswerOf, MayAnswerOver, told_after};
+ghost use Rattle.kbd48_app.specs.Answers.{answer_of, assembled, compiled, file_said, MayAnswer, MayAnswerOf, MayAnswerOver, told_after};
 ghost use Rattle.kbd48_app.specs.Words.{command_of};
 ghost use Rattle.kbd48_app.specs.Kinds.{limit_of, kind_of};
 ghost use Rattle.hexfile.specs.Hex.{hex_of};
 ghost use Rattle.hexfile.specs.declared.fault.HexFault.{HexFault};
+ghost use Rattle.layout_reader.specs.Documents.{layout_of_document};
 ghost use Rattle.mcs48_asm.specs.Assembly.{assembly_of};
 ghost use Rattle.mcs48_isa.specs.Listing.{listing_of};
 
@@ -15,8 +16,10 @@ use crate::feeding::feed;
 use crate::refusal::Refusal;
 use crate::stepping::step;
 use crate::words::{Command, FileCommand, read_command};
+use fw_compile::compile;
 use hexfile::{HexFault, read_hex, write_hex};
 use io_edge::{FetchFault, Shelf};
+use layout_reader::{LayoutFault, read_layout};
 use mcs48_asm::{AsmFault, assemble};
 use mcs48_isa::{Image, list};
 use std::alloc::Global;
@@ -57,6 +60,20 @@ fn assembled(alloc: Global, source: &[u8]) -> Result<Vec<u8>, Refusal>
     }
 }
 
+/// The HEX text of a layout's image.
+fn compiled(alloc: Global, document: &[u8]) -> Result<Vec<u8>, Refusal>
+    ensures { MayAnswerOf (compiled (layout_of_document document.now)) (answer_of result) }
+{
+    match read_layout(alloc, document) {
+        Err(LayoutFault::Entry { entry, number }) => Err(Refusal::Layout { entry, number }),
+        Err(LayoutFault::Memory) => Err(Refusal::Memory),
+        Ok(layout) => match write_hex(alloc, &compile(&layout)) {
+            Ok(text) => Ok(text),
+            Err(_) => Err(Refusal::Memory),
+        },
+    }
+}
+
 /// Carries a command out over the bytes of its file.
 fn carry_out(alloc: Global, command: FileCommand, file: &[u8]) -> Result<Vec<u8>, Refusal>
     requires { length file.now ≤ limit_of (kind_of command) }
@@ -72,6 +89,7 @@ fn carry_out(alloc: Global, command: FileCommand, file: &[u8]) -> Result<Vec<u8>
             Err(refusal) => Err(refusal),
         },
         FileCommand::Assemble => assembled(alloc, file),
+        FileCommand::Compile => compiled(alloc, file),
     }
 }
 

@@ -7,6 +7,7 @@ ghost use Rattle.std.specs.Prelude.{◌≡◌};
 pub enum Kind {
     Hex,
     Asm,
+    Layout,
 }
 
 impl Kind {
@@ -19,6 +20,7 @@ impl Kind {
         match self {
             Kind::Hex => 16_384,
             Kind::Asm => 262_144,
+            Kind::Layout => 65_536,
         }
     }
 
@@ -29,6 +31,7 @@ impl Kind {
         match self {
             Kind::Hex => "hex",
             Kind::Asm => "asm",
+            Kind::Layout => "layout",
         }
     }
 }

@@ -24,6 +24,8 @@ pub enum Refusal {
     Hex(HexFault),
     /// The line of the assembler source, counted from 1, and its fault.
     Asm { line: u32, number: u8 },
+    /// The entry of the layout, counted from 1, or 0 for its top level, and its fault.
+    Layout { entry: u32, number: u8 },
     /// A step met a byte without an instruction.
     Stuck(Stuck),
     /// Memory was wanting.
@@ -68,11 +70,13 @@ fn long_line(kind: Kind) -> Line
     line
 }
 
-fn fault_line(kind: Kind, at: u32, number: u8) -> Line
-    ensures { result.items ≡ fault_line kind at number }
+/// The line of a file's first fault, with the word for where it stands.
+fn fault_line(kind: Kind, unit: &str, at: u32, number: u8) -> Line
+    requires { length unit.now ≤ 7 }
+    ensures { result.items ≡ fault_line kind unit.now at number }
 {
     let mut line = input_line(kind);
-    append(&mut line, b" line ");
+    append(&mut line, unit.as_bytes());
     append(&mut line, itoa::Buffer::new().format(at).as_bytes());
     append(&mut line, b" fault ");
     append(&mut line, itoa::Buffer::new().format(number).as_bytes());
@@ -99,7 +103,8 @@ impl Refusal {
         match self {
             Refusal::Words => Exit::Words,
             Refusal::Read => Exit::Read,
-            Refusal::TooLong(_) | Refusal::Hex(_) | Refusal::Asm { .. } => Exit::Input,
+            Refusal::TooLong(_) | Refusal::Hex(_) | Refusal::Asm { .. } | Refusal::Layout { .. } =>
+                Exit::Input,
             Refusal::Stuck(_) => Exit::Stuck,
             Refusal::Memory => Exit::Memory,
         }
@@ -113,8 +118,14 @@ impl Refusal {
             Refusal::Words => fixed_line("words: not a command of kbd48\n"),
             Refusal::Read => fixed_line("read: the shelf failed\n"),
             Refusal::TooLong(kind) => long_line(*kind),
-            Refusal::Hex(fault) => fault_line(Kind::Hex, fault.line, fault.number),
-            Refusal::Asm { line, number } => fault_line(Kind::Asm, *line, *number),
+            Refusal::Hex(fault) => fault_line(Kind::Hex, " line ", fault.line, fault.number),
+            Refusal::Asm { line, number } => fault_line(Kind::Asm, " line ", *line, *number),
+            Refusal::Layout { entry, number } => fault_line(
+                Kind::Layout,
+                " entry ",
+                *entry,
+                *number,
+            ),
             Refusal::Stuck(stuck) => stuck_line(*stuck),
             Refusal::Memory => fixed_line("memory: none left\n"),
         }

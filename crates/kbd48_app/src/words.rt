@@ -22,6 +22,8 @@ pub enum FileCommand {
     Listing,
     /// `asm` NAME
     Assemble,
+    /// `compile` NAME
+    Compile,
 }
 
 /// A command, as the words give it.
@@ -42,6 +44,7 @@ impl FileCommand {
         match self {
             FileCommand::Step { .. } | FileCommand::Listing => Kind::Hex,
             FileCommand::Assemble => Kind::Asm,
+            FileCommand::Compile => Kind::Layout,
         }
     }
 }
@@ -158,6 +161,7 @@ pub fn read_command(words: &[String]) -> Option<Command>
         "step" => read_step(words),
         "list" => read_named(FileCommand::Listing, words),
         "asm" => read_named(FileCommand::Assemble, words),
+        "compile" => read_named(FileCommand::Compile, words),
         "words" => read_feed(words),
         _ => None,
     }

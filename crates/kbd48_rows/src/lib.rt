@@ -7,6 +7,8 @@
 #[cfg(test)]
 mod assembling;
 #[cfg(test)]
+mod compiling;
+#[cfg(test)]
 mod keys;
 #[cfg(test)]
 mod listing;

@@ -55,6 +55,22 @@ impl Outcome {
     pub fn printed(&self, text: &str) -> bool {
         self.sink.taken() == text.as_bytes()
     }
+
+    /// The sink took this line.
+    pub fn has_line(&self, line: &str) -> bool {
+        self.sink
+            .taken()
+            .split(|byte| *byte == b'\n')
+            .any(|taken| taken == line.as_bytes())
+    }
+
+    /// The sink took a line that begins so.
+    pub fn has_line_from(&self, start: &str) -> bool {
+        self.sink
+            .taken()
+            .split(|byte| *byte == b'\n')
+            .any(|taken| taken.starts_with(start.as_bytes()))
+    }
 }
 
 impl Row {

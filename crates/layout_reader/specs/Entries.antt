@@ -1,6 +1,6 @@
 -- The entries of a layout document.
 use Rattle.std.specs.Prelude.{ℕ, ◌==◌, ◌<◌, Bool, ◌||◌, not, if◌then◌else◌, List, [], ◌∷◌, codes}
-use Rattle.std.specs.Prelude.{Option, Some, None, is_none, option_and_then, unwrap_or, Result, Ok, Err}
+use Rattle.std.specs.Prelude.{Option, is_none, option_and_then, unwrap_or, Result, Err}
 use Rattle.std.specs.List.{list_any}
 use Rattle.toml.specs.Data.{Data, table, Members}
 use Rattle.board_lines.specs.Places.{place_at}

@@ -11,7 +11,7 @@ use crate::fields::{
 };
 use toml::{Table, Value};
 
-/// The rate byte of the keyboard at power-on, where the document names none: 10.9 characters a second after 500 ms.
+/// The keyboard's rate byte where the document names none: a delay of 500 ms, then 10 characters a second.
 pub(crate) const DEFAULT_RATE: u8 = 44;
 
 /// The rate of the document; None where it is out of range.

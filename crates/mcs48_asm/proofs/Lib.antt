@@ -9,3 +9,4 @@ pub mod Ranges
 pub mod Steps
 pub mod Passes
 pub mod Outcomes
+pub mod Large

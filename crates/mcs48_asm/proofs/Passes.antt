@@ -1,5 +1,5 @@
 -- The lines so far, and one line more.
-use Rattle.std.proofs.Common.{◌≡◌, ℕ, zero, suc, ◌+◌, ◌-◌, ◌<◌, ◌&&◌, ◌||◌, Bool, true, false, cond, List, [], ◌∷◌, ◌++◌, length, map, Some, None, Ok, Err, Option, refl, ap, sym, ◌∙◌, slice_index, slice_index_or, arith, append-nil, append_assoc, zero-add}
+use Rattle.std.proofs.Common.{◌≡◌, ℕ, ◌+◌, ◌-◌, ◌<◌, ◌&&◌, ◌||◌, Bool, true, false, cond, List, [], ◌∷◌, ◌++◌, length, map, Some, None, Ok, Err, Option, refl, ap, sym, ◌∙◌, slice_index, slice_index_or, append-nil, append_assoc, zero-add}
 use Rattle.std.specs.List.{list_any, range_with_len}
 use Rattle.std.specs.Option.{option_or, option_map}
 use Rattle.std.proofs.lemmas.List.FromFn.{fill_by_all, get_or-range_with_len, length-range_with_len}
@@ -12,7 +12,7 @@ use Rattle.mcs48_asm.specs.Statements.{Line, line_of}
 use Rattle.mcs48_asm.specs.Places.{Placed, placed, places, covers, is_filled, count_of, start_of}
 use Rattle.mcs48_asm.specs.Faults.{fault_of, is_past_end, is_filled_again, is_refused, has_unknown_name, is_defined_again, is_off_page}
 use Rattle.mcs48_asm.specs.Assembly.{fault_behind, first_fault, byte_at, image_of, image_unless, outcome_of}
-use Rattle.mcs48_asm.proofs.Ranges.{places-of}
+use Rattle.mcs48_asm.proofs.Ranges.{places-of, any_places-alike}
 use Rattle.mcs48_asm.proofs.Steps.{names-push, is_filled-push, byte_at-kept, byte_at-new}
 
 -- what the pass has made of these lines, where all lines are these and the rest
@@ -23,16 +23,6 @@ pub record Stands (names : Meanings) (all rest : List Placed) (seen : Meanings) 
   pub marks : (k : ℕ) → k < 2048 → slice_index_or filled k false ≡ is_filled earlier k
   pub image : (k : ℕ) → k < 2048 → slice_index bytes k ≡ byte_at names earlier k
   pub faults : first_fault names [] all ≡ first_fault names earlier rest
-
--- a test of places that gives alike below 2,048
-any_range-alike : (f g : ℕ → Bool) (place n : ℕ) → ((k : ℕ) → k < place + n → f k ≡ g k) → list_any f (range_with_len place n) ≡ list_any g (range_with_len place n)
-any_range-alike f g place zero h = refl
-any_range-alike f g place (suc n) h =
-    rw (h place (omega arith)) (ap (λ b. g place || b) (any_range-alike f g (place + 1) n (λ k l. h k (omega (arith, l)))))
-
-any_places-alike : (f g : ℕ → Bool) → ((k : ℕ) → k < 2048 → f k ≡ g k) → list_any f places ≡ list_any g places
-unfolding places
-any_places-alike f g h = any_range-alike f g 0 2048 h
 
 filled_again-alike : (f g : ℕ → Bool) (at : Placed) → ((k : ℕ) → k < 2048 → f k ≡ g k) → is_filled_again f at ≡ is_filled_again g at
 filled_again-alike f g at h = any_places-alike (λ k. covers at k && f k) (λ k. covers at k && g k) (λ k l. ap (λ b. covers at k && b) (h k l))
@@ -76,7 +66,7 @@ unfolding places
 places-none f k h l =
     not_true (f k) (λ t. let found : list_any f places ≡ true = list_any_at f places k 0 (rw (length-range_with_len 0 2048) l) (ap f (get_or-range_with_len 0 2048 k 0 l ∙ zero-add k) ∙ t) in absurd (cc))
 
-and_true : (a b : Bool) → (a && b) ≡ false → a ≡ true → b ≡ false
+pub and_true : (a b : Bool) → (a && b) ≡ false → a ≡ true → b ≡ false
 and_true true b h t = h
 and_true false b h t = absurd (cc)
 

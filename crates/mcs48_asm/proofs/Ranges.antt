@@ -1,6 +1,7 @@
 -- A test of each place.
-use Rattle.std.proofs.Common.{◌≡◌, ℕ, suc, ◌+◌, ◌-◌, ◌<◌, ◌≤◌, ◌||◌, Bool, true, false, ap, ◌∙◌, arith}
+use Rattle.std.proofs.Common.{◌≡◌, ℕ, suc, ◌+◌, ◌-◌, ◌<◌, ◌≤◌, ◌||◌, Bool, true, false, ap, ◌∙◌, arith, zero, refl, List, [], ◌∷◌, ◌&&◌, nat_le, nat_lt}
 use Rattle.std.specs.List.{list_any, range_with_len}
+use Rattle.std.proofs.lemmas.Bool.Decides.{nat_tests}
 use Rattle.mcs48_asm.specs.Places.{places}
 
 pub any_range-step : (f : ℕ → Bool) (n place : ℕ) → place < n → list_any f (range_with_len place (n - place)) ≡ (f place || list_any f (range_with_len (place + 1) (n - (place + 1))))
@@ -26,3 +27,30 @@ places-of n e = ap (range_with_len 0) e
 
 pub any_places : (f : ℕ → Bool) (n : ℕ) → n ≡ 2048 → list_any f (range_with_len 0 n) ≡ list_any f places
 any_places f n e = ap (list_any f) (places-of n e)
+
+-- a test of places that gives alike below 2,048
+pub any_range-alike : (f g : ℕ → Bool) (place n : ℕ) → ((k : ℕ) → k < place + n → f k ≡ g k) → list_any f (range_with_len place n) ≡ list_any g (range_with_len place n)
+any_range-alike f g place zero h = refl
+any_range-alike f g place (suc n) h =
+    rw (h place (omega arith)) (ap (λ b. g place || b) (any_range-alike f g (place + 1) n (λ k l. h k (omega (arith, l)))))
+
+pub any_places-alike : (f g : ℕ → Bool) → ((k : ℕ) → k < 2048 → f k ≡ g k) → list_any f places ≡ list_any g places
+unfolding places
+any_places-alike f g h = any_range-alike f g 0 2048 h
+
+none : (f : ℕ → Bool) (xs : List ℕ) → ((k : ℕ) → f k ≡ false) → list_any f xs ≡ false
+none f [] h = refl
+none f (x ∷ xs) h = rw (h x) (none f xs h)
+
+empty : (start place : ℕ) → (nat_le start place && nat_lt place (start + 0)) ≡ false
+empty start place = grind (arith, nat_tests)
+
+and_false : (a b c : Bool) → (a && b) ≡ false → (a && b && c) ≡ false
+and_false true true c h = absurd (cc)
+and_false true false c h = refl
+and_false false b c h = refl
+
+-- no place lies among none
+pub no_places : (f : ℕ → Bool) (start count : ℕ) → count ≡ 0 → list_any (λ place. nat_le start place && nat_lt place (start + count) && f place) places ≡ false
+no_places f start count e =
+    rw e (none (λ place. nat_le start place && nat_lt place (start + 0) && f place) places (λ place. and_false (nat_le start place) (nat_lt place (start + 0)) (f place) (empty start place)))

@@ -9,3 +9,4 @@ pub mod Faults
 pub mod Assembly
 pub mod Views
 pub mod Answers
+pub mod Large

@@ -206,11 +206,8 @@ fn is_filled_again(filled: &[bool], line: Line<'_>, start: u32) -> bool
     requires { length filled.now ≡ 2048 }
     ensures { result ≡ is_filled_again (λ place. slice_index_or filled.now place false) (record { start = start; line = line_seen line.entry }) }
 {
-    is_any_filled(
-        filled,
-        start as usize,
-        start as usize + count_of(line.statement),
-    )
+    let count = count_of(line.statement);
+    count > 0 && is_any_filled(filled, start as usize, start as usize + count)
 }
 
 /// The lowest fault of a line.

@@ -12,6 +12,7 @@ mod examples;
 mod fault;
 mod faults;
 mod filling;
+mod laws;
 mod line;
 mod meaning;
 mod memory;
@@ -27,6 +28,7 @@ mod words;
 pub use assembling::assemble;
 pub use examples::example_faults;
 pub use fault::AsmFault;
+pub use laws::large_numbers;
 
 #[cfg(test)]
 mod tests;

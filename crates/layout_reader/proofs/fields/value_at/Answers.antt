@@ -1,4 +1,3 @@
-use Rattle.std.proofs.Common.{option_map, ap, ◌∙◌}
 use Rattle.toml.proofs.Views.{table_get}
 use Rattle.layout_reader.proofs.fields.value_at.Goals as goal
 

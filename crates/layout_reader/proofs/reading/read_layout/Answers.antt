@@ -1,6 +1,6 @@
 use Rattle.std.proofs.Common.{◌≡◌, true, Ok, IfOk, IfErr, subst, sym}
 use Rattle.toml.specs.View.{table_view}
-use Rattle.layout_reader.specs.Documents.{layout_of_document, IsFaultOf}
+use Rattle.layout_reader.specs.Documents.{IsFaultOf}
 use Rattle.layout_reader.proofs.Steps.{document_read, document_refused}
 use Rattle.layout_reader.proofs.reading.read_layout.Goals as goal
 

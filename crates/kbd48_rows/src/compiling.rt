@@ -1,0 +1,90 @@
+//! `compile`: the HEX text of a layout's image, and the first fault of a layout; and the kernel's source.
+
+use crate::rows::{Row, check};
+use fw_kernel::{KERNEL, SOURCE};
+use kbd48_app::Exit;
+use mcs48_asm::assemble;
+use std::test::Fail;
+
+/// Layouts that are refused, each with its first fault.
+static ROWS: [Row; 8] = [
+    Row {
+        words: &["compile", "f"],
+        file: "format = 1\n[[key]]\nkey = \"a\"\ncolumn = 0\nrow = 0\n[[key]]\nkey = \"s\"\ncolumn = 0\nrow = 0\n",
+        exit: Exit::Input,
+        text: "input: layout entry 2 fault 8\n",
+    },
+    Row {
+        words: &["compile", "f"],
+        file: "format = ",
+        exit: Exit::Input,
+        text: "input: layout entry 0 fault 1\n",
+    },
+    Row {
+        words: &["compile", "f"],
+        file: "format = 1\n[[key]]\nkey = \"a\"\ncolumn = 0\nrow = 0\n[[key]]\nkey = \"a\"\ncolumn = 1\nrow = 0\n",
+        exit: Exit::Input,
+        text: "input: layout entry 2 fault 11\n",
+    },
+    Row {
+        words: &["compile", "f"],
+        file: "format = 2\n[[key]]\nkey = \"a\"\ncolumn = 0\nrow = 0\n",
+        exit: Exit::Input,
+        text: "input: layout entry 0 fault 5\n",
+    },
+    Row {
+        words: &["compile", "f"],
+        file: "format = 1\n",
+        exit: Exit::Input,
+        text: "input: layout entry 0 fault 3\n",
+    },
+    Row {
+        words: &["compile", "f"],
+        file: "format = 1\nkey = []\n",
+        exit: Exit::Input,
+        text: "input: layout entry 0 fault 10\n",
+    },
+    Row {
+        words: &["compile", "f"],
+        file: "format = 1\nrate = 128\n[[key]]\nkey = \"a\"\ncolumn = 0\nrow = 0\n",
+        exit: Exit::Input,
+        text: "input: layout entry 0 fault 9\n",
+    },
+    Row {
+        words: &["compile", "-f"],
+        file: "",
+        exit: Exit::Words,
+        text: "words: not a command of kbd48\n",
+    },
+];
+
+#[test]
+fn rows_print_their_text(rt: HostRuntime) -> Result<(), Fail> {
+    check(&rt, rt.alloc(), &ROWS)?;
+    Ok(())
+}
+
+/// One key at column 0, row 0: its code stands at 300, and no line is written for the other codes.
+#[test]
+fn one_key_in_the_kernel(rt: HostRuntime) -> Result<(), Fail> {
+    let row = Row {
+        words: &["compile", "f"],
+        file: "format = 1\n[[key]]\nkey = \"a\"\ncolumn = 0\nrow = 0\n",
+        exit: Exit::Done,
+        text: "",
+    };
+    let outcome = row.outcome(rt.alloc())?;
+    assert_eq!(rt; outcome.exit, row.exit);
+    assert!(rt; outcome.has_line(":100300001C000000000000000000000000000000D1"));
+    for start in [":100310", ":100320", ":100330", ":100340", ":100350"] {
+        assert!(rt; !outcome.has_line_from(start), "{start}");
+    }
+    Ok(())
+}
+
+#[test]
+fn the_source_is_the_kernels(rt: HostRuntime) -> Result<(), Fail> {
+    let image = assemble(rt.alloc(), SOURCE.as_bytes())?;
+    assert!(rt; image.bytes == KERNEL);
+    Ok(())
+}
