@@ -7,7 +7,7 @@ use mcs48_asm::assemble;
 use std::test::Fail;
 
 /// Layouts that are refused, each with its first fault.
-static ROWS: [Row; 8] = [
+static ROWS: [Row; 14] = [
     Row {
         words: &["compile", "f"],
         file: "format = 1\n[[key]]\nkey = \"a\"\ncolumn = 0\nrow = 0\n[[key]]\nkey = \"s\"\ncolumn = 0\nrow = 0\n",
@@ -49,6 +49,43 @@ static ROWS: [Row; 8] = [
         file: "format = 1\nrate = 128\n[[key]]\nkey = \"a\"\ncolumn = 0\nrow = 0\n",
         exit: Exit::Input,
         text: "input: layout entry 0 fault 9\n",
+    },
+    // Of two faults the one that is judged first.
+    Row {
+        words: &["compile", "f"],
+        file: "format = 2\nkey = 1\n",
+        exit: Exit::Input,
+        text: "input: layout entry 0 fault 4\n",
+    },
+    Row {
+        words: &["compile", "f"],
+        file: "format = 1\n[[key]]\nx = 1\n",
+        exit: Exit::Input,
+        text: "input: layout entry 1 fault 2\n",
+    },
+    Row {
+        words: &["compile", "f"],
+        file: "format = 1\n[[key]]\nkey = 1\n",
+        exit: Exit::Input,
+        text: "input: layout entry 1 fault 3\n",
+    },
+    Row {
+        words: &["compile", "f"],
+        file: "format = 1\n[[key]]\nkey = \"no\"\ncolumn = \"0\"\nrow = 0\n",
+        exit: Exit::Input,
+        text: "input: layout entry 1 fault 4\n",
+    },
+    Row {
+        words: &["compile", "f"],
+        file: "format = 1\n[[key]]\nkey = \"a\"\ncolumn = 0\nrow = 0\n[[key]]\nkey = \"a\"\ncolumn = 12\nrow = 0\n",
+        exit: Exit::Input,
+        text: "input: layout entry 2 fault 7\n",
+    },
+    Row {
+        words: &["compile", "f"],
+        file: "format = 1\n[[key]]\nkey = \"a\"\ncolumn = 0\nrow = 0\n[[key]]\nkey = \"a\"\ncolumn = 0\nrow = 0\n",
+        exit: Exit::Input,
+        text: "input: layout entry 2 fault 8\n",
     },
     Row {
         words: &["compile", "-f"],
