@@ -44,7 +44,8 @@ fn conclude<K: Sink>(out: &mut K, answer: &Result<Vec<u8>, Refusal>) -> Exit
 
 /// The program, from the words that follow its name to its exit.
 ///
-/// Words outside the accepted forms are refused first. Then the file that the words name is fetched, once, and judged.
+/// Words outside the accepted forms are refused first. Then the file that the words name, if they name one, is fetched,
+/// once, and judged.
 /// All that is said goes to the sink line by line, each line offered whole in one `put`. A sink that fails ends the call
 /// with `Write`; want of memory with `Memory`, which never comes for words outside the forms.
 pub fn kbd48<F: Shelf, K: Sink>(alloc: Global, words: &[String], shelf: &mut F, out: &mut K) -> Exit

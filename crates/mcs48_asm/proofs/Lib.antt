@@ -9,4 +9,5 @@ pub mod Ranges
 pub mod Steps
 pub mod Passes
 pub mod Outcomes
+pub mod Capped
 pub mod Large
