@@ -1,5 +1,6 @@
 pub mod Encoding
 pub mod Listing
+pub mod Memory
 pub mod Operands
 pub mod Table
 pub mod Text

@@ -2,7 +2,7 @@
 //!
 //! Source: our own.
 
-ghost use Rattle.std.specs.Prelude.{◌≡◌, ◌<◌, ◌≤◌, ◌+◌, ◌++◌, ◌∷◌, [], OnOk, IfOk, IfSome};
+ghost use Rattle.std.specs.Prelude.{◌≡◌, ◌<◌, ◌≤◌, ◌+◌, ◌++◌, ◌∷◌, [], OnOk, IfOk, IfSome, length};
 ghost use Rattle.std.specs.Option.{ForSome};
 ghost use Rattle.mcs48_isa.specs.Listing.{end_of, instruction_at, size_of, statement_of, listing_of};
 ghost use Rattle.mcs48_isa.specs.Operands.{IsOp};
@@ -74,12 +74,13 @@ fn push_statement(
 
 /// The listing of a program memory, from place 0 to the last place that holds a byte other than 00, one line each: the
 /// text of the instruction that the place's byte begins, as `op_text` writes it, where all its bytes are at places below
-/// 2,048; else `DB` and the byte. Each line ends with LF. A memory of zeros has no line. `AllocError` where memory runs
-/// out.
+/// 2,048; else `DB` and the byte. Each line ends with LF. A memory of zeros has no line. The text has at most 28,672 bytes,
+/// and assembling it gives the same memory. `AllocError` where memory runs out.
 ///
 /// Source: our own.
 pub fn list(alloc: Global, image: &Image) -> Result<Vec<u8>, AllocError>
-    ensures { IfOk result (λ text. text.items ≡ listing_of image.now.bytes) }
+    ensures text { IfOk result (λ text. text.items ≡ listing_of image.now.bytes) }
+    ensures within { IfOk result (λ text. length text.items ≤ 28672) }
 {
     let end = listing_end(&image.bytes);
     let mut text = Vec::new(alloc);
