@@ -13,6 +13,7 @@ use Rattle.mcs48_asm.specs.Rows.{is_reserved}
 use Rattle.mcs48_asm.specs.Statements.{Statement, Nothing, Instruction, Origin, Data, Equate, Line}
 use Rattle.mcs48_asm.specs.Places.{Placed, placed, covers, is_filled, count_of, start_of}
 use Rattle.mcs48_asm.specs.Names.{Definition, Meanings, labelled, equated, named, defined, definitions, value_named, meaning}
+use Rattle.mcs48_asm.specs.declared.flaw.Flaw.{Flaw}
 use Rattle.mcs48_asm.specs.Faults.{arguments, is_above, is_huge, is_past, is_too_large, has_wrong_number, is_equate, is_refused, has_unknown_name, is_defined_again, is_outside, is_past_end, is_filled_again, fault_of}
 use Rattle.mcs48_asm.specs.Assembly.{fault_behind}
 use Rattle.mcs48_asm.specs.Large.{value_capped, argument_capped, statement_capped, line_capped, counted_on}
@@ -72,7 +73,7 @@ placed-capped p (line ∷ lines) =
 labelled-capped : (at : Placed) → labelled (at_capped at) ≡ map def_capped (labelled at)
 labelled-capped at = label at.start at.line.flaw at.line.statement at.line.label
   where
-    label : (start : ℕ) (flaw : Option ℕ) (s : Statement) (l : Option (List ℕ))
+    label : (start : ℕ) (flaw : Option Flaw) (s : Statement) (l : Option (List ℕ))
         → labelled (at_capped (record { start = start; line = record { flaw = flaw; label = l; statement = s } })) ≡ map def_capped (labelled (record { start = start; line = record { flaw = flaw; label = l; statement = s } }))
     label start flaw s None = refl
     label start flaw s (Some q) = refl

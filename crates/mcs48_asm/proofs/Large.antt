@@ -12,12 +12,15 @@ use Rattle.mcs48_asm.specs.Places.{Placed, placed, is_filled, count_of, start_of
 use Rattle.mcs48_asm.specs.Names.{Meanings, labelled, equated, definitions, value_named}
 use Rattle.mcs48_asm.specs.Faults.{arguments, is_past, is_too_large, has_wrong_number, has_labelled_equate, is_refused, has_unknown_name, is_defined_again, is_off_page, is_past_end, is_filled_again}
 use Rattle.mcs48_asm.specs.Assembly.{fault_behind, first_fault, outcome_of, image_unless, image_of}
+use Rattle.mcs48_asm.specs.declared.flaw.Flaw.{Flaw}
+use Rattle.mcs48_asm.specs.declared.flaw.Flaw.TheVariants.{Misfit, UnknownName, NameTaken, OffPage, PastEnd, PlaceTaken}
+use Rattle.mcs48_asm.specs.Flaws.{number_of}
 use Rattle.mcs48_asm.specs.Large.{value_capped, statement_capped, line_capped, counted_on, answer_of}
 use Rattle.mcs48_asm.proofs.Capped.{at_capped, names_capped, reserved, small-capped, placed-capped, names-capped, fault-capped}
 use Rattle.mcs48_asm.proofs.Passes.{and_true}
 
 -- a line without a fault
-fits : (flaw : Option ℕ) (a b c d e f : Bool) → option_or flaw (cond a (Some 3) (cond b (Some 4) (cond c (Some 5) (cond d (Some 6) (cond e (Some 7) (cond f (Some 8) None)))))) ≡ None → (a ≡ false) × (e ≡ false)
+fits : (flaw : Option Flaw) (a b c d e f : Bool) → option_or flaw (cond a (Some Misfit) (cond b (Some UnknownName) (cond c (Some NameTaken) (cond d (Some OffPage) (cond e (Some PastEnd) (cond f (Some PlaceTaken) None)))))) ≡ None → (a ≡ false) × (e ≡ false)
 fits (Some x) a b c d e f h = absurd (cc)
 fits None true b c d e f h = absurd (cc)
 fits None false true c d e f h = absurd (cc)
@@ -104,20 +107,20 @@ first names earlier place (line ∷ lines) h =
     (λ none. ap (λ ps. first_fault (names_capped names) ps (map at_capped (counted_on (at.start + count_of line.statement) lines))) (sym (map-append at_capped earlier (at ∷ [])))
     ∙ first names (earlier ++ at ∷ []) (at.start + count_of line.statement) lines (near names earlier place line h none).behind)
   where
-    go : (o : Option ℕ) (at : Placed) → fault_behind (names_capped names) (map at_capped earlier) (at_capped at) ≡ fault_behind names earlier at → fault_behind names earlier at ≡ o
+    go : (o : Option Flaw) (at : Placed) → fault_behind (names_capped names) (map at_capped earlier) (at_capped at) ≡ fault_behind names earlier at → fault_behind names earlier at ≡ o
         → (o ≡ None → first_fault (names_capped names) (map at_capped earlier ++ at_capped at ∷ []) (map at_capped (counted_on (at.start + count_of line.statement) lines)) ≡ first_fault names (earlier ++ at ∷ []) (counted_on (at.start + count_of line.statement) lines))
         → first_fault (names_capped names) (map at_capped earlier) (at_capped at ∷ map at_capped (counted_on (at.start + count_of line.statement) lines)) ≡ first_fault names earlier (at ∷ counted_on (at.start + count_of line.statement) lines)
     go (Some x) at same is more =
-        ap (λ o. option_or (option_map (λ number. (length (map at_capped earlier) + 1, number)) o) (first_fault (names_capped names) (map at_capped earlier ++ at_capped at ∷ []) (map at_capped (counted_on (at.start + count_of line.statement) lines)))) (same ∙ is)
-        ∙ ap (λ n. Some (n + 1, x)) (length-map earlier at_capped)
-        ∙ sym (ap (λ o. option_or (option_map (λ number. (length earlier + 1, number)) o) (first_fault names (earlier ++ at ∷ []) (counted_on (at.start + count_of line.statement) lines))) is)
+        ap (λ o. option_or (option_map (λ flaw. (length (map at_capped earlier) + 1, number_of flaw)) o) (first_fault (names_capped names) (map at_capped earlier ++ at_capped at ∷ []) (map at_capped (counted_on (at.start + count_of line.statement) lines)))) (same ∙ is)
+        ∙ ap (λ n. Some (n + 1, number_of x)) (length-map earlier at_capped)
+        ∙ sym (ap (λ o. option_or (option_map (λ flaw. (length earlier + 1, number_of flaw)) o) (first_fault names (earlier ++ at ∷ []) (counted_on (at.start + count_of line.statement) lines))) is)
     go None at same is more =
-        ap (λ o. option_or (option_map (λ number. (length (map at_capped earlier) + 1, number)) o) (first_fault (names_capped names) (map at_capped earlier ++ at_capped at ∷ []) (map at_capped (counted_on (at.start + count_of line.statement) lines)))) (same ∙ is)
+        ap (λ o. option_or (option_map (λ flaw. (length (map at_capped earlier) + 1, number_of flaw)) o) (first_fault (names_capped names) (map at_capped earlier ++ at_capped at ∷ []) (map at_capped (counted_on (at.start + count_of line.statement) lines)))) (same ∙ is)
         ∙ more refl
-        ∙ sym (ap (λ o. option_or (option_map (λ number. (length earlier + 1, number)) o) (first_fault names (earlier ++ at ∷ []) (counted_on (at.start + count_of line.statement) lines))) is)
+        ∙ sym (ap (λ o. option_or (option_map (λ flaw. (length earlier + 1, number_of flaw)) o) (first_fault names (earlier ++ at ∷ []) (counted_on (at.start + count_of line.statement) lines))) is)
 
 -- lines without a fault are the same
-option-none : (o : Option ℕ) (n : ℕ) (p : Option (ℕ × ℕ)) → option_or (option_map (λ number. (n, number)) o) p ≡ None → (o ≡ None) × (p ≡ None)
+option-none : (o : Option Flaw) (n : ℕ) (p : Option (ℕ × ℕ)) → option_or (option_map (λ flaw. (n, number_of flaw)) o) p ≡ None → (o ≡ None) × (p ≡ None)
 option-none (Some x) n p h = absurd (cc)
 option-none None n p h = (refl, h)
 

@@ -11,3 +11,12 @@ pub mod Passes
 pub mod Outcomes
 pub mod Capped
 pub mod Large
+pub mod Plain
+pub mod Readings
+pub mod Numerals
+pub mod Fits
+pub mod Shapes
+pub mod Opcodes
+pub mod Sizes
+pub mod Listed
+pub mod RoundTrip

@@ -7,6 +7,9 @@ use Rattle.std.proofs.lemmas.List.{length-append}
 use Rattle.std.proofs.lemmas.List.Folds.{list_any_at}
 use Rattle.mcs48_asm.specs.Names.{Meanings, defined, definitions, value_named, bytes_of}
 use Rattle.std.specs.Str.Lines.{lines}
+use Rattle.mcs48_asm.specs.declared.flaw.Flaw.{Flaw}
+use Rattle.mcs48_asm.specs.declared.flaw.Flaw.TheVariants.{Misfit, UnknownName, NameTaken, OffPage, PastEnd, PlaceTaken}
+use Rattle.mcs48_asm.specs.Flaws.{number_of}
 use Rattle.mcs48_asm.specs.Values.{capped}
 use Rattle.mcs48_asm.specs.Statements.{Line, line_of}
 use Rattle.mcs48_asm.specs.Places.{Placed, placed, places, covers, is_filled, count_of, start_of}
@@ -33,8 +36,8 @@ fault-alike : (names seen other : Meanings) (f g : ℕ → Bool) (at : Placed) �
 fault-alike names seen other f g at s h =
     let e : seen ≡ other = λ i q. s q i in
     ap (λ m. fault_of names m f at) e ∙ ap (λ b. option_or at.line.flaw
-    (cond (is_refused names at) (Some 3) (cond (has_unknown_name names at) (Some 4) (cond (is_defined_again other at) (Some 5) (cond (is_off_page names at) (Some 6) (cond (is_past_end at) (Some 7)
-    (cond b (Some 8) None))))))) (filled_again-alike f g at h)
+    (cond (is_refused names at) (Some Misfit) (cond (has_unknown_name names at) (Some UnknownName) (cond (is_defined_again other at) (Some NameTaken) (cond (is_off_page names at) (Some OffPage) (cond (is_past_end at) (Some PastEnd)
+    (cond b (Some PlaceTaken) None))))))) (filled_again-alike f g at h)
 
 -- what the pass finds is the fault of the line behind these lines
 pub fault-behind : (names : Meanings) (all rest : List Placed) (seen : Meanings) (filled : List Bool) (bytes : List ℕ) (number : ℕ) (earlier : List Placed) (at : Placed)
@@ -42,7 +45,7 @@ pub fault-behind : (names : Meanings) (all rest : List Placed) (seen : Meanings)
 fault-behind names all rest seen filled bytes number earlier at s =
     fault-alike names seen (value_named (definitions earlier)) (λ place. slice_index_or filled place false) (is_filled earlier) at s.names_seen s.marks
 
-last_two : (flaw : Option ℕ) (a b c d e f : Bool) → option_or flaw (cond a (Some 3) (cond b (Some 4) (cond c (Some 5) (cond d (Some 6) (cond e (Some 7) (cond f (Some 8) None)))))) ≡ None → (e ≡ false) × (f ≡ false)
+last_two : (flaw : Option Flaw) (a b c d e f : Bool) → option_or flaw (cond a (Some Misfit) (cond b (Some UnknownName) (cond c (Some NameTaken) (cond d (Some OffPage) (cond e (Some PastEnd) (cond f (Some PlaceTaken) None)))))) ≡ None → (e ≡ false) × (f ≡ false)
 last_two (Some x) a b c d e f h = absurd (cc)
 last_two None true b c d e f h = absurd (cc)
 last_two None false true c d e f h = absurd (cc)
@@ -102,20 +105,20 @@ next names all at rest seen seen' filled filled' bytes bytes' number earlier s n
       marks = λ k l. marked k ∙ ap (λ b. covers at k || b) (s.marks k l) ∙ or_swap (covers at k) (is_filled earlier k) ∙ sym (is_filled-push earlier at k);
       image = λ k l. written k ∙ byte-cases (covers at k) names earlier at k (slice_index bytes k) refl
           (λ t. sym (s.marks k l) ∙ free_place (λ place. slice_index_or filled place false) at k sound.1 l t) (s.image k l);
-      faults = s.faults ∙ ap (λ o. option_or (option_map (λ n. (length earlier + 1, n)) o) (first_fault names (earlier ++ at ∷ []) rest))
+      faults = s.faults ∙ ap (λ o. option_or (option_map (λ flaw. (length earlier + 1, number_of flaw)) o) (first_fault names (earlier ++ at ∷ []) rest))
           (sym (fault-behind names all (at ∷ rest) seen filled bytes number earlier at s) ∙ none);
     }
 
 -- a line with a fault
-pub faulty : (names : Meanings) (all : List Placed) (at : Placed) (rest : List Placed) (seen : Meanings) (filled : List Bool) (bytes : List ℕ) (number : ℕ) (earlier : List Placed) (fault : ℕ)
+pub faulty : (names : Meanings) (all : List Placed) (at : Placed) (rest : List Placed) (seen : Meanings) (filled : List Bool) (bytes : List ℕ) (number : ℕ) (earlier : List Placed) (fault : Flaw)
     → Stands names all (at ∷ rest) seen filled bytes number earlier
     → fault_of names seen (λ place. slice_index_or filled place false) at ≡ Some fault
-    → outcome_of names all ≡ Err (number + 1, fault)
+    → outcome_of names all ≡ Err (number + 1, number_of fault)
 faulty names all at rest seen filled bytes number earlier fault s h =
-    let found : first_fault names [] all ≡ Some (length earlier + 1, fault) =
-    s.faults ∙ ap (λ o. option_or (option_map (λ n. (length earlier + 1, n)) o) (first_fault names (earlier ++ at ∷ []) rest))
+    let found : first_fault names [] all ≡ Some (length earlier + 1, number_of fault) =
+    s.faults ∙ ap (λ o. option_or (option_map (λ flaw. (length earlier + 1, number_of flaw)) o) (first_fault names (earlier ++ at ∷ []) rest))
     (sym (fault-behind names all (at ∷ rest) seen filled bytes number earlier at s) ∙ h) in
-    ap (λ f. image_unless f (image_of names all)) found ∙ ap (λ n. Err (n + 1, fault)) s.count
+    ap (λ f. image_unless f (image_of names all)) found ∙ ap (λ n. Err (n + 1, number_of fault)) s.count
 
 -- the end of the text
 pub ended : (names : Meanings) (all : List Placed) (seen : Meanings) (filled : List Bool) (bytes : List ℕ) (number : ℕ) (earlier : List Placed)

@@ -4,6 +4,7 @@ use Rattle.std.specs.List.{slice_split, onto_first}
 use Rattle.std.proofs.lemmas.Bool.Decides.{nat_tests}
 use Rattle.mcs48_asm.specs.declared.rows.Operand.{Operand}
 use Rattle.mcs48_asm.specs.declared.rows.Shape.TheVariants.{Without, One, Two}
+use Rattle.mcs48_asm.specs.declared.flaw.Flaw.TheVariants.{Syntax}
 use Rattle.mcs48_asm.specs.Characters.{is_comma, is_colon}
 use Rattle.mcs48_asm.specs.Words.{trimmed}
 use Rattle.std.specs.Str.Lines.{lines, lines_of_parts, strip_carriage_return}
@@ -81,7 +82,7 @@ lines-first text front rest split =
 
 -- a text with two colons
 pub line_of_parts-more : (text front back middle last : List ℕ) → slice_split is_colon text ≡ front ∷ slice_split is_colon back → slice_split is_colon back ≡ middle ∷ slice_split is_colon last
-    → flawed 1 ≡ line_of_parts (slice_split is_colon text)
+    → flawed Syntax ≡ line_of_parts (slice_split is_colon text)
 line_of_parts-more text front back middle last split other =
     let parts = split-is_cons is_colon last in
     sym (ap line_of_parts (split ∙ ap (λ rest. front ∷ rest) (other ∙ ap (λ rest. middle ∷ rest) parts.is)))

@@ -5,6 +5,8 @@ use Rattle.std.specs.Char.{to_ascii_uppercase}
 use Rattle.std.specs.Str.Lines.{lines}
 use Rattle.std.specs.declared.option.Option.{Option}
 use Rattle.std.specs.declared.result.Result.{Result}
+use Rattle.mcs48_asm.specs.declared.flaw.Flaw.{Flaw}
+use Rattle.mcs48_asm.specs.Flaws.{number_of}
 use Rattle.mcs48_asm.specs.Statements.{line_of}
 use Rattle.mcs48_asm.specs.Places.{Placed, placed, places, covers, is_filled}
 use Rattle.mcs48_asm.specs.Names.{Meanings, definitions, value_named, bytes_of}
@@ -14,19 +16,19 @@ use Rattle.mcs48_asm.specs.Faults.{fault_of}
 abbrev pub lines_in : List ℕ → List Placed
 lines_in text = placed 0 (map line_of (lines (map to_ascii_uppercase text)))
 
--- a line, counted from 1, and its fault
+-- a line, counted from 1, and the number of its fault
 abbrev pub Fault : Type 0
 Fault = ℕ × ℕ
 
--- the fault of a line behind these lines
-abbrev pub fault_behind : Meanings → List Placed → Placed → Option ℕ
+-- the first flaw of a line behind these lines
+abbrev pub fault_behind : Meanings → List Placed → Placed → Option Flaw
 fault_behind names earlier at = fault_of names (value_named (definitions earlier)) (is_filled earlier) at
 
 -- the first faulty line behind these lines, and its fault
 abbrev pub first_fault : Meanings → List Placed → List Placed → Option Fault
 first_fault names earlier [] = None
 first_fault names earlier (at ∷ rest) =
-    option_or (option_map (λ number. (length earlier + 1, number)) (fault_behind names earlier at)) (first_fault names (earlier ++ at ∷ []) rest)
+    option_or (option_map (λ flaw. (length earlier + 1, number_of flaw)) (fault_behind names earlier at)) (first_fault names (earlier ++ at ∷ []) rest)
 
 -- the byte at a place: that of the line that fills it, and 00 where none does
 abbrev pub byte_at : Meanings → List Placed → ℕ → ℕ

@@ -5,6 +5,8 @@ use Rattle.std.specs.Option.{option_map_or, option_or}
 use Rattle.std.specs.declared.option.Option.{Option}
 use Rattle.mcs48_asm.specs.declared.argument.Role.{Role}
 use Rattle.mcs48_asm.specs.declared.argument.Role.TheVariants.{Byte, Address, Target}
+use Rattle.mcs48_asm.specs.declared.flaw.Flaw.{Flaw}
+use Rattle.mcs48_asm.specs.declared.flaw.Flaw.TheVariants.{Misfit, UnknownName, NameTaken, OffPage, PastEnd, PlaceTaken}
 use Rattle.mcs48_asm.specs.Values.{Value, Number}
 use Rattle.mcs48_asm.specs.Rows.{Argument, is_reserved}
 use Rattle.mcs48_asm.specs.Statements.{Statement, Instruction, Origin, Data, Equate, Line}
@@ -85,14 +87,14 @@ is_past_end at = nat_lt 0 (count_of at.line.statement) && nat_lt 2048 (at.start 
 abbrev pub is_filled_again : (ℕ → Bool) → Placed → Bool
 is_filled_again filled at = list_any (λ place. covers at place && filled place) places
 
--- the lowest fault of a line, where names mean this, earlier lines define these names, and have filled these places
-abbrev pub fault_of : Meanings → Meanings → (ℕ → Bool) → Placed → Option ℕ
+-- the first flaw of a line, where names mean this, earlier lines define these names, and have filled these places
+abbrev pub fault_of : Meanings → Meanings → (ℕ → Bool) → Placed → Option Flaw
 fault_of names seen filled at =
     option_or at.line.flaw
-    (if is_refused names at then Some 3
-    else (if has_unknown_name names at then Some 4
-    else (if is_defined_again seen at then Some 5
-    else (if is_off_page names at then Some 6
-    else (if is_past_end at then Some 7
-    else (if is_filled_again filled at then Some 8
+    (if is_refused names at then Some Misfit
+    else (if has_unknown_name names at then Some UnknownName
+    else (if is_defined_again seen at then Some NameTaken
+    else (if is_off_page names at then Some OffPage
+    else (if is_past_end at then Some PastEnd
+    else (if is_filled_again filled at then Some PlaceTaken
     else None))))))

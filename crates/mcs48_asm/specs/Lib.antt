@@ -2,6 +2,7 @@ pub mod Characters
 pub mod Words
 pub mod Values
 pub mod Rows
+pub mod Flaws
 pub mod Statements
 pub mod Places
 pub mod Names
@@ -9,4 +10,5 @@ pub mod Faults
 pub mod Assembly
 pub mod Views
 pub mod Answers
+pub mod Examples
 pub mod Large

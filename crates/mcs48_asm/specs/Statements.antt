@@ -5,6 +5,8 @@ use Rattle.std.specs.Option.{option_map, option_and_then, option_or, ok_or}
 use Rattle.std.specs.Str.{bytes_eq}
 use Rattle.std.specs.declared.option.Option.{Option}
 use Rattle.std.specs.declared.result.Result.{Result}
+use Rattle.mcs48_asm.specs.declared.flaw.Flaw.{Flaw}
+use Rattle.mcs48_asm.specs.declared.flaw.Flaw.TheVariants.{Syntax, NoStatement, Misfit}
 use Rattle.mcs48_asm.specs.declared.rows.Row.{Row}
 use Rattle.mcs48_asm.specs.Characters.{is_word_character, is_comma, is_colon, is_semicolon, is_allowed}
 use Rattle.mcs48_asm.specs.Words.{trimmed, run_of, tail_of, first_word, second_word, is_name}
@@ -58,34 +60,34 @@ abbrev pub first_fit : List Row → List ℕ → List ℕ → Option Statement
 first_fit [] word operands = None
 first_fit (row ∷ rows) word operands = option_or (instruction_in row word operands) (first_fit rows word operands)
 
--- the statement that a text without blanks round it writes, or its fault: 2 where it is of no kind, 3 where its operands don't fit
-abbrev pub statement_of : List ℕ → Result Statement ℕ
+-- the statement that a text without blanks round it writes, or its flaw
+abbrev pub statement_of : List ℕ → Result Statement Flaw
 statement_of text =
     if length text == 0 then Ok Nothing
-    else (if bytes_eq (second_word text) (codes "EQU") then ok_or (equate_of text) 3
-    else (if bytes_eq (first_word text) (codes "ORG") then ok_or (origin_of text) 3
-    else (if bytes_eq (first_word text) (codes "DB") then ok_or (data_of text) 3
-    else (if is_instruction (first_word text) then ok_or (first_fit instructions (run_of text) (tail_of text)) 3
-    else Err 2))))
+    else (if bytes_eq (second_word text) (codes "EQU") then ok_or (equate_of text) Misfit
+    else (if bytes_eq (first_word text) (codes "ORG") then ok_or (origin_of text) Misfit
+    else (if bytes_eq (first_word text) (codes "DB") then ok_or (data_of text) Misfit
+    else (if is_instruction (first_word text) then ok_or (first_fit instructions (run_of text) (tail_of text)) Misfit
+    else Err NoStatement))))
 
--- a line: its fault 1, 2 or 3 of form, where it has one, and then it says nothing; its label, and its statement
+-- a line: its flaw of form, where it has one, and then it says nothing; its label, and its statement
 pub record Line : Type 0 where
-  pub flaw : Option ℕ
+  pub flaw : Option Flaw
   pub label : Option (List ℕ)
   pub statement : Statement
 
-abbrev pub flawed : ℕ → Line
-flawed number = record { flaw = Some number; label = None; statement = Nothing }
+abbrev pub flawed : Flaw → Line
+flawed flaw = record { flaw = Some flaw; label = None; statement = Nothing }
 
-abbrev pub line_with : Option (List ℕ) → Result Statement ℕ → Line
+abbrev pub line_with : Option (List ℕ) → Result Statement Flaw → Line
 line_with label (Ok statement) = record { flaw = None; label = label; statement = statement }
-line_with label (Err number) = flawed number
+line_with label (Err flaw) = flawed flaw
 
 -- the line that the parts between colons write: a statement, or a label and a statement
 abbrev pub line_of_parts : List (List ℕ) → Line
 line_of_parts (text ∷ []) = line_with None (statement_of (trimmed text))
-line_of_parts (front ∷ text ∷ []) = if is_name (trimmed front) then line_with (Some (trimmed front)) (statement_of (trimmed text)) else flawed 1
-line_of_parts _ = flawed 1
+line_of_parts (front ∷ text ∷ []) = if is_name (trimmed front) then line_with (Some (trimmed front)) (statement_of (trimmed text)) else flawed Syntax
+line_of_parts _ = flawed Syntax
 
 -- an unbroken run of letters, digits and _ is a name or a number
 abbrev pub is_known_word : List ℕ → Bool
@@ -99,4 +101,4 @@ is_spelled text = list_all is_allowed text && list_all is_known_word (slice_spli
 abbrev pub line_of : List ℕ → Line
 line_of line =
     let text = before_first is_semicolon line in
-    if is_spelled text then line_of_parts (slice_split is_colon text) else flawed 1
+    if is_spelled text then line_of_parts (slice_split is_colon text) else flawed Syntax

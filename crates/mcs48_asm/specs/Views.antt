@@ -11,6 +11,7 @@ use Rattle.mcs48_asm.specs.declared.argument.Reading.{Reading as KeptReading}
 use Rattle.mcs48_asm.specs.declared.statement.Statement.{Statement as KeptStatement}
 use Rattle.mcs48_asm.specs.declared.argument.Value.TheVariants as written
 use Rattle.mcs48_asm.specs.declared.line.Line.{Line as KeptLine}
+use Rattle.mcs48_asm.specs.declared.flaw.Flaw.{Flaw}
 use Rattle.mcs48_asm.specs.declared.statement.Statement.TheVariants as statements
 use Rattle.mcs48_asm.specs.Values.{Value, Number, Named, Low, value_of}
 use Rattle.mcs48_asm.specs.Rows.{Argument, Reading}
@@ -38,9 +39,9 @@ statement_seen (statements.Origin place) = Origin place
 statement_seen (statements.Data values) = Data (map kept_part (parts_of values.now))
 statement_seen (statements.Equate name number) = Equate name.now number
 
-abbrev pub found_seen : Result KeptStatement ℕ → Result Statement ℕ
+abbrev pub found_seen : Result KeptStatement Flaw → Result Statement Flaw
 found_seen (Ok statement) = Ok (statement_seen statement)
-found_seen (Err number) = Err number
+found_seen (Err flaw) = Err flaw
 
 abbrev pub line_seen : KeptLine → Line
 line_seen line = record { flaw = line.flaw; label = option_map (λ label. label.now) line.label; statement = statement_seen line.statement }

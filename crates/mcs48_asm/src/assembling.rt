@@ -1,6 +1,6 @@
 //! From a text to its image.
 
-ghost use Rattle.std.specs.Prelude.{◌≡◌, ◌≤◌, length, map, IfOk};
+ghost use Rattle.std.specs.Prelude.{◌≡◌, ◌≤◌, List, ℕ, Ok, length, map, IfOk};
 ghost use Rattle.std.specs.Char.{to_ascii_uppercase};
 ghost use Rattle.std.specs.Str.Lines.{lines};
 ghost use Rattle.mcs48_asm.specs.Assembly.{outcome_of, assembly_of};
@@ -8,6 +8,8 @@ ghost use Rattle.mcs48_asm.specs.Places.{placed};
 ghost use Rattle.mcs48_asm.specs.Statements.{line_of};
 ghost use Rattle.mcs48_asm.specs.Views.{kept_value};
 ghost use Rattle.mcs48_asm.specs.Answers.{IsOutcome};
+ghost use Rattle.mcs48_isa.specs.Memory.{IsMemory};
+ghost use Rattle.mcs48_isa.specs.Listing.{listing_of};
 
 use crate::fault::AsmFault;
 use crate::faults::fault_of;
@@ -37,10 +39,10 @@ fn outcome_of<'a>(alloc: Global, names: &Names<'a>, text: &'a [u8]) -> Result<Im
         let line = line_of(line);
         let start = start_of(place, line.statement);
         number += 1;
-        if let Some(fault) = fault_of(names, &seen, &filled, line, start) {
+        if let Some(flaw) = fault_of(names, &seen, &filled, line, start) {
             return Err(AsmFault::Line {
                 line: number,
-                number: fault,
+                number: flaw.number(),
             });
         }
         define_names(&mut seen, line, start)?;
@@ -61,10 +63,14 @@ fn upper_case(alloc: Global, text: &[u8]) -> Result<Vec<u8>, AllocError>
 }
 
 /// The program memory that an assembler text fills, a place that no line fills being 00; or the first line that has a
-/// fault, with the lowest number of its faults. The text has at most 262,144 bytes.
+/// fault, with the lowest number of its faults. The text has at most 262,144 bytes. The listing of a program memory gives
+/// that memory. `AsmFault::Memory` where memory runs out.
+///
+/// Source: the texts of the MCS-48 Family User's Manual, instruction set; the form of lines is our own.
 pub fn assemble(alloc: Global, text: &[u8]) -> Result<Image, AsmFault>
     requires { length text.now ≤ 262144 }
-    ensures { IsOutcome result (assembly_of text.now) }
+    ensures outcome { IsOutcome result (assembly_of text.now) }
+    ensures listing { (memory : List ℕ) → IsMemory memory → text.now ≡ listing_of memory → IsOutcome result (Ok memory) }
 {
     let upper = upper_case(alloc, text)?;
     let names = names_in(alloc, upper.as_slice())?;

@@ -1,11 +1,9 @@
-//! The definition of an assembly, computed on small texts.
+//! The definition of an assembly, computed on small sources.
 
-ghost use Rattle.std.specs.Prelude.{◌≡◌, ◌++◌, ◌∷◌, [], Err, codes};
-ghost use Rattle.mcs48_asm.specs.Assembly.{assembly_of};
+ghost use Rattle.mcs48_asm.specs.Examples.{examples, AreRight};
 
-/// The first faults of three texts: a statement of no kind, a label that is defined again, and a jump out of its page.
-pub fn example_faults()
-    ensures kind { assembly_of (codes "xy 1") ≡ Err (1, 2) }
-    ensures again { assembly_of (codes "x1: NOP" ++ (10 ∷ codes "x1: NOP")) ≡ Err (2, 5) }
-    ensures page { assembly_of (codes "ORG 255" ++ (10 ∷ codes "JNZ 0")) ≡ Err (2, 6) }
+/// Small sources and what they give by the definitions: an image, or the first fault. The readings that the grammar's
+/// sentences leave open are among them.
+pub fn worked_examples()
+    ensures { AreRight examples }
 {}

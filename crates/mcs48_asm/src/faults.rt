@@ -9,6 +9,7 @@ ghost use Rattle.mcs48_asm.specs.Statements.{parts_of};
 ghost use Rattle.mcs48_asm.specs.Views.{kept_value, kept_part, value_seen, argument_seen, statement_seen, line_seen};
 
 use crate::argument::{Argument, Role, Value};
+use crate::flaw::Flaw;
 use crate::line::Line;
 use crate::meaning::meaning;
 use crate::memory::is_any_filled;
@@ -210,14 +211,14 @@ fn is_filled_again(filled: &[bool], line: Line<'_>, start: u32) -> bool
     count > 0 && is_any_filled(filled, start as usize, start as usize + count)
 }
 
-/// The lowest fault of a line.
+/// The first flaw of a line.
 pub(crate) fn fault_of(
     names: &Names<'_>,
     seen: &Names<'_>,
     filled: &[bool],
     line: Line<'_>,
     start: u32,
-) -> Option<u8>
+) -> Option<Flaw>
     requires { length filled.now ≡ 2048 }
     ensures { result ≡ fault_of (kept_value names.now.entries) (kept_value seen.now.entries) (λ place. slice_index_or filled.now place false)
         (record { start = start; line = line_seen line.entry }) }
@@ -225,17 +226,17 @@ pub(crate) fn fault_of(
     if line.flaw.is_some() {
         line.flaw
     } else if is_refused(names, line, start) {
-        Some(3)
+        Some(Flaw::Misfit)
     } else if has_unknown_name(names, line.statement) {
-        Some(4)
+        Some(Flaw::UnknownName)
     } else if is_defined_again(seen, line, start) {
-        Some(5)
+        Some(Flaw::NameTaken)
     } else if is_off_page(names, start, line.statement) {
-        Some(6)
+        Some(Flaw::OffPage)
     } else if is_past_end(line, start) {
-        Some(7)
+        Some(Flaw::PastEnd)
     } else if is_filled_again(filled, line, start) {
-        Some(8)
+        Some(Flaw::PlaceTaken)
     } else {
         None
     }

@@ -12,6 +12,7 @@ mod examples;
 mod fault;
 mod faults;
 mod filling;
+mod flaw;
 mod laws;
 mod line;
 mod meaning;
@@ -26,7 +27,7 @@ mod values;
 mod words;
 
 pub use assembling::assemble;
-pub use examples::example_faults;
+pub use examples::worked_examples;
 pub use fault::AsmFault;
 pub use laws::large_numbers;
 

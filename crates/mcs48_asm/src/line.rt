@@ -10,19 +10,17 @@ ghost use Rattle.mcs48_asm.specs.Statements.{statement_of, flawed, line_with, li
 ghost use Rattle.mcs48_asm.specs.Views.{found_seen, line_seen};
 
 use crate::characters::{is_allowed, is_word_character};
+use crate::flaw::Flaw;
 use crate::pieces::{before_comment, split_once};
 use crate::statement::{Statement, statement_of};
 use crate::values::number_of;
 use crate::words::{is_name, trimmed};
 
-/// The fault of a line whose spelling is wrong.
-const SYNTAX: u8 = 1;
-
 /// A line. Where it has a fault of form, it says nothing.
 #[derive(Clone, Copy)]
 pub(crate) struct Line<'a> {
-    /// The fault 1, 2 or 3 of form, where the line has one.
-    pub(crate) flaw: Option<u8>,
+    /// What is wrong with its form.
+    pub(crate) flaw: Option<Flaw>,
     /// The label.
     pub(crate) label: Option<&'a [u8]>,
     /// The statement.
@@ -51,12 +49,12 @@ pub(crate) fn next_line(text: &[u8]) -> Option<(&[u8], &[u8])>
     }
 }
 
-/// A line with a fault of form.
-fn flawed<'a>(number: u8) -> Line<'a>
-    ensures { line_seen result ≡ flawed number }
+/// A line whose form has this flaw.
+fn flawed<'a>(flaw: Flaw) -> Line<'a>
+    ensures { line_seen result ≡ flawed flaw }
 {
     Line {
-        flaw: Some(number),
+        flaw: Some(flaw),
         label: None,
         statement: Statement::Nothing,
     }
@@ -101,7 +99,7 @@ fn line_with<'a>(label: Option<&'a [u8]>, text: &'a [u8]) -> Line<'a>
             label,
             statement,
         },
-        Err(number) => flawed(number),
+        Err(flaw) => flawed(flaw),
     }
 }
 
@@ -113,7 +111,7 @@ fn labelled<'a>(label: &'a [u8], text: &'a [u8]) -> Line<'a>
     if is_name(name) {
         line_with(Some(name), text)
     } else {
-        flawed(SYNTAX)
+        flawed(Flaw::Syntax)
     }
 }
 
@@ -126,7 +124,7 @@ fn line_in(text: &[u8]) -> Line<'_>
     };
     match split_once(b':', rest) {
         None => labelled(label, rest),
-        Some(_) => flawed(SYNTAX),
+        Some(_) => flawed(Flaw::Syntax),
     }
 }
 
@@ -138,6 +136,6 @@ pub(crate) fn line_of(line: &[u8]) -> Line<'_>
     if is_spelled(text) {
         line_in(text)
     } else {
-        flawed(SYNTAX)
+        flawed(Flaw::Syntax)
     }
 }

@@ -6,23 +6,19 @@ ghost use Rattle.mcs48_asm.specs.Statements.{Data, values_of, parts_of, equate_o
 ghost use Rattle.mcs48_asm.specs.Views.{statement_seen, found_seen};
 
 use crate::argument::Argument;
+use crate::flaw::Flaw;
 use crate::operands::{instructions, is_instruction, is_spelled, read_all};
 use crate::pieces::split_once;
 use crate::rows::Row;
 use crate::values::{number_of, value_of};
 use crate::words::{is_name, split_word, trimmed, two_words};
 
-/// The words that begin the statements which are no instruction.
+/// The words of the statements that are no instruction.
 const EQU: &[u8] = b"EQU";
 
 const ORG: &[u8] = b"ORG";
 
 const DB: &[u8] = b"DB";
-
-/// The faults of a statement: it is of no kind, or its operands don't fit.
-const NO_KIND: u8 = 2;
-
-const NO_FIT: u8 = 3;
 
 /// A statement.
 #[derive(Clone, Copy)]
@@ -120,8 +116,8 @@ fn first_fit<'a>(rows: &[Row], word: &[u8], operands: &'a [u8]) -> Option<Statem
     None
 }
 
-/// The statement that a text without blanks round it writes, or its fault.
-pub(crate) fn statement_of(text: &[u8]) -> Result<Statement<'_>, u8>
+/// The statement that a text without blanks round it writes, or its flaw.
+pub(crate) fn statement_of(text: &[u8]) -> Result<Statement<'_>, Flaw>
     ensures { found_seen result ≡ statement_of text.now }
 {
     if text.is_empty() {
@@ -129,17 +125,17 @@ pub(crate) fn statement_of(text: &[u8]) -> Result<Statement<'_>, u8>
     }
     let (first, second) = two_words(text);
     if second == EQU {
-        return equate_of(text).ok_or(NO_FIT);
+        return equate_of(text).ok_or(Flaw::Misfit);
     }
     if first == ORG {
-        return origin_of(text).ok_or(NO_FIT);
+        return origin_of(text).ok_or(Flaw::Misfit);
     }
     if first == DB {
-        return data_of(text).ok_or(NO_FIT);
+        return data_of(text).ok_or(Flaw::Misfit);
     }
     if !is_instruction(first) {
-        return Err(NO_KIND);
+        return Err(Flaw::NoStatement);
     }
     let (word, operands) = split_word(text);
-    first_fit(instructions(), word, operands).ok_or(NO_FIT)
+    first_fit(instructions(), word, operands).ok_or(Flaw::Misfit)
 }

@@ -1,4 +1,4 @@
-use Rattle.std.proofs.Common.{◌∷◌, ◌++◌, refl, [], ℕ, false, map, ap, sym, subst, arith, rules}
+use Rattle.std.proofs.Common.{◌+◌, ◌∙◌, Err, ◌∷◌, ◌++◌, refl, [], ℕ, false, map, ap, sym, subst, arith, rules}
 use Rattle.std.proofs.lemmas.List.{get_or-replicate, length-replicate}
 use Rattle.std.specs.Str.Lines.{lines}
 use Rattle.mcs48_asm.specs.Places.{placed}
@@ -21,9 +21,10 @@ returns-in-Some-fault_of c =
     let all = placed 0 (map line_of (lines c.args.text.now)) in
     let turn = placed-turn c.loop-line.place c.start_of-start.result _ c.loop-line.rest.now c.in-Some.more.now c.in-Some.line.now (line_seen c.line_of-line.result) c.in-Some.ensures.line c.line_of-line.ensures c.start_of-start.ensures refl in
     let held = c.loop-line.invariant.pass in
-    faulty names all _ _ (kept_value c.loop-line.seen.entries) c.loop-line.filled c.loop-line.bytes c.loop-line.number held.0 c.in-Some-fault_of.fault
+    faulty names all _ _ (kept_value c.loop-line.seen.entries) c.loop-line.filled c.loop-line.bytes c.loop-line.number held.0 c.in-Some-fault_of.flaw
     (subst (λ rest. Stands names all rest (kept_value c.loop-line.seen.entries) c.loop-line.filled c.loop-line.bytes c.loop-line.number held.0) turn held.1)
     (sym c.in-Some-fault_of.ensures)
+    ∙ ap (λ number. Err (c.loop-line.number + 1, number)) (sym c.number.ensures)
 
 pub loop-line-preserved : goal.loop-line-preserved
 loop-line-preserved c =
