@@ -7,4 +7,5 @@ pub mod Stepping
 pub mod Feeding
 pub mod TranslationLaw
 pub mod Answers
+pub mod ListingLaw
 pub mod Complete

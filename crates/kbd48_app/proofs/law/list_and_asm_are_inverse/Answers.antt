@@ -1,0 +1,17 @@
+use Rattle.std.proofs.Common.{◌≡◌, ◌≤◌, Ok, ap, length, arith}
+use Rattle.mcs48_isa.specs.Listing.{listing_of}
+use Rattle.mcs48_isa.proofs.Lengths.{listing-within}
+use Rattle.mcs48_asm.proofs.RoundTrip.{round_trip}
+use Rattle.hexfile.specs.Spelling.{hex_text_of}
+use Rattle.hexfile.proofs.BackRows.{text_back}
+use Rattle.hexfile.proofs.Rows.{text_short}
+use Rattle.kbd48_app.specs.Answers.{of_image, assembled}
+use Rattle.kbd48_app.proofs.law.list_and_asm_are_inverse.Goals as goal
+
+pub returns : goal.returns
+returns c memory is = (
+  ap (of_image (λ image. Ok (listing_of image))) (text_back memory is.0 is.1),
+  omega (arith, text_short memory),
+  ap assembled (round_trip memory is.0 is.1),
+  omega (arith, listing-within memory is.0),
+)
