@@ -1,20 +1,35 @@
-//! Numbers as upper-case hexadecimal digits, as every text of the program writes them. Our own.
+//! Numbers as upper-case hexadecimal digits, as every text of the program writes them, and the value of a digit of
+//! either case, where one is read. Our own.
 //!
 //! This layer knows digits. It knows no line, no format and no file.
 #![tactic(auto)]
 
-ghost use Rattle.std.specs.Prelude.{◌≡◌, ◌<◌};
-ghost use Rattle.hex_text.specs.Digits.{hex_digit, hex_byte, hex_address, hex_word};
+ghost use Rattle.std.specs.Prelude.{◌≡◌, ◌<◌, Some, IfSome};
+ghost use Rattle.hex_text.specs.Digits.{hex_digit, digit_value, hex_byte, hex_address, hex_word};
 
-/// The character of a digit below 16: `0` to `9`, then `A` to `F`.
+/// The character of a digit below 16: `0` to `9`, then `A` to `F`. Its value is the number again.
 pub fn digit(value: u8) -> u8
     requires { value < 16 }
-    ensures { result ≡ hex_digit value }
+    ensures character { result ≡ hex_digit value }
+    ensures back { digit_value result ≡ Some value }
 {
     if value < 10 {
         b'0' + value
     } else {
         b'A' + (value - 10)
+    }
+}
+
+/// The value, 0 to 15, of a hexadecimal digit: `0` to `9`, or `A` to `F` in either case. None for any other character.
+pub fn digit_value(character: u8) -> Option<u8>
+    ensures value { result ≡ digit_value character }
+    ensures below { IfSome result (λ value. value < 16) }
+{
+    match character {
+        b'0'..=b'9' => Some(character - b'0'),
+        b'A'..=b'F' => Some(character - b'A' + 10),
+        b'a'..=b'f' => Some(character - b'a' + 10),
+        _ => None,
     }
 }
 

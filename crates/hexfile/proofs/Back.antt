@@ -7,8 +7,8 @@ use Rattle.std.proofs.lemmas.Bool.Decides.{nat_tests}
 use Rattle.std.proofs.lemmas.List.{take_all, take-append-le}
 use Rattle.std.proofs.lemmas.List.Elements.{All-nil, All-cons, All-head, All-tail, All-append, All-weaker, All-get_or}
 use Rattle.std.proofs.lemmas.List.Sums.{sum_by-append}
-use Rattle.hex_text.specs.Digits.{hex_digit, hex_byte}
-use Rattle.hexfile.specs.Record.{Record, digit_value, bytes_of, record_of, record_in}
+use Rattle.hex_text.specs.Digits.{hex_digit, digit_value, hex_byte}
+use Rattle.hexfile.specs.Record.{Record, bytes_of, record_of, record_in}
 use Rattle.hexfile.specs.Spelling.{sum_byte}
 use Rattle.hexfile.proofs.Digits.{pair_onto}
 use Rattle.hexfile.proofs.Splits.{lines-line}

@@ -1,19 +1,13 @@
 -- What a line says.
-use Rattle.std.specs.Prelude.{ℕ, ◌+◌, ◌-◌, ◌*◌, ◌%◌, List, [], ◌∷◌, length, take, sum, None, Some, ◌==◌, ◌&&◌, nat_le, if◌then◌else◌}
+use Rattle.std.specs.Prelude.{ℕ, ◌+◌, ◌*◌, ◌%◌, List, [], ◌∷◌, length, take, sum, None, Some, ◌==◌, if◌then◌else◌}
 use Rattle.std.specs.Option.{option_and_then}
 use Rattle.std.specs.declared.option.Option.{Option}
+use Rattle.hex_text.specs.Digits.{digit_value}
 use Rattle.hexfile.specs.declared.record.Record as code
 
 infixl 10 ◌>>=◌
 abbrev pub ◌>>=◌ : {A B : Type 0} → Option A → (A → Option B) → Option B
 found >>= next = option_and_then next found
-
--- the value of a hexadecimal digit: 0 to 9, or A to F in either case
-abbrev pub digit_value : ℕ → Option ℕ
-digit_value character =
-    if nat_le 48 character && nat_le character 57 then Some (character - 48)
-    else (if nat_le 65 character && nat_le character 70 then Some (character - 55)
-    else (if nat_le 97 character && nat_le character 102 then Some (character - 87) else None))
 
 -- the bytes that digits write, the high digit of a byte first; none where a character is no digit, or a digit is left over
 abbrev pub bytes_of : List ℕ → Option (List ℕ)

@@ -2,7 +2,7 @@
 
 ghost use Rattle.std.specs.Prelude.{◌≡◌, ◌≤◌, ◌%◌, length, sum};
 ghost use Rattle.std.specs.Option.{option_map};
-ghost use Rattle.hexfile.specs.Record.{digit_value, bytes_of, record_of, said_by};
+ghost use Rattle.hexfile.specs.Record.{bytes_of, record_of, said_by};
 
 use arrayvec::ArrayVec;
 
@@ -22,18 +22,6 @@ pub(crate) struct Record<'a> {
     pub(crate) total: u8,
 }
 
-/// The value of a hexadecimal digit of either case.
-fn digit_of(character: u8) -> Option<u8>
-    ensures { result ≡ digit_value character }
-{
-    match character {
-        b'0'..=b'9' => Some(character - b'0'),
-        b'A'..=b'F' => Some(character - b'A' + 10),
-        b'a'..=b'f' => Some(character - b'a' + 10),
-        _ => None,
-    }
-}
-
 /// The bytes that pairs of digits write. None where a character is no digit, or a digit is left over.
 pub(crate) fn decoded(digits: &[u8]) -> Option<ArrayVec<u8, LONGEST>>
     requires { length digits.now ≤ 520 }
@@ -42,8 +30,8 @@ pub(crate) fn decoded(digits: &[u8]) -> Option<ArrayVec<u8, LONGEST>>
     let mut bytes = ArrayVec::new();
     let mut rest = digits;
     while let [high, low, more @ ..] = rest {
-        let high = digit_of(*high)?;
-        let low = digit_of(*low)?;
+        let high = hex_text::digit_value(*high)?;
+        let low = hex_text::digit_value(*low)?;
         bytes.push(16 * high + low);
         rest = more;
     }

@@ -1,5 +1,5 @@
 -- The accepted forms of the words that follow the program's name.
-use Rattle.std.specs.Prelude.{ℕ, ◌+◌, ◌-◌, ◌*◌, Bool, not, ◌&&◌, nat_eq, nat_lt, nat_le, false, List, [], ◌∷◌, length, None, Some, codes, is_some}
+use Rattle.std.specs.Prelude.{ℕ, ◌+◌, ◌*◌, Bool, not, ◌&&◌, nat_eq, nat_lt, nat_le, false, List, [], ◌∷◌, length, None, Some, codes, is_some}
 use Rattle.std.specs.Prelude.{if◌then◌else◌}
 use Rattle.std.specs.Char.{is_ascii_digit}
 use Rattle.std.specs.List.{list_all, filter_map}
@@ -7,6 +7,7 @@ use Rattle.std.specs.Option.{option_map, option_and_then}
 use Rattle.std.specs.Str.{bytes_eq}
 use Rattle.std.specs.Str.Parse.{digits_value}
 use Rattle.std.specs.declared.option.Option.{Option}
+use Rattle.hex_text.specs.Digits.{digit_value}
 use Rattle.kbd48_app.specs.declared.words.Command.{Command}
 use Rattle.kbd48_app.specs.declared.words.Command.TheVariants.{OverFile, Feed}
 use Rattle.kbd48_app.specs.declared.words.FileCommand.{FileCommand}
@@ -27,17 +28,10 @@ count_of word =
     let count = digits_value 10 word in
     if is_short_number word && nat_le count 1000000 then Some count else None
 
--- the value of a hexadecimal digit of either case
-abbrev pub digit_of : ℕ → Option ℕ
-digit_of character =
-    if nat_le 48 character && nat_le character 57 then Some (character - 48)
-    else (if nat_le 65 character && nat_le character 70 then Some (character - 55)
-    else (if nat_le 97 character && nat_le character 102 then Some (character - 87) else None))
-
--- a BYTE is two hexadecimal digits
+-- a BYTE is two hexadecimal digits of either case
 abbrev pub byte_of : List ℕ → Option ℕ
 byte_of (first ∷ second ∷ []) =
-    option_and_then (λ high. option_map (λ low. 16 * high + low) (digit_of second)) (digit_of first)
+    option_and_then (λ high. option_map (λ low. 16 * high + low) (digit_value second)) (digit_value first)
 byte_of word = None
 
 abbrev pub is_byte : List ℕ → Bool

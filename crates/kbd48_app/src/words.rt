@@ -3,7 +3,7 @@
 ghost use Rattle.std.specs.Prelude.{◌≡◌, map, string_bytes};
 ghost use Rattle.std.specs.Char.{is_ascii_digit};
 ghost use Rattle.std.specs.List.{list_all};
-ghost use Rattle.kbd48_app.specs.Words.{is_name, is_short_number, count_of, digit_of, byte_of, is_byte, are_bytes, step_of, named_of, feed_of, command_of, is_form};
+ghost use Rattle.kbd48_app.specs.Words.{is_name, is_short_number, count_of, byte_of, is_byte, are_bytes, step_of, named_of, feed_of, command_of, is_form};
 
 use crate::kind::Kind;
 
@@ -83,26 +83,14 @@ fn count(word: &str) -> Option<u32>
     }
 }
 
-/// The value of a hexadecimal digit of either case.
-fn digit(character: u8) -> Option<u8>
-    ensures { result ≡ digit_of character }
-{
-    match character {
-        b'0'..=b'9' => Some(character - b'0'),
-        b'A'..=b'F' => Some(character - b'A' + 10),
-        b'a'..=b'f' => Some(character - b'a' + 10),
-        _ => None,
-    }
-}
-
 /// The value of a BYTE.
 pub fn read_byte(word: &str) -> Option<u8>
     ensures { result ≡ byte_of word.now }
 {
     match word.as_bytes() {
         [first, second] => {
-            let high = digit(*first)?;
-            let low = digit(*second)?;
+            let high = hex_text::digit_value(*first)?;
+            let low = hex_text::digit_value(*second)?;
             Some(16 * high + low)
         }
         _ => None,
