@@ -27,6 +27,7 @@ two a b = Ok (a ∷ b ∷ 0 ∷ 0 ∷ 0 ∷ 0 ∷ 0 ∷ 0 ∷ [])
 abbrev four : ℕ → ℕ → ℕ → ℕ → Result (List ℕ) Fault
 four a b c d = Ok (a ∷ b ∷ c ∷ d ∷ 0 ∷ 0 ∷ 0 ∷ 0 ∷ [])
 
+-- the sources, by what they show
 unfoldable pub examples : List Example
 examples =
     lines (codes "MOV A,#7FH") (codes "ADD A,#1") (four 0x23 0x7F 0x03 0x01) ∷
