@@ -7,18 +7,21 @@ use kbd48_app::{Exit, kbd48};
 use std::process::ExitCode;
 use std::{env, io};
 
-/// The words after the program's name; none where there is no memory for them.
-fn words_of(rt: &HostRuntime) -> Option<Vec<String>> {
+/// The words after the program's name. An error where there is no memory for them, or where one of them is no UTF-8 text.
+fn words_of(rt: &HostRuntime) -> io::Result<Vec<String>> {
     let mut words = Vec::new(rt.alloc());
-    for word in env::args(rt).ok()?.skip(1) {
-        words.push(word).ok()?;
+    for word in env::args(rt)?.skip(1) {
+        words.push(word)?;
     }
-    Some(words)
+    Ok(words)
 }
 
 fn main(rt: HostRuntime) -> ExitCode {
-    let Some(words) = words_of(&rt) else {
-        return ExitCode::from(Exit::Memory.status());
+    let words = match words_of(&rt) {
+        Ok(words) => words,
+        // No form has such a word. No words at all have no form either, so they are refused in the same way.
+        Err(fault) if fault.kind() == io::ErrorKind::InvalidData => Vec::new(rt.alloc()),
+        Err(_) => return ExitCode::from(Exit::Memory.status()),
     };
     let mut shelf = FileShelf::new(&rt);
     let mut out = StreamSink::new(io::writer(&rt));
