@@ -1,0 +1,22 @@
+-- Bits of a byte, each given by its value: 01, 02, 04 .. 80. The bit comes first, then the byte.
+use Rattle.std.specs.Prelude.{ℕ, ◌-◌, Bool, ◌==◌, if◌then◌else◌, bit_and, bit_or, bit_xor}
+
+-- whether the byte has the bit
+abbrev pub has_bit : ℕ → ℕ → Bool
+has_bit bit byte = bit_and byte bit == bit
+
+-- the byte with the bit set
+abbrev pub with_bit : ℕ → ℕ → ℕ
+with_bit bit byte = bit_or byte bit
+
+-- the byte with the bit cleared
+abbrev pub without_bit : ℕ → ℕ → ℕ
+without_bit bit byte = bit_and byte (0xff - bit)
+
+-- the byte with the bit flipped
+abbrev pub flipped_bit : ℕ → ℕ → ℕ
+flipped_bit bit byte = bit_xor byte bit
+
+-- the bit's value where it is set, else 0
+abbrev pub bit_value : ℕ → Bool → ℕ
+bit_value bit on = if on then bit else 0

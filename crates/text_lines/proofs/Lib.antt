@@ -1,0 +1,4 @@
+pub mod Splits
+pub mod FirstLine
+pub mod FirstField
+pub mod Digits
