@@ -5,7 +5,7 @@ ghost use Rattle.std.specs.List.{list_any};
 
 /// Whether a number, from 1, stands in the list of those that fail.
 pub fn is_among(number: u64, fails: &[u32]) -> bool
-    ensures { result ≡ list_any (nat_eq number) fails.now }
+    ensures among { result ≡ list_any (nat_eq number) fails.now }
 {
     fails.iter().any(|fail| number == u64::from(*fail))
 }

@@ -1,6 +1,6 @@
 //! A shelf over files in memory.
 
-ghost use Rattle.std.specs.Prelude.{◌≡◌, ℕ, ◌≤◌, Some, IfOk, vec_len};
+ghost use Rattle.std.specs.Prelude.{◌≡◌, ◌⊎◌, ℕ, ◌≤◌, Err, Some, IfOk, vec_len};
 ghost use Rattle.std.specs.declared.option.Option.{Option};
 ghost use Rattle.std.specs.Option.{option_map, option_copied};
 ghost use Rattle.io_edge.specs.Faults.{Rose};
@@ -54,6 +54,7 @@ impl Shelf for MemShelf {
     fn fetch(&mut self, alloc: Global, name: &str, max: usize) -> Result<Vec<u8>, FetchFault>
         ensures count { self.old.faults ≤ self.new.faults }
         ensures failed { result ≡ Err FetchFault.Failed → Rose self.old.faults self.new.faults }
+        ensures steady { (result ≡ Err FetchFault.Failed) ⊎ (self.new.faults ≡ self.old.faults) }
         ensures size { IfOk result (λ bytes. vec_len bytes ≤ max) }
         ensures kept { Some self.new.told ≡ option_map after_fetch (Some self.old.told) }
         ensures told { IsFetch (fetched self.old.told name.now max) result }

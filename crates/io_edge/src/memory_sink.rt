@@ -64,6 +64,8 @@ impl Sink for MemSink {
 
     ghost taken = { λ s. Some s.taken };
 
+    ghost told = { λ s. Some s };
+
     fn put(&mut self, piece: &[u8]) -> Result<usize, SinkFault>
         requires { 0 < length piece.now }
         ensures count { self.old.faults ≤ self.new.faults }
@@ -74,7 +76,7 @@ impl Sink for MemSink {
         ensures failed { OnErr result (Rose self.old.faults self.new.faults) }
         ensures nothing { OnErr result (Some self.new.taken ≡ Some self.old.taken) }
         ensures answer { result ≡ put_answer self.old piece.now }
-        ensures exact { self.new ≡ after_put self.old piece.now }
+        ensures after { Some self.new ≡ Some (after_put self.old piece.now) }
     {
         self.puts = self.puts.saturating_add(1);
         let left = self.room - self.taken.len();

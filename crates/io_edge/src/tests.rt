@@ -1,6 +1,7 @@
 //! The real shelf and sink over a real file, and the ones in memory.
 
 use crate::{FetchFault, FileShelf, MemShelf, MemSink, Shelf, Sink, SinkFault, StreamSink};
+use std::io::{self, Write};
 use std::test::Fail;
 use std::{env, fs, process};
 
@@ -55,6 +56,43 @@ fn a_stream_holds_what_was_put(rt: HostRuntime) -> Result<(), Fail> {
         b"64 port AA\nbeep\n".as_slice()
     );
     fs::remove_file(&rt, path.as_str())?;
+    Ok(())
+}
+
+// A writer that takes one byte at a time.
+#[derive(Drop)]
+struct Slow {
+    taken: Vec<u8>,
+}
+
+impl Write for Slow {
+    fn write(&mut self, buf: &[u8]) -> io::Result<usize> {
+        match buf {
+            [] => Ok(0),
+            [first, ..] => {
+                self.taken.push(*first)?;
+                Ok(1)
+            }
+        }
+    }
+
+    fn flush(&mut self) -> io::Result<()> {
+        Ok(())
+    }
+}
+
+#[test]
+fn a_put_answers_what_the_writer_took(rt: HostRuntime) -> Result<(), Fail> {
+    let text = b"64 port AA\n";
+    let mut slow = Slow {
+        taken: Vec::new(rt.alloc()),
+    };
+    let mut sink = StreamSink::new(&mut slow);
+    for start in 0..text.len() {
+        assert_eq!(rt; sink.put(&text[start..]), Ok(1));
+    }
+    drop(sink);
+    assert_eq!(rt; slow.taken.as_slice(), text.as_slice());
     Ok(())
 }
 
