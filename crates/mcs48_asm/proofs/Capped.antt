@@ -8,7 +8,7 @@ use Rattle.std.proofs.lemmas.Bool.Decides.{nat_tests}
 use Rattle.std.proofs.lemmas.List.{map-append, length-map}
 use Rattle.mcs48_asm.specs.declared.argument.Role.{Role}
 use Rattle.mcs48_asm.specs.declared.argument.Role.TheVariants.{Byte, Address, Target}
-use Rattle.mcs48_asm.specs.Values.{Value, Number, Named, Low, capped}
+use Rattle.mcs48_asm.specs.Values.{Value, Number, Named, Low}
 use Rattle.mcs48_asm.specs.Rows.{is_reserved}
 use Rattle.mcs48_asm.specs.Statements.{Statement, Nothing, Instruction, Origin, Data, Equate, Line}
 use Rattle.mcs48_asm.specs.Places.{Placed, placed, covers, is_filled, count_of, start_of}
@@ -16,7 +16,7 @@ use Rattle.mcs48_asm.specs.Names.{Definition, Meanings, labelled, equated, named
 use Rattle.mcs48_asm.specs.declared.flaw.Flaw.{Flaw}
 use Rattle.mcs48_asm.specs.Faults.{arguments, is_above, is_huge, is_past, is_too_large, has_wrong_number, is_equate, is_refused, has_unknown_name, is_defined_again, is_outside, is_past_end, is_filled_again, fault_of}
 use Rattle.mcs48_asm.specs.Assembly.{fault_behind}
-use Rattle.mcs48_asm.specs.Large.{value_capped, argument_capped, statement_capped, line_capped, counted_on}
+use Rattle.mcs48_asm.specs.Capped.{capped, value_capped, argument_capped, statement_capped, line_capped, kept_places}
 use Rattle.mcs48_asm.proofs.Ranges.{any_places-alike}
 
 abbrev pub def_capped : Definition → Definition
@@ -59,14 +59,14 @@ start-capped p (Origin n) = refl
 start-capped p (Data vs) = refl
 start-capped p (Equate q n) = refl
 
-pub placed-capped : (p : ℕ) (lines : List Line) → placed (capped p) (map line_capped lines) ≡ map at_capped (counted_on p lines)
+pub placed-capped : (p : ℕ) (lines : List Line) → kept_places (capped p) (map line_capped lines) ≡ map at_capped (placed p lines)
 placed-capped p [] = refl
 placed-capped p (line ∷ lines) =
     let s = start_of p line.statement in
     let more = map line_capped lines in
-    ap (λ s. record { start = s; line = line_capped line } ∷ placed (capped (s + count_of (statement_capped line.statement))) more) (start-capped p line.statement)
-    ∙ ap (λ c. at_capped (record { start = s; line = line }) ∷ placed (capped (capped s + c)) more) (count-capped line.statement)
-    ∙ ap (λ n. at_capped (record { start = s; line = line }) ∷ placed n more) (capped-add s (count_of line.statement))
+    ap (λ s. record { start = s; line = line_capped line } ∷ kept_places (capped (s + count_of (statement_capped line.statement))) more) (start-capped p line.statement)
+    ∙ ap (λ c. at_capped (record { start = s; line = line }) ∷ kept_places (capped (capped s + c)) more) (count-capped line.statement)
+    ∙ ap (λ n. at_capped (record { start = s; line = line }) ∷ kept_places n more) (capped-add s (count_of line.statement))
     ∙ ap (λ ps. at_capped (record { start = s; line = line }) ∷ ps) (placed-capped (s + count_of line.statement) lines)
 
 -- names

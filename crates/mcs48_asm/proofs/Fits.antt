@@ -6,14 +6,13 @@ use Rattle.std.specs.Str.{bytes_eq}
 use Rattle.std.proofs.lemmas.Bool.{and_parts, and_from, not-true}
 use Rattle.std.proofs.lemmas.Bool.Decides.{nat_tests}
 use Rattle.std.proofs.lemmas.List.Folds.{list_all-append}
-use Rattle.mcs48_asm.specs.declared.rows.Row.{Row}
-use Rattle.mcs48_asm.specs.declared.rows.Shape.{Shape}
+use Rattle.mcs48_isa.specs.Instructions.{Operand}
 use Rattle.mcs48_asm.specs.declared.flaw.Flaw.TheVariants.{Syntax}
 use Rattle.mcs48_asm.specs.Characters.{is_word_character, is_comma, is_colon, is_semicolon, is_blank, is_allowed}
 use Rattle.std.proofs.lemmas.List.Splits.{slice_split-cons_yes}
 use Rattle.mcs48_asm.specs.Values.{number_of}
 use Rattle.mcs48_asm.specs.Words.{trimmed, trimmed_end, onto_trimmed, unindented, is_name}
-use Rattle.mcs48_asm.specs.Rows.{Reading, spelled, read_all, operands_of}
+use Rattle.mcs48_asm.specs.Rows.{Reading, Form, read_all, operands_of}
 use Rattle.mcs48_asm.specs.Statements.{Statement, Instruction, first_fit, statement_of, is_known_word, is_spelled, line_of_parts, line_with, flawed, line_of}
 use Rattle.mcs48_asm.proofs.Plain.{is_plain, IsPlain, is_unbroken, all_weaker, one_part, first_part, uncut, plain-allowed, plain-semicolon, plain-colon, unbroken-comma, unbroken-blank, unbroken-plain, word-unbroken}
 use Rattle.mcs48_asm.proofs.Numerals.{IsNumeral}
@@ -25,18 +24,18 @@ abbrev pub instruction_of : ℕ → Option Reading → Option Statement
 instruction_of opcode found = option_map (λ said. Instruction ((opcode + said.offset) % 256) said.argument) found
 
 -- the instruction of the first row that fits, where the operands are apart
-abbrev pub fit : List Row → List ℕ → List (List ℕ) → Option Statement
+abbrev pub fit : List Form → List ℕ → List (List ℕ) → Option Statement
 fit [] word operands = None
-fit (row ∷ rows) word operands = option_or (if bytes_eq (spelled row.0) word then instruction_of row.2 (read_all row.1 operands) else None) (fit rows word operands)
+fit (row ∷ rows) word operands = option_or (if bytes_eq row.word word then instruction_of row.first (read_all row.operands operands) else None) (fit rows word operands)
 
-pub fit-first : (rows : List Row) (word text : List ℕ) (operands : List (List ℕ)) → operands_of text ≡ operands → first_fit rows word text ≡ fit rows word operands
+pub fit-first : (rows : List Form) (word text : List ℕ) (operands : List (List ℕ)) → operands_of text ≡ operands → first_fit rows word text ≡ fit rows word operands
 fit-first [] word text operands are = refl
 fit-first (row ∷ rows) word text operands are =
-    ap (λ given. option_or (if bytes_eq (spelled row.0) word then instruction_of row.2 (read_all row.1 given) else None) (first_fit rows word text)) are
-    ∙ ap (option_or (if bytes_eq (spelled row.0) word then instruction_of row.2 (read_all row.1 operands) else None)) (fit-first rows word text operands are)
+    ap (λ given. option_or (if bytes_eq row.word word then instruction_of row.first (read_all row.operands given) else None) (first_fit rows word text)) are
+    ∙ ap (option_or (if bytes_eq row.word word then instruction_of row.first (read_all row.operands operands) else None)) (fit-first rows word text operands are)
 
 -- the row that fits
-pub fit-found : (opcode : ℕ) (shape : Shape) (operands : List (List ℕ)) (rest : Option Statement) (said : Reading) → read_all shape operands ≡ Some said
+pub fit-found : (opcode : ℕ) (shape : List Operand) (operands : List (List ℕ)) (rest : Option Statement) (said : Reading) → read_all shape operands ≡ Some said
     → option_or (instruction_of opcode (read_all shape operands)) rest ≡ Some (Instruction ((opcode + said.offset) % 256) said.argument)
 fit-found opcode shape operands rest said found = ap (λ given. option_or (instruction_of opcode given) rest) found
 

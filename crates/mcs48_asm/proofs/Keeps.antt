@@ -8,6 +8,7 @@ use Rattle.std.proofs.lemmas.Slice.Eq.{bytes_eq-Decides}
 use Rattle.indexmap.specs.IndexMap.{insert_entry}
 use Rattle.mcs48_asm.specs.Values.{Value, Number, value_of}
 use Rattle.mcs48_asm.specs.Statements.{Data, values_of}
+use Rattle.mcs48_asm.specs.Capped.{value_capped, statement_capped}
 use Rattle.mcs48_asm.specs.Views.{kept_value, kept_part}
 
 pub lookup-kept : (entries : List (Bor (List ℕ) × ℕ)) (name : List ℕ) → lookup (λ (key : Bor (List ℕ)). bytes_eq name key.now) entries ≡ kept_value entries name
@@ -57,9 +58,12 @@ some_kept None entries name h k = absurd (cc)
 some_kept (Some x) entries name h k = sym (ap is_some h)
 
 -- the parts of a text that all write values give those values
-pub values_of-kept : (parts : List (List ℕ)) → is_some (values_of parts) ≡ true → values_of parts ≡ Some (map kept_part parts)
-values_of-kept [] h = refl
-values_of-kept (part ∷ parts) h = more (value_of part) (values_of parts) (map kept_part parts) h (values_of-kept parts)
+abbrev part_of : List ℕ → Value
+part_of text = unwrap_or (value_of text) (Number 0)
+
+values_of-parts : (parts : List (List ℕ)) → is_some (values_of parts) ≡ true → values_of parts ≡ Some (map part_of parts)
+values_of-parts [] h = refl
+values_of-parts (part ∷ parts) h = more (value_of part) (values_of parts) (map part_of parts) h (values_of-parts parts)
   where
     more : (o : Option Value) (os : Option (List Value)) (vs : List Value) → is_some (option_and_then (λ v. option_map (λ vs. v ∷ vs) os) o) ≡ true → (is_some os ≡ true → os ≡ Some vs)
         → option_and_then (λ v. option_map (λ vs. v ∷ vs) os) o ≡ Some (unwrap_or o (Number 0) ∷ vs)
@@ -67,12 +71,19 @@ values_of-kept (part ∷ parts) h = more (value_of part) (values_of parts) (map 
     more (Some v) None vs h k = absurd (cc)
     more (Some v) (Some ws) vs h k = ap (λ os. option_map (λ vs. v ∷ vs) os) (k refl)
 
-none_of : (o : Option (List Value)) → is_some o ≡ false → None ≡ option_map Data o
+kept_parts : (parts : List (List ℕ)) → map kept_part parts ≡ map value_capped (map part_of parts)
+kept_parts [] = refl
+kept_parts (part ∷ parts) = ap (λ more. kept_part part ∷ more) (kept_parts parts)
+
+none_of : (o : Option (List Value)) → is_some o ≡ false → None ≡ option_map statement_capped (option_map Data o)
 none_of None h = refl
 none_of (Some x) h = absurd (cc)
 
-pub data-kept : (parts : List (List ℕ)) → is_some (values_of parts) ≡ true → Some (Data (map kept_part parts)) ≡ option_map Data (values_of parts)
-data-kept parts h = sym (ap (option_map Data) (values_of-kept parts h))
+pub data-kept : (parts : List (List ℕ)) → is_some (values_of parts) ≡ true
+    → Some (Data (map kept_part parts)) ≡ option_map statement_capped (option_map Data (values_of parts))
+data-kept parts h =
+    ap (λ values. Some (Data values)) (kept_parts parts)
+    ∙ sym (ap (λ values. option_map statement_capped (option_map Data values)) (values_of-parts parts h))
 
-pub data-none : (parts : List (List ℕ)) → is_some (values_of parts) ≡ false → None ≡ option_map Data (values_of parts)
+pub data-none : (parts : List (List ℕ)) → is_some (values_of parts) ≡ false → None ≡ option_map statement_capped (option_map Data (values_of parts))
 data-none parts h = none_of (values_of parts) h

@@ -6,16 +6,16 @@ use Rattle.std.proofs.lemmas.Bool.Decides.{nat_tests}
 use Rattle.std.proofs.lemmas.List.{map-append, length-map}
 use Rattle.mcs48_asm.specs.declared.argument.Role.{Role}
 use Rattle.mcs48_asm.specs.declared.argument.Role.TheVariants.{Byte, Address, Target}
-use Rattle.mcs48_asm.specs.Values.{Value, Number, Named, Low, capped}
-use Rattle.mcs48_asm.specs.Statements.{Statement, Nothing, Instruction, Origin, Data, Equate, Line}
+use Rattle.mcs48_asm.specs.Values.{Value, Number, Named, Low}
+use Rattle.mcs48_asm.specs.Statements.{Statement, Nothing, Instruction, Origin, Data, Equate, Line, line_of}
 use Rattle.mcs48_asm.specs.Places.{Placed, placed, is_filled, count_of, start_of}
 use Rattle.mcs48_asm.specs.Names.{Meanings, labelled, equated, definitions, value_named}
 use Rattle.mcs48_asm.specs.Faults.{arguments, is_past, is_too_large, has_wrong_number, has_labelled_equate, is_refused, has_unknown_name, is_defined_again, is_off_page, is_past_end, is_filled_again}
-use Rattle.mcs48_asm.specs.Assembly.{fault_behind, first_fault, outcome_of, image_unless, image_of}
+use Rattle.mcs48_asm.specs.Assembly.{fault_behind, first_fault, outcome_of, image_unless, image_of, answer_of}
 use Rattle.mcs48_asm.specs.declared.flaw.Flaw.{Flaw}
 use Rattle.mcs48_asm.specs.declared.flaw.Flaw.TheVariants.{Misfit, UnknownName, NameTaken, OffPage, PastEnd, PlaceTaken}
 use Rattle.mcs48_asm.specs.Flaws.{number_of}
-use Rattle.mcs48_asm.specs.Large.{value_capped, statement_capped, line_capped, counted_on, answer_of}
+use Rattle.mcs48_asm.specs.Capped.{capped, value_capped, statement_capped, line_capped, kept_line, kept_places}
 use Rattle.mcs48_asm.proofs.Capped.{at_capped, names_capped, reserved, small-capped, placed-capped, names-capped, fault-capped}
 use Rattle.mcs48_asm.proofs.Passes.{and_true}
 
@@ -99,39 +99,39 @@ near names earlier place line h none =
 
 -- the first fault is the same
 first : (names : Meanings) (earlier : List Placed) (place : ℕ) (lines : List Line) → place ≤ 2048
-    → first_fault (names_capped names) (map at_capped earlier) (map at_capped (counted_on place lines)) ≡ first_fault names earlier (counted_on place lines)
+    → first_fault (names_capped names) (map at_capped earlier) (map at_capped (placed place lines)) ≡ first_fault names earlier (placed place lines)
 first names earlier place [] h = refl
 first names earlier place (line ∷ lines) h =
     let at : Placed = record { start = start_of place line.statement; line = line } in
     go (fault_behind names earlier at) at (fault-capped names earlier place line h) refl
-    (λ none. ap (λ ps. first_fault (names_capped names) ps (map at_capped (counted_on (at.start + count_of line.statement) lines))) (sym (map-append at_capped earlier (at ∷ [])))
+    (λ none. ap (λ ps. first_fault (names_capped names) ps (map at_capped (placed (at.start + count_of line.statement) lines))) (sym (map-append at_capped earlier (at ∷ [])))
     ∙ first names (earlier ++ at ∷ []) (at.start + count_of line.statement) lines (near names earlier place line h none).behind)
   where
     go : (o : Option Flaw) (at : Placed) → fault_behind (names_capped names) (map at_capped earlier) (at_capped at) ≡ fault_behind names earlier at → fault_behind names earlier at ≡ o
-        → (o ≡ None → first_fault (names_capped names) (map at_capped earlier ++ at_capped at ∷ []) (map at_capped (counted_on (at.start + count_of line.statement) lines)) ≡ first_fault names (earlier ++ at ∷ []) (counted_on (at.start + count_of line.statement) lines))
-        → first_fault (names_capped names) (map at_capped earlier) (at_capped at ∷ map at_capped (counted_on (at.start + count_of line.statement) lines)) ≡ first_fault names earlier (at ∷ counted_on (at.start + count_of line.statement) lines)
+        → (o ≡ None → first_fault (names_capped names) (map at_capped earlier ++ at_capped at ∷ []) (map at_capped (placed (at.start + count_of line.statement) lines)) ≡ first_fault names (earlier ++ at ∷ []) (placed (at.start + count_of line.statement) lines))
+        → first_fault (names_capped names) (map at_capped earlier) (at_capped at ∷ map at_capped (placed (at.start + count_of line.statement) lines)) ≡ first_fault names earlier (at ∷ placed (at.start + count_of line.statement) lines)
     go (Some x) at same is more =
-        ap (λ o. option_or (option_map (λ flaw. (length (map at_capped earlier) + 1, number_of flaw)) o) (first_fault (names_capped names) (map at_capped earlier ++ at_capped at ∷ []) (map at_capped (counted_on (at.start + count_of line.statement) lines)))) (same ∙ is)
+        ap (λ o. option_or (option_map (λ flaw. (length (map at_capped earlier) + 1, number_of flaw)) o) (first_fault (names_capped names) (map at_capped earlier ++ at_capped at ∷ []) (map at_capped (placed (at.start + count_of line.statement) lines)))) (same ∙ is)
         ∙ ap (λ n. Some (n + 1, number_of x)) (length-map earlier at_capped)
-        ∙ sym (ap (λ o. option_or (option_map (λ flaw. (length earlier + 1, number_of flaw)) o) (first_fault names (earlier ++ at ∷ []) (counted_on (at.start + count_of line.statement) lines))) is)
+        ∙ sym (ap (λ o. option_or (option_map (λ flaw. (length earlier + 1, number_of flaw)) o) (first_fault names (earlier ++ at ∷ []) (placed (at.start + count_of line.statement) lines))) is)
     go None at same is more =
-        ap (λ o. option_or (option_map (λ flaw. (length (map at_capped earlier) + 1, number_of flaw)) o) (first_fault (names_capped names) (map at_capped earlier ++ at_capped at ∷ []) (map at_capped (counted_on (at.start + count_of line.statement) lines)))) (same ∙ is)
+        ap (λ o. option_or (option_map (λ flaw. (length (map at_capped earlier) + 1, number_of flaw)) o) (first_fault (names_capped names) (map at_capped earlier ++ at_capped at ∷ []) (map at_capped (placed (at.start + count_of line.statement) lines)))) (same ∙ is)
         ∙ more refl
-        ∙ sym (ap (λ o. option_or (option_map (λ flaw. (length earlier + 1, number_of flaw)) o) (first_fault names (earlier ++ at ∷ []) (counted_on (at.start + count_of line.statement) lines))) is)
+        ∙ sym (ap (λ o. option_or (option_map (λ flaw. (length earlier + 1, number_of flaw)) o) (first_fault names (earlier ++ at ∷ []) (placed (at.start + count_of line.statement) lines))) is)
 
 -- lines without a fault are the same
 option-none : (o : Option Flaw) (n : ℕ) (p : Option (ℕ × ℕ)) → option_or (option_map (λ flaw. (n, number_of flaw)) o) p ≡ None → (o ≡ None) × (p ≡ None)
 option-none (Some x) n p h = absurd (cc)
 option-none None n p h = (refl, h)
 
-whole : (names : Meanings) (earlier : List Placed) (place : ℕ) (lines : List Line) → place ≤ 2048 → first_fault names earlier (counted_on place lines) ≡ None → map at_capped (counted_on place lines) ≡ counted_on place lines
+whole : (names : Meanings) (earlier : List Placed) (place : ℕ) (lines : List Line) → place ≤ 2048 → first_fault names earlier (placed place lines) ≡ None → map at_capped (placed place lines) ≡ placed place lines
 whole names earlier place [] h none = refl
 whole names earlier place (line ∷ lines) h none =
     let at : Placed = record { start = start_of place line.statement; line = line } in
     let next = at.start + count_of line.statement in
-    let parts = option-none (fault_behind names earlier at) (length earlier + 1) (first_fault names (earlier ++ at ∷ []) (counted_on next lines)) none in
+    let parts = option-none (fault_behind names earlier at) (length earlier + 1) (first_fault names (earlier ++ at ∷ []) (placed next lines)) none in
     let here = near names earlier place line h parts.0 in
-    ap (λ p. p ∷ map at_capped (counted_on next lines)) here.same ∙ ap (λ ps. at ∷ ps) (whole names (earlier ++ at ∷ []) next lines here.behind parts.1)
+    ap (λ p. p ∷ map at_capped (placed next lines)) here.same ∙ ap (λ ps. at ∷ ps) (whole names (earlier ++ at ∷ []) next lines here.behind parts.1)
 
 answers : (ps : List Placed) (o : Option (ℕ × ℕ)) → first_fault (value_named (definitions ps)) [] ps ≡ o → first_fault (names_capped (value_named (definitions ps))) [] (map at_capped ps) ≡ o
     → (o ≡ None → map at_capped ps ≡ ps) → answer_of ps ≡ answer_of (map at_capped ps)
@@ -140,8 +140,16 @@ answers ps (Some x) is capped_is same =
     ap (λ f. image_unless f (image_of (value_named (definitions ps)) ps)) is
     ∙ sym (ap (λ names. outcome_of names (map at_capped ps)) (names-capped ps) ∙ ap (λ f. image_unless f (image_of (names_capped (value_named (definitions ps))) (map at_capped ps))) capped_is)
 
-pub large-numbers : (lines : List Line) → answer_of (counted_on 0 lines) ≡ answer_of (placed 0 (map line_capped lines))
+pub large-numbers : (lines : List Line) → answer_of (placed 0 lines) ≡ answer_of (kept_places 0 (map line_capped lines))
 large-numbers lines =
-    let ps = counted_on 0 lines in
+    let ps = placed 0 lines in
     let names = value_named (definitions ps) in
     answers ps (first_fault names [] ps) refl (first names [] 0 lines (omega arith)) (whole names [] 0 lines (omega arith)) ∙ sym (ap answer_of (placed-capped 0 lines))
+
+kept_lines : (ls : List (List ℕ)) → map kept_line ls ≡ map line_capped (map line_of ls)
+kept_lines [] = refl
+kept_lines (l ∷ ls) = ap (λ more. kept_line l ∷ more) (kept_lines ls)
+
+-- so what the program keeps of lines gives what the lines give
+pub exact-numbers : (ls : List (List ℕ)) → answer_of (kept_places 0 (map kept_line ls)) ≡ answer_of (placed 0 (map line_of ls))
+exact-numbers ls = ap (λ lines. answer_of (kept_places 0 lines)) (kept_lines ls) ∙ sym (large-numbers (map line_of ls))

@@ -1,3 +1,5 @@
+pub mod Commutes
+pub mod Tables
 pub mod Worked
 pub mod Trims
 pub mod Splits

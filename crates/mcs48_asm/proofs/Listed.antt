@@ -12,7 +12,6 @@ use Rattle.std.proofs.lemmas.List.FromFn.{fill_by_all}
 use Rattle.mcs48_isa.specs.Listing.{end_after, end_of, lines_from, line_at, listing_of, size_of, instruction_at}
 use Rattle.mcs48_asm.specs.declared.flaw.Flaw.TheVariants.{PastEnd, PlaceTaken}
 use Rattle.mcs48_asm.specs.Flaws.{number_of}
-use Rattle.mcs48_asm.specs.Values.{capped}
 use Rattle.mcs48_asm.specs.Statements.{Statement, Line, line_of}
 use Rattle.mcs48_asm.specs.Places.{Placed, placed, places, covers, is_filled, count_of, start_of}
 use Rattle.mcs48_asm.specs.Names.{Meanings, definitions, value_named, bytes_of}
@@ -56,16 +55,11 @@ first_line-upper text rest plain =
     ∙ ap (λ t. lines (t ++ 10 ∷ map to_ascii_uppercase rest)) (plain_text-upper text plain)
     ∙ first_line text (map to_ascii_uppercase rest) plain
 
--- a place of the memory, or its end, is no large number
-capped-below : (n : ℕ) → n ≤ 2048 → capped n ≡ n
-capped-below n h = omega arith
-
 -- a line that is a statement, and the lines behind it
 placed-said : (place : ℕ) (statement : Statement) (others : List Line) → ((before : ℕ) → start_of before statement ≡ before) → place + count_of statement ≤ 2048
     → placed place (said statement ∷ others) ≡ said_at place statement ∷ placed (place + count_of statement) others
 placed-said place statement others start within =
-    ap (λ s. record { start = s; line = said statement } ∷ placed (capped (s + count_of statement)) others) (start place)
-    ∙ ap (λ n. said_at place statement ∷ placed n others) (capped-below (place + count_of statement) within)
+    ap (λ s. record { start = s; line = said statement } ∷ placed (s + count_of statement) others) (start place)
 
 -- a line whose bytes are those of the memory from a place on, and which has no fault of its own
 pub record IsWritten (memory : List ℕ) (place : ℕ) (at : Placed) : Type 0 where

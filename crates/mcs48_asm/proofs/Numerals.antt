@@ -6,7 +6,7 @@ use Rattle.std.proofs.lemmas.Bool.Decides.{nat_tests}
 use Rattle.hex_text.specs.Digits.{hex_digit}
 use Rattle.mcs48_isa.specs.Text.{value, address}
 use Rattle.mcs48_asm.specs.Characters.{is_word_character}
-use Rattle.mcs48_asm.specs.Values.{Number, digit_value, capped, number_in, number_of, number_or_name, value_of}
+use Rattle.mcs48_asm.specs.Values.{Number, digit_value, number_in, number_of, number_or_name, value_of}
 
 -- a text is one word, which writes a number
 pub record IsNumeral (text : List ℕ) (n : ℕ) : Type 0 where
@@ -22,10 +22,10 @@ digit-back n h = grind (arith, nat_tests)
 
 -- what two digits behind a 0 write, and three
 abbrev two_digits : ℕ → ℕ → Option ℕ
-two_digits a b = if nat_lt a 16 && (nat_lt b 16 && true) then Some (capped ((0 + a) * 16 + b)) else None
+two_digits a b = if nat_lt a 16 && (nat_lt b 16 && true) then Some ((0 + a) * 16 + b) else None
 
 abbrev three_digits : ℕ → ℕ → ℕ → Option ℕ
-three_digits a b c = if nat_lt a 16 && (nat_lt b 16 && (nat_lt c 16 && true)) then Some (capped (((0 + a) * 16 + b) * 16 + c)) else None
+three_digits a b c = if nat_lt a 16 && (nat_lt b 16 && (nat_lt c 16 && true)) then Some (((0 + a) * 16 + b) * 16 + c) else None
 
 two-in : (x y : ℕ) → number_in 16 (48 ∷ x ∷ y ∷ []) ≡ two_digits (digit_value x) (digit_value y)
 two-in x y = refl

@@ -10,9 +10,9 @@ use Rattle.std.specs.Str.Lines.{lines}
 use Rattle.mcs48_asm.specs.declared.flaw.Flaw.{Flaw}
 use Rattle.mcs48_asm.specs.declared.flaw.Flaw.TheVariants.{Misfit, UnknownName, NameTaken, OffPage, PastEnd, PlaceTaken}
 use Rattle.mcs48_asm.specs.Flaws.{number_of}
-use Rattle.mcs48_asm.specs.Values.{capped}
-use Rattle.mcs48_asm.specs.Statements.{Line, line_of}
-use Rattle.mcs48_asm.specs.Places.{Placed, placed, places, covers, is_filled, count_of, start_of}
+use Rattle.mcs48_asm.specs.Capped.{capped, kept_line, kept_places}
+use Rattle.mcs48_asm.specs.Statements.{Line}
+use Rattle.mcs48_asm.specs.Places.{Placed, places, covers, is_filled, count_of, start_of}
 use Rattle.mcs48_asm.specs.Faults.{fault_of, is_past_end, is_filled_again, is_refused, has_unknown_name, is_defined_again, is_off_page}
 use Rattle.mcs48_asm.specs.Assembly.{fault_behind, first_fault, byte_at, image_of, image_unless, outcome_of}
 use Rattle.mcs48_asm.proofs.Ranges.{places-of, any_places-alike}
@@ -132,14 +132,14 @@ ended names all seen filled bytes number earlier s l =
     ∙ ap Ok (sym filled_so)
 
 -- the first of the lines, with its place
-pub placed-turn : (place start next : ℕ) (rest more front : List ℕ) (seen : Line) → lines rest ≡ front ∷ lines more → seen ≡ line_of front → start ≡ start_of place seen.statement
-    → next ≡ capped (start + count_of seen.statement) → placed place (map line_of (lines rest)) ≡ record { start = start; line = seen } ∷ placed next (map line_of (lines more))
+pub placed-turn : (place start next : ℕ) (rest more front : List ℕ) (seen : Line) → lines rest ≡ front ∷ lines more → seen ≡ kept_line front → start ≡ start_of place seen.statement
+    → next ≡ capped (start + count_of seen.statement) → kept_places place (map kept_line (lines rest)) ≡ record { start = start; line = seen } ∷ kept_places next (map kept_line (lines more))
 placed-turn place start next rest more front seen first says starts behind =
-    let others = map line_of (lines more) in
-    ap (λ ls. placed place (map line_of ls)) first
-    ∙ sym (ap (λ line. placed place (line ∷ others)) says)
-    ∙ sym (ap (λ s. record { start = s; line = seen } ∷ placed (capped (s + count_of seen.statement)) others) starts)
-    ∙ sym (ap (λ n. record { start = start; line = seen } ∷ placed n others) behind)
+    let others = map kept_line (lines more) in
+    ap (λ ls. kept_places place (map kept_line ls)) first
+    ∙ sym (ap (λ line. kept_places place (line ∷ others)) says)
+    ∙ sym (ap (λ s. record { start = s; line = seen } ∷ kept_places (capped (s + count_of seen.statement)) others) starts)
+    ∙ sym (ap (λ n. record { start = start; line = seen } ∷ kept_places n others) behind)
 
 -- no line yet
 pub begun : (names : Meanings) (all : List Placed) (seen : Meanings) (filled : List Bool) (bytes : List ℕ) → ((q : List ℕ) → seen q ≡ None) → ((k : ℕ) → k < 2048 → slice_index_or filled k false ≡ false)

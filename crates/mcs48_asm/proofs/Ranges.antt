@@ -1,5 +1,7 @@
 -- A test of each place.
-use Rattle.std.proofs.Common.{◌≡◌, ℕ, suc, ◌+◌, ◌-◌, ◌<◌, ◌≤◌, ◌||◌, Bool, true, false, ap, ◌∙◌, arith, zero, refl, List, [], ◌∷◌, ◌&&◌, nat_le, nat_lt}
+use Rattle.std.proofs.Common.{◌≡◌, ℕ, suc, ◌+◌, ◌-◌, ◌<◌, ◌≤◌, ◌||◌, Bool, true, false, ap, sym, ◌∙◌, arith, zero, refl, List, [], ◌∷◌, ◌&&◌, nat_le, nat_lt}
+use native.Mathlib.Decide.{dec_lt}
+use Rattle.std.proofs.Math.Nat.{sub-zero}
 use Rattle.std.specs.List.{list_any, range_with_len}
 use Rattle.std.proofs.lemmas.Bool.Decides.{nat_tests}
 use Rattle.mcs48_asm.specs.Places.{places}
@@ -19,6 +21,23 @@ pub any_range-end : (f : ℕ → Bool) (n place : ℕ) → n ≤ place → list_
 any_range-end f n place h =
     let e : n - place ≡ 0 = omega arith in
     ap (λ k. list_any f (range_with_len place k)) e
+
+-- a test that no place before one passes
+pub any_range-skip : (f : ℕ → Bool) (n place : ℕ) → ((k : ℕ) → k < place → f k ≡ false) → list_any f (range_with_len 0 n) ≡ list_any f (range_with_len place (n - place))
+any_range-skip f n zero before = ap (λ k. list_any f (range_with_len 0 k)) (sym (sub-zero n))
+any_range-skip f n (suc place) before =
+    let e : place + 1 ≡ suc place = omega arith in
+    any_range-skip f n place (λ k l. before k (omega (arith, l)))
+    ∙ elim (dec_lt place n) [
+      | yes within ↦ any_range-false f n place within (before place (omega arith)) ∙ ap (λ k. list_any f (range_with_len k (n - k))) e
+      | no past ↦ any_range-end f n place (omega (arith, past)) ∙ sym (any_range-end f n (suc place) (omega (arith, past)))
+    ]
+
+-- a test that no place from one on passes
+pub any_range-none : (f : ℕ → Bool) (place n : ℕ) → ((k : ℕ) → place ≤ k → f k ≡ false) → list_any f (range_with_len place n) ≡ false
+any_range-none f place zero behind = refl
+any_range-none f place (suc n) behind =
+    rw (behind place (omega arith)) (any_range-none f (place + 1) n (λ k l. behind k (omega (arith, l))))
 
 -- the places of a memory of 2,048 bytes
 pub places-of : (n : ℕ) → n ≡ 2048 → range_with_len 0 n ≡ places

@@ -8,14 +8,11 @@ use Rattle.mcs48_asm.specs.declared.argument.Role.{Role}
 use Rattle.mcs48_asm.specs.declared.argument.Role.TheVariants as role
 use Rattle.mcs48_asm.specs.declared.flaw.Flaw.{Flaw}
 use Rattle.mcs48_asm.specs.declared.flaw.Flaw.TheVariants.{Misfit, OffPage}
-use Rattle.mcs48_asm.specs.declared.rows.Operand.{Operand}
-use Rattle.mcs48_asm.specs.declared.rows.Operand.TheVariants.{Immediate, Address, Target}
-use Rattle.mcs48_asm.specs.declared.rows.Shape.{Shape}
-use Rattle.mcs48_asm.specs.declared.rows.Shape.TheVariants.{One, Two}
+use Rattle.mcs48_isa.specs.Instructions.{Operand, Immediate, Address, Target}
 use Rattle.mcs48_asm.specs.Characters.{is_word_character, is_comma}
 use Rattle.mcs48_asm.specs.Words.{trimmed}
 use Rattle.mcs48_asm.specs.Values.{Number}
-use Rattle.mcs48_asm.specs.Rows.{Reading, fixed, given, joined, read, read_all, instructions, operands_of}
+use Rattle.mcs48_asm.specs.Rows.{Reading, fixed, given, joined, both, read, read_all, instructions, operands_of}
 use Rattle.mcs48_asm.specs.Statements.{Statement, Instruction, Data, statement_of, first_fit, line_of, values_of, parts_of}
 use Rattle.mcs48_asm.specs.Names.{Meanings, with_value}
 use Rattle.mcs48_asm.specs.Faults.{is_past, is_outside}
@@ -64,7 +61,7 @@ with_number text place opcode role n first second plain line suits bytes =
     }
 
 -- the line of an instruction whose operands end in a numeral
-numeral-reads : (stem : List ℕ) (mark : ℕ) (numeral : List ℕ) (n : ℕ) (word text : List ℕ) (operands : List (List ℕ)) (opcode : ℕ) (shape : Shape) (rest : Option Statement) (found : Reading)
+numeral-reads : (stem : List ℕ) (mark : ℕ) (numeral : List ℕ) (n : ℕ) (word text : List ℕ) (operands : List (List ℕ)) (opcode : ℕ) (shape : List Operand) (rest : Option Statement) (found : Reading)
     → is_front stem mark ≡ true → IsNumeral numeral n → statement_of (stem ++ mark ∷ numeral) ≡ ok_or (first_fit instructions word text) Misfit
     → operands_of text ≡ operands → fit instructions word operands ≡ option_or (instruction_of opcode (read_all shape operands)) rest → read_all shape operands ≡ Some found
     → IsPlain (stem ++ mark ∷ numeral) × (line_of (stem ++ mark ∷ numeral) ≡ said (Instruction ((opcode + found.offset) % 256) found.argument))
@@ -80,9 +77,9 @@ numeral-unbroken numeral n is = all_weaker is_word_character is_unbroken word-un
 
 -- two operands, of which the first has a number and the second a value
 read-pair : (operand other : Operand) (text text_of_other : List ℕ) (offset : ℕ) (said_by_other : Reading) → read operand text ≡ Some (fixed offset) → read other text_of_other ≡ Some said_by_other
-    → read_all (Two operand other) (text ∷ text_of_other ∷ []) ≡ Some (joined (fixed offset) said_by_other)
+    → read_all (operand ∷ other ∷ []) (text ∷ text_of_other ∷ []) ≡ Some (joined (fixed offset) said_by_other)
 read-pair operand other text text_of_other offset said_by_other first second =
-    ap (option_and_then (λ said. option_map (joined said) (read other text_of_other))) first ∙ ap (option_map (joined (fixed offset))) second
+    ap (λ said. both said (read other text_of_other)) first ∙ ap (both (Some (fixed offset))) second
 
 low-byte : (first n : ℕ) → n < 256 → first ∷ n % 256 ∷ [] ≡ first ∷ n ∷ []
 low-byte first n below =
@@ -96,15 +93,15 @@ byte-suits place n below names = (le-ltb 255 n (omega arith), refl)
 pub immediate : (word : List ℕ) (c : ℕ) (cs : List ℕ) (operand : Operand) (opcode offset first n place : ℕ) (rest : Option Statement)
     → is_front (word ++ 32 ∷ (c ∷ cs) ++ 44 ∷ []) 35 ≡ true → list_all is_unbroken (c ∷ cs) ≡ true → read operand (c ∷ cs) ≡ Some (fixed offset)
     → statement_of ((word ++ 32 ∷ (c ∷ cs) ++ 44 ∷ []) ++ 35 ∷ value n) ≡ ok_or (first_fit instructions word ((c ∷ cs) ++ 44 ∷ 35 ∷ value n)) Misfit
-    → fit instructions word ((c ∷ cs) ∷ (35 ∷ value n) ∷ []) ≡ option_or (instruction_of opcode (read_all (Two operand Immediate) ((c ∷ cs) ∷ (35 ∷ value n) ∷ []))) rest
+    → fit instructions word ((c ∷ cs) ∷ (35 ∷ value n) ∷ []) ≡ option_or (instruction_of opcode (read_all (operand ∷ Immediate 0 ∷ []) ((c ∷ cs) ∷ (35 ∷ value n) ∷ []))) rest
     → (opcode + (offset + 0)) % 256 ≡ first → n < 256 → IsRead ((word ++ 32 ∷ (c ∷ cs) ++ 44 ∷ []) ++ 35 ∷ value n) place (first ∷ n ∷ [])
 immediate word c cs operand opcode offset first n place rest front unbroken read_is statement_is fit_is first_is below =
     let numeral = value-numeral n below in
     let reads =
     numeral-reads (word ++ 32 ∷ (c ∷ cs) ++ 44 ∷ []) 35 (value n) n word ((c ∷ cs) ++ 44 ∷ 35 ∷ value n) ((c ∷ cs) ∷ (35 ∷ value n) ∷ [])
-    opcode (Two operand Immediate) rest (joined (fixed offset) (given role.Byte (Number n))) front numeral statement_is
+    opcode (operand ∷ Immediate 0 ∷ []) rest (joined (fixed offset) (given role.Byte (Number n))) front numeral statement_is
     (operand_pair c cs (35 ∷ value n) unbroken (numeral-unbroken (value n) n numeral)) fit_is
-    (read-pair operand Immediate (c ∷ cs) (35 ∷ value n) offset (given role.Byte (Number n)) read_is (ap (option_map (given role.Byte)) numeral.value)) in
+    (read-pair operand (Immediate 0) (c ∷ cs) (35 ∷ value n) offset (given role.Byte (Number n)) read_is (ap (option_map (given role.Byte)) numeral.value)) in
     with_number _ place first role.Byte n first n reads.0
     (reads.1 ∙ ap (λ opcode. said (Instruction opcode (Some (record { role = role.Byte; value = Number n })))) first_is)
     (byte-suits place n below) (low-byte first n below)
@@ -112,13 +109,13 @@ immediate word c cs operand opcode offset first n place rest front unbroken read
 -- JMP and CALL: an address in a page
 pub jump : (c : ℕ) (cs : List ℕ) (opcode page n place : ℕ) (rest : Option Statement)
     → is_front (c ∷ cs) 32 ≡ true → statement_of ((c ∷ cs) ++ 32 ∷ address (page * 256 + n)) ≡ ok_or (first_fit instructions (c ∷ cs) (address (page * 256 + n))) Misfit
-    → fit instructions (c ∷ cs) (address (page * 256 + n) ∷ []) ≡ option_or (instruction_of opcode (read_all (One Address) (address (page * 256 + n) ∷ []))) rest
+    → fit instructions (c ∷ cs) (address (page * 256 + n) ∷ []) ≡ option_or (instruction_of opcode (read_all (Address 0 ∷ []) (address (page * 256 + n) ∷ []))) rest
     → opcode < 32 → page < 8 → n < 256 → IsRead ((c ∷ cs) ++ 32 ∷ address (page * 256 + n)) place ((opcode + 32 * page) ∷ n ∷ [])
 jump c cs opcode page n place rest front statement_is fit_is low_opcode low_page below =
     let a : ℕ = page * 256 + n in
     let numeral = address-numeral a (omega arith) in
     let reads =
-    numeral-reads (c ∷ cs) 32 (address a) a (c ∷ cs) (address a) (address a ∷ []) opcode (One Address) rest (given role.Address (Number a)) front numeral statement_is
+    numeral-reads (c ∷ cs) 32 (address a) a (c ∷ cs) (address a) (address a ∷ []) opcode (Address 0 ∷ []) rest (given role.Address (Number a)) front numeral statement_is
     (operand_alone 48 _ (numeral-unbroken (address a) a numeral)) fit_is (ap (option_map (given role.Address)) numeral.value) in
     let opcode_is : (opcode + 0) % 256 ≡ opcode = omega arith in
     let first : (opcode + 32 * ((page * 256 + n) / 256)) % 256 ≡ opcode + 32 * page = omega arith in
@@ -147,13 +144,13 @@ target-reads text place opcode n plain line fits below =
 -- a conditional jump
 pub branch : (c : ℕ) (cs : List ℕ) (opcode n place : ℕ) (rest : Option Statement)
     → is_front (c ∷ cs) 32 ≡ true → statement_of ((c ∷ cs) ++ 32 ∷ address (target place n)) ≡ ok_or (first_fit instructions (c ∷ cs) (address (target place n))) Misfit
-    → fit instructions (c ∷ cs) (address (target place n) ∷ []) ≡ option_or (instruction_of opcode (read_all (One Target) (address (target place n) ∷ []))) rest
+    → fit instructions (c ∷ cs) (address (target place n) ∷ []) ≡ option_or (instruction_of opcode (read_all (Target 0 ∷ []) (address (target place n) ∷ []))) rest
     → (opcode + 0) % 256 ≡ opcode → place + 2 ≤ 2048 → n < 256 → IsRead ((c ∷ cs) ++ 32 ∷ address (target place n)) place (opcode ∷ n ∷ [])
 branch c cs opcode n place rest front statement_is fit_is opcode_is fits below =
     let a : ℕ = target place n in
     let numeral = address-numeral a (target-below place n fits below) in
     let reads =
-    numeral-reads (c ∷ cs) 32 (address a) a (c ∷ cs) (address a) (address a ∷ []) opcode (One Target) rest (given role.Target (Number a)) front numeral statement_is
+    numeral-reads (c ∷ cs) 32 (address a) a (c ∷ cs) (address a) (address a ∷ []) opcode (Target 0 ∷ []) rest (given role.Target (Number a)) front numeral statement_is
     (operand_alone 48 _ (numeral-unbroken (address a) a numeral)) fit_is (ap (option_map (given role.Target)) numeral.value) in
     target-reads _ place opcode n reads.0
     (reads.1 ∙ ap (λ opcode. said (Instruction opcode (Some (record { role = role.Target; value = Number a })))) opcode_is) fits below
@@ -162,16 +159,16 @@ branch c cs opcode n place rest front statement_is fit_is opcode_is fits below =
 pub counting : (word : List ℕ) (c : ℕ) (cs : List ℕ) (operand : Operand) (opcode offset first n place : ℕ) (rest : Option Statement)
     → is_front (word ++ 32 ∷ (c ∷ cs)) 44 ≡ true → list_all is_unbroken (c ∷ cs) ≡ true → read operand (c ∷ cs) ≡ Some (fixed offset)
     → statement_of ((word ++ 32 ∷ (c ∷ cs)) ++ 44 ∷ address (target place n)) ≡ ok_or (first_fit instructions word ((c ∷ cs) ++ 44 ∷ address (target place n))) Misfit
-    → fit instructions word ((c ∷ cs) ∷ address (target place n) ∷ []) ≡ option_or (instruction_of opcode (read_all (Two operand Target) ((c ∷ cs) ∷ address (target place n) ∷ []))) rest
+    → fit instructions word ((c ∷ cs) ∷ address (target place n) ∷ []) ≡ option_or (instruction_of opcode (read_all (operand ∷ Target 0 ∷ []) ((c ∷ cs) ∷ address (target place n) ∷ []))) rest
     → (opcode + (offset + 0)) % 256 ≡ first → place + 2 ≤ 2048 → n < 256 → IsRead ((word ++ 32 ∷ (c ∷ cs)) ++ 44 ∷ address (target place n)) place (first ∷ n ∷ [])
 counting word c cs operand opcode offset first n place rest front unbroken read_is statement_is fit_is first_is fits below =
     let a : ℕ = target place n in
     let numeral = address-numeral a (target-below place n fits below) in
     let reads =
     numeral-reads (word ++ 32 ∷ (c ∷ cs)) 44 (address a) a word ((c ∷ cs) ++ 44 ∷ address a) ((c ∷ cs) ∷ address a ∷ [])
-    opcode (Two operand Target) rest (joined (fixed offset) (given role.Target (Number a))) front numeral statement_is
+    opcode (operand ∷ Target 0 ∷ []) rest (joined (fixed offset) (given role.Target (Number a))) front numeral statement_is
     (operand_pair c cs (address a) unbroken (numeral-unbroken (address a) a numeral)) fit_is
-    (read-pair operand Target (c ∷ cs) (address a) offset (given role.Target (Number a)) read_is (ap (option_map (given role.Target)) numeral.value)) in
+    (read-pair operand (Target 0) (c ∷ cs) (address a) offset (given role.Target (Number a)) read_is (ap (option_map (given role.Target)) numeral.value)) in
     target-reads _ place first n reads.0
     (reads.1 ∙ ap (λ opcode. said (Instruction opcode (Some (record { role = role.Target; value = Number a })))) first_is) fits below
 

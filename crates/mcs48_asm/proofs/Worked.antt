@@ -1,9 +1,9 @@
 -- Each of the sources gives what stands beside it: the definitions compute it.
 use Rattle.std.specs.Prelude.{refl}
-use Rattle.mcs48_asm.specs.Rows.{instructions, is_instruction, is_reserved}
+use Rattle.mcs48_asm.specs.Rows.{instructions, is_instruction, reserved, is_reserved}
 use Rattle.mcs48_asm.specs.Places.{places}
 use Rattle.mcs48_asm.specs.Examples.{examples, AreRight}
 
 pub examples-right : AreRight examples
-unfolding examples instructions is_instruction is_reserved places
+unfolding examples instructions is_instruction reserved is_reserved places
 examples-right = (refl, (refl, (refl, (refl, (refl, (refl, (refl, (refl, (refl, (refl, (refl, (refl, (refl, (refl, (refl, (refl, (refl, (refl, (refl, (refl, (refl, (refl, (refl, (refl, (refl, (refl, (refl, (refl, (refl, (refl, (refl, (refl, tt))))))))))))))))))))))))))))))))

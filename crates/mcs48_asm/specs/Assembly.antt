@@ -28,13 +28,17 @@ fault_behind names earlier at = fault_of names (value_named (definitions earlier
 abbrev pub first_fault : Meanings → List Placed → List Placed → Option Fault
 first_fault names earlier [] = None
 first_fault names earlier (at ∷ rest) =
-    option_or (option_map (λ flaw. (length earlier + 1, number_of flaw)) (fault_behind names earlier at)) (first_fault names (earlier ++ at ∷ []) rest)
+    option_or
+    (option_map (λ flaw. (length earlier + 1, number_of flaw)) (fault_behind names earlier at))
+    (first_fault names (earlier ++ at ∷ []) rest)
 
 -- the byte at a place: that of the line that fills it, and 00 where none does
 abbrev pub byte_at : Meanings → List Placed → ℕ → ℕ
 byte_at names [] place = 0
 byte_at names (at ∷ rest) place =
-    if covers at place then slice_index (bytes_of names at.line.statement) (place - at.start) else byte_at names rest place
+    if covers at place
+    then slice_index (bytes_of names at.line.statement) (place - at.start)
+    else byte_at names rest place
 
 -- the image that lines fill
 abbrev pub image_of : Meanings → List Placed → List ℕ
@@ -49,6 +53,10 @@ image_unless (Some fault) image = Err fault
 abbrev pub outcome_of : Meanings → List Placed → Result (List ℕ) Fault
 outcome_of names lines = image_unless (first_fault names [] lines) (image_of names lines)
 
+-- the image of lines, or their first fault: a name means what one of them defines it to be
+abbrev pub answer_of : List Placed → Result (List ℕ) Fault
+answer_of lines = outcome_of (value_named (definitions lines)) lines
+
 -- the image of a text, or its first fault
 abbrev pub assembly_of : List ℕ → Result (List ℕ) Fault
-assembly_of text = outcome_of (value_named (definitions (lines_in text))) (lines_in text)
+assembly_of text = answer_of (lines_in text)

@@ -72,12 +72,14 @@ is_defined_again seen at = list_any (λ definition. is_some (seen definition.nam
 
 -- a value is a target outside the page of the place behind this one
 abbrev pub is_outside : Meanings → ℕ → Role → Value → Bool
-is_outside names start Target value = option_map_or (λ n. not (n / 256 == (start + 1) / 256)) (meaning names value) false
+is_outside names start Target value =
+    option_map_or (λ n. not (n / 256 == (start + 1) / 256)) (meaning names value) false
 is_outside names start role value = false
 
 -- fault 6: a jump whose target isn't in the page of its second byte
 abbrev pub is_off_page : Meanings → Placed → Bool
-is_off_page names at = list_any (λ argument. is_outside names at.start argument.role argument.value) (arguments at.line.statement)
+is_off_page names at =
+    list_any (λ argument. is_outside names at.start argument.role argument.value) (arguments at.line.statement)
 
 -- fault 7: a byte past place 2,047
 abbrev pub is_past_end : Placed → Bool

@@ -1,3 +1,4 @@
+pub mod Capped
 pub mod Characters
 pub mod Words
 pub mod Values
@@ -11,4 +12,3 @@ pub mod Assembly
 pub mod Views
 pub mod Answers
 pub mod Examples
-pub mod Large

@@ -39,7 +39,8 @@ definitions lines = flat_map defined lines
 
 -- the value of a name: its first definition holds
 abbrev pub value_named : List Definition → List ℕ → Option ℕ
-value_named names name = option_map (λ definition. definition.value) (find (λ definition. bytes_eq name definition.name) names)
+value_named names name =
+    option_map (λ definition. definition.value) (find (λ definition. bytes_eq name definition.name) names)
 
 -- what names mean: the value of each name that has one
 abbrev pub Meanings : Type 0
@@ -51,7 +52,8 @@ meaning names (Number n) = Some n
 meaning names (Named name) = names name
 meaning names (Low name) = option_map (λ value. value % 256) (names name)
 
--- the bytes of an instruction with this first byte and this value: the low byte stands in the second, and the page of JMP's and CALL's address in the top bits of the first
+-- the bytes of an instruction with this first byte and this value: the low byte stands in the second, and the page of
+-- JMP's and CALL's address in the top bits of the first
 abbrev pub with_value : ℕ → Role → ℕ → List ℕ
 with_value opcode Byte n = opcode ∷ n % 256 ∷ []
 with_value opcode Address n = (opcode + 32 * (n / 256)) % 256 ∷ n % 256 ∷ []

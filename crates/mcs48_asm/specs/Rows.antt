@@ -1,36 +1,63 @@
 -- Which operands an instruction may have, and what they say.
-use Rattle.std.specs.Prelude.{ℕ, ◌+◌, ◌-◌, Bool, List, [], ◌∷◌, ◌==◌, ◌&&◌, ◌||◌, length, nat_le, map, Some, None, if◌then◌else◌}
-use Rattle.std.specs.List.{list_any, slice_split, before_first}
+use Rattle.std.specs.Prelude.{ℕ, ◌+◌, ◌-◌, Bool, true, List, [], ◌∷◌, ◌==◌, ◌&&◌, ◌||◌, length, nat_le, map, Some, None, if◌then◌else◌, codes}
+use Rattle.std.specs.List.{list_any, list_all, slice_split, filter_map, range_with_len}
 use Rattle.std.specs.Option.{option_map, option_and_then, option_or}
 use Rattle.std.specs.Str.{bytes_eq}
 use Rattle.std.specs.declared.option.Option.{Option}
-use Rattle.mcs48_asm.specs.declared.rows.TheConstants.{ROWS, RESERVED}
-use Rattle.mcs48_asm.specs.declared.rows.Operand.{Operand}
-use Rattle.mcs48_asm.specs.declared.rows.Operand.TheVariants.{Is, Register, Pointer, Expander, Immediate, Address, Target}
-use Rattle.mcs48_asm.specs.declared.rows.Shape.{Shape}
-use Rattle.mcs48_asm.specs.declared.rows.Shape.TheVariants.{Without, One, Two}
-use Rattle.mcs48_asm.specs.declared.rows.Row.{Row}
+use Rattle.mcs48_isa.specs.Instructions.{Operand, Is, Register, Pointer, Expander, Immediate, Address, Target, Entry, entry_of}
+use Rattle.mcs48_isa.specs.Table.{row_of}
 use Rattle.mcs48_asm.specs.declared.argument.Role.{Role}
 use Rattle.mcs48_asm.specs.declared.argument.Role.TheVariants as role
-use Rattle.mcs48_asm.specs.Characters.{is_blank, is_comma}
+use Rattle.mcs48_asm.specs.Characters.{is_comma}
 use Rattle.mcs48_asm.specs.Words.{trimmed}
 use Rattle.mcs48_asm.specs.Values.{Value, value_of}
 
--- a word of the table without the blanks that fill it up
-abbrev pub spelled : List ℕ → List ℕ
-spelled word = before_first is_blank word
+-- an instruction as a source writes it: its word, what its operands are, and its first byte before numbers are added
+pub record Form : Type 0 where
+  pub word : List ℕ
+  pub operands : List Operand
+  pub first : ℕ
 
--- the instructions
-unfoldable pub instructions : List Row
-instructions = ROWS
+abbrev pub form_of : Entry → Form
+form_of entry = record { word = entry.word; operands = entry.operands; first = entry.first }
+
+-- the first of the registers, of the ports and of the pages; every other operand
+abbrev pub is_lowest : Operand → Bool
+is_lowest (Is word) = true
+is_lowest (Register r) = r == 0
+is_lowest (Pointer i) = i == 0
+is_lowest (Expander p) = p == 4
+is_lowest (Immediate n) = true
+is_lowest (Address a) = a == 0
+is_lowest (Target n) = true
+
+abbrev pub lowest_form : Entry → Option Form
+lowest_form entry = if list_all is_lowest entry.operands then Some (form_of entry) else None
+
+-- the instruction that a byte begins, of those that differ in a register, a port or a page alone the first
+abbrev pub form_at : ℕ → Option Form
+form_at byte = option_and_then (λ row. lowest_form (entry_of row.op)) (row_of byte 0)
+
+-- the instructions of the instruction set, by their first bytes
+unfoldable pub instructions : List Form
+instructions = filter_map form_at (range_with_len 0 256)
 
 -- the first word of an instruction
 unfoldable pub is_instruction : List ℕ → Bool
-is_instruction word = list_any (λ row. bytes_eq (spelled row.0) word) ROWS
+is_instruction word = list_any (λ form. bytes_eq form.word word) instructions
+
+-- the words that no line defines, beside the first words of the instructions: those of operands, and of statements
+unfoldable pub reserved : List (List ℕ)
+reserved =
+    codes "A" ∷ codes "BUS" ∷ codes "C" ∷ codes "F0" ∷ codes "F1" ∷ codes "I" ∷ codes "LOW" ∷
+    codes "P1" ∷ codes "P2" ∷ codes "P4" ∷ codes "P5" ∷ codes "P6" ∷ codes "P7" ∷ codes "PSW" ∷
+    codes "R0" ∷ codes "R1" ∷ codes "R2" ∷ codes "R3" ∷ codes "R4" ∷ codes "R5" ∷ codes "R6" ∷ codes "R7" ∷
+    codes "T" ∷ codes "CNT" ∷ codes "CLK" ∷ codes "TCNTI" ∷ codes "RB0" ∷ codes "RB1" ∷ codes "MB0" ∷ codes "MB1" ∷
+    codes "ORG" ∷ codes "DB" ∷ codes "EQU" ∷ []
 
 -- a word that no line defines
 unfoldable pub is_reserved : List ℕ → Bool
-is_reserved word = list_any (λ reserved. bytes_eq (spelled reserved) word) RESERVED || is_instruction word
+is_reserved word = list_any (λ held. bytes_eq held word) reserved || is_instruction word
 
 -- a value, and how the bytes of its line take it
 pub record Argument : Type 0 where
@@ -48,23 +75,23 @@ fixed offset = record { offset = offset; argument = None }
 abbrev pub given : Role → Value → Reading
 given role value = record { offset = 0; argument = Some (record { role = role; value = value }) }
 
--- the number of a digit from one to another, counted from the first
-abbrev pub counted : ℕ → ℕ → ℕ → Option ℕ
-counted first last digit = if nat_le first digit && nat_le digit last then Some (digit - first) else None
+-- the number of a digit from one to another
+abbrev pub numbered : ℕ → ℕ → ℕ → Option ℕ
+numbered first last digit = if nat_le first digit && nat_le digit last then Some (digit - 48) else None
 
 -- R0 to R7
 abbrev pub register : List ℕ → Option ℕ
-register (letter ∷ digit ∷ []) = if letter == 82 then counted 48 55 digit else None
+register (letter ∷ digit ∷ []) = if letter == 82 then numbered 48 55 digit else None
 register _ = None
 
 -- @R0 or @R1
 abbrev pub pointer : List ℕ → Option ℕ
-pointer (mark ∷ letter ∷ digit ∷ []) = if mark == 64 && letter == 82 then counted 48 49 digit else None
+pointer (mark ∷ letter ∷ digit ∷ []) = if mark == 64 && letter == 82 then numbered 48 49 digit else None
 pointer _ = None
 
 -- P4 to P7
 abbrev pub expander : List ℕ → Option ℕ
-expander (letter ∷ digit ∷ []) = if letter == 80 then counted 52 55 digit else None
+expander (letter ∷ digit ∷ []) = if letter == 80 then numbered 52 55 digit else None
 expander _ = None
 
 -- # and a value
@@ -72,25 +99,30 @@ abbrev pub immediate : List ℕ → Option Value
 immediate [] = None
 immediate (mark ∷ text) = if mark == 35 then value_of text else None
 
--- what a text says as an operand, where it is one
+-- what a text says as an operand like this, where it is one
 abbrev pub read : Operand → List ℕ → Option Reading
-read (Is word) text = if bytes_eq (spelled word) text then Some (fixed 0) else None
-read Register text = option_map fixed (register text)
-read Pointer text = option_map fixed (pointer text)
-read Expander text = option_map fixed (expander text)
-read Immediate text = option_map (given role.Byte) (immediate text)
-read Address text = option_map (given role.Address) (value_of text)
-read Target text = option_map (given role.Target) (value_of text)
+read (Is word) text = if bytes_eq word text then Some (fixed 0) else None
+read (Register r) text = option_map fixed (register text)
+read (Pointer i) text = option_map fixed (pointer text)
+read (Expander p) text = option_map fixed (expander text)
+read (Immediate n) text = option_map (given role.Byte) (immediate text)
+read (Address a) text = option_map (given role.Address) (value_of text)
+read (Target n) text = option_map (given role.Target) (value_of text)
 
 -- what two operands say together
 abbrev pub joined : Reading → Reading → Reading
-joined first second = record { offset = first.offset + second.offset; argument = option_or first.argument second.argument }
+joined first second =
+    record { offset = first.offset + second.offset; argument = option_or first.argument second.argument }
+
+-- and where both are there
+abbrev pub both : Option Reading → Option Reading → Option Reading
+both first second = option_and_then (λ said. option_map (joined said) second) first
 
 -- what texts say as the operands of an instruction, where they are
-abbrev pub read_all : Shape → List (List ℕ) → Option Reading
-read_all Without [] = Some (fixed 0)
-read_all (One operand) (text ∷ []) = read operand text
-read_all (Two first second) (text ∷ other ∷ []) = option_and_then (λ said. option_map (joined said) (read second other)) (read first text)
+abbrev pub read_all : List Operand → List (List ℕ) → Option Reading
+read_all [] [] = Some (fixed 0)
+read_all (operand ∷ []) (text ∷ []) = read operand text
+read_all (first ∷ second ∷ []) (text ∷ other ∷ []) = both (read first text) (read second other)
 read_all _ _ = None
 
 -- the texts of the operands behind the first word: the parts between commas, without the blanks round them

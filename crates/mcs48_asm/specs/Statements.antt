@@ -7,13 +7,13 @@ use Rattle.std.specs.declared.option.Option.{Option}
 use Rattle.std.specs.declared.result.Result.{Result}
 use Rattle.mcs48_asm.specs.declared.flaw.Flaw.{Flaw}
 use Rattle.mcs48_asm.specs.declared.flaw.Flaw.TheVariants.{Syntax, NoStatement, Misfit}
-use Rattle.mcs48_asm.specs.declared.rows.Row.{Row}
 use Rattle.mcs48_asm.specs.Characters.{is_word_character, is_comma, is_colon, is_semicolon, is_allowed}
 use Rattle.mcs48_asm.specs.Words.{trimmed, run_of, tail_of, first_word, second_word, is_name}
 use Rattle.mcs48_asm.specs.Values.{Value, value_of, number_of}
-use Rattle.mcs48_asm.specs.Rows.{Argument, spelled, instructions, is_instruction, read_all, operands_of}
+use Rattle.mcs48_asm.specs.Rows.{Argument, Reading, Form, instructions, is_instruction, read_all, operands_of}
 
--- a statement: nothing; an instruction with its first byte and the value that it takes; ORG with its place; DB with its values; EQU with its name and number
+-- a statement: nothing; an instruction with its first byte and the value that it takes; ORG with its place; DB with its
+-- values; EQU with its name and number
 pub data Statement : Type 0 where
   Nothing : Statement
   Instruction : ℕ → Option Argument → Statement
@@ -24,7 +24,8 @@ pub data Statement : Type 0 where
 -- the values that texts write, where each of them writes one
 abbrev pub values_of : List (List ℕ) → Option (List Value)
 values_of [] = Some []
-values_of (text ∷ texts) = option_and_then (λ value. option_map (λ values. value ∷ values) (values_of texts)) (value_of text)
+values_of (text ∷ texts) =
+    option_and_then (λ value. option_map (λ values. value ∷ values) (values_of texts)) (value_of text)
 
 -- the parts of a text between commas, without the blanks round them
 abbrev pub parts_of : List ℕ → List (List ℕ)
@@ -48,17 +49,21 @@ data_of text =
     then option_map Data (values_of (parts_of (tail_of text)))
     else None
 
--- the instruction of a row whose first word and operands these are; the number of a register or a port is added to the first byte
-abbrev pub instruction_in : Row → List ℕ → List ℕ → Option Statement
-instruction_in row word operands =
-    if bytes_eq (spelled row.0) word
-    then option_map (λ said. Instruction ((row.2 + said.offset) % 256) said.argument) (read_all row.1 (operands_of operands))
+-- the instruction with this first byte whose operands say this; the number of a register or a port is added to it
+abbrev pub instruction_with : ℕ → Reading → Statement
+instruction_with first said = Instruction ((first + said.offset) % 256) said.argument
+
+-- the instruction of this form whose first word and operands these are
+abbrev pub instruction_in : Form → List ℕ → List ℕ → Option Statement
+instruction_in form word operands =
+    if bytes_eq form.word word
+    then option_map (instruction_with form.first) (read_all form.operands (operands_of operands))
     else None
 
--- the instruction of the first row that fits
-abbrev pub first_fit : List Row → List ℕ → List ℕ → Option Statement
+-- the instruction of the first form that fits
+abbrev pub first_fit : List Form → List ℕ → List ℕ → Option Statement
 first_fit [] word operands = None
-first_fit (row ∷ rows) word operands = option_or (instruction_in row word operands) (first_fit rows word operands)
+first_fit (form ∷ forms) word operands = option_or (instruction_in form word operands) (first_fit forms word operands)
 
 -- the statement that a text without blanks round it writes, or its flaw
 abbrev pub statement_of : List ℕ → Result Statement Flaw
@@ -86,7 +91,8 @@ line_with label (Err flaw) = flawed flaw
 -- the line that the parts between colons write: a statement, or a label and a statement
 abbrev pub line_of_parts : List (List ℕ) → Line
 line_of_parts (text ∷ []) = line_with None (statement_of (trimmed text))
-line_of_parts (front ∷ text ∷ []) = if is_name (trimmed front) then line_with (Some (trimmed front)) (statement_of (trimmed text)) else flawed Syntax
+line_of_parts (front ∷ text ∷ []) =
+    if is_name (trimmed front) then line_with (Some (trimmed front)) (statement_of (trimmed text)) else flawed Syntax
 line_of_parts _ = flawed Syntax
 
 -- an unbroken run of letters, digits and _ is a name or a number
@@ -95,7 +101,8 @@ is_known_word word = length word == 0 || is_name word || is_some (number_of word
 
 -- each character may stand there, and each word is a name or a number
 abbrev pub is_spelled : List ℕ → Bool
-is_spelled text = list_all is_allowed text && list_all is_known_word (slice_split (λ c. not (is_word_character c)) text)
+is_spelled text =
+    list_all is_allowed text && list_all is_known_word (slice_split (λ c. not (is_word_character c)) text)
 
 -- what a line says: what stands before the comment
 abbrev pub line_of : List ℕ → Line

@@ -1,5 +1,5 @@
 -- Numbers and values.
-use Rattle.std.specs.Prelude.{ℕ, ◌+◌, ◌-◌, ◌*◌, Bool, List, ◌==◌, ◌&&◌, nat_le, nat_lt, min, fold, length, take, slice_index, Some, None, if◌then◌else◌, codes}
+use Rattle.std.specs.Prelude.{ℕ, ◌+◌, ◌-◌, ◌*◌, Bool, List, ◌==◌, ◌&&◌, nat_le, nat_lt, fold, length, take, slice_index, Some, None, if◌then◌else◌, codes}
 use Rattle.std.specs.List.{list_all}
 use Rattle.std.specs.Str.{bytes_eq}
 use Rattle.std.specs.declared.option.Option.{Option}
@@ -18,13 +18,9 @@ are_digits base digits = nat_lt 0 (length digits) && list_all (λ c. nat_lt (dig
 abbrev pub written : ℕ → List ℕ → ℕ
 written base digits = fold (λ n c. n * base + digit_value c) 0 digits
 
--- a number past 65,535 is too large, whatever it is: 65,536 stands for each of them
-abbrev pub capped : ℕ → ℕ
-capped n = min n 65536
-
 -- the number that a text of digits gives
 abbrev pub number_in : ℕ → List ℕ → Option ℕ
-number_in base digits = if are_digits base digits then Some (capped (written base digits)) else None
+number_in base digits = if are_digits base digits then Some (written base digits) else None
 
 -- the last character of a text, and the text before it
 abbrev pub last_of : List ℕ → ℕ
@@ -33,7 +29,8 @@ last_of text = slice_index text (length text - 1)
 abbrev pub front_of : List ℕ → List ℕ
 front_of text = take (length text - 1) text
 
--- the number that a word writes: hexadecimal digits that begin with a decimal one and H, binary digits and B, or decimal digits
+-- the number that a word writes: hexadecimal digits that begin with a decimal one and H, binary digits and B, or decimal
+-- digits
 abbrev pub number_of : List ℕ → Option ℕ
 number_of word =
     if last_of word == 72 then (if is_digit (slice_index word 0) then number_in 16 (front_of word) else None)

@@ -4,8 +4,7 @@ ghost use Rattle.std.specs.Prelude.{◌≡◌, ◌≤◌, List, ℕ, Ok, length,
 ghost use Rattle.std.specs.Char.{to_ascii_uppercase};
 ghost use Rattle.std.specs.Str.Lines.{lines};
 ghost use Rattle.mcs48_asm.specs.Assembly.{outcome_of, assembly_of};
-ghost use Rattle.mcs48_asm.specs.Places.{placed};
-ghost use Rattle.mcs48_asm.specs.Statements.{line_of};
+ghost use Rattle.mcs48_asm.specs.Capped.{kept_line, kept_places};
 ghost use Rattle.mcs48_asm.specs.Views.{kept_value};
 ghost use Rattle.mcs48_asm.specs.Answers.{IsOutcome};
 ghost use Rattle.mcs48_isa.specs.Memory.{IsMemory};
@@ -17,6 +16,7 @@ use crate::filling::fill;
 use crate::line::{line_of, next_line};
 use crate::names::{Names, define_names, names_in};
 use crate::places::{place_after, start_of};
+use crate::text_hash::TextHash;
 use indexmap::IndexMap;
 use mcs48_isa::Image;
 use std::alloc::{AllocError, Global};
@@ -27,9 +27,9 @@ const PLACES: usize = 2048;
 /// The image of lines, or their first fault, where names mean this.
 fn outcome_of<'a>(alloc: Global, names: &Names<'a>, text: &'a [u8]) -> Result<Image, AsmFault>
     requires { length text.now ≤ 262144 }
-    ensures { IsOutcome result (outcome_of (kept_value names.now.entries) (placed 0 (map line_of (lines text.now)))) }
+    ensures { IsOutcome result (outcome_of (kept_value names.now.entries) (kept_places 0 (map kept_line (lines text.now)))) }
 {
-    let mut seen = IndexMap::new(alloc);
+    let mut seen = IndexMap::with_hasher(alloc, TextHash::of(text));
     let mut bytes = [0; PLACES];
     let mut filled = [false; PLACES];
     let mut place = 0;

@@ -176,7 +176,7 @@ fn is_refused(names: &Names<'_>, line: Line<'_>, start: u32) -> bool
 fn is_taken(seen: &Names<'_>, name: &[u8]) -> bool
     ensures { result ≡ (not (is_reserved name.now) && is_some (kept_value seen.now.entries name.now)) }
 {
-    !is_reserved(name) && value_named(seen, name).is_some()
+    value_named(seen, name).is_some() && !is_reserved(name)
 }
 
 /// Whether a line defines a name that an earlier line defines.

@@ -23,6 +23,7 @@ mod pieces;
 mod places;
 mod rows;
 mod statement;
+mod text_hash;
 mod values;
 mod words;
 

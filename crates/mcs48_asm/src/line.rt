@@ -7,6 +7,7 @@ ghost use Rattle.std.specs.Str.Lines.{lines, strip_carriage_return};
 ghost use Rattle.mcs48_asm.specs.Characters.{is_word_character, is_allowed, is_colon};
 ghost use Rattle.mcs48_asm.specs.Words.{trimmed};
 ghost use Rattle.mcs48_asm.specs.Statements.{statement_of, flawed, line_with, line_of_parts, is_known_word, is_spelled, line_of};
+ghost use Rattle.mcs48_asm.specs.Capped.{line_capped, kept_line};
 ghost use Rattle.mcs48_asm.specs.Views.{found_seen, line_seen};
 
 use crate::characters::{is_allowed, is_word_character};
@@ -91,7 +92,7 @@ fn is_spelled(text: &[u8]) -> bool
 
 /// A line with this label, where it has one, and with what a statement gave.
 fn line_with<'a>(label: Option<&'a [u8]>, text: &'a [u8]) -> Line<'a>
-    ensures { line_seen result ≡ line_with (option_map (λ name. name.now) label.entry) (statement_of (trimmed text.now)) }
+    ensures { line_seen result ≡ line_capped (line_with (option_map (λ name. name.now) label.entry) (statement_of (trimmed text.now))) }
 {
     match statement_of(trimmed(text)) {
         Ok(statement) => Line {
@@ -105,7 +106,7 @@ fn line_with<'a>(label: Option<&'a [u8]>, text: &'a [u8]) -> Line<'a>
 
 /// The line that a label and what stands behind its colon give.
 fn labelled<'a>(label: &'a [u8], text: &'a [u8]) -> Line<'a>
-    ensures { line_seen result ≡ line_of_parts (label.now ∷ text.now ∷ []) }
+    ensures { line_seen result ≡ line_capped (line_of_parts (label.now ∷ text.now ∷ [])) }
 {
     let name = trimmed(label);
     if is_name(name) {
@@ -117,7 +118,7 @@ fn labelled<'a>(label: &'a [u8], text: &'a [u8]) -> Line<'a>
 
 /// The line that a text gives in which each character and each word may stand.
 fn line_in(text: &[u8]) -> Line<'_>
-    ensures { line_seen result ≡ line_of_parts (slice_split is_colon text.now) }
+    ensures { line_seen result ≡ line_capped (line_of_parts (slice_split is_colon text.now)) }
 {
     let Some((label, rest)) = split_once(b':', text) else {
         return line_with(None, text);
@@ -130,7 +131,7 @@ fn line_in(text: &[u8]) -> Line<'_>
 
 /// What a line says, its letters in upper case.
 pub(crate) fn line_of(line: &[u8]) -> Line<'_>
-    ensures { line_seen result ≡ line_of line.now }
+    ensures { line_seen result ≡ kept_line line.now }
 {
     let text = before_comment(line);
     if is_spelled(text) {

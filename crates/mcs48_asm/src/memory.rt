@@ -3,20 +3,12 @@
 ghost use Rattle.std.specs.Prelude.{◌≡◌, ◌+◌, ◌≤◌, ◌<◌, ◌&&◌, ℕ, true, false, length, nat_le, nat_lt, slice_index, slice_index_or};
 ghost use Rattle.std.specs.List.{list_any, range_with_len};
 
-/// Whether a place is among those from one to another, and is filled.
-fn is_filled_within(filled: &[bool], start: usize, end: usize, place: usize) -> bool
-    requires { place < length filled.now }
-    ensures { result ≡ (nat_le start place && nat_lt place end && slice_index_or filled.now place false) }
-{
-    start <= place && place < end && filled[place]
-}
-
 /// Whether one of the places from one to another is filled.
 pub(crate) fn is_any_filled(filled: &[bool], start: usize, end: usize) -> bool
     ensures { result ≡ list_any (λ place. nat_le start place && nat_lt place end && slice_index_or filled.now place false) (range_with_len 0 (length filled.now)) }
 {
-    for place in 0..filled.len() {
-        if is_filled_within(filled, start, end, place) {
+    for place in start..end.min(filled.len()) {
+        if filled[place] {
             return true;
         }
     }

@@ -5,20 +5,20 @@ ghost use Rattle.std.specs.Option.{option_or};
 ghost use Rattle.std.specs.Str.{bytes_eq};
 ghost use Rattle.std.specs.Str.Lines.{lines};
 ghost use Rattle.mcs48_asm.specs.Names.{value_named, defined, equated, definitions};
-ghost use Rattle.mcs48_asm.specs.Places.{placed};
+ghost use Rattle.mcs48_asm.specs.Capped.{kept_line, kept_places};
 ghost use Rattle.mcs48_asm.specs.Rows.{is_reserved};
-ghost use Rattle.mcs48_asm.specs.Statements.{line_of};
 ghost use Rattle.mcs48_asm.specs.Views.{kept_value, line_seen};
 
 use crate::line::{Line, line_of, next_line};
 use crate::operands::is_reserved;
 use crate::places::{place_after, start_of};
 use crate::statement::Statement;
+use crate::text_hash::TextHash;
 use indexmap::IndexMap;
 use std::alloc::{AllocError, Global};
 
 /// Names, each with its value.
-pub(crate) type Names<'a> = IndexMap<&'a [u8], u32>;
+pub(crate) type Names<'a> = IndexMap<&'a [u8], u32, TextHash>;
 
 /// The value of a name.
 pub(crate) fn value_named(names: &Names<'_>, name: &[u8]) -> Option<u32>
@@ -75,9 +75,9 @@ pub(crate) fn define_names<'a>(
 /// The names of a text, each with its value.
 pub(crate) fn names_in<'a>(alloc: Global, text: &'a [u8]) -> Result<Names<'a>, AllocError>
     ensures { IfOk result (λ names. (name : List ℕ) → kept_value names.entries name
-        ≡ value_named (definitions (placed 0 (map line_of (lines text.now)))) name) }
+        ≡ value_named (definitions (kept_places 0 (map kept_line (lines text.now)))) name) }
 {
-    let mut names = IndexMap::new(alloc);
+    let mut names = IndexMap::with_hasher(alloc, TextHash::of(text));
     let mut place = 0;
     let mut rest = text;
     while let Some((line, more)) = next_line(rest) {

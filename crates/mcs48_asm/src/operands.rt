@@ -1,12 +1,13 @@
 //! What the operands of an instruction say.
 
-ghost use Rattle.std.specs.Prelude.{◌≡◌, ◌<◌, ◌∷◌, [], IfSome, position};
+ghost use Rattle.std.specs.Prelude.{◌≡◌, ◌<◌, ◌≤◌, ◌∷◌, [], IfSome, position, map};
 ghost use Rattle.std.specs.List.{list_any};
-ghost use Rattle.std.specs.Option.{option_map};
+ghost use Rattle.std.specs.Option.{option_map, ForSome};
 ghost use Rattle.std.specs.Str.{bytes_eq};
 ghost use Rattle.mcs48_asm.specs.Characters.{is_blank};
-ghost use Rattle.mcs48_asm.specs.Rows.{spelled, instructions, is_instruction, is_reserved, counted, register, pointer, expander, immediate, fixed, given, read, joined, read_all, operands_of};
-ghost use Rattle.mcs48_asm.specs.Views.{value_seen, reading_seen};
+ghost use Rattle.mcs48_asm.specs.Rows.{instructions, is_instruction, reserved, is_reserved, numbered, register, pointer, expander, immediate, fixed, given, read, joined, both, read_all, operands_of};
+ghost use Rattle.mcs48_asm.specs.Capped.{value_capped, reading_capped};
+ghost use Rattle.mcs48_asm.specs.Views.{value_seen, reading_seen, spelled, operand_seen, operands_seen, form_seen};
 
 use crate::argument::{Argument, Reading, Role, Value};
 use crate::characters::is_blank;
@@ -32,34 +33,70 @@ fn spelled(word: &[u8]) -> &[u8]
     }
 }
 
-/// Whether a text is this word of the table.
-pub(crate) fn is_spelled(word: &[u8], text: &[u8]) -> bool
+/// Whether a text is this word of the table, compared to the end.
+#[inline(never)]
+fn is_whole(word: &[u8], text: &[u8]) -> bool
     ensures { result ≡ bytes_eq (spelled word.now) text.now }
 {
     spelled(word) == text
 }
 
+/// Whether a text is this word of the table. Most words differ in their first character, and are looked at no further.
+#[inline(always)]
+pub(crate) fn is_spelled(word: &[u8], text: &[u8]) -> bool
+    ensures { result ≡ bytes_eq (spelled word.now) text.now }
+{
+    if let [first, ..] = word
+        && let [other, ..] = text
+        && first != other
+    {
+        return false;
+    }
+    is_whole(word, text)
+}
+
 /// The instructions.
 #[tactic(auto, unfolding(crate::specs::Rows::instructions))]
 pub(crate) fn instructions() -> &'static [Row]
-    ensures { result.now ≡ instructions }
+    ensures { map form_seen result.now ≡ instructions }
 {
     &ROWS
 }
 
+/// Whether one of the instructions begins with a word.
+fn is_first_word(rows: &[Row], word: &[u8]) -> bool
+    ensures { result ≡ list_any (λ row. bytes_eq (spelled row.0) word.now) rows.now }
+{
+    rows.iter().any(|row| is_spelled(&row.0, word))
+}
+
 /// Whether a word begins an instruction.
-#[tactic(auto, unfolding(crate::specs::Rows::is_instruction))]
 pub(crate) fn is_instruction(word: &[u8]) -> bool
     ensures { result ≡ is_instruction word.now }
 {
-    ROWS.iter().any(|row| is_spelled(&row.0, word))
+    is_first_word(instructions(), word)
 }
 
-/// Whether a word is among those that no line defines, beside the first words of the instructions.
-fn is_listed(word: &[u8]) -> bool
-    ensures { result ≡ list_any (λ reserved. bytes_eq (spelled reserved) word.now) RESERVED }
+/// The words that no line defines, beside the first words of the instructions.
+#[tactic(auto, unfolding(crate::specs::Rows::reserved))]
+fn reserved() -> &'static [[u8; 5]]
+    ensures { map spelled result.now ≡ reserved }
 {
-    RESERVED.iter().any(|reserved| is_spelled(reserved, word))
+    &RESERVED
+}
+
+/// Whether a word is one of these words of the table.
+fn is_among(words: &[[u8; 5]], word: &[u8]) -> bool
+    ensures { result ≡ list_any (λ held. bytes_eq (spelled held) word.now) words.now }
+{
+    words.iter().any(|held| is_spelled(held, word))
+}
+
+/// Whether a word is one that no line defines, beside the first words of the instructions.
+fn is_listed(word: &[u8]) -> bool
+    ensures { result ≡ list_any (λ held. bytes_eq held word.now) reserved }
+{
+    is_among(reserved(), word)
 }
 
 /// Whether no line defines a name.
@@ -70,11 +107,12 @@ pub(crate) fn is_reserved(name: &[u8]) -> bool
     is_listed(name) || is_instruction(name)
 }
 
-/// The number of a digit from one to another, counted from the first.
-fn counted(first: u8, last: u8, digit: u8) -> Option<u8>
-    ensures { result ≡ counted first last digit }
+/// The number of a digit from one to another.
+fn numbered(first: u8, last: u8, digit: u8) -> Option<u8>
+    requires { 48 ≤ first }
+    ensures { result ≡ numbered first last digit }
 {
-    (first <= digit && digit <= last).then(|| digit - first)
+    (first <= digit && digit <= last).then(|| digit - b'0')
 }
 
 /// The number of a register, R0 to R7.
@@ -83,7 +121,7 @@ fn register(text: &[u8]) -> Option<u8>
     ensures small { IfSome result (λ number. number < 8) }
 {
     match text {
-        [b'R', digit] => counted(b'0', b'7', *digit),
+        [b'R', digit] => numbered(b'0', b'7', *digit),
         _ => None,
     }
 }
@@ -94,25 +132,25 @@ fn pointer(text: &[u8]) -> Option<u8>
     ensures small { IfSome result (λ number. number < 8) }
 {
     match text {
-        [b'@', b'R', digit] => counted(b'0', b'1', *digit),
+        [b'@', b'R', digit] => numbered(b'0', b'1', *digit),
         _ => None,
     }
 }
 
-/// The number of a port of the expander, P4 to P7, counted from P4.
+/// The number of a port of the expander, P4 to P7.
 fn expander(text: &[u8]) -> Option<u8>
     ensures number { result ≡ expander text.now }
     ensures small { IfSome result (λ number. number < 8) }
 {
     match text {
-        [b'P', digit] => counted(b'4', b'7', *digit),
+        [b'P', digit] => numbered(b'4', b'7', *digit),
         _ => None,
     }
 }
 
 /// The value behind #.
 fn immediate(text: &[u8]) -> Option<Value<'_>>
-    ensures { option_map value_seen result ≡ immediate text.now }
+    ensures { option_map value_seen result ≡ option_map value_capped (immediate text.now) }
 {
     match text {
         [b'#', value @ ..] => value_of(value),
@@ -142,9 +180,17 @@ fn given(role: Role, value: Value<'_>) -> Reading<'_>
     }
 }
 
+/// An operand that is a value, where there is one.
+fn given_by(role: Role, value: Option<Value<'_>>) -> Option<Reading<'_>>
+    ensures reading { option_map reading_seen result ≡ option_map (given role) (option_map value_seen value.entry) }
+    ensures offset { IfSome result (λ reading. reading.offset ≡ 0) }
+{
+    Some(given(role, value?))
+}
+
 /// What a text says as an operand, where it is one.
 fn read(operand: Operand, text: &[u8]) -> Option<Reading<'_>>
-    ensures reading { option_map reading_seen result ≡ read operand text.now }
+    ensures reading { option_map reading_seen result ≡ option_map reading_capped (read (operand_seen operand) text.now) }
     ensures small { IfSome result (λ reading. reading.offset < 8) }
 {
     match operand {
@@ -152,15 +198,15 @@ fn read(operand: Operand, text: &[u8]) -> Option<Reading<'_>>
         Operand::Register => Some(fixed(register(text)?)),
         Operand::Pointer => Some(fixed(pointer(text)?)),
         Operand::Expander => Some(fixed(expander(text)?)),
-        Operand::Immediate => Some(given(Role::Byte, immediate(text)?)),
-        Operand::Address => Some(given(Role::Address, value_of(text)?)),
-        Operand::Target => Some(given(Role::Target, value_of(text)?)),
+        Operand::Immediate => given_by(Role::Byte, immediate(text)),
+        Operand::Address => given_by(Role::Address, value_of(text)),
+        Operand::Target => given_by(Role::Target, value_of(text)),
     }
 }
 
 /// What a text says where no operand may stand.
 fn read_none(text: &[u8]) -> Option<Reading<'_>>
-    ensures { option_map reading_seen result ≡ read_all Shape.Without (operands_of text.now) }
+    ensures { option_map reading_seen result ≡ option_map reading_capped (read_all [] (operands_of text.now)) }
 {
     if text.is_empty() {
         Some(fixed(0))
@@ -171,7 +217,7 @@ fn read_none(text: &[u8]) -> Option<Reading<'_>>
 
 /// What a text says as the only operand.
 fn read_one(operand: Operand, text: &[u8]) -> Option<Reading<'_>>
-    ensures { option_map reading_seen result ≡ read_all (Shape.One operand) (operands_of text.now) }
+    ensures { option_map reading_seen result ≡ option_map reading_capped (read_all (operand_seen operand ∷ []) (operands_of text.now)) }
 {
     if text.is_empty() {
         return None;
@@ -194,6 +240,15 @@ fn joined<'a>(first: Reading<'a>, second: Reading<'a>) -> Reading<'a>
     }
 }
 
+/// What two operands say together, where both are there.
+fn both<'a>(first: Option<Reading<'a>>, second: Option<Reading<'a>>) -> Option<Reading<'a>>
+    requires first_small { ForSome first (λ reading. reading.offset < 8) }
+    requires second_small { ForSome second (λ reading. reading.offset < 8) }
+    ensures { option_map reading_seen result ≡ both (option_map reading_seen first.entry) (option_map reading_seen second.entry) }
+{
+    Some(joined(first?, second?))
+}
+
 /// What two texts say as two operands.
 fn read_both<'a>(
     first: Operand,
@@ -201,15 +256,14 @@ fn read_both<'a>(
     text: &'a [u8],
     other: &'a [u8],
 ) -> Option<Reading<'a>>
-    ensures { option_map reading_seen result ≡ read_all (Shape.Two first second) (text.now ∷ other.now ∷ []) }
+    ensures { option_map reading_seen result ≡ option_map reading_capped (read_all (operand_seen first ∷ operand_seen second ∷ []) (text.now ∷ other.now ∷ [])) }
 {
-    let said = read(first, text)?;
-    Some(joined(said, read(second, other)?))
+    both(read(first, text), read(second, other))
 }
 
 /// What a text says as two operands.
 fn read_two(first: Operand, second: Operand, text: &[u8]) -> Option<Reading<'_>>
-    ensures { option_map reading_seen result ≡ read_all (Shape.Two first second) (operands_of text.now) }
+    ensures { option_map reading_seen result ≡ option_map reading_capped (read_all (operand_seen first ∷ operand_seen second ∷ []) (operands_of text.now)) }
 {
     let Some((front, back)) = split_once(b',', text) else {
         return None;
@@ -222,7 +276,7 @@ fn read_two(first: Operand, second: Operand, text: &[u8]) -> Option<Reading<'_>>
 
 /// What a text says as the operands of an instruction, where it is that.
 pub(crate) fn read_all(shape: Shape, text: &[u8]) -> Option<Reading<'_>>
-    ensures { option_map reading_seen result ≡ read_all shape (operands_of text.now) }
+    ensures { option_map reading_seen result ≡ option_map reading_capped (read_all (operands_seen shape) (operands_of text.now)) }
 {
     match shape {
         Shape::Without => read_none(text),

@@ -3,7 +3,7 @@
 ghost use Rattle.std.specs.Prelude.{◌≡◌, ◌+◌, ◌≤◌, ◌^◌, count_by, length};
 ghost use Rattle.mcs48_asm.specs.Characters.{is_comma};
 ghost use Rattle.mcs48_asm.specs.Statements.{parts_of};
-ghost use Rattle.mcs48_asm.specs.Values.{capped};
+ghost use Rattle.mcs48_asm.specs.Capped.{capped};
 ghost use Rattle.mcs48_asm.specs.Places.{count_of, start_of};
 ghost use Rattle.mcs48_asm.specs.Views.{statement_seen};
 

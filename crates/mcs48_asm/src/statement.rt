@@ -1,11 +1,16 @@
 //! What a statement says.
 
 ghost use Rattle.std.specs.Prelude.{◌≡◌, is_some};
-ghost use Rattle.std.specs.Option.{option_map};
-ghost use Rattle.mcs48_asm.specs.Statements.{Data, values_of, parts_of, equate_of, origin_of, data_of, instruction_in, first_fit, statement_of};
-ghost use Rattle.mcs48_asm.specs.Views.{statement_seen, found_seen};
+ghost use Rattle.std.specs.Option.{option_map, ok_or};
+ghost use Rattle.mcs48_asm.specs.declared.flaw.Flaw.TheVariants.{Misfit};
+ghost use Rattle.mcs48_asm.specs.Rows.{instructions};
+ghost use Rattle.mcs48_asm.specs.Words.{run_of, tail_of};
+ghost use Rattle.mcs48_asm.specs.Statements.{Data, values_of, parts_of, equate_of, origin_of, data_of, instruction_with, instruction_in, first_fit, statement_of};
+ghost use Rattle.mcs48_asm.specs.Values.{value_of};
+ghost use Rattle.mcs48_asm.specs.Capped.{statement_capped, found_capped};
+ghost use Rattle.mcs48_asm.specs.Views.{reading_seen, statement_seen, found_seen, form_seen, kept_fit};
 
-use crate::argument::Argument;
+use crate::argument::{Argument, Reading};
 use crate::flaw::Flaw;
 use crate::operands::{instructions, is_instruction, is_spelled, read_all};
 use crate::pieces::split_once;
@@ -34,79 +39,99 @@ pub(crate) enum Statement<'a> {
     Equate(&'a [u8], u32),
 }
 
+/// Whether a text is a value.
+fn is_value(text: &[u8]) -> bool
+    ensures { result ≡ is_some (value_of text.now) }
+{
+    value_of(text).is_some()
+}
+
 /// Whether each part of a text between commas is a value.
 fn are_values(text: &[u8]) -> bool
     ensures { result ≡ is_some (values_of (parts_of text.now)) }
 {
     let mut rest = text;
     while let Some((part, more)) = split_once(b',', rest) {
-        if value_of(trimmed(part)).is_none() {
+        if !is_value(trimmed(part)) {
             return false;
         }
         rest = more;
     }
-    value_of(trimmed(rest)).is_some()
+    is_value(trimmed(rest))
 }
 
 /// A name, EQU and a number.
-fn equate_of(text: &[u8]) -> Option<Statement<'_>>
-    ensures { option_map statement_seen result ≡ equate_of text.now }
+fn equate_of(text: &[u8]) -> Result<Statement<'_>, Flaw>
+    ensures { found_seen result ≡ found_capped (ok_or (equate_of text.now) Misfit) }
 {
     let (name, rest) = split_word(text);
     let (word, number) = split_word(rest);
     if !is_name(name) || word != EQU {
-        return None;
+        return Err(Flaw::Misfit);
     }
-    Some(Statement::Equate(name, number_of(number)?))
+    match number_of(number) {
+        Some(number) => Ok(Statement::Equate(name, number)),
+        None => Err(Flaw::Misfit),
+    }
 }
 
 /// ORG and a number.
-fn origin_of(text: &[u8]) -> Option<Statement<'_>>
-    ensures { option_map statement_seen result ≡ origin_of text.now }
+fn origin_of(text: &[u8]) -> Result<Statement<'_>, Flaw>
+    ensures { found_seen result ≡ found_capped (ok_or (origin_of text.now) Misfit) }
 {
     let (word, number) = split_word(text);
     if word != ORG {
-        return None;
+        return Err(Flaw::Misfit);
     }
-    Some(Statement::Origin(number_of(number)?))
+    match number_of(number) {
+        Some(number) => Ok(Statement::Origin(number)),
+        None => Err(Flaw::Misfit),
+    }
 }
 
 /// The values of a DB line.
-fn data_in(values: &[u8]) -> Option<Statement<'_>>
-    ensures { option_map statement_seen result ≡ option_map Data (values_of (parts_of values.now)) }
+fn data_in(values: &[u8]) -> Result<Statement<'_>, Flaw>
+    ensures { found_seen result ≡ found_capped (ok_or (option_map Data (values_of (parts_of values.now))) Misfit) }
 {
     if are_values(values) {
-        Some(Statement::Data(values))
+        Ok(Statement::Data(values))
     } else {
-        None
+        Err(Flaw::Misfit)
     }
 }
 
 /// DB and values.
-fn data_of(text: &[u8]) -> Option<Statement<'_>>
-    ensures { option_map statement_seen result ≡ data_of text.now }
+fn data_of(text: &[u8]) -> Result<Statement<'_>, Flaw>
+    ensures { found_seen result ≡ found_capped (ok_or (data_of text.now) Misfit) }
 {
     let (word, values) = split_word(text);
     if word != DB {
-        return None;
+        return Err(Flaw::Misfit);
     }
     data_in(values)
 }
 
+/// The instruction with this first byte whose operands say this.
+fn instruction_with<'a>(first: u8, said: Option<Reading<'a>>) -> Option<Statement<'a>>
+    ensures { option_map statement_seen result ≡ option_map (instruction_with first) (option_map reading_seen said.entry) }
+{
+    let said = said?;
+    Some(Statement::Instruction(first.wrapping_add(said.offset), said.argument))
+}
+
 /// The instruction of a row whose first word and operands these are.
 fn instruction_in<'a>(row: &Row, word: &[u8], operands: &'a [u8]) -> Option<Statement<'a>>
-    ensures { option_map statement_seen result ≡ instruction_in row.now word.now operands.now }
+    ensures { option_map statement_seen result ≡ option_map statement_capped (instruction_in (form_seen row.now) word.now operands.now) }
 {
     if !is_spelled(&row.0, word) {
         return None;
     }
-    let said = read_all(row.1, operands)?;
-    Some(Statement::Instruction(row.2.wrapping_add(said.offset), said.argument))
+    instruction_with(row.2, read_all(row.1, operands))
 }
 
 /// The instruction of the first row that fits.
 fn first_fit<'a>(rows: &[Row], word: &[u8], operands: &'a [u8]) -> Option<Statement<'a>>
-    ensures { option_map statement_seen result ≡ first_fit rows.now word.now operands.now }
+    ensures { option_map statement_seen result ≡ kept_fit rows.now word.now operands.now }
 {
     for row in rows {
         if let Some(statement) = instruction_in(row, word, operands) {
@@ -116,26 +141,34 @@ fn first_fit<'a>(rows: &[Row], word: &[u8], operands: &'a [u8]) -> Option<Statem
     None
 }
 
+/// An instruction.
+fn instruction_of(text: &[u8]) -> Result<Statement<'_>, Flaw>
+    ensures { found_seen result ≡ found_capped (ok_or (first_fit instructions (run_of text.now) (tail_of text.now)) Misfit) }
+{
+    let (word, operands) = split_word(text);
+    match first_fit(instructions(), word, operands) {
+        Some(statement) => Ok(statement),
+        None => Err(Flaw::Misfit),
+    }
+}
+
 /// The statement that a text without blanks round it writes, or its flaw.
 pub(crate) fn statement_of(text: &[u8]) -> Result<Statement<'_>, Flaw>
-    ensures { found_seen result ≡ statement_of text.now }
+    ensures { found_seen result ≡ found_capped (statement_of text.now) }
 {
     if text.is_empty() {
         return Ok(Statement::Nothing);
     }
     let (first, second) = two_words(text);
     if second == EQU {
-        return equate_of(text).ok_or(Flaw::Misfit);
+        equate_of(text)
+    } else if first == ORG {
+        origin_of(text)
+    } else if first == DB {
+        data_of(text)
+    } else if is_instruction(first) {
+        instruction_of(text)
+    } else {
+        Err(Flaw::NoStatement)
     }
-    if first == ORG {
-        return origin_of(text).ok_or(Flaw::Misfit);
-    }
-    if first == DB {
-        return data_of(text).ok_or(Flaw::Misfit);
-    }
-    if !is_instruction(first) {
-        return Err(Flaw::NoStatement);
-    }
-    let (word, operands) = split_word(text);
-    first_fit(instructions(), word, operands).ok_or(Flaw::Misfit)
 }

@@ -3,7 +3,8 @@
 ghost use Rattle.std.specs.Prelude.{◌≡◌, ◌≤◌, nat_lt};
 ghost use Rattle.std.specs.List.{list_all};
 ghost use Rattle.std.specs.Option.{option_map};
-ghost use Rattle.mcs48_asm.specs.Values.{digit_value, are_digits, written, capped, number_in, number_of, name_value, value_of};
+ghost use Rattle.mcs48_asm.specs.Values.{digit_value, are_digits, written, number_in, number_of, name_value, value_of};
+ghost use Rattle.mcs48_asm.specs.Capped.{capped, value_capped};
 ghost use Rattle.mcs48_asm.specs.Views.{kept_part, value_seen};
 
 use crate::argument::Value;
@@ -55,14 +56,14 @@ fn written(base: u32, digits: &[u8]) -> u32
 fn number_in(base: u32, digits: &[u8]) -> Option<u32>
     requires some { 1 ≤ base }
     requires small { base ≤ 16 }
-    ensures { result ≡ number_in base digits.now }
+    ensures { result ≡ option_map capped (number_in base digits.now) }
 {
     are_digits(base, digits).then(|| written(base, digits))
 }
 
 /// The number that a word writes, or 65,536 where it is more.
 pub(crate) fn number_of(word: &[u8]) -> Option<u32>
-    ensures { result ≡ number_of word.now }
+    ensures { result ≡ option_map capped (number_of word.now) }
 {
     match word {
         [b'0'..=b'9', .., b'H'] => number_in(16, &word[..word.len() - 1]),
@@ -74,7 +75,7 @@ pub(crate) fn number_of(word: &[u8]) -> Option<u32>
 
 /// What a text that is no number gives: a name, or LOW and a name.
 fn name_value(text: &[u8]) -> Option<Value<'_>>
-    ensures { option_map value_seen result ≡ name_value text.now }
+    ensures { option_map value_seen result ≡ option_map value_capped (name_value text.now) }
 {
     if is_name(text) {
         return Some(Value::Named(text));
@@ -85,7 +86,7 @@ fn name_value(text: &[u8]) -> Option<Value<'_>>
 
 /// The value that a text writes.
 pub(crate) fn value_of(text: &[u8]) -> Option<Value<'_>>
-    ensures { option_map value_seen result ≡ value_of text.now }
+    ensures { option_map value_seen result ≡ option_map value_capped (value_of text.now) }
 {
     match number_of(text) {
         Some(number) => Some(Value::Number(number)),

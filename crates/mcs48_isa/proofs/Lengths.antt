@@ -15,41 +15,41 @@ use Rattle.mcs48_isa.specs.declared.operation.UnaryOp.TheVariants.{IncA}
 use Rattle.mcs48_isa.specs.declared.operation.FlowOp.TheVariants.{Ret}
 use Rattle.mcs48_isa.specs.declared.operation.PortOp.TheVariants.{InP1}
 use Rattle.mcs48_isa.specs.declared.operation.ControlOp.TheVariants.{Nop}
-use Rattle.mcs48_isa.specs.Text.{text_of, text_of_move, text_of_alu, text_of_unary, text_of_flow, text_of_port, text_of_control}
+use Rattle.mcs48_isa.specs.Text.{text_of}
 use Rattle.mcs48_isa.specs.Listing.{end_after, end_of, lines_from, line_at, size_of, instruction_at, statement_of, listing_of}
 
 -- the longest texts have thirteen characters, as DJNZ R0,0FFFH
-move-short : (op : MoveOp) → length (text_of_move op) ≤ 13
-move-short MovAPsw = lit≤ tt
-move-short op = lit≤ tt
+move-short : (op : MoveOp) (at : ℕ) → length (text_of (Moves op) at) ≤ 13
+move-short MovAPsw at = lit≤ tt
+move-short op at = lit≤ tt
 
-alu-short : (op : AluOp) → length (text_of_alu op) ≤ 13
-alu-short (AddN n) = lit≤ tt
-alu-short op = lit≤ tt
+alu-short : (op : AluOp) (at : ℕ) → length (text_of (Alu op) at) ≤ 13
+alu-short (AddN n) at = lit≤ tt
+alu-short op at = lit≤ tt
 
-unary-short : (op : UnaryOp) → length (text_of_unary op) ≤ 13
-unary-short IncA = lit≤ tt
-unary-short op = lit≤ tt
+unary-short : (op : UnaryOp) (at : ℕ) → length (text_of (Unary op) at) ≤ 13
+unary-short IncA at = lit≤ tt
+unary-short op at = lit≤ tt
 
-flow-short : (op : FlowOp) (at : ℕ) → length (text_of_flow op at) ≤ 13
+flow-short : (op : FlowOp) (at : ℕ) → length (text_of (Flow op) at) ≤ 13
 flow-short Ret at = lit≤ tt
 flow-short op at = lit≤ tt
 
-port-short : (op : PortOp) → length (text_of_port op) ≤ 13
-port-short InP1 = lit≤ tt
-port-short op = lit≤ tt
+port-short : (op : PortOp) (at : ℕ) → length (text_of (PortIo op) at) ≤ 13
+port-short InP1 at = lit≤ tt
+port-short op at = lit≤ tt
 
-control-short : (op : ControlOp) → length (text_of_control op) ≤ 13
-control-short Nop = lit≤ tt
-control-short op = lit≤ tt
+control-short : (op : ControlOp) (at : ℕ) → length (text_of (Control op) at) ≤ 13
+control-short Nop at = lit≤ tt
+control-short op at = lit≤ tt
 
 text-short : (op : Op) (at : ℕ) → length (text_of op at) ≤ 13
-text-short (Moves op) at = move-short op
-text-short (Alu op) at = alu-short op
-text-short (Unary op) at = unary-short op
+text-short (Moves op) at = move-short op at
+text-short (Alu op) at = alu-short op at
+text-short (Unary op) at = unary-short op at
 text-short (Flow op) at = flow-short op at
-text-short (PortIo op) at = port-short op
-text-short (Control op) at = control-short op
+text-short (PortIo op) at = port-short op at
+text-short (Control op) at = control-short op at
 
 statement-short : (row : Option Decoded) (byte place : ℕ) → length (statement_of row byte place) ≤ 13
 statement-short (Some d) byte place = text-short d.op place

@@ -1,4 +1,5 @@
 pub mod Encoding
+pub mod Instructions
 pub mod Listing
 pub mod Memory
 pub mod Operands

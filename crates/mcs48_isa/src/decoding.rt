@@ -2,10 +2,11 @@
 //!
 //! Source: MCS-48 Family User's Manual, instruction set.
 
-ghost use Rattle.std.specs.Prelude.{◌≡◌, slice_index, IfSome, ◌<◌, ◌+◌, ◌*◌, ◌/◌};
+ghost use Rattle.std.specs.Prelude.{◌≡◌, slice_index, is_none, IfSome, ◌<◌, ◌+◌, ◌*◌, ◌/◌};
 ghost use Rattle.mcs48_isa.specs.Encoding.{code_of, taken};
+ghost use Rattle.mcs48_isa.specs.Instructions.{entry_of};
 ghost use Rattle.mcs48_isa.specs.Operands.{IsOp};
-ghost use Rattle.mcs48_isa.specs.Table.{row_of};
+ghost use Rattle.mcs48_isa.specs.Table.{row_of, is_empty_byte};
 
 use crate::operation::{AluOp, ControlOp, Decoded, FlowOp, MoveOp, Op, PortOp, UnaryOp};
 
@@ -182,12 +183,14 @@ fn read_row(first: u8, n: u8) -> Option<Decoded>
 /// Source: MCS-48 Family User's Manual, instruction set.
 pub fn decode(b: [u8; 2]) -> Option<Decoded>
     ensures row { result ≡ row_of (slice_index b 0) (slice_index b 1) }
+    ensures empty { is_none result ≡ is_empty_byte (slice_index b 0) }
     ensures operands { IfSome result (λ d. IsOp d.op) }
     ensures some { IfSome result (λ d. 0 < d.cycles) }
     ensures few { IfSome result (λ d. d.cycles < 3) }
     ensures whole { IfSome result (λ d. 0 < d.len) }
     ensures short { IfSome result (λ d. d.len < 3) }
     ensures back { IfSome result (λ d. code_of d.op ≡ taken d.len (slice_index b 0) (slice_index b 1)) }
+    ensures cycles { IfSome result (λ d. d.cycles ≡ (entry_of d.op).cycles) }
 {
     read_row(b[0], b[1])
 }

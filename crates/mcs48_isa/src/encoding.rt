@@ -2,8 +2,8 @@
 //!
 //! Source: MCS-48 Family User's Manual, instruction set.
 
-ghost use Rattle.std.specs.Prelude.{◌≡◌, ◌<◌, IsSomeAnd};
-ghost use Rattle.mcs48_isa.specs.Encoding.{code_of, code_of_move, code_of_alu, code_of_unary, code_of_flow, code_of_port, code_of_control, one_byte, two_bytes, jump_bytes, row_of_code};
+ghost use Rattle.std.specs.Prelude.{◌≡◌, ◌+◌, ◌*◌, ◌/◌, ◌%◌, ◌<◌, IsSomeAnd};
+ghost use Rattle.mcs48_isa.specs.Encoding.{code_of, one_byte, two_bytes, row_of_code};
 ghost use Rattle.mcs48_isa.specs.Operands.{IsOp, IsMove, IsAlu, IsUnary, IsFlow, IsPort};
 
 use crate::operation::{AluOp, Code, ControlOp, FlowOp, MoveOp, Op, PortOp, UnaryOp};
@@ -32,14 +32,14 @@ fn two(first: u8, second: u8) -> Code
 fn jump(first: u8, address: u16) -> Code
     requires low { first < 32 }
     requires within { address < 2048 }
-    ensures { result ≡ jump_bytes first address }
+    ensures { result ≡ two_bytes (first + 32 * (address / 256)) (address % 256) }
 {
     two(first + 32 * (address / 256) as u8, (address % 256) as u8)
 }
 
 fn move_code(op: MoveOp) -> Code
     requires { IsMove op }
-    ensures { result ≡ code_of_move op }
+    ensures { result ≡ code_of (Op.Moves op) }
 {
     match op {
         MoveOp::MovAN(n) => two(0x23, n),
@@ -65,7 +65,7 @@ fn move_code(op: MoveOp) -> Code
 
 fn alu_code(op: AluOp) -> Code
     requires { IsAlu op }
-    ensures { result ≡ code_of_alu op }
+    ensures { result ≡ code_of (Op.Alu op) }
 {
     match op {
         AluOp::AddR(r) => one(0x68 + r),
@@ -88,7 +88,7 @@ fn alu_code(op: AluOp) -> Code
 
 fn unary_code(op: UnaryOp) -> Code
     requires { IsUnary op }
-    ensures { result ≡ code_of_unary op }
+    ensures { result ≡ code_of (Op.Unary op) }
 {
     match op {
         UnaryOp::IncA => one(0x17),
@@ -115,7 +115,7 @@ fn unary_code(op: UnaryOp) -> Code
 
 fn flow_code(op: FlowOp) -> Code
     requires { IsFlow op }
-    ensures { result ≡ code_of_flow op }
+    ensures { result ≡ code_of (Op.Flow op) }
 {
     match op {
         FlowOp::Jmp(a) => jump(0x04, a),
@@ -142,7 +142,7 @@ fn flow_code(op: FlowOp) -> Code
 
 fn port_code(op: PortOp) -> Code
     requires { IsPort op }
-    ensures { result ≡ code_of_port op }
+    ensures { result ≡ code_of (Op.PortIo op) }
 {
     match op {
         PortOp::InP1 => one(0x09),
@@ -165,7 +165,7 @@ fn port_code(op: PortOp) -> Code
 }
 
 fn control_code(op: ControlOp) -> Code
-    ensures { result ≡ code_of_control op }
+    ensures { result ≡ code_of (Op.Control op) }
 {
     match op {
         ControlOp::Nop => one(0x00),

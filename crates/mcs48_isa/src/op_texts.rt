@@ -2,9 +2,10 @@
 //!
 //! Source: MCS-48 Family User's Manual, instruction set, for the words; the numbers' spelling is our own.
 
-ghost use Rattle.std.specs.Prelude.{◌≡◌, ◌<◌, ◌++◌, OnOk, IfOk, codes};
+ghost use Rattle.std.specs.Prelude.{◌≡◌, ℕ, ◌<◌, ◌++◌, OnOk, IfOk, codes};
 ghost use Rattle.mcs48_isa.specs.Operands.{IsOp, IsMove, IsAlu, IsUnary, IsFlow, IsPort};
-ghost use Rattle.mcs48_isa.specs.Text.{text_of, text_of_move, text_of_alu, text_of_unary, text_of_flow, text_of_port, text_of_control, digit, value, address, target};
+ghost use Rattle.mcs48_isa.specs.Instructions.{digit};
+ghost use Rattle.mcs48_isa.specs.Text.{text_of, value, address, target};
 
 use crate::operation::{AluOp, ControlOp, FlowOp, MoveOp, Op, PortOp, UnaryOp};
 use std::alloc::{AllocError, Global};
@@ -81,7 +82,7 @@ fn jump_target(at: u16, low: u8) -> u16
 
 fn push_move(text: &mut Vec<u8>, op: MoveOp) -> Result<(), AllocError>
     requires { IsMove op }
-    ensures { OnOk result (text.new.items ≡ text.old.items ++ text_of_move op) }
+    ensures { OnOk result ((at : ℕ) → text.new.items ≡ text.old.items ++ text_of (Op.Moves op) at) }
 {
     match op {
         MoveOp::MovAN(n) => push_value(text, b"MOV A,#", n),
@@ -107,7 +108,7 @@ fn push_move(text: &mut Vec<u8>, op: MoveOp) -> Result<(), AllocError>
 
 fn push_alu(text: &mut Vec<u8>, op: AluOp) -> Result<(), AllocError>
     requires { IsAlu op }
-    ensures { OnOk result (text.new.items ≡ text.old.items ++ text_of_alu op) }
+    ensures { OnOk result ((at : ℕ) → text.new.items ≡ text.old.items ++ text_of (Op.Alu op) at) }
 {
     match op {
         AluOp::AddR(r) => push_digit(text, b"ADD A,R", r, b""),
@@ -130,7 +131,7 @@ fn push_alu(text: &mut Vec<u8>, op: AluOp) -> Result<(), AllocError>
 
 fn push_unary(text: &mut Vec<u8>, op: UnaryOp) -> Result<(), AllocError>
     requires { IsUnary op }
-    ensures { OnOk result (text.new.items ≡ text.old.items ++ text_of_unary op) }
+    ensures { OnOk result ((at : ℕ) → text.new.items ≡ text.old.items ++ text_of (Op.Unary op) at) }
 {
     match op {
         UnaryOp::IncA => text.extend_from_slice(b"INC A"),
@@ -158,7 +159,7 @@ fn push_unary(text: &mut Vec<u8>, op: UnaryOp) -> Result<(), AllocError>
 fn push_flow(text: &mut Vec<u8>, op: FlowOp, at: u16) -> Result<(), AllocError>
     requires operands { IsFlow op }
     requires within { at < 2048 }
-    ensures { OnOk result (text.new.items ≡ text.old.items ++ text_of_flow op at) }
+    ensures { OnOk result (text.new.items ≡ text.old.items ++ text_of (Op.Flow op) at) }
 {
     match op {
         FlowOp::Jmp(a) => push_address(text, b"JMP ", a),
@@ -185,7 +186,7 @@ fn push_flow(text: &mut Vec<u8>, op: FlowOp, at: u16) -> Result<(), AllocError>
 
 fn push_port(text: &mut Vec<u8>, op: PortOp) -> Result<(), AllocError>
     requires { IsPort op }
-    ensures { OnOk result (text.new.items ≡ text.old.items ++ text_of_port op) }
+    ensures { OnOk result ((at : ℕ) → text.new.items ≡ text.old.items ++ text_of (Op.PortIo op) at) }
 {
     match op {
         PortOp::InP1 => text.extend_from_slice(b"IN A,P1"),
@@ -208,7 +209,7 @@ fn push_port(text: &mut Vec<u8>, op: PortOp) -> Result<(), AllocError>
 }
 
 fn push_control(text: &mut Vec<u8>, op: ControlOp) -> Result<(), AllocError>
-    ensures { OnOk result (text.new.items ≡ text.old.items ++ text_of_control op) }
+    ensures { OnOk result ((at : ℕ) → text.new.items ≡ text.old.items ++ text_of (Op.Control op) at) }
 {
     match op {
         ControlOp::Nop => text.extend_from_slice(b"NOP"),

@@ -1,8 +1,7 @@
 use Rattle.std.proofs.Common.{◌+◌, ◌∙◌, Err, ◌∷◌, ◌++◌, refl, [], ℕ, false, map, ap, sym, subst, arith, rules}
 use Rattle.std.proofs.lemmas.List.{get_or-replicate, length-replicate}
 use Rattle.std.specs.Str.Lines.{lines}
-use Rattle.mcs48_asm.specs.Places.{placed}
-use Rattle.mcs48_asm.specs.Statements.{line_of}
+use Rattle.mcs48_asm.specs.Capped.{kept_line, kept_places}
 use Rattle.mcs48_asm.specs.Views.{kept_value, line_seen}
 use Rattle.mcs48_asm.proofs.Passes.{Stands, begun, next, faulty, ended, placed-turn}
 use Rattle.mcs48_asm.proofs.assembling.outcome_of.Goals as goal
@@ -12,13 +11,13 @@ loop-line-init c =
     record {
       memory = length-replicate {A = ℕ} 2048 0;
       lines_left = omega arith;
-      pass = ([], begun _ _ _ _ _ (λ q. ap (λ entries. kept_value entries q) c.new-seen.ensures.empty) (λ k l. get_or-replicate 2048 k false false l) (λ k l. get_or-replicate 2048 k 0 0 l));
+      pass = ([], begun _ _ _ _ _ (λ q. ap (λ entries. kept_value entries q) c.with_hasher-seen.ensures.empty) (λ k l. get_or-replicate 2048 k false false l) (λ k l. get_or-replicate 2048 k 0 0 l));
     }
 
 pub returns-in-Some-fault_of : goal.returns-in-Some-fault_of
 returns-in-Some-fault_of c =
     let names = kept_value c.args.names.now.entries in
-    let all = placed 0 (map line_of (lines c.args.text.now)) in
+    let all = kept_places 0 (map kept_line (lines c.args.text.now)) in
     let turn = placed-turn c.loop-line.place c.start_of-start.result _ c.loop-line.rest.now c.in-Some.more.now c.in-Some.line.now (line_seen c.line_of-line.result) c.in-Some.ensures.line c.line_of-line.ensures c.start_of-start.ensures refl in
     let held = c.loop-line.invariant.pass in
     faulty names all _ _ (kept_value c.loop-line.seen.entries) c.loop-line.filled c.loop-line.bytes c.loop-line.number held.0 c.in-Some-fault_of.flaw
@@ -29,7 +28,7 @@ returns-in-Some-fault_of c =
 pub loop-line-preserved : goal.loop-line-preserved
 loop-line-preserved c =
     let names = kept_value c.args.names.now.entries in
-    let all = placed 0 (map line_of (lines c.args.text.now)) in
+    let all = kept_places 0 (map kept_line (lines c.args.text.now)) in
     let turn = placed-turn c.loop-line.place c.start_of-start.result c.place_after-place.result c.loop-line.rest.now c.in-Some.more.now c.in-Some.line.now (line_seen c.line_of-line.result) c.in-Some.ensures.line c.line_of-line.ensures c.start_of-start.ensures c.place_after-place.ensures in
     let held = c.loop-line.invariant.pass in
     record {
@@ -46,9 +45,9 @@ loop-line-preserved c =
 pub returns : goal.returns
 returns c =
     let names = kept_value c.args.names.now.entries in
-    let all = placed 0 (map line_of (lines c.args.text.now)) in
+    let all = kept_places 0 (map kept_line (lines c.args.text.now)) in
     let held = c.loop-line.invariant.pass in
     ended names all (kept_value c.loop-line.seen.entries) c.loop-line.filled c.loop-line.bytes c.loop-line.number held.0
     (subst (λ rest. Stands names all rest (kept_value c.loop-line.seen.entries) c.loop-line.filled c.loop-line.bytes c.loop-line.number held.0)
-    (ap (λ ls. placed c.loop-line.place (map line_of ls)) c.in_default.ensures.line) held.1)
+    (ap (λ ls. kept_places c.loop-line.place (map kept_line ls)) c.in_default.ensures.line) held.1)
     c.loop-line.invariant.memory

@@ -1,7 +1,7 @@
 use Rattle.std.proofs.Common.{◌≡◌, ◌+◌, ◌≤◌, List, map, length}
 use Rattle.std.specs.Str.Lines.{lines}
-use Rattle.mcs48_asm.specs.Places.{Placed, placed}
-use Rattle.mcs48_asm.specs.Statements.{line_of}
+use Rattle.mcs48_asm.specs.Places.{Placed}
+use Rattle.mcs48_asm.specs.Capped.{kept_line, kept_places}
 use Rattle.mcs48_asm.specs.Views.{kept_value}
 use Rattle.mcs48_asm.proofs.Passes.{Stands}
 use Rattle.mcs48_asm.proofs.assembling.outcome_of.Given as goal
@@ -12,7 +12,7 @@ invariant-loop-line l = record {
   memory : length l.bytes ≡ 2048;
   lines_left : l.number + length l.rest ≤ length l.text;
   pass : (earlier : List Placed)
-      × Stands (kept_value l.names.entries) (placed 0 (map line_of (lines l.text))) (placed l.place (map line_of (lines l.rest))) (kept_value l.seen.entries) l.filled l.bytes l.number earlier;
+      × Stands (kept_value l.names.entries) (kept_places 0 (map kept_line (lines l.text))) (kept_places l.place (map kept_line (lines l.rest))) (kept_value l.seen.entries) l.filled l.bytes l.number earlier;
 }
 
 abbrev pub decreases-loop-line : goal.decreases-loop-line

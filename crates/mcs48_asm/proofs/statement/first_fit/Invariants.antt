@@ -1,6 +1,6 @@
 use Rattle.std.proofs.Common.{◌≡◌, drop}
-use Rattle.mcs48_asm.specs.Statements.{first_fit}
+use Rattle.mcs48_asm.specs.Views.{kept_fit}
 use Rattle.mcs48_asm.proofs.statement.first_fit.Given as goal
 
 abbrev pub invariant-loop-row : goal.invariant-loop-row
-invariant-loop-row l = first_fit l.rows l.word l.operands ≡ first_fit (drop l.row-index l.rows) l.word l.operands
+invariant-loop-row l = kept_fit l.rows l.word l.operands ≡ kept_fit (drop l.row-index l.rows) l.word l.operands

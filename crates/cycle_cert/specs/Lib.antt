@@ -1,0 +1,12 @@
+pub mod Bounds
+pub mod Rows
+pub mod Falling
+pub mod Runs
+pub mod RowLaw
+pub mod Faults
+pub mod Certificates
+pub mod Lines
+pub mod Tables
+pub mod Reading
+pub mod Answers
+pub mod Examples
