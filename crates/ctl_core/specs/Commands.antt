@@ -1,7 +1,7 @@
 -- What the controller does with a byte of its input buffer.
 use Rattle.std.specs.Prelude.{ℕ, ◌%◌, ◌==◌, nat_le, Option, Some, None, if◌then◌else◌}
 use Rattle.std.specs.Option.{option_map_or}
-use Rattle.ctl_core.specs.Bits.{with_bit, without_bit}
+use Rattle.bits.specs.Bits.{with_bit, without_bit}
 use Rattle.ctl_core.specs.Controller.{ControllerState, put_out}
 use Rattle.ctl_core.specs.declared.port.Port.{Port}
 use Rattle.ctl_core.specs.declared.port.Port.TheVariants.{P60, P64}

@@ -1,6 +1,6 @@
 -- The controller's state, and what the host does with it.
-use Rattle.std.specs.Prelude.{ℕ, ◌+◌, Bool, true, false, Option, Some, None, is_some}
-use Rattle.ctl_core.specs.Bits.{has_bit, bit_value}
+use Rattle.std.specs.Prelude.{ℕ, ◌+◌, Bool, true, false, not, ◌&&◌, Option, Some, None, is_some}
+use Rattle.bits.specs.Bits.{has_bit, bit_value}
 use Rattle.ctl_core.specs.declared.port.Input.{Input}
 use Rattle.ctl_core.specs.declared.port.Port.{Port}
 use Rattle.ctl_core.specs.declared.port.Port.TheVariants.{P60, P64}
@@ -56,3 +56,15 @@ emptied s = record s { output_full = false }
 -- a byte that the controller puts out fills the output buffer and clears the parity bit
 abbrev pub put_out : ℕ → ControllerState → ControllerState
 put_out byte s = record s { output_full = true; output = byte; parity = false }
+
+-- bit 0 of the command byte: a full output buffer interrupts
+abbrev pub interrupt_enabled : ControllerState → Bool
+interrupt_enabled s = has_bit 0x01 s.command_byte
+
+-- bit 4 of the command byte: the keyboard is disabled
+abbrev pub is_disabled : ControllerState → Bool
+is_disabled s = has_bit 0x10 s.command_byte
+
+-- whether both buffers are empty and the keyboard isn't disabled
+abbrev pub is_idle : ControllerState → Bool
+is_idle s = not (is_some s.input) && not s.output_full && not (is_disabled s)

@@ -1,4 +1,3 @@
-pub mod Bits
 pub mod Commands
 pub mod Controller
 pub mod ScanCodes

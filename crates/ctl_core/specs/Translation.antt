@@ -1,7 +1,7 @@
 -- The translation of what the keyboard sends, and its reception.
 use Rattle.std.specs.Prelude.{ℕ, Bool, true, false, ◌&&◌, Option, Some, None, ◌==◌, if◌then◌else◌}
 use Rattle.std.specs.Option.{option_map_or}
-use Rattle.ctl_core.specs.Bits.{has_bit, with_bit}
+use Rattle.bits.specs.Bits.{has_bit, with_bit}
 use Rattle.ctl_core.specs.ScanCodes.{translated}
 use Rattle.ctl_core.specs.Controller.{ControllerState, put_out}
 use Rattle.ctl_core.specs.declared.translation.Translated.{Translated}

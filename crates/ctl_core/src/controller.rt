@@ -1,12 +1,12 @@
 //! The controller's buffers, its command byte and what it does with a byte.
 
-ghost use Rattle.std.specs.Prelude.{◌≡◌, ◌↔◌, false, IsErr, IsSome, IfErr, OnErr, OnOk, option_map};
+ghost use Rattle.std.specs.Prelude.{◌≡◌, ◌↔◌, false, is_some, IsErr, IsSome, IfErr, OnErr, OnOk, option_map};
 ghost use Rattle.ctl_core.specs.Commands.{after_taken, commanded, passed, taken};
-ghost use Rattle.ctl_core.specs.Controller.{at_start, emptied, put_out, status_of, written};
+ghost use Rattle.ctl_core.specs.Controller.{at_start, emptied, interrupt_enabled, is_disabled, is_idle, put_out, status_of, written};
 ghost use Rattle.ctl_core.specs.Translation.{after_received, received_as};
 
-use crate::bits::{CommandByte, Status};
 use crate::command::{Command, Parameter, decode_command};
+use crate::flags::{CommandByte, Status};
 use crate::port::{Input, InputFull, Port};
 use crate::translation::{Translated, translate_marked};
 use bitflags::Flags;
@@ -127,6 +127,34 @@ impl Controller {
         ensures { result ≡ self.now.output_full }
     {
         self.output_full
+    }
+
+    /// Whether the input buffer is full.
+    pub fn input_full(&self) -> bool
+        ensures { result ≡ is_some self.now.input }
+    {
+        self.input.is_some()
+    }
+
+    /// Whether the command byte lets the interrupt of a full output buffer through.
+    pub fn interrupt_enabled(&self) -> bool
+        ensures { result ≡ interrupt_enabled self.now }
+    {
+        self.command_byte.contains(CommandByte::INTERRUPT)
+    }
+
+    /// Whether the command byte disables the keyboard.
+    pub fn is_disabled(&self) -> bool
+        ensures { result ≡ is_disabled self.now }
+    {
+        self.command_byte.contains(CommandByte::DISABLE)
+    }
+
+    /// Whether both buffers are empty and the keyboard isn't disabled.
+    pub fn is_idle(&self) -> bool
+        ensures { result ≡ is_idle self.now }
+    {
+        self.input.is_none() && !self.output_full && !self.is_disabled()
     }
 
     /// The command byte.

@@ -6,9 +6,9 @@
 //! After the PC/AT Technical Reference, keyboard controller.
 #![tactic(auto)]
 
-mod bits;
 mod command;
 mod controller;
+mod flags;
 mod port;
 #[cfg(test)]
 mod tests;

@@ -1,5 +1,5 @@
--- The bytes at 40:17 and 40:18 as sets of bits.
-use Rattle.std.specs.Prelude.{ℕ, ◌-◌, ◌==◌, Bool, bit_and, bit_or, bit_xor}
+-- The names of the bits in the bytes at 40:17 and 40:18.
+use Rattle.std.specs.Prelude.{ℕ}
 
 -- 40:17: these keys are down
 abbrev pub right_shift : ℕ
@@ -33,16 +33,3 @@ sysreq = 0x04
 
 abbrev pub pause : ℕ
 pause = 0x08
-
--- whether the bit is set in the byte
-abbrev pub holds : ℕ → ℕ → Bool
-holds bits bit = bit_and bits bit == bit
-
-abbrev pub with_bit : ℕ → ℕ → ℕ
-with_bit bits bit = bit_or bits bit
-
-abbrev pub without_bit : ℕ → ℕ → ℕ
-without_bit bits bit = bit_and bits (0xFF - bit)
-
-abbrev pub flipped_bit : ℕ → ℕ → ℕ
-flipped_bit bits bit = bit_xor bits bit

@@ -1,4 +1,5 @@
 pub mod Bits
 pub mod Bios
 pub mod Flags
+pub mod Keys
 pub mod Rules

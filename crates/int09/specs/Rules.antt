@@ -1,166 +1,134 @@
--- INT 09h: the nine rules, in their order. A byte is treated by the first that fits.
-use Rattle.std.specs.Prelude.{ℕ, ◌+◌, ◌-◌, ◌*◌, ◌%◌, ◌==◌, nat_lt, nat_le, Bool, true, false, not, ◌&&◌, ◌||◌, if◌then◌else◌}
-use Rattle.std.specs.Prelude.{[], ◌∷◌, Some, None, is_some}
+-- INT 09h: nine rules in their order. A rule says how it treats a byte in a state, or nothing where it doesn't fit.
+use Rattle.std.specs.Prelude.{ℕ, ◌+◌, ◌-◌, ◌*◌, ◌%◌, ◌==◌, nat_lt, Bool, true, not, ◌&&◌, ◌||◌, if◌then◌else◌}
+use Rattle.std.specs.Prelude.{List, [], ◌∷◌, Some, None, is_some, option_and_then}
+use Rattle.std.specs.Option.{option_map, unwrap_or}
 use Rattle.std.specs.declared.option.Option.{Option}
 use Rattle.pc_tables.specs.declared.item.Item.TheVariants.{Word, Beep, Overrun, Broke, Pause, Resume, Print, Boot, SysMake, SysBreak}
 use Rattle.pc_tables.specs.declared.words.WordRow.{WordRow}
-use Rattle.pc_tables.specs.Words.{letter_on, words_at}
-use Rattle.int09.specs.Bits.{right_shift, left_shift, ctrl, alt, scroll, num, caps, insert, sysreq, pause}
-use Rattle.int09.specs.Bits.{holds, with_bit, without_bit, flipped_bit}
+use Rattle.pc_tables.specs.Words.{words_at}
+use Rattle.bits.specs.Bits.{has_bit, with_bit, without_bit, flipped_bit}
+use Rattle.int09.specs.Bits.{ctrl, alt, num, sysreq, pause}
 use Rattle.int09.specs.Bios.{State, start, Outcome, quiet, says, enters, enters_if}
+use Rattle.int09.specs.Keys.{shift_bit, lock_bit, keypad_digit, differ, shift_down, reverses}
 
--- the key's bit in 40:17: right shift, left shift, Ctrl, Alt
-abbrev pub shift_bit : ℕ → Option ℕ
-shift_bit code =
-    if code == 0x36 then Some right_shift
-    else if code == 0x2A then Some left_shift
-    else if code == 0x1D then Some ctrl
-    else if code == 0x38 then Some alt
+-- a byte below 80 is a make of its scan code, and one from 80 on is a break of its low seven bits
+abbrev pub is_make : ℕ → Bool
+is_make byte = nat_lt byte 0x80
+
+abbrev pub code_of : ℕ → ℕ
+code_of byte = if is_make byte then byte else byte - 0x80
+
+-- rule 1: FA and FE set their marks, and FF is an overrun
+unfoldable pub marks : ℕ → State → Option Outcome
+marks byte s =
+    if byte == 0xFA then Some (quiet (record s { ack = true }))
+    else if byte == 0xFE then Some (quiet (record s { resend = true }))
+    else if byte == 0xFF then Some (record { after = s; items = Overrun ∷ Beep ∷ [] })
     else None
 
--- the key's bit in 40:17 and 40:18: Scroll Lock, Num Lock, Caps Lock, Insert
-abbrev pub lock_bit : ℕ → Option ℕ
-lock_bit code =
-    if code == 0x46 then Some scroll
-    else if code == 0x45 then Some num
-    else if code == 0x3A then Some caps
-    else if code == 0x52 then Some insert
+-- rule 2: SysReq, 54, is told as it goes down and up; a make while it is down is silent
+unfoldable pub on_sysreq : ℕ → State → Option Outcome
+on_sysreq byte s =
+    if byte == 0xD4 then Some (says SysBreak (record s { downs = without_bit sysreq s.downs }))
+    else if byte == 0x54 && has_bit sysreq s.downs then Some (quiet s)
+    else if byte == 0x54 then Some (says SysMake (record s { downs = with_bit sysreq s.downs }))
     else None
 
--- the digit on the key of the keypad
-abbrev pub keypad_digit : ℕ → Option ℕ
-keypad_digit code =
-    if code == 0x52 then Some 0
-    else if code == 0x4F then Some 1
-    else if code == 0x50 then Some 2
-    else if code == 0x51 then Some 3
-    else if code == 0x4B then Some 4
-    else if code == 0x4C then Some 5
-    else if code == 0x4D then Some 6
-    else if code == 0x47 then Some 7
-    else if code == 0x48 then Some 8
-    else if code == 0x49 then Some 9
-    else None
-
-abbrev pub differ : Bool → Bool → Bool
-differ true b = not b
-differ false b = b
-
-abbrev pub shift_down : State → Bool
-shift_down s = holds s.shifts right_shift || holds s.shifts left_shift
-
--- Caps reverses the columns of letters, and Num those of the keypad, 47 to 53
-unfoldable pub reverses : ℕ → State → Bool
-reverses code s =
-    is_some (letter_on code) && holds s.shifts caps
-    || nat_le 0x47 code && nat_le code 0x53 && holds s.shifts num
-
--- rule 9: without Ctrl and Alt
-unfoldable pub plain : ℕ → WordRow → State → Outcome
-plain code row s =
-    if differ (shift_down s) (reverses code s) then (if code == 0x37 then says Print s else enters_if row.shift s)
-    else enters_if row.base s
-
--- rule 8: with Ctrl
-unfoldable pub with_ctrl : ℕ → WordRow → State → Outcome
-with_ctrl code row s =
-    if code == 0x46 then record { after = record s { words = 0x0000 ∷ [] }; items = Broke ∷ Word 0x0000 ∷ [] }
-    else if code == 0x45 then says Pause (record s { downs = with_bit s.downs pause })
-    else enters_if row.ctrl s
-
--- rule 7: with Alt, a digit of the keypad goes on with the number, and any other key clears it
-unfoldable pub with_alt_digit : Option ℕ → WordRow → State → Outcome
-with_alt_digit (Some digit) row s = quiet (record s { number = (s.number * 10 + digit) % 256 })
-with_alt_digit None row s = enters_if row.alt (record s { number = 0 })
-
--- rule 7: with Alt; with Ctrl too, Del boots
-unfoldable pub with_alt : ℕ → WordRow → State → Outcome
-with_alt code row s =
-    if holds s.shifts ctrl && code == 0x53 then says Boot start
-    else if code == 0x39 then enters 0x3920 s
-    else with_alt_digit (keypad_digit code) row s
-
--- rules 7, 8 and 9
-unfoldable pub keyed : ℕ → WordRow → State → Outcome
-keyed code row s =
-    if holds s.shifts alt then with_alt code row s
-    else if holds s.shifts ctrl then with_ctrl code row s
-    else plain code row s
-
--- rule 6: a pause ends with any key but Num Lock, and that key is dropped
-unfoldable pub paused : ℕ → State → Outcome
-paused code s = if code == 0x45 then quiet s else says Resume (record s { downs = without_bit s.downs pause })
-
--- rule 5: a make that isn't in the table of words does nothing; rules 6 to 9
-unfoldable pub typed_by : Option WordRow → ℕ → State → Outcome
-typed_by None code s = quiet s
-typed_by (Some row) code s = if holds s.downs pause then paused code s else keyed code row s
-
-unfoldable pub typed : ℕ → State → Outcome
-typed code s = typed_by (words_at code) code s
-
--- rule 4, a make of a lock key or of Insert whose key was up: it is down, and the state is flipped
-unfoldable pub locked : ℕ → ℕ → State → Outcome
-locked code bit s =
-    let t : State = record s { downs = with_bit s.downs bit; shifts = flipped_bit s.shifts bit } in
-    if code == 0x52 then enters 0x5200 t else quiet t
-
--- rule 4, a make: with Ctrl, and Insert with Alt, it is a key as any other; Insert is the digit 0 where exactly one of
--- two things is so, Num is on or a shift key is down
-unfoldable pub lock_made : ℕ → ℕ → State → Outcome
-lock_made code bit s =
-    if holds s.shifts ctrl || code == 0x52 && holds s.shifts alt then typed code s
-    else if code == 0x52 && differ (holds s.shifts num) (shift_down s) then enters 0x5230 s
-    else if holds s.downs bit then quiet s
-    else locked code bit s
-
--- rule 2, a make of SysReq
-unfoldable pub sysreq_made : State → Outcome
-sysreq_made s =
-    if holds s.downs sysreq then quiet s else says SysMake (record s { downs = with_bit s.downs sysreq })
-
--- rule 4, and those behind it
-unfoldable pub made_by : Option ℕ → ℕ → State → Outcome
-made_by (Some bit) code s = lock_made code bit s
-made_by None code s = typed code s
-
--- rule 3, and those behind it
-unfoldable pub made_with : Option ℕ → ℕ → State → Outcome
-made_with (Some bit) code s = quiet (record s { shifts = with_bit s.shifts bit })
-made_with None code s = made_by (lock_bit code) code s
-
--- a make: rule 2, and those behind it
-unfoldable pub made : ℕ → State → Outcome
-made code s = if code == 0x54 then sysreq_made s else made_with (shift_bit code) code s
-
--- rule 3: a break of Alt enters the number that was typed under it, where it isn't 0
+-- a break of Alt enters the number that was typed under it, where it isn't 0
 unfoldable pub alt_broken : State → Outcome
 alt_broken s =
-    let t : State = record s { shifts = without_bit s.shifts alt } in
+    let t : State = record s { shifts = without_bit alt s.shifts } in
     if t.number == 0 then quiet t else enters t.number (record t { number = 0 })
 
--- rule 4, and rule 5: any other break does nothing
-unfoldable pub broken_by : Option ℕ → State → Outcome
-broken_by (Some bit) s = quiet (record s { downs = without_bit s.downs bit })
-broken_by None s = quiet s
+-- rule 3: a make of a shift key, Ctrl or Alt sets its bit, and a break clears it
+unfoldable pub on_shift_key : ℕ → State → Option Outcome
+on_shift_key byte s =
+    option_map
+    (λ bit.
+    if is_make byte then quiet (record s { shifts = with_bit bit s.shifts })
+    else if byte == 0xB8 then alt_broken s
+    else quiet (record s { shifts = without_bit bit s.shifts }))
+    (shift_bit (code_of byte))
 
--- rule 3, and those behind it
-unfoldable pub broken_with : Option ℕ → ℕ → State → Outcome
-broken_with (Some bit) code s =
-    if code == 0x38 then alt_broken s else quiet (record s { shifts = without_bit s.shifts bit })
-broken_with None code s = broken_by (lock_bit code) s
+-- a lock key or Insert that was up goes down, and its state is flipped; Insert is also entered
+unfoldable pub locks : ℕ → ℕ → State → Outcome
+locks code bit s =
+    let t : State = record s { downs = with_bit bit s.downs; shifts = flipped_bit bit s.shifts } in
+    if code == 0x52 then enters 0x5200 t else quiet t
 
--- a break: rule 2, and those behind it
-unfoldable pub broken : ℕ → State → Outcome
-broken code s =
-    if code == 0x54 then says SysBreak (record s { downs = without_bit s.downs sysreq })
-    else broken_with (shift_bit code) code s
+-- a make of such a key; with Ctrl, and Insert with Alt, it is left to the rules behind; Insert is the digit 0 where
+-- exactly one of two things is so, Num is on or a shift key is down
+unfoldable pub lock_made : ℕ → ℕ → State → Option Outcome
+lock_made code bit s =
+    if has_bit ctrl s.shifts || code == 0x52 && has_bit alt s.shifts then None
+    else if code == 0x52 && differ (has_bit num s.shifts) (shift_down s) then Some (enters 0x5230 s)
+    else if has_bit bit s.downs then Some (quiet s)
+    else Some (locks code bit s)
 
--- a byte: rule 1, and those behind it; from 80 on it is a break of its low seven bits
+-- rule 4: Scroll Lock, Num Lock, Caps Lock and Insert; a break clears the key's bit
+unfoldable pub on_lock_key : ℕ → State → Option Outcome
+on_lock_key byte s =
+    option_and_then
+    (λ bit.
+    if is_make byte then lock_made byte bit s else Some (quiet (record s { downs = without_bit bit s.downs })))
+    (lock_bit (code_of byte))
+
+-- rule 5: any other break, and a make that isn't in the table of words, does nothing
+unfoldable pub without_words : ℕ → State → Option Outcome
+without_words byte s = if is_make byte && is_some (words_at byte) then None else Some (quiet s)
+
+-- rule 6: a pause ends with any key but Num Lock, and that key is dropped
+unfoldable pub in_pause : ℕ → State → Option Outcome
+in_pause code s =
+    if has_bit pause s.downs && code == 0x45 then Some (quiet s)
+    else if has_bit pause s.downs then Some (says Resume (record s { downs = without_bit pause s.downs }))
+    else None
+
+-- the word in a column of the key's row, if there is one
+abbrev pub word_in : (WordRow → Option ℕ) → ℕ → Option ℕ
+word_in column code = option_and_then column (words_at code)
+
+-- a digit of the keypad goes on with the number, and any other key clears it
+unfoldable pub alt_typed : Option ℕ → ℕ → State → Outcome
+alt_typed (Some digit) code s = quiet (record s { number = (s.number * 10 + digit) % 256 })
+alt_typed None code s = enters_if (word_in (λ row. row.alt) code) (record s { number = 0 })
+
+-- rule 7: with Alt; with Ctrl too, Del boots
+unfoldable pub with_alt : ℕ → State → Option Outcome
+with_alt code s =
+    if not (has_bit alt s.shifts) then None
+    else if has_bit ctrl s.shifts && code == 0x53 then Some (says Boot start)
+    else if code == 0x39 then Some (enters 0x3920 s)
+    else Some (alt_typed (keypad_digit code) code s)
+
+-- rule 8: with Ctrl, Scroll Lock breaks and Num Lock pauses
+unfoldable pub with_ctrl : ℕ → State → Option Outcome
+with_ctrl code s =
+    if not (has_bit ctrl s.shifts) then None
+    else if code == 0x46
+    then Some (record { after = record s { words = 0x0000 ∷ [] }; items = Broke ∷ Word 0x0000 ∷ [] })
+    else if code == 0x45 then Some (says Pause (record s { downs = with_bit pause s.downs }))
+    else Some (enters_if (word_in (λ row. row.ctrl) code) s)
+
+-- rule 9: without Ctrl and Alt, the shifted column with a shift key, reversed for some keys; it prints for 37
+unfoldable pub alone : ℕ → State → Option Outcome
+alone code s =
+    if not (differ (shift_down s) (reverses code s)) then Some (enters_if (word_in (λ row. row.base) code) s)
+    else if code == 0x37 then Some (says Print s)
+    else Some (enters_if (word_in (λ row. row.shift) code) s)
+
+abbrev pub Rule : Type 0
+Rule = ℕ → State → Option Outcome
+
+abbrev pub nine_rules : List Rule
+nine_rules =
+    marks ∷ on_sysreq ∷ on_shift_key ∷ on_lock_key ∷ without_words ∷ in_pause ∷ with_alt ∷ with_ctrl ∷ alone ∷ []
+
+-- the first of these rules that fits
+abbrev pub first_that_fits : List Rule → ℕ → State → Outcome
+first_that_fits [] byte s = quiet s
+first_that_fits (rule ∷ rules) byte s = unwrap_or (rule byte s) (first_that_fits rules byte s)
+
+-- what a byte comes to
 unfoldable pub fed : ℕ → State → Outcome
-fed byte s =
-    if byte == 0xFA then quiet (record s { ack = true })
-    else if byte == 0xFE then quiet (record s { resend = true })
-    else if byte == 0xFF then record { after = s; items = Overrun ∷ Beep ∷ [] }
-    else if nat_lt byte 0x80 then made byte s
-    else broken (byte - 0x80) s
+fed byte s = first_that_fits nine_rules byte s

@@ -2,7 +2,7 @@
 
 ghost use Rattle.std.specs.Prelude.{◌≡◌, ◌≤◌, length, slice_get, IfOk};
 
-use super::bits::{Downs, Shifts};
+use super::flags::{Downs, Shifts};
 use arrayvec::ArrayVec;
 use circular_buffer::HeapCircularBuffer;
 use pc_tables::Item;
@@ -58,7 +58,7 @@ impl Bios {
 
     /// The state at the start, all clear, with the memory for 15 words. No other call takes memory.
     pub fn new(alloc: Global) -> Result<Bios, AllocError>
-        ensures { IfOk result (λ bios. bios ≡ start) }
+        ensures start { IfOk result (λ bios. bios ≡ start) }
     {
         let words = HeapCircularBuffer::with_capacity(alloc, 15)?;
         Ok(Bios {
@@ -71,12 +71,16 @@ impl Bios {
         })
     }
 
-    /// Treats a byte that was read from port 60h, and answers what is said of it, in order.
+    /// Treats a byte that was read from port 60h, and answers what is said of it, in order. The buffer keeps at most 15
+    /// words.
     pub fn feed(&mut self, byte: u8) -> ArrayVec<Item, 2>
         ensures after { self.new ≡ (fed byte self.old).after }
         ensures items { result.items ≡ (fed byte self.old).items }
+        ensures room { length self.new.words ≤ 15 }
     {
-        self.treat(byte)
+        let items = self.treat(byte);
+        prove!(self.words.len() <= 15);
+        items
     }
 
     /// Takes the first word; None exactly where the buffer is empty.

@@ -2,9 +2,9 @@
 
 ghost use Rattle.std.specs.Prelude.{◌≡◌, ◌<◌, IfSome};
 ghost use Rattle.std.specs.Option.{option_map};
-ghost use Rattle.int09.specs.Rules.{shift_bit, lock_bit, keypad_digit};
+ghost use Rattle.int09.specs.Keys.{shift_bit, lock_bit, keypad_digit};
 
-use super::bits::{Downs, Shifts};
+use super::flags::{Downs, Shifts};
 
 /// The bit in 40:17 of a shift key, Ctrl or Alt.
 pub(crate) fn shift_key(code: u8) -> Option<Shifts>

@@ -6,7 +6,7 @@
 #![tactic(auto)]
 
 mod bios;
-mod bits;
+mod flags;
 mod keys;
 mod rules;
 mod said;

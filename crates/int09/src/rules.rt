@@ -1,9 +1,9 @@
 //! The nine rules, in their order. Each function treats a byte that no rule before its own has treated.
 
-ghost use Rattle.std.specs.Prelude.{◌≡◌, ◌<◌};
+ghost use Rattle.std.specs.Prelude.{◌≡◌, ◌<◌, ◌≤◌, Some, true, drop};
 
 use super::bios::Bios;
-use super::bits::{Downs, Shifts};
+use super::flags::{Downs, Shifts};
 use super::keys::{keypad_digit, lock_key, shift_key};
 use super::said::{nothing, one, two};
 use arrayvec::ArrayVec;
@@ -11,15 +11,15 @@ use bitflags::Flags;
 use pc_tables::{Item, WordRow, letter_on, word_row};
 
 impl Bios {
-    ghost use Rattle.std.specs.Option.{option_map};
-    ghost use Rattle.std.specs.Prelude.{Some};
-    ghost use Rattle.int09.specs.Bits.{holds, ctrl, alt, num};
+    ghost use Rattle.bits.specs.Bits.{has_bit};
+    ghost use Rattle.pc_tables.specs.Words.{words_at};
+    ghost use Rattle.int09.specs.Bits.{ctrl, alt, num, pause};
     ghost use Rattle.int09.specs.Bios.{State, start, enters, enters_if};
-    ghost use Rattle.int09.specs.Rules.{shift_down, reverses, plain, with_ctrl, with_alt_digit, with_alt, keyed, paused};
-    ghost use Rattle.int09.specs.Rules.{typed_by, typed, locked, lock_made, sysreq_made, made, alt_broken, broken, fed};
+    ghost use Rattle.int09.specs.Keys.{lock_bit, shift_down, reverses};
+    ghost use Rattle.int09.specs.Rules.{alt_broken, locks, nine_rules, first_that_fits, fed};
 
-    /// A byte: rule 1, and those behind it.
-    #[tactic(auto, unfolding(crate::specs::Rules::fed))]
+    /// Treats a byte by the first rule that fits: rule 1, and those behind it.
+    #[tactic(auto, unfolding(crate::specs::Rules::fed, crate::specs::Rules::marks))]
     pub(crate) fn treat(&mut self, byte: u8) -> ArrayVec<Item, 2>
         ensures after { self.new ≡ (fed byte self.old).after }
         ensures items { result.items ≡ (fed byte self.old).items }
@@ -35,15 +35,16 @@ impl Bios {
             }
             0xff => two(Item::Overrun, Item::Beep),
             0x00..=0x7f => self.make(byte),
-            _ => self.release(byte - 0x80),
+            _ => self.release(byte),
         }
     }
 
     /// A make: rule 2, and those behind it.
-    #[tactic(auto, unfolding(crate::specs::Rules::made, crate::specs::Rules::made_with, crate::specs::Rules::made_by))]
+    #[tactic(auto, unfolding(crate::specs::Rules::on_sysreq, crate::specs::Rules::on_shift_key, crate::specs::Rules::on_lock_key))]
     fn make(&mut self, code: u8) -> ArrayVec<Item, 2>
-        ensures after { self.new ≡ (made code self.old).after }
-        ensures items { result.items ≡ (made code self.old).items }
+        requires { code < 0x80 }
+        ensures after { self.new ≡ (first_that_fits (drop 1 nine_rules) code self.old).after }
+        ensures items { result.items ≡ (first_that_fits (drop 1 nine_rules) code self.old).items }
     {
         if code == 0x54 {
             return self.make_sysreq();
@@ -58,10 +59,11 @@ impl Bios {
         self.key(code)
     }
 
-    #[tactic(auto, unfolding(crate::specs::Rules::sysreq_made))]
+    /// Rule 2: a make of SysReq.
+    #[tactic(auto, unfolding(crate::specs::Rules::on_sysreq))]
     fn make_sysreq(&mut self) -> ArrayVec<Item, 2>
-        ensures after { self.new ≡ (sysreq_made self.old).after }
-        ensures items { result.items ≡ (sysreq_made self.old).items }
+        ensures after { self.new ≡ (first_that_fits (drop 1 nine_rules) 0x54 self.old).after }
+        ensures items { result.items ≡ (first_that_fits (drop 1 nine_rules) 0x54 self.old).items }
     {
         if self.downs.contains(Downs::SYSREQ) {
             return nothing();
@@ -71,11 +73,13 @@ impl Bios {
     }
 
     /// Rule 4: a make of a lock key or of Insert.
-    #[tactic(auto, unfolding(crate::specs::Rules::lock_made))]
+    #[tactic(auto, unfolding(crate::specs::Rules::on_lock_key, crate::specs::Rules::lock_made))]
     fn make_lock(&mut self, code: u8, state: Shifts, down: Downs) -> ArrayVec<Item, 2>
-        requires { state.0 ≡ down.0 }
-        ensures after { self.new ≡ (lock_made code down.0 self.old).after }
-        ensures items { result.items ≡ (lock_made code down.0 self.old).items }
+        requires make { code < 0x80 }
+        requires key { lock_bit code ≡ Some down.0 }
+        requires both { state.0 ≡ down.0 }
+        ensures after { self.new ≡ (first_that_fits (drop 3 nine_rules) code self.old).after }
+        ensures items { result.items ≡ (first_that_fits (drop 3 nine_rules) code self.old).items }
     {
         let insert = code == 0x52;
         if self.ctrl() || insert && self.alt() {
@@ -91,11 +95,11 @@ impl Bios {
     }
 
     /// Rule 4: the key was up.
-    #[tactic(auto, unfolding(crate::specs::Rules::locked))]
+    #[tactic(auto, unfolding(crate::specs::Rules::locks))]
     fn lock(&mut self, code: u8, state: Shifts, down: Downs) -> ArrayVec<Item, 2>
         requires { state.0 ≡ down.0 }
-        ensures after { self.new ≡ (locked code down.0 self.old).after }
-        ensures items { result.items ≡ (locked code down.0 self.old).items }
+        ensures after { self.new ≡ (locks code down.0 self.old).after }
+        ensures items { result.items ≡ (locks code down.0 self.old).items }
     {
         self.downs.insert(down);
         self.shifts.toggle(state);
@@ -107,10 +111,11 @@ impl Bios {
     }
 
     /// A make: rule 5, and those behind it.
-    #[tactic(auto, unfolding(crate::specs::Rules::typed, crate::specs::Rules::typed_by))]
+    #[tactic(auto, unfolding(crate::specs::Rules::without_words, crate::specs::Rules::in_pause))]
     fn key(&mut self, code: u8) -> ArrayVec<Item, 2>
-        ensures after { self.new ≡ (typed code self.old).after }
-        ensures items { result.items ≡ (typed code self.old).items }
+        requires { code < 0x80 }
+        ensures after { self.new ≡ (first_that_fits (drop 4 nine_rules) code self.old).after }
+        ensures items { result.items ≡ (first_that_fits (drop 4 nine_rules) code self.old).items }
     {
         let Some(row) = word_row(code) else {
             return nothing();
@@ -123,10 +128,11 @@ impl Bios {
     }
 
     /// Rule 6.
-    #[tactic(auto, unfolding(crate::specs::Rules::paused))]
+    #[tactic(auto, unfolding(crate::specs::Rules::in_pause))]
     fn key_in_pause(&mut self, code: u8) -> ArrayVec<Item, 2>
-        ensures after { self.new ≡ (paused code self.old).after }
-        ensures items { result.items ≡ (paused code self.old).items }
+        requires { has_bit pause self.old.downs ≡ true }
+        ensures after { self.new ≡ (first_that_fits (drop 5 nine_rules) code self.old).after }
+        ensures items { result.items ≡ (first_that_fits (drop 5 nine_rules) code self.old).items }
     {
         if code == 0x45 {
             return nothing();
@@ -135,10 +141,12 @@ impl Bios {
         one(Item::Resume)
     }
 
-    #[tactic(auto, unfolding(crate::specs::Rules::keyed))]
+    /// Rules 7, 8 and 9.
+    #[tactic(auto, unfolding(crate::specs::Rules::with_alt, crate::specs::Rules::with_ctrl))]
     fn key_of(&mut self, code: u8, row: WordRow) -> ArrayVec<Item, 2>
-        ensures after { self.new ≡ (keyed code row self.old).after }
-        ensures items { result.items ≡ (keyed code row self.old).items }
+        requires { words_at code ≡ Some row }
+        ensures after { self.new ≡ (first_that_fits (drop 6 nine_rules) code self.old).after }
+        ensures items { result.items ≡ (first_that_fits (drop 6 nine_rules) code self.old).items }
     {
         if self.alt() {
             self.key_with_alt(code, row)
@@ -150,10 +158,12 @@ impl Bios {
     }
 
     /// Rule 7.
-    #[tactic(auto, unfolding(crate::specs::Rules::with_alt, crate::specs::Rules::with_alt_digit))]
+    #[tactic(auto, unfolding(crate::specs::Rules::with_alt, crate::specs::Rules::alt_typed))]
     fn key_with_alt(&mut self, code: u8, row: WordRow) -> ArrayVec<Item, 2>
-        ensures after { self.new ≡ (with_alt code row self.old).after }
-        ensures items { result.items ≡ (with_alt code row self.old).items }
+        requires row { words_at code ≡ Some row }
+        requires alt { has_bit alt self.old.shifts ≡ true }
+        ensures after { self.new ≡ (first_that_fits (drop 6 nine_rules) code self.old).after }
+        ensures items { result.items ≡ (first_that_fits (drop 6 nine_rules) code self.old).items }
     {
         if self.ctrl() && code == 0x53 {
             self.reset();
@@ -173,8 +183,10 @@ impl Bios {
     /// Rule 8.
     #[tactic(auto, unfolding(crate::specs::Rules::with_ctrl))]
     fn key_with_ctrl(&mut self, code: u8, row: WordRow) -> ArrayVec<Item, 2>
-        ensures after { self.new ≡ (with_ctrl code row self.old).after }
-        ensures items { result.items ≡ (with_ctrl code row self.old).items }
+        requires row { words_at code ≡ Some row }
+        requires ctrl { has_bit ctrl self.old.shifts ≡ true }
+        ensures after { self.new ≡ (first_that_fits (drop 7 nine_rules) code self.old).after }
+        ensures items { result.items ≡ (first_that_fits (drop 7 nine_rules) code self.old).items }
     {
         match code {
             0x46 => {
@@ -191,10 +203,11 @@ impl Bios {
     }
 
     /// Rule 9.
-    #[tactic(auto, unfolding(crate::specs::Rules::plain))]
+    #[tactic(auto, unfolding(crate::specs::Rules::alone))]
     fn key_alone(&mut self, code: u8, row: WordRow) -> ArrayVec<Item, 2>
-        ensures after { self.new ≡ (plain code row self.old).after }
-        ensures items { result.items ≡ (plain code row self.old).items }
+        requires { words_at code ≡ Some row }
+        ensures after { self.new ≡ (first_that_fits (drop 8 nine_rules) code self.old).after }
+        ensures items { result.items ≡ (first_that_fits (drop 8 nine_rules) code self.old).items }
     {
         if self.shift() == self.reverses(code) {
             return self.enter_if(row.base);
@@ -206,11 +219,13 @@ impl Bios {
     }
 
     /// A break: rule 2, and those behind it.
-    #[tactic(auto, unfolding(crate::specs::Rules::broken, crate::specs::Rules::broken_with, crate::specs::Rules::broken_by))]
-    fn release(&mut self, code: u8) -> ArrayVec<Item, 2>
-        ensures after { self.new ≡ (broken code self.old).after }
-        ensures items { result.items ≡ (broken code self.old).items }
+    #[tactic(auto, unfolding(crate::specs::Rules::on_sysreq, crate::specs::Rules::on_shift_key, crate::specs::Rules::on_lock_key, crate::specs::Rules::without_words))]
+    fn release(&mut self, byte: u8) -> ArrayVec<Item, 2>
+        requires { 0x80 ≤ byte }
+        ensures after { self.new ≡ (first_that_fits (drop 1 nine_rules) byte self.old).after }
+        ensures items { result.items ≡ (first_that_fits (drop 1 nine_rules) byte self.old).items }
     {
+        let code = byte - 0x80;
         if code == 0x54 {
             self.downs.remove(Downs::SYSREQ);
             return one(Item::SysBreak);
@@ -273,19 +288,19 @@ impl Bios {
     }
 
     fn ctrl(&self) -> bool
-        ensures { result ≡ holds self.now.shifts ctrl }
+        ensures { result ≡ has_bit ctrl self.now.shifts }
     {
         self.shifts.contains(Shifts::CTRL)
     }
 
     fn alt(&self) -> bool
-        ensures { result ≡ holds self.now.shifts alt }
+        ensures { result ≡ has_bit alt self.now.shifts }
     {
         self.shifts.contains(Shifts::ALT)
     }
 
     fn num(&self) -> bool
-        ensures { result ≡ holds self.now.shifts num }
+        ensures { result ≡ has_bit num self.now.shifts }
     {
         self.shifts.contains(Shifts::NUM)
     }
@@ -297,7 +312,7 @@ impl Bios {
     }
 
     /// Whether Caps or Num reverses the columns for the key.
-    #[tactic(auto, unfolding(crate::specs::Rules::reverses))]
+    #[tactic(auto, unfolding(crate::specs::Keys::reverses))]
     fn reverses(&self, code: u8) -> bool
         ensures { result ≡ reverses code self.now }
     {

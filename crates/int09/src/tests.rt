@@ -11,7 +11,7 @@ fn says(rt: &impl Abort, bios: &mut Bios, byte: u8, items: &[Item]) {
 }
 
 #[test]
-fn columns(rt: HostRuntime) -> Result<(), Fail> {
+fn keys_enter_the_word_of_their_column(rt: HostRuntime) -> Result<(), Fail> {
     let mut bios = Bios::new(rt.alloc())?;
     // Ctrl and Scroll Lock
     says(&rt, &mut bios, 0x1d, &[]);
@@ -41,7 +41,7 @@ fn columns(rt: HostRuntime) -> Result<(), Fail> {
 }
 
 #[test]
-fn alt_number(rt: HostRuntime) -> Result<(), Fail> {
+fn a_number_typed_under_alt_is_entered(rt: HostRuntime) -> Result<(), Fail> {
     let mut bios = Bios::new(rt.alloc())?;
     says(&rt, &mut bios, 0x38, &[]);
     for byte in [0x50, 0xd0, 0x4c, 0xcc, 0x47, 0xc7] {
@@ -56,7 +56,7 @@ fn alt_number(rt: HostRuntime) -> Result<(), Fail> {
 }
 
 #[test]
-fn others(rt: HostRuntime) -> Result<(), Fail> {
+fn the_buffer_pauses_sysreq_and_boot_are_told(rt: HostRuntime) -> Result<(), Fail> {
     let mut bios = Bios::new(rt.alloc())?;
     for _k in 0..15 {
         says(&rt, &mut bios, 0x1e, &[Item::Word(0x1e61)]);

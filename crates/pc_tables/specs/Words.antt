@@ -5,12 +5,60 @@ use Rattle.std.specs.Option.{option_map}
 use Rattle.std.specs.declared.option.Option.{Option}
 use Rattle.pc_tables.specs.declared.words.WordRow.{WordRow}
 use Rattle.pc_tables.specs.declared.word_table.ScanRow.{ScanRow}
-use Rattle.pc_tables.specs.declared.word_table.TheConstants.{WORDS}
 use Rattle.pc_tables.specs.Keys.{name_at, key_with_scan}
 
--- the table of the keys that go by no rule, as `src/word_table.rt` prints it
+-- a line of the table: the scan code, and the words without a modifier, with shift, with Ctrl and with Alt
+abbrev pub row : ℕ → Option ℕ → Option ℕ → Option ℕ → Option ℕ → ScanRow
+row scan base shift ctrl alt =
+    record { scan = scan; words = record { base = base; shift = shift; ctrl = ctrl; alt = alt } }
+
+-- the keys that go by no rule, by rising scan code
 unfoldable pub words : List ScanRow
-words = WORDS
+words =
+    row 0x01 (Some 0x011B) (Some 0x011B) (Some 0x011B) None ∷
+    row 0x02 (Some 0x0231) (Some 0x0221) None (Some 0x7800) ∷
+    row 0x03 (Some 0x0332) (Some 0x0340) (Some 0x0300) (Some 0x7900) ∷
+    row 0x04 (Some 0x0433) (Some 0x0423) None (Some 0x7A00) ∷
+    row 0x05 (Some 0x0534) (Some 0x0524) None (Some 0x7B00) ∷
+    row 0x06 (Some 0x0635) (Some 0x0625) None (Some 0x7C00) ∷
+    row 0x07 (Some 0x0736) (Some 0x075E) (Some 0x071E) (Some 0x7D00) ∷
+    row 0x08 (Some 0x0837) (Some 0x0826) None (Some 0x7E00) ∷
+    row 0x09 (Some 0x0938) (Some 0x092A) None (Some 0x7F00) ∷
+    row 0x0A (Some 0x0A39) (Some 0x0A28) None (Some 0x8000) ∷
+    row 0x0B (Some 0x0B30) (Some 0x0B29) None (Some 0x8100) ∷
+    row 0x0C (Some 0x0C2D) (Some 0x0C5F) (Some 0x0C1F) (Some 0x8200) ∷
+    row 0x0D (Some 0x0D3D) (Some 0x0D2B) None (Some 0x8300) ∷
+    row 0x0E (Some 0x0E08) (Some 0x0E08) (Some 0x0E7F) None ∷
+    row 0x0F (Some 0x0F09) (Some 0x0F00) None None ∷
+    row 0x1A (Some 0x1A5B) (Some 0x1A7B) (Some 0x1A1B) None ∷
+    row 0x1B (Some 0x1B5D) (Some 0x1B7D) (Some 0x1B1D) None ∷
+    row 0x1C (Some 0x1C0D) (Some 0x1C0D) (Some 0x1C0A) None ∷
+    row 0x27 (Some 0x273B) (Some 0x273A) None None ∷
+    row 0x28 (Some 0x2827) (Some 0x2822) None None ∷
+    row 0x29 (Some 0x2960) (Some 0x297E) None None ∷
+    row 0x2B (Some 0x2B5C) (Some 0x2B7C) (Some 0x2B1C) None ∷
+    row 0x33 (Some 0x332C) (Some 0x333C) None None ∷
+    row 0x34 (Some 0x342E) (Some 0x343E) None None ∷
+    row 0x35 (Some 0x352F) (Some 0x353F) None None ∷
+    row 0x37 (Some 0x372A) None (Some 0x7200) None ∷
+    row 0x39 (Some 0x3920) (Some 0x3920) (Some 0x3920) (Some 0x3920) ∷
+    row 0x3A None None None None ∷
+    row 0x45 None None None None ∷
+    row 0x46 None None None None ∷
+    row 0x47 (Some 0x4700) (Some 0x4737) (Some 0x7700) None ∷
+    row 0x48 (Some 0x4800) (Some 0x4838) None None ∷
+    row 0x49 (Some 0x4900) (Some 0x4939) (Some 0x8400) None ∷
+    row 0x4A (Some 0x4A2D) (Some 0x4A2D) None None ∷
+    row 0x4B (Some 0x4B00) (Some 0x4B34) (Some 0x7300) None ∷
+    row 0x4C None (Some 0x4C35) None None ∷
+    row 0x4D (Some 0x4D00) (Some 0x4D36) (Some 0x7400) None ∷
+    row 0x4E (Some 0x4E2B) (Some 0x4E2B) None None ∷
+    row 0x4F (Some 0x4F00) (Some 0x4F31) (Some 0x7500) None ∷
+    row 0x50 (Some 0x5000) (Some 0x5032) None None ∷
+    row 0x51 (Some 0x5100) (Some 0x5133) (Some 0x7600) None ∷
+    row 0x52 (Some 0x5200) (Some 0x5230) None None ∷
+    row 0x53 (Some 0x5300) (Some 0x532E) None None ∷
+    []
 
 -- the lower-case letter, where the name is one letter
 abbrev pub letter_in : List ℕ → Option ℕ

@@ -1,6 +1,6 @@
 //! The items of a log, and their texts.
 
-ghost use Rattle.std.specs.Prelude.{◌≡◌, ◌++◌, IfOk};
+ghost use Rattle.std.specs.Prelude.{◌≡◌, ◌++◌, IfOk, is_ok, if◌then◌else◌};
 ghost use Rattle.hex_text.specs.Digits.{hex_byte, hex_word};
 ghost use Rattle.pc_tables.specs.Items.{low_digit, text_of};
 
@@ -46,55 +46,74 @@ pub enum Item {
     SysBreak,
 }
 
-/// A name and digits behind it.
-fn named(alloc: Global, name: &[u8], digits: &[u8]) -> Result<Vec<u8>, AllocError>
-    ensures { IfOk result (λ text. text.items ≡ name.now ++ digits.now) }
+/// Appends a name and the digits behind it. Where memory runs out the text is as before.
+fn push_named(text: &mut Vec<u8>, name: &[u8], digits: &[u8]) -> Result<(), AllocError>
+    ensures { text.new.items ≡ (if is_ok result then text.old.items ++ (name.now ++ digits.now) else text.old.items) }
 {
-    let mut text = name.to_vec(alloc)?;
-    text.extend_from_slice(digits)?;
-    Ok(text)
+    let before = text.len();
+    text.extend_from_slice(name)?;
+    let pushed = text.extend_from_slice(digits);
+    if pushed.is_err() {
+        text.truncate(before);
+    }
+    pushed
 }
 
-fn with_digit(alloc: Global, name: &[u8], value: u8) -> Result<Vec<u8>, AllocError>
-    ensures { IfOk result (λ text. text.items ≡ name.now ++ low_digit value) }
+/// Appends a name and the low digit of a value.
+fn push_digit(text: &mut Vec<u8>, name: &[u8], value: u8) -> Result<(), AllocError>
+    ensures { text.new.items ≡ (if is_ok result then text.old.items ++ (name.now ++ low_digit value) else text.old.items) }
 {
-    named(alloc, name, &[hex_text::digit(value % 16)])
+    push_named(text, name, &[hex_text::digit(value % 16)])
 }
 
-fn with_byte(alloc: Global, name: &[u8], byte: u8) -> Result<Vec<u8>, AllocError>
-    ensures { IfOk result (λ text. text.items ≡ name.now ++ hex_byte byte) }
+/// Appends a name and the two digits of a byte.
+fn push_byte(text: &mut Vec<u8>, name: &[u8], byte: u8) -> Result<(), AllocError>
+    ensures { text.new.items ≡ (if is_ok result then text.old.items ++ (name.now ++ hex_byte byte) else text.old.items) }
 {
-    named(alloc, name, &hex_text::byte(byte))
+    push_named(text, name, &hex_text::byte(byte))
 }
 
-fn with_word(alloc: Global, name: &[u8], word: u16) -> Result<Vec<u8>, AllocError>
-    ensures { IfOk result (λ text. text.items ≡ name.now ++ hex_word word) }
+/// Appends a name and the four digits of a word.
+fn push_word(text: &mut Vec<u8>, name: &[u8], word: u16) -> Result<(), AllocError>
+    ensures { text.new.items ≡ (if is_ok result then text.old.items ++ (name.now ++ hex_word word) else text.old.items) }
 {
-    named(alloc, name, &hex_text::word(word))
+    push_named(text, name, &hex_text::word(word))
 }
 
-/// The item's text, in upper-case hexadecimal, without the tick before it and the line's end behind it.
+/// Appends the item's text, in upper-case hexadecimal, without the tick before it and the line's end behind it. Where
+/// memory runs out the text is as before.
+///
+/// Source: the spelling of the log is our own.
+pub fn push_item(text: &mut Vec<u8>, item: Item) -> Result<(), AllocError>
+    ensures { text.new.items ≡ (if is_ok result then text.old.items ++ text_of item else text.old.items) }
+{
+    match item {
+        Item::Port(byte) => push_byte(text, b"port ", byte),
+        Item::Read(byte) => push_byte(text, b"read ", byte),
+        Item::Word(word) => push_word(text, b"word ", word),
+        Item::Beep => text.extend_from_slice(b"beep"),
+        Item::Overrun => text.extend_from_slice(b"overrun"),
+        Item::Lights(value) => push_digit(text, b"lights ", value),
+        Item::Taken(Some(word)) => push_word(text, b"taken ", word),
+        Item::Taken(None) => text.extend_from_slice(b"taken none"),
+        Item::Status(byte) => push_byte(text, b"status ", byte),
+        Item::Output(byte) => push_byte(text, b"output ", byte),
+        Item::Pulse(value) => push_digit(text, b"pulse ", value),
+        Item::Broke => text.extend_from_slice(b"break"),
+        Item::Pause => text.extend_from_slice(b"pause"),
+        Item::Resume => text.extend_from_slice(b"resume"),
+        Item::Print => text.extend_from_slice(b"print"),
+        Item::Boot => text.extend_from_slice(b"boot"),
+        Item::SysMake => text.extend_from_slice(b"sysreq make"),
+        Item::SysBreak => text.extend_from_slice(b"sysreq break"),
+    }
+}
+
+/// The item's text, as `push_item` appends it. An error where memory runs out.
 pub fn item_text(alloc: Global, item: Item) -> Result<Vec<u8>, AllocError>
     ensures { IfOk result (λ text. text.items ≡ text_of item) }
 {
-    match item {
-        Item::Port(byte) => with_byte(alloc, b"port ", byte),
-        Item::Read(byte) => with_byte(alloc, b"read ", byte),
-        Item::Word(word) => with_word(alloc, b"word ", word),
-        Item::Beep => b"beep".to_vec(alloc),
-        Item::Overrun => b"overrun".to_vec(alloc),
-        Item::Lights(value) => with_digit(alloc, b"lights ", value),
-        Item::Taken(Some(word)) => with_word(alloc, b"taken ", word),
-        Item::Taken(None) => b"taken none".to_vec(alloc),
-        Item::Status(byte) => with_byte(alloc, b"status ", byte),
-        Item::Output(byte) => with_byte(alloc, b"output ", byte),
-        Item::Pulse(value) => with_digit(alloc, b"pulse ", value),
-        Item::Broke => b"break".to_vec(alloc),
-        Item::Pause => b"pause".to_vec(alloc),
-        Item::Resume => b"resume".to_vec(alloc),
-        Item::Print => b"print".to_vec(alloc),
-        Item::Boot => b"boot".to_vec(alloc),
-        Item::SysMake => b"sysreq make".to_vec(alloc),
-        Item::SysBreak => b"sysreq break".to_vec(alloc),
-    }
+    let mut text = Vec::new(alloc);
+    push_item(&mut text, item)?;
+    Ok(text)
 }

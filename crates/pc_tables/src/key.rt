@@ -50,8 +50,15 @@ impl Key {
 pub fn key_named(name: &str) -> Option<Key>
     ensures { result ≡ key_with_name name.now }
 {
+    key_spelled(name.as_bytes())
+}
+
+/// The key whose name has these bytes; None exactly where no key's has, as where they are no text.
+pub fn key_spelled(name: &[u8]) -> Option<Key>
+    ensures { result ≡ key_with_name name.now }
+{
     for number in 0..84 {
-        if key_row(number).name == name {
+        if key_row(number).name.as_bytes() == name {
             return Some(Key { number });
         }
     }

@@ -52,5 +52,8 @@ fn texts(rt: HostRuntime) -> Result<(), Fail> {
         item_text(alloc, Item::SysBreak)?.as_slice(),
         b"sysreq break".as_slice()
     );
+    let mut line = Vec::from_slice(alloc, b"1 ")?;
+    push_item(&mut line, Item::Port(0xaa))?;
+    assert_eq!(rt; line.as_slice(), b"1 port AA".as_slice());
     Ok(())
 }
