@@ -6,7 +6,7 @@ ghost use Rattle.board_lines.specs.Places.{place_at};
 use std::marker::Model;
 
 /// A place of the key matrix. A clause sees it as its number, which is below 96.
-#[derive(Clone, Copy, Debug, PartialEq, Eq, PartialOrd, Ord)]
+#[derive(Clone, Copy, Debug, PartialEq, Eq, PartialOrd, Ord, Default)]
 pub struct Place {
     number: u8,
 }

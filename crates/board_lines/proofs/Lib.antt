@@ -1,0 +1,5 @@
+pub mod Cases
+pub mod Columns
+pub mod Frames
+pub mod Shown
+mod Rows

@@ -1,0 +1,6 @@
+pub mod LastEdges
+pub mod Pushes
+pub mod Unbroken
+pub mod Sound
+pub mod Taken
+pub mod Outcomes

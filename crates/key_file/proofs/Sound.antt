@@ -1,0 +1,141 @@
+-- What the lines of a key file come to is accepted, as far as it goes.
+use Rattle.std.proofs.Common.{◌≡◌, ◌≤◌, ℕ, ◌+◌, Bool, true, false, ◌==◌, List, [], ◌∷◌, ◌++◌, length, None, Some, refl, sym, subst, ◌∙◌, arith, length-append}
+use Rattle.std.specs.Prelude.{All}
+use Rattle.std.specs.declared.option.Option.{Option}
+use Rattle.std.proofs.lemmas.Bool.Decides.{nat_tests}
+use Rattle.std.proofs.lemmas.List.Elements.{All-push}
+use Rattle.board_lines.specs.declared.event.Edge.{Edge}
+use Rattle.board_lines.specs.declared.event.HostEvent.{HostEvent}
+use Rattle.board_lines.specs.Edges.{of_place, AreInOrder}
+use Rattle.board_lines.specs.Laws.{ArePlaces}
+use Rattle.layout_reader.specs.Layouts.{KeyLayout}
+use Rattle.key_file.specs.declared.event.Event.TheVariants.{EdgeOf, HostOf, End}
+use Rattle.key_file.specs.Accepted.{AreHostEventsInOrder, Alternates, Dwells, IsThin, IsPlaceOf, IsAcceptedFor}
+use Rattle.key_file.specs.Histories.{Before, at_first, with_event}
+use Rattle.key_file.proofs.LastEdges.{of_place-push, of_place-other}
+use Rattle.key_file.proofs.Pushes.{in_order-push, host_in_order-push, alternates-push, dwells-push, thin-push}
+use Rattle.key_file.proofs.Unbroken.{Fits, EdgeFits, edge_fits}
+
+-- the end, where it has come, is the last event
+abbrev pub EndsAt : ℕ → Option ℕ → Type 0
+EndsAt stamp None = Unit {0}
+EndsAt stamp (Some end) = end ≡ stamp
+
+-- what the events so far keep
+pub record IsSound (layout : KeyLayout) (before : Before) : Type 0 where
+  pub edges_in_order : AreInOrder before.edges
+  pub host_in_order : AreHostEventsInOrder before.host
+  pub edges_before : All (λ edge. edge.stamp ≤ before.stamp) before.edges
+  pub host_before : All (λ event. event.stamp ≤ before.stamp) before.host
+  pub stamp_in_range : before.stamp ≤ 240000000
+  pub number_in_range : length before.edges + length before.host ≤ 65536
+  pub alternate : (place : ℕ) → Alternates false (of_place place before.edges)
+  pub dwell : (place : ℕ) → Dwells (of_place place before.edges)
+  pub thin : IsThin before.edges
+  pub ends : EndsAt before.stamp before.end
+  pub places : All (λ edge. IsPlaceOf layout edge.place) before.edges
+
+pub sound-first : (layout : KeyLayout) → IsSound layout at_first
+sound-first layout = record {
+  edges_in_order = tt;
+  host_in_order = tt;
+  edges_before = λ k d within. absurd (omega arith);
+  host_before = λ k d within. absurd (omega arith);
+  stamp_in_range = omega arith;
+  number_in_range = omega arith;
+  alternate = λ place. tt;
+  dwell = λ place. tt;
+  thin = tt;
+  ends = tt;
+  places = λ k d within. absurd (omega arith);
+}
+
+alternate-push : (edges : List Edge) (e : Edge) (place : ℕ) → Alternates false (of_place place edges) → EdgeFits edges e → (b : Bool) → (e.place == place) ≡ b → Alternates false (of_place place (edges ++ e ∷ []))
+alternate-push edges e place turns fits true h =
+    let same : e.place ≡ place = grind (arith, nat_tests, h) in
+    rw (of_place-push place edges e same) (alternates-push false (of_place place edges) e turns (fits.turns ∙ rw same refl))
+alternate-push edges e place turns fits false h =
+    rw (of_place-other place edges e (λ same. grind (arith, nat_tests, h, same))) turns
+
+dwell-push : (edges : List Edge) (e : Edge) (place : ℕ) → Dwells (of_place place edges) → EdgeFits edges e → (b : Bool) → (e.place == place) ≡ b → Dwells (of_place place (edges ++ e ∷ []))
+dwell-push edges e place dwells fits true h =
+    let same : e.place ≡ place = grind (arith, nat_tests, h) in
+    rw (of_place-push place edges e same) (dwells-push (of_place place edges) e dwells (λ x is. fits.dwell x (rw same is)))
+dwell-push edges e place dwells fits false h =
+    rw (of_place-other place edges e (λ same. grind (arith, nat_tests, h, same))) dwells
+
+pub sound-edge : (layout : KeyLayout) (before : Before) (e : Edge) → IsSound layout before → Fits before (EdgeOf e) → IsPlaceOf layout e.place → IsSound layout (with_event before (EdgeOf e))
+sound-edge layout before e sound fits place =
+    let edge = edge_fits before.edges e fits.key in
+    let order = fits.order in
+    let few = fits.few in
+    let earlier : All (λ edge. edge.stamp ≤ e.stamp) before.edges = λ k d within. omega (arith, sound.edges_before k d within) in
+    record {
+      edges_in_order = in_order-push before.edges e sound.edges_in_order earlier;
+      host_in_order = sound.host_in_order;
+      edges_before = All-push (λ edge. edge.stamp ≤ e.stamp) before.edges e earlier (omega arith);
+      host_before = λ k d within. omega (arith, sound.host_before k d within);
+      stamp_in_range = fits.in_range;
+      number_in_range = rw (length-append before.edges (e ∷ [])) (grind (arith, nat_tests, few));
+      alternate = λ p. alternate-push before.edges e p (sound.alternate p) edge (e.place == p) refl;
+      dwell = λ p. dwell-push before.edges e p (sound.dwell p) edge (e.place == p) refl;
+      thin = thin-push before.edges e sound.thin edge.thin;
+      ends = subst (EndsAt e.stamp) (sym fits.goes_on) tt;
+      places = All-push (λ edge. IsPlaceOf layout edge.place) before.edges e sound.places place;
+    }
+
+pub sound-host : (layout : KeyLayout) (before : Before) (e : HostEvent) → IsSound layout before → Fits before (HostOf e) → IsSound layout (with_event before (HostOf e))
+sound-host layout before e sound fits =
+    let order = fits.order in
+    let few = fits.few in
+    let earlier : All (λ event. event.stamp ≤ e.stamp) before.host = λ k d within. omega (arith, sound.host_before k d within) in
+    record {
+      edges_in_order = sound.edges_in_order;
+      host_in_order = host_in_order-push before.host e sound.host_in_order earlier;
+      edges_before = λ k d within. omega (arith, sound.edges_before k d within);
+      host_before = All-push (λ event. event.stamp ≤ e.stamp) before.host e earlier (omega arith);
+      stamp_in_range = fits.in_range;
+      number_in_range = rw (length-append before.host (e ∷ [])) (grind (arith, nat_tests, few));
+      alternate = sound.alternate;
+      dwell = sound.dwell;
+      thin = sound.thin;
+      ends = subst (EndsAt e.stamp) (sym fits.goes_on) tt;
+      places = sound.places;
+    }
+
+pub sound-end : (layout : KeyLayout) (before : Before) (stamp : ℕ) → IsSound layout before → Fits before (End stamp) → IsSound layout (with_event before (End stamp))
+sound-end layout before stamp sound fits =
+    let order = fits.order in
+    record {
+      edges_in_order = sound.edges_in_order;
+      host_in_order = sound.host_in_order;
+      edges_before = λ k d within. omega (arith, sound.edges_before k d within);
+      host_before = λ k d within. omega (arith, sound.host_before k d within);
+      stamp_in_range = fits.in_range;
+      number_in_range = sound.number_in_range;
+      alternate = sound.alternate;
+      dwell = sound.dwell;
+      thin = sound.thin;
+      ends = refl;
+      places = sound.places;
+    }
+
+-- the history of sound events that end is accepted
+pub accepted : (layout : KeyLayout) (before : Before) (end : ℕ) → ArePlaces before.edges → IsSound layout before → before.end ≡ Some end → IsAcceptedFor layout (record { edges = before.edges; host = before.host; end = end })
+accepted layout before end places sound is =
+    let last : end ≡ before.stamp = subst (EndsAt before.stamp) is sound.ends in
+    record {
+      accepted = record {
+        in_matrix = places;
+        edges_in_order = sound.edges_in_order;
+        host_in_order = sound.host_in_order;
+        edges_before_end = λ k d within. omega (arith, last, sound.edges_before k d within);
+        host_before_end = λ k d within. omega (arith, last, sound.host_before k d within);
+        end_in_range = omega (arith, last, sound.stamp_in_range);
+        number_in_range = sound.number_in_range;
+        alternate = sound.alternate;
+        dwell = sound.dwell;
+        thin = sound.thin;
+      };
+      places = sound.places;
+    }

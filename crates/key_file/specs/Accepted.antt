@@ -1,0 +1,57 @@
+-- Accepted histories: those that a run is about.
+use Rattle.std.specs.Prelude.{◌≡◌, ◌≤◌, ℕ, ◌+◌, Bool, false, not, List, [], ◌∷◌, length, All, IsSome}
+use Rattle.board_lines.specs.declared.event.Edge.{Edge}
+use Rattle.board_lines.specs.declared.event.HostEvent.{HostEvent}
+use Rattle.board_lines.specs.Edges.{of_place, AreInOrder}
+use Rattle.board_lines.specs.Laws.{ArePlaces}
+use Rattle.layout_reader.specs.Layouts.{KeyLayout, entry_at}
+use Rattle.key_file.specs.Histories.{KeyHistory}
+
+-- the stamps of the host's events don't fall
+abbrev pub AreHostEventsInOrder : List HostEvent → Type 0
+AreHostEventsInOrder [] = Unit {0}
+AreHostEventsInOrder (e ∷ []) = Unit {0}
+AreHostEventsInOrder (e ∷ f ∷ es) = (e.stamp ≤ f.stamp) × AreHostEventsInOrder (f ∷ es)
+
+-- the edges of a key are press, release, press and so on, where it was down before them or up
+abbrev pub Alternates : Bool → List Edge → Type 0
+Alternates down [] = Unit {0}
+Alternates down (e ∷ es) = (e.down ≡ not down) × Alternates e.down es
+
+-- two edges of a key that follow each other are at least 2,240 cycles apart
+abbrev pub Dwells : List Edge → Type 0
+Dwells [] = Unit {0}
+Dwells (e ∷ []) = Unit {0}
+Dwells (e ∷ f ∷ es) = (e.stamp + 2240 ≤ f.stamp) × Dwells (f ∷ es)
+
+-- the fourth edge behind an edge is at least 2,240 cycles after it
+abbrev pub IsFifthLater : Edge → List Edge → Type 0
+IsFifthLater a (b ∷ c ∷ d ∷ e ∷ es) = a.stamp + 2240 ≤ e.stamp
+IsFifthLater a es = Unit {0}
+
+-- the same of each edge
+abbrev pub IsThin : List Edge → Type 0
+IsThin [] = Unit {0}
+IsThin (a ∷ es) = IsFifthLater a es × IsThin es
+
+-- what is accepted of a history whatever the layout; the first field says that each edge's place is one of the matrix's 96
+pub record IsAccepted (history : KeyHistory) : Type 0 where
+  pub in_matrix : ArePlaces history.edges
+  pub edges_in_order : AreInOrder history.edges
+  pub host_in_order : AreHostEventsInOrder history.host
+  pub edges_before_end : All (λ edge. edge.stamp ≤ history.end) history.edges
+  pub host_before_end : All (λ event. event.stamp ≤ history.end) history.host
+  pub end_in_range : history.end ≤ 240000000
+  pub number_in_range : length history.edges + length history.host ≤ 65536
+  pub alternate : (place : ℕ) → Alternates false (of_place place history.edges)
+  pub dwell : (place : ℕ) → Dwells (of_place place history.edges)
+  pub thin : IsThin history.edges
+
+-- a place is one of the layout's
+abbrev pub IsPlaceOf : KeyLayout → ℕ → Type 0
+IsPlaceOf layout place = IsSome (entry_at place layout.entries)
+
+-- a history is accepted for a layout
+pub record IsAcceptedFor (layout : KeyLayout) (history : KeyHistory) : Type 0 where
+  pub accepted : IsAccepted history
+  pub places : All (λ edge. IsPlaceOf layout edge.place) history.edges

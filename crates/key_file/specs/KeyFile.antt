@@ -1,0 +1,59 @@
+-- What a key file means: its history, or its first fault.
+use Rattle.std.specs.Prelude.{ℕ, ◌≡◌, List, None, Some, Ok, Err, if◌then◌else◌}
+use Rattle.std.specs.Str.Lines.{lines}
+use Rattle.std.specs.declared.option.Option.{Option}
+use Rattle.std.specs.declared.result.Result.{Result}
+use Rattle.layout_reader.specs.Layouts.{KeyLayout}
+use Rattle.text_lines.specs.Fields.{fields}
+use Rattle.first_fault.specs.FirstFault.{Fault, and_then, unless, first_broken, outcome}
+use Rattle.key_file.specs.declared.event.Event.{Event}
+use Rattle.key_file.specs.declared.rule.Rule.{Rule}
+use Rattle.key_file.specs.declared.rule.Rule.TheVariants.{Order, Dwell, Density, Late, NoEnd}
+use Rattle.key_file.specs.declared.fault.KeyFault.{KeyFault}
+use Rattle.key_file.specs.declared.fault.KeyFault.TheVariants.{Input, Timing, Memory}
+use Rattle.key_file.specs.Histories.{KeyHistory, Before, at_first, with_event}
+use Rattle.key_file.specs.Fields.{is_skipped, event_in}
+use Rattle.key_file.specs.Rules.{number_of, judgements}
+
+-- what an event makes of those before it, or the first rule that it breaks
+abbrev pub take_event : Before → Event → Result Before Rule
+take_event before event = unless (first_broken (judgements before event)) (with_event before event)
+
+-- the same of a line by its fields; one that is skipped does nothing
+abbrev pub take_fields : KeyLayout → Before → List (List ℕ) → Result Before Rule
+take_fields layout before fields =
+    if is_skipped fields then Ok before else and_then (event_in layout fields) (take_event before)
+
+abbrev pub take_line : KeyLayout → Before → List ℕ → Result Before Rule
+take_line layout before line = take_fields layout before (fields line)
+
+-- the history of events that have an end
+abbrev pub history_at : Before → Option ℕ → Result KeyHistory Rule
+history_at before (Some end) = Ok (record { edges = before.edges; host = before.host; end = end })
+history_at before None = Err NoEnd
+
+abbrev pub finish : Before → Result KeyHistory Rule
+finish before = history_at before before.end
+
+-- how a broken rule is told of a line: four rules tell two stamps, the others none
+abbrev pub told : ℕ → Rule → KeyFault
+told line (Order earlier stamp) = Timing line 4 earlier stamp
+told line (Dwell earlier stamp) = Timing line 6 earlier stamp
+told line (Density earlier stamp) = Timing line 7 earlier stamp
+told line (Late stamp) = Timing line 10 240000000 stamp
+told line rule = Input line (number_of rule)
+
+abbrev pub with_fault_told : {X : Type 0} → Result X (Fault Rule) → Result X KeyFault
+with_fault_told (Ok value) = Ok value
+with_fault_told (Err fault) = Err (told fault.item fault.rule)
+
+-- the history of a key file, or its first fault: its lines are judged in order; that `end` is missing is told of the
+-- line behind the last one
+unfoldable pub history_of : KeyLayout → List ℕ → Result KeyHistory KeyFault
+history_of layout text = with_fault_told (outcome (take_line layout) finish at_first (lines text))
+
+-- want of memory, or else the fault of what was judged
+abbrev pub IsFaultOf : {X : Type 0} → Result X KeyFault → KeyFault → Type 0
+IsFaultOf meaning (Input line number) = meaning ≡ Err (Input line number)
+IsFaultOf meaning (Timing line number a b) = meaning ≡ Err (Timing line number a b)
+IsFaultOf meaning Memory = Unit {0}
