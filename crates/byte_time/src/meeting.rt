@@ -1,0 +1,43 @@
+//! What a tick brings over the link.
+
+ghost use Rattle.std.specs.Prelude.{◌≡◌};
+ghost use Rattle.byte_time.specs.ByteTime.{meeting_by};
+
+use crate::UnderWay;
+use ctl_link::Link;
+
+/// What a tick brings over the link: a byte for the keyboard; nothing, as the controller holds the keyboard off; nothing,
+/// as nothing is offered; the keyboard's byte; or nothing of it, as the controller pulled the clock before it began.
+#[derive(Clone, Copy, Debug, PartialEq, Eq, Drop)]
+pub enum Meeting {
+    Got(u8),
+    Inhibited,
+    Idle,
+    Sent(u8),
+    Cut,
+}
+
+/// The meeting of a tick: by whether the keyboard's power-on test had ended at its start, the byte that the keyboard
+/// offers, and the link after the offsets 255 and 287.
+pub fn meeting_of(
+    tested: bool,
+    offer: Option<u8>,
+    earlier: Link<UnderWay>,
+    later: Link<UnderWay>,
+) -> Meeting
+    ensures { result ≡ meeting_by tested offer earlier later }
+{
+    if !tested {
+        return Meeting::Idle;
+    }
+    match earlier {
+        Link::Free => match (offer, later) {
+            (None, _) => Meeting::Idle,
+            (Some(byte), Link::Free) => Meeting::Sent(byte),
+            (Some(_), _) => Meeting::Cut,
+        },
+        Link::Hold(_) | Link::Ask(_, _) => Meeting::Inhibited,
+        Link::Request(byte) => Meeting::Got(byte),
+        Link::Busy(_) => Meeting::Idle,
+    }
+}

@@ -1,0 +1,107 @@
+-- The controller with its link to the keyboard: what it does between bytes, and when a byte has passed.
+use Rattle.std.specs.Prelude.{ℕ, ◌+◌, Bool, true, false, ◌||◌, nat_le, Some, None, if◌then◌else◌}
+use Rattle.std.specs.declared.option.Option.{Option}
+use Rattle.ctl_core.specs.Controller.{ControllerState, at_start, is_disabled}
+use Rattle.ctl_core.specs.Commands.{Taken, taken}
+use Rattle.ctl_core.specs.Translation.{after_received}
+use Rattle.ctl_core.specs.declared.controller.Did.{Did}
+use Rattle.ctl_core.specs.declared.controller.Did.TheVariants.{Nothing, ToKeyboard, Output, Pulse}
+use Rattle.ctl_link.specs.declared.link.Link.{Link}
+use Rattle.ctl_link.specs.declared.port.Port.{Port}
+use Rattle.ctl_link.specs.declared.link.Link.TheVariants.{Free, Hold, Ask, Request, Busy}
+
+-- the controller at its start, with its link free
+abbrev pub port_at_start : (F : Type 0) → Port F
+port_at_start F = record { core = at_start; filled = 0; link = Free; awaits = false }
+
+-- the cycle of the last filling, after something that was done while the output buffer was empty: now, where it is full
+abbrev pub filled_by : ℕ → ControllerState → ℕ → ℕ
+filled_by now s before = if s.output_full then now else before
+
+-- a byte of the keyboard is received where it came whole; one that came wrong changes nothing
+abbrev pub core_after : Option ℕ → ControllerState → ControllerState
+core_after (Some byte) s = after_received s byte true
+core_after None s = s
+
+-- a byte has come whole, or has come wrong: no reply is awaited any more, and the link is held from now on
+abbrev pub received : {F : Type 0} → ℕ → Option ℕ → Port F → Port F
+received now byte p = record {
+  core = core_after byte p.core;
+  filled = filled_by now (core_after byte p.core) p.filled;
+  link = Hold now;
+  awaits = false;
+}
+
+-- a byte for the keyboard has gone whole: a reply is awaited
+abbrev pub handed_over : {F : Type 0} → Port F → Port F
+handed_over p = record p { link = Free; awaits = true }
+
+-- since when the link is held, where the input may be taken; a free link is held from now on
+abbrev pub held_since : {F : Type 0} → ℕ → Bool → Link F → Option ℕ
+held_since now awaits Free = if awaits then None else Some now
+held_since now awaits (Hold since) = Some since
+held_since now awaits (Ask byte since) = None
+held_since now awaits (Request byte) = None
+held_since now awaits (Busy under_way) = None
+
+-- a byte for the keyboard is asked for
+abbrev pub asking : {F : Type 0} → ℕ → Did → Link F → Link F
+asking since Nothing link = link
+asking since (ToKeyboard byte) link = Ask byte since
+asking since (Output byte) link = link
+asking since (Pulse lines) link = link
+
+-- what a settling comes to: the state after it, and what the input taken did
+pub record Settled (F : Type 0) : Type 0 where
+  pub port : Port F
+  pub did : Did
+
+-- the input was taken, under a hold since then
+abbrev pub took : {F : Type 0} → ℕ → ℕ → Taken → Port F → Settled F
+took now since t p = record {
+  port = record {
+    core = t.state;
+    filled = filled_by now t.state p.filled;
+    link = asking since t.did p.link;
+    awaits = p.awaits;
+  };
+  did = t.did;
+}
+
+-- the same, where it may be taken and there is one
+abbrev pub took_where : {F : Type 0} → ℕ → Option ℕ → Option Taken → Port F → Settled F
+took_where now None input p = record { port = p; did = Nothing }
+took_where now (Some since) None p = record { port = p; did = Nothing }
+took_where now (Some since) (Some t) p = took now since t p
+
+-- the input is taken where the output buffer is empty, the input buffer is full, and the link is held, or is free while
+-- no reply is awaited
+abbrev pub takes_input : {F : Type 0} → ℕ → Port F → Settled F
+takes_input now p =
+    took_where now (held_since now p.awaits p.link) (if p.core.output_full then None else taken p.core) p
+
+-- the link by itself; `stop` says that the output buffer is full or the keyboard disabled. A pull of the clock lasts 64
+-- cycles at least
+abbrev pub link_after : {F : Type 0} → ℕ → Bool → Bool → Link F → Link F
+link_after now stop awaits Free = if awaits then Free else if stop then Hold now else Free
+link_after now stop awaits (Hold since) =
+    if stop then Hold since else if nat_le (since + 64) now then Free else Hold since
+link_after now stop awaits (Ask byte since) = if nat_le (since + 64) now then Request byte else Ask byte since
+link_after now stop awaits (Request byte) = Request byte
+link_after now stop awaits (Busy under_way) = Busy under_way
+
+-- the same, in its place
+abbrev pub moves_link : {F : Type 0} → ℕ → Port F → Port F
+moves_link now p = record p { link = link_after now (p.core.output_full || is_disabled p.core) p.awaits p.link }
+
+-- what the controller does by itself at the end of a cycle: it takes its input, and then the link changes
+abbrev pub settled : {F : Type 0} → ℕ → Port F → Settled F
+settled now p = record { port = moves_link now (takes_input now p).port; did = (takes_input now p).did }
+
+-- whether a byte is under way
+abbrev pub is_busy : {F : Type 0} → Link F → Bool
+is_busy Free = false
+is_busy (Hold since) = false
+is_busy (Ask byte since) = false
+is_busy (Request byte) = false
+is_busy (Busy under_way) = true

@@ -1,0 +1,128 @@
+//! Worked examples, cycle by cycle. What is known of a byte under way is a number here.
+
+use crate::{Link, Port};
+use ctl_core::{Did, Port as HostPort};
+use std::process::Abort;
+
+// The host writes a byte.
+fn write(rt: &impl Abort, port: &mut Port<u8>, to: HostPort, byte: u8) {
+    assert!(rt; port.core.host_write(to, byte).is_ok());
+}
+
+#[test]
+fn a_hold_lasts_64_cycles(rt: HostRuntime) {
+    let mut port: Port<u8> = Port::new();
+    write(&rt, &mut port, HostPort::P64, 0xaa);
+    assert_eq!(rt; port.settle(10), Did::Nothing);
+    assert_eq!(rt; port.link, Link::Hold(10));
+    assert_eq!(rt; port.filled, 10);
+    assert_eq!(rt; port.core.host_read60(), 0x55);
+    assert_eq!(rt; port.settle(73), Did::Nothing);
+    assert_eq!(rt; port.link, Link::Hold(10));
+    assert_eq!(rt; port.settle(74), Did::Nothing);
+    assert_eq!(rt; port.link, Link::Free);
+}
+
+#[test]
+fn a_byte_for_the_keyboard_is_asked_for_and_then_requested(rt: HostRuntime) {
+    let mut port: Port<u8> = Port::new();
+    write(&rt, &mut port, HostPort::P60, 0xed);
+    assert_eq!(rt; port.settle(20), Did::ToKeyboard(0xed));
+    assert_eq!(rt; port.link, Link::Ask(0xed, 20));
+    assert_eq!(rt; port.settle(83), Did::Nothing);
+    assert_eq!(rt; port.link, Link::Ask(0xed, 20));
+    assert_eq!(rt; port.settle(84), Did::Nothing);
+    assert_eq!(rt; port.link, Link::Request(0xed));
+    assert_eq!(rt; port.settle(1000), Did::Nothing);
+    assert_eq!(rt; port.link, Link::Request(0xed));
+}
+
+#[test]
+fn a_hold_counts_for_the_ask_behind_it(rt: HostRuntime) {
+    let mut port: Port<u8> = Port::new();
+    write(&rt, &mut port, HostPort::P64, 0xab);
+    assert_eq!(rt; port.settle(10), Did::Nothing);
+    assert_eq!(rt; port.core.host_read60(), 0x00);
+    write(&rt, &mut port, HostPort::P60, 0xf4);
+    assert_eq!(rt; port.settle(40), Did::ToKeyboard(0xf4));
+    assert_eq!(rt; port.link, Link::Ask(0xf4, 10));
+    assert_eq!(rt; port.settle(73), Did::Nothing);
+    assert_eq!(rt; port.link, Link::Ask(0xf4, 10));
+    assert_eq!(rt; port.settle(74), Did::Nothing);
+    assert_eq!(rt; port.link, Link::Request(0xf4));
+}
+
+#[test]
+fn a_long_hold_becomes_a_request_at_once(rt: HostRuntime) {
+    let mut port: Port<u8> = Port::new();
+    write(&rt, &mut port, HostPort::P64, 0xab);
+    assert_eq!(rt; port.settle(10), Did::Nothing);
+    assert_eq!(rt; port.settle(90), Did::Nothing);
+    assert_eq!(rt; port.core.host_read60(), 0x00);
+    write(&rt, &mut port, HostPort::P60, 0xf4);
+    assert_eq!(rt; port.settle(91), Did::ToKeyboard(0xf4));
+    assert_eq!(rt; port.link, Link::Request(0xf4));
+}
+
+#[test]
+fn nothing_is_taken_while_the_output_buffer_is_full(rt: HostRuntime) {
+    let mut port: Port<u8> = Port::new();
+    write(&rt, &mut port, HostPort::P64, 0xaa);
+    assert_eq!(rt; port.settle(10), Did::Nothing);
+    write(&rt, &mut port, HostPort::P60, 0xf4);
+    assert_eq!(rt; port.settle(500), Did::Nothing);
+    assert_eq!(rt; port.link, Link::Hold(10));
+    assert!(rt; port.core.input_full());
+}
+
+#[test]
+fn nothing_is_taken_while_a_reply_is_awaited(rt: HostRuntime) {
+    let mut port: Port<u8> = Port::new();
+    assert!(rt; !port.core.output_full());
+    port.hand_over();
+    write(&rt, &mut port, HostPort::P60, 0xf4);
+    assert_eq!(rt; port.settle(100), Did::Nothing);
+    assert_eq!(rt; port.link, Link::Free);
+    assert!(rt; !port.core.output_full());
+    port.receive(200, Some(0xfa));
+    assert_eq!(rt; port.link, Link::Hold(200));
+    assert_eq!(rt; port.filled, 200);
+    assert_eq!(rt; port.core.host_read60(), 0xfa);
+    assert_eq!(rt; port.settle(201), Did::ToKeyboard(0xf4));
+    assert_eq!(rt; port.link, Link::Ask(0xf4, 200));
+}
+
+#[test]
+fn a_disabled_keyboard_is_held_off(rt: HostRuntime) {
+    let mut port: Port<u8> = Port::new();
+    write(&rt, &mut port, HostPort::P64, 0xad);
+    assert_eq!(rt; port.settle(5), Did::Nothing);
+    assert_eq!(rt; port.link, Link::Hold(5));
+    assert_eq!(rt; port.settle(300), Did::Nothing);
+    assert_eq!(rt; port.link, Link::Hold(5));
+    write(&rt, &mut port, HostPort::P64, 0xae);
+    assert_eq!(rt; port.settle(301), Did::Nothing);
+    assert_eq!(rt; port.link, Link::Free);
+}
+
+#[test]
+fn the_start_of_a_break_fills_nothing(rt: HostRuntime) {
+    let mut port: Port<u8> = Port::new();
+    assert!(rt; !port.core.output_full());
+    port.receive(100, Some(0xf0));
+    assert_eq!(rt; port.link, Link::Hold(100));
+    assert_eq!(rt; port.filled, 0);
+    assert!(rt; !port.core.output_full());
+    port.receive(700, Some(0x1c));
+    assert_eq!(rt; port.filled, 700);
+    assert_eq!(rt; port.core.host_read60(), 0x9e);
+}
+
+#[test]
+fn a_byte_that_came_wrong_holds_the_link(rt: HostRuntime) {
+    let mut port: Port<u8> = Port::new();
+    assert!(rt; !port.core.output_full());
+    port.receive(100, None);
+    assert_eq!(rt; port.link, Link::Hold(100));
+    assert_eq!(rt; port.filled, 0);
+}

@@ -1,0 +1,5 @@
+use Rattle.ctl_wire.proofs.Pulls.{pulls_last}
+use Rattle.ctl_wire.proofs.laws.pulls_last.Goals as goal
+
+pub returns : goal.returns
+returns c = pulls_last

@@ -1,0 +1,41 @@
+-- The controller at its two wires: the clock's falling edges, and what it drives.
+use Rattle.std.specs.Prelude.{ℕ, ◌+◌, ◌==◌, Bool, true, false, [], ◌∷◌, ◌++◌, length, slice_index_or, if◌then◌else◌}
+use Rattle.board_lines.specs.declared.lines.Lines.{Lines}
+use Rattle.board_lines.specs.Frame.{frame_bits, byte_of}
+use Rattle.ctl_link.specs.declared.link.Link.{Link}
+use Rattle.ctl_link.specs.declared.link.Link.TheVariants.{Free, Hold, Ask, Request, Busy}
+use Rattle.ctl_link.specs.declared.port.Port.{Port}
+use Rattle.ctl_link.specs.Link.{received, handed_over}
+use Rattle.ctl_wire.specs.declared.wire.Wire.{Wire}
+use Rattle.ctl_wire.specs.declared.wire.Wire.TheVariants.{Recv, Send}
+
+-- a falling edge while a byte is under way, with the level of the data wire: the eleventh ends the byte
+abbrev pub edge_in : ℕ → Bool → Wire → Port Wire → Port Wire
+edge_in now dat (Recv bits) p =
+    if length bits == 10 then received now (byte_of (bits ++ dat ∷ [])) p
+    else record p { link = Busy (Recv (bits ++ dat ∷ [])) }
+edge_in now dat (Send byte edges) p =
+    if edges == 10 then handed_over p else record p { link = Busy (Send byte (edges + 1)) }
+
+-- a falling edge: a free link begins to take the keyboard's byte, one that requests begins to send its own; while the
+-- controller pulls the clock, edges are ignored
+abbrev pub edge_at : ℕ → Bool → Link Wire → Port Wire → Port Wire
+edge_at now dat Free p = record p { link = Busy (Recv (dat ∷ [])) }
+edge_at now dat (Hold since) p = p
+edge_at now dat (Ask byte since) p = p
+edge_at now dat (Request byte) p = record p { link = Busy (Send byte 1) }
+edge_at now dat (Busy wire) p = edge_in now dat wire p
+
+-- what the controller drives while a byte is under way: after falling edge k of its own frame, bit k + 1 of it, where the
+-- first edge is 0
+abbrev pub drive_in : Wire → Lines
+drive_in (Recv bits) = record { clk = true; dat = true }
+drive_in (Send byte edges) = record { clk = true; dat = slice_index_or (frame_bits byte) edges true }
+
+-- what it drives: a hold and an ask pull the clock; a request pulls data, which is the frame's start bit
+abbrev pub drive : Link Wire → Lines
+drive Free = record { clk = true; dat = true }
+drive (Hold since) = record { clk = false; dat = true }
+drive (Ask byte since) = record { clk = false; dat = true }
+drive (Request byte) = record { clk = true; dat = false }
+drive (Busy wire) = drive_in wire

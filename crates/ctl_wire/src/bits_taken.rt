@@ -1,0 +1,62 @@
+//! The bits of a frame that have come so far.
+
+ghost use Rattle.std.specs.Prelude.{◌≡◌, ◌<◌, ◌≤◌, ◌==◌, [], ◌∷◌, ◌++◌, length};
+
+use board_lines::Frame;
+use std::marker::Model;
+
+/// The bits of a frame of the keyboard that have come so far, at most ten of the eleven. A clause sees them as a list, in
+/// the order in which they came.
+#[derive(Drop)]
+pub struct Bits {
+    bits: [bool; 11],
+    count: usize,
+}
+
+impl Model for Bits {
+    ghost use Rattle.std.specs.Prelude.{◌≤◌, Bool, List, take};
+
+    ghost Value = { List Bool };
+
+    ghost view = { λ b. take b.count b.bits };
+
+    ghost invariant = { λ b. b.count ≤ 10 };
+}
+
+impl Bits {
+    /// The first bit of a frame.
+    pub fn first(bit: bool) -> Bits
+        ensures { result ≡ bit ∷ [] }
+    {
+        let mut bits = [false; 11];
+        bits[0] = bit;
+        Bits { bits, count: 1 }
+    }
+
+    /// Whether one bit alone is missing.
+    pub fn lack_one(&self) -> bool
+        ensures lack { result ≡ (length self.now == 10) }
+        ensures range { length self.now ≤ 10 }
+    {
+        self.count == 10
+    }
+
+    /// The next bit has come, and it isn't the last.
+    pub fn push(&mut self, bit: bool)
+        requires { length self.old < 10 }
+        ensures { self.new ≡ self.old ++ bit ∷ [] }
+    {
+        self.bits[self.count] = bit;
+        self.count += 1;
+    }
+
+    /// The frame, with its last bit.
+    pub fn ended_by(&self, bit: bool) -> Frame
+        requires { length self.now ≡ 10 }
+        ensures { result.bits ≡ self.now ++ bit ∷ [] }
+    {
+        let mut bits = self.bits;
+        bits[10] = bit;
+        Frame { bits }
+    }
+}

@@ -1,0 +1,4 @@
+pub mod Cycle
+pub mod Host
+pub mod Rest
+pub mod Run

@@ -1,0 +1,47 @@
+-- While the controller pulls the clock, no latch of the keyboard changes anything.
+use Rattle.std.proofs.Common.{◌≡◌, ℕ, suc, zero, ◌+◌, ◌≤◌, ◌<◌, List, not, ◌&&◌, Some, refl, ap, ◌∙◌, arith}
+use Rattle.ctl_link.specs.declared.link.Link.TheVariants.{Free}
+use Rattle.ctl_link.specs.Pulls.{pulled, Begins}
+use Rattle.ctl_link.proofs.Pulls.{keeps_pull, begins_pull}
+use Rattle.board_lines.specs.declared.event.HostEvent.{HostEvent}
+use Rattle.board_lines.specs.declared.lines.Lines.{Lines}
+use Rattle.ctl_wire.specs.declared.wire.Wire.{Wire}
+use Rattle.ctl_wire.proofs.Pulls.{look_keeps}
+use Rattle.host_turn.specs.Run.{Side, turn_of, goes_on}
+use Rattle.host_turn.specs.Cycle.{port_by}
+use Rattle.pc_wires.specs.Wires.{Pc, board_cycle, looked, wires}
+use Rattle.byte_time.specs.ByteTime.{quietly}
+use Rattle.wires_agree.specs.Without.{seen_in_bytes}
+use Rattle.wires_agree.specs.Cycles.{board_cycles}
+use Rattle.wires_agree.specs.Laws.{WhilePulled}
+use Rattle.wires_agree.proofs.Spans.{board_by, still_cycle}
+
+module _ (F : Type 0) where
+  -- a cycle keeps a pull of less than 64 cycles
+  pub stays_pulled : (events : List HostEvent) (now : ℕ) (s : Side F) (h : ℕ) → pulled s.port.link ≡ Some h → now < h + 64 → pulled (goes_on events now s).port.link ≡ Some h
+  unfolding goes_on
+  stays_pulled events now s h e early = keeps_pull F now (port_by (turn_of events now s) s.port) h e early
+
+  -- from a free link it stays free, or the controller begins to pull
+  pub free_begins : (events : List HostEvent) (now : ℕ) (s : Side F) → s.port.link ≡ Free → Begins now (goes_on events now s).port.link
+  unfolding goes_on
+  free_begins events now s e = begins_pull F now (port_by (turn_of events now s) s.port) e
+
+-- the look, while the controller pulls
+looks_pulled : (now : ℕ) (latch : Lines) (b : Pc) (h : ℕ) → pulled b.side.port.link ≡ Some h → (looked now (wires latch b) b).side ≡ b.side
+looks_pulled now latch b h e =
+    ap (λ q. record b.side { port = q }) (look_keeps (b.clock && not (wires latch b).clk) now (wires latch b).dat b.side.port b.side.port.link h e)
+
+-- cycles in which the controller pulls, whatever the keyboard does
+pub pulled_span : (events : List HostEvent) (latch : ℕ → Lines) (n now : ℕ) (b : Pc) (h : ℕ) → pulled b.side.port.link ≡ Some h → now + n ≤ h + 64
+    → (seen_in_bytes (board_cycles events latch n now b).side ≡ quietly events n now (seen_in_bytes b.side)) × (pulled (board_cycles events latch n now b).side.port.link ≡ Some h)
+pulled_span events latch zero now b h e l = (refl, e)
+pulled_span events latch (suc n) now b h e l =
+    let next : Pc = board_cycle events now (latch now) b in
+    let same : (looked now (wires (latch now) b) b).side ≡ b.side = looks_pulled now (latch now) b h e in
+    let on : pulled next.side.port.link ≡ Some h = ap (λ s. pulled s.port.link) (board_by events now (latch now) b b.side same) ∙ stays_pulled Wire events now b.side h e (omega (arith, l)) in
+    let rest = pulled_span events latch n (suc now) next h on (omega (arith, l)) in
+    (rest.0 ∙ ap (λ m. quietly events n (suc now) m) (still_cycle events now (latch now) b same), rest.1)
+
+pub while_pulled : WhilePulled
+while_pulled events latch n now b since e l = pulled_span events latch n now b since e l

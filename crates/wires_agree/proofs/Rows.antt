@@ -1,0 +1,47 @@
+-- Worked examples, by computing.
+use Rattle.std.proofs.Common.{◌≡◌, ℕ, ◌+◌, ◌-◌, ◌/◌, ◌%◌, List, [], ◌∷◌, ◌&&◌, true, refl}
+use Rattle.std.specs.Prelude.{if◌then◌else◌, nat_le, nat_lt, slice_index_or, Some}
+use Rattle.pc_tables.specs.declared.item.Item.TheVariants.{Read, Status}
+use Rattle.board_lines.specs.declared.event.HostAct.TheVariants.{Write64, Read60, Mask, Status as AskStatus}
+use Rattle.board_lines.specs.declared.event.HostEvent.{HostEvent}
+use Rattle.host_turn.specs.Run.{side_at_start, goes_on}
+use Rattle.board_lines.specs.declared.lines.Lines.{Lines}
+use Rattle.board_lines.specs.Frame.{frame_bits, byte_of}
+use Rattle.pc_wires.specs.Wires.{board_cycle, pc_at_start}
+use Rattle.byte_time.specs.ByteTime.{byte_tick, byte_cycle}
+use Rattle.byte_time.specs.declared.UnderWay.{UnderWay}
+use Rattle.ctl_core.specs.ScanCodes.{scan_codes, translated}
+use Rattle.wires_agree.specs.Cycles.{board_cycles}
+
+abbrev at : ℕ → Rattle.board_lines.specs.declared.event.HostAct.HostAct → HostEvent
+at stamp act = record { stamp = stamp; act = act }
+
+abbrev high : ℕ → Lines
+high o = record { clk = true; dat = true }
+
+-- a self test while the interrupt is masked, with the status before and after the read
+asked : List HostEvent
+asked = at 0 Mask ∷ at 0 (Write64 0xaa) ∷ at 10 AskStatus ∷ at 10 Read60 ∷ at 10 AskStatus ∷ []
+
+self_test : (board_cycles asked high 20 4096 pc_at_start).side.log
+    ≡ record { cycle = 4106; item = Status 0x1d } ∷ record { cycle = 4107; item = Read 0x55 } ∷ record { cycle = 4108; item = Status 0x1c } ∷ []
+unfolding asked board_cycle goes_on
+self_test = refl
+
+-- the keyboard sends 1C from cycle 4096 + 288 on; the host reads its scan code
+abbrev sends : ℕ → ℕ → Lines
+sends from o =
+    if nat_le from o && nat_lt o (from + 352) then record { clk = nat_le 16 ((o - from) % 32); dat = slice_index_or (frame_bits 0x1c) ((o - from) / 32) true }
+    else record { clk = true; dat = true }
+
+reads : List HostEvent
+reads = at 0 Mask ∷ at 607 Read60 ∷ at 608 Read60 ∷ []
+
+-- what was received stands in the output buffer from offset 608 on, in both machines
+on_wires : (board_cycles reads (sends 4384) 700 4096 pc_at_start).side.log ≡ record { cycle = 4703; item = Read 0 } ∷ record { cycle = 4704; item = Read 0x1e } ∷ []
+unfolding reads board_cycle goes_on byte_of scan_codes translated
+on_wires = refl
+
+in_bytes : (byte_tick reads true (Some 0x1c) 4096 91 (side_at_start UnderWay)).log ≡ record { cycle = 4703; item = Read 0 } ∷ record { cycle = 4704; item = Read 0x1e } ∷ []
+unfolding reads byte_cycle goes_on scan_codes translated
+in_bytes = refl

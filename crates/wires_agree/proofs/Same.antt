@@ -1,0 +1,79 @@
+-- The host's turn and the settling do not look at what is known of a byte under way.
+use Rattle.std.proofs.Common.{◌≡◌, ℕ, ◌+◌, List, Bool, true, false, ◌||◌, Some, None, refl, ap, ◌∙◌}
+use Rattle.std.specs.Prelude.{if◌then◌else◌, nat_le, slice_get}
+use Rattle.std.specs.declared.option.Option.{Option}
+use Rattle.ctl_core.specs.Controller.{is_disabled}
+use Rattle.ctl_core.specs.Commands.{Taken, taken}
+use Rattle.ctl_core.specs.declared.controller.Did.{Did}
+use Rattle.ctl_core.specs.declared.controller.Did.TheVariants.{Nothing, ToKeyboard, Output, Pulse}
+use Rattle.ctl_link.specs.declared.link.Link.{Link}
+use Rattle.ctl_link.specs.declared.link.Link.TheVariants.{Free, Hold, Ask, Request, Busy}
+use Rattle.ctl_link.specs.declared.port.Port.{Port}
+use Rattle.ctl_link.specs.Link.{Settled, held_since, asking, took, took_where, takes_input, link_after, moves_link, settled}
+use Rattle.board_lines.specs.declared.event.HostEvent.{HostEvent}
+use Rattle.host_turn.specs.Host.{Turn, is_done}
+use Rattle.host_turn.specs.Run.{Side, turn_of, goes_on, with_cycled}
+use Rattle.host_turn.specs.Cycle.{ends_cycle}
+use Rattle.wires_agree.specs.Without.{link_by, port_by, side_by, without_bits}
+use Rattle.wires_agree.specs.Laws.{GoesOnAlike}
+
+module _ {F G : Type 0} (f : F → G) where
+  either : (b : Bool) (x y : Link F) → (if b then link_by f x else link_by f y) ≡ link_by f (if b then x else y)
+  either true x y = refl
+  either false x y = refl
+
+  held_same : (now : ℕ) (awaits : Bool) (l : Link F) → held_since now awaits (link_by f l) ≡ held_since now awaits l
+  held_same now awaits Free = refl
+  held_same now awaits (Hold since) = refl
+  held_same now awaits (Ask byte since) = refl
+  held_same now awaits (Request byte) = refl
+  held_same now awaits (Busy x) = refl
+
+  asking_same : (since : ℕ) (d : Did) (l : Link F) → asking since d (link_by f l) ≡ link_by f (asking since d l)
+  asking_same since Nothing l = refl
+  asking_same since (ToKeyboard byte) l = refl
+  asking_same since (Output byte) l = refl
+  asking_same since (Pulse lines) l = refl
+
+  after_same : (now : ℕ) (stop awaits : Bool) (l : Link F) → link_after now stop awaits (link_by f l) ≡ link_by f (link_after now stop awaits l)
+  after_same now stop true Free = refl
+  after_same now true false Free = refl
+  after_same now false false Free = refl
+  after_same now true awaits (Hold since) = refl
+  after_same now false awaits (Hold since) = either (nat_le (since + 64) now) Free (Hold since)
+  after_same now stop awaits (Ask byte since) = either (nat_le (since + 64) now) (Request byte) (Ask byte since)
+  after_same now stop awaits (Request byte) = refl
+  after_same now stop awaits (Busy x) = refl
+
+  abbrev settled_by : Settled F → Settled G
+  settled_by t = record { port = port_by f t.port; did = t.did }
+
+  where_same : (now : ℕ) (since : Option ℕ) (input : Option Taken) (p : Port F) → took_where now since input (port_by f p) ≡ settled_by (took_where now since input p)
+  where_same now None input p = refl
+  where_same now (Some since) None p = refl
+  where_same now (Some since) (Some t) p = ap (λ l. record { port = record (took now since t (port_by f p)).port { link = l }; did = t.did }) (asking_same since t.did p.link)
+
+  takes_same : (now : ℕ) (p : Port F) → takes_input now (port_by f p) ≡ settled_by (takes_input now p)
+  takes_same now p =
+      let input : Option Taken = if p.core.output_full then None else taken p.core in
+      ap (λ h. took_where now h input (port_by f p)) (held_same now p.awaits p.link) ∙ where_same now (held_since now p.awaits p.link) input p
+
+  moves_same : (now : ℕ) (p : Port F) → moves_link now (port_by f p) ≡ port_by f (moves_link now p)
+  moves_same now p = ap (λ l. record (port_by f p) { link = l }) (after_same now (p.core.output_full || is_disabled p.core) p.awaits p.link)
+
+  pub settled_same : (now : ℕ) (p : Port F) → settled now (port_by f p) ≡ settled_by (settled now p)
+  settled_same now p =
+      ap (λ t. record { port = moves_link now t.port; did = t.did }) (takes_same now p)
+      ∙ ap (λ q. record { port = q; did = (takes_input now p).did }) (moves_same now (takes_input now p).port)
+
+  -- a cycle goes on alike, whatever is known of a byte under way
+  pub goes_on_same : (events : List HostEvent) (now : ℕ) (s : Side F) → goes_on events now (side_by f s) ≡ side_by f (goes_on events now s)
+  unfolding goes_on
+  goes_on_same events now s =
+      let t : Turn = turn_of events now s in
+      let done : Bool = is_done now (slice_get events s.done) s.port.core in
+      ap (λ q. with_cycled now (ends_cycle t done q) (side_by f s)) (settled_same now (Rattle.host_turn.specs.Cycle.port_by t s.port))
+
+-- at the wires and in byte time
+pub in_bytes_same : GoesOnAlike
+in_bytes_same events now s = goes_on_same without_bits events now s

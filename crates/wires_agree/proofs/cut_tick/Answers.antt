@@ -1,0 +1,5 @@
+use Rattle.wires_agree.proofs.Looked.{all_cut}
+use Rattle.wires_agree.proofs.cut_tick.Goals as goal
+
+pub returns : goal.returns
+returns c = all_cut

@@ -1,0 +1,5 @@
+use Rattle.wires_agree.proofs.Looked.{all_got}
+use Rattle.wires_agree.proofs.got_tick.Goals as goal
+
+pub returns : goal.returns
+returns c = all_got

@@ -1,0 +1,5 @@
+use Rattle.wires_agree.proofs.Start.{waits_for_stamp_0}
+use Rattle.wires_agree.proofs.stamp_zero_first.Goals as goal
+
+pub returns : goal.returns
+returns c = waits_for_stamp_0

@@ -1,0 +1,5 @@
+use Rattle.wires_agree.proofs.Pulls.{while_pulled}
+use Rattle.wires_agree.proofs.while_pulled.Goals as goal
+
+pub returns : goal.returns
+returns c = while_pulled
