@@ -1,0 +1,5 @@
+pub mod Periods
+pub mod Edges
+pub mod Order
+pub mod Whole
+pub mod Once

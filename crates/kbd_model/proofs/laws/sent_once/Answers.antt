@@ -1,0 +1,19 @@
+use Rattle.std.proofs.Common.{refl}
+use Rattle.kbd_model.proofs.Once.{offers_first, sent_leaves, got_leaves}
+use Rattle.kbd_model.proofs.laws.sent_once.Goals as goal
+
+pub returns-clause-offers : goal.returns-clause-offers
+returns-clause-offers c = offers_first
+
+pub returns-clause-sends : goal.returns-clause-sends
+returns-clause-sends c = sent_leaves
+
+pub returns-clause-keeps : goal.returns-clause-keeps
+returns-clause-keeps c = record {
+  inhibited = λ keys k. refl;
+  idle = λ keys k. refl;
+  cut = λ keys k. refl;
+}
+
+pub returns-clause-commands : goal.returns-clause-commands
+returns-clause-commands c = got_leaves

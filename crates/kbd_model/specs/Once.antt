@@ -1,0 +1,56 @@
+-- Exactly once: what waits to be sent, and what leaves it.
+use Rattle.std.specs.Prelude.{◌≡◌, ℕ, ◌==◌, Bool, true, false, ◌&&◌, ◌||◌, if◌then◌else◌, List, [], ◌∷◌, ◌++◌, Some, None, slice_get}
+use Rattle.std.specs.declared.option.Option.{Option}
+use Rattle.kbd_model.specs.declared.meeting.Meeting.TheVariants.{Got, Inhibited, Idle, Sent, Cut}
+use Rattle.kbd_model.specs.declared.state.Reply.{Reply}
+use Rattle.kbd_model.specs.Codes.{Keys}
+use Rattle.kbd_model.specs.Queue.{KeyQueue, clear}
+use Rattle.kbd_model.specs.Keyboard.{Keyboard, offer}
+use Rattle.kbd_model.specs.Tick.{met}
+
+-- the bytes that wait, in the order in which they will be offered: the reply, AA, the queue, and the 00 of an overrun
+abbrev pub reply_bytes : Option Reply → List ℕ
+reply_bytes (Some reply) = reply.byte ∷ []
+reply_bytes None = []
+
+abbrev pub byte_if : Bool → ℕ → List ℕ
+byte_if due byte = if due then byte ∷ [] else []
+
+abbrev pub queued : KeyQueue → List ℕ
+queued q = q.bytes ++ byte_if q.overrun 0x00
+
+abbrev pub waiting : Keyboard → List ℕ
+waiting k = reply_bytes k.reply ++ (byte_if k.aa_due 0xAA ++ queued k.queue)
+
+-- whether a reset is due once the reply is sent
+abbrev pub is_reset_due : Option Reply → Bool
+is_reset_due (Some reply) = reply.resets
+is_reset_due None = false
+
+-- the byte that is offered is the first that waits
+abbrev pub OffersFirst : Type 0
+OffersFirst = (k : Keyboard) → offer k ≡ slice_get (waiting k) 0
+
+-- the byte that is sent is taken away, and nothing else, but where a reset is made
+abbrev pub SentLeaves : Type 0
+SentLeaves = (keys : Keys) (k : Keyboard) (byte : ℕ) → offer k ≡ Some byte → is_reset_due k.reply ≡ false
+    → waiting k ≡ byte ∷ waiting (met Sent keys k)
+
+-- where nothing is sent and nothing is got nothing changes; a byte that was cut off is still offered
+pub record NothingElseLeaves : Type 0 where
+  pub inhibited : (keys : Keys) (k : Keyboard) → met Inhibited keys k ≡ k
+  pub idle : (keys : Keys) (k : Keyboard) → met Idle keys k ≡ k
+  pub cut : (keys : Keys) (k : Keyboard) → met Cut keys k ≡ k
+
+-- the commands that clear the queue
+abbrev pub clears_queue : ℕ → Bool
+clears_queue byte = (byte == 0xF6) || (byte == 0xF5) || (byte == 0xF4)
+
+-- a byte from the system leaves the queue, but for these commands with right parity; it leaves AA; its reply takes the
+-- place of the one that waited
+pub record GotKeeps (keys : Keys) (byte : ℕ) (good : Bool) (k : Keyboard) : Type 0 where
+  pub queue : (met (Got byte good) keys k).queue ≡ (if good && clears_queue byte then clear k.queue else k.queue)
+  pub aa_due : (met (Got byte good) keys k).aa_due ≡ k.aa_due
+
+abbrev pub GotLeaves : Type 0
+GotLeaves = (keys : Keys) (byte : ℕ) (good : Bool) (k : Keyboard) → GotKeeps keys byte good k

@@ -1,0 +1,11 @@
+pub mod Wakes
+pub mod Cycles
+pub mod Edges
+pub mod Few
+pub mod Seen
+pub mod Stretch
+pub mod Steps
+pub mod Carried
+pub mod Windows
+pub mod Ticks
+pub mod Known

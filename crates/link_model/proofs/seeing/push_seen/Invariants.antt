@@ -1,0 +1,9 @@
+use Rattle.std.proofs.Common.{◌≡◌, ◌++◌, take, map}
+use Rattle.std.specs.List.{filter}
+use Rattle.board_lines.specs.Edges.{of_place}
+use Rattle.link_model.specs.TickEdges.{change_of}
+use Rattle.link_model.specs.Seeing.{sees}
+use Rattle.link_model.proofs.seeing.push_seen.Given as goal
+
+abbrev pub invariant-loop-edge : goal.invariant-loop-edge
+invariant-loop-edge l = l.seen.items ≡ l.fn.seen.items ++ map change_of (filter (sees l.before l.now) (of_place l.place (take l.edge-index l.edges)))

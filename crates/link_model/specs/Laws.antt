@@ -1,0 +1,71 @@
+-- Laws of the model.
+use Rattle.std.specs.Prelude.{◌≡◌, ◌≤◌, ◌<◌, ℕ, ◌+◌, ◌==◌, Bool, true, false, List, [], ◌∷◌, length, if◌then◌else◌}
+use Rattle.std.proofs.Common.{suc}
+use Rattle.std.specs.declared.option.Option.{Option}
+use Rattle.board_lines.specs.declared.event.Edge.{Edge}
+use Rattle.board_lines.specs.declared.event.HostEvent.{HostEvent}
+use Rattle.board_lines.specs.Cadence.{KeepsCadenceTo}
+use Rattle.host_turn.specs.Run.{Side, says_lights}
+use Rattle.byte_time.specs.declared.UnderWay.{UnderWay}
+use Rattle.byte_time.specs.declared.meeting.Meeting.{Meeting}
+use Rattle.byte_time.specs.declared.meeting.Meeting.TheVariants.{Got, Inhibited, Idle, Sent, Cut}
+use Rattle.byte_time.specs.ByteTime.{Event, Quiet, Begins, Arrives, IsWhole, byte_cycle, meeting_in}
+use Rattle.key_file.specs.Histories.{KeyHistory}
+use Rattle.key_file.specs.Accepted.{IsAccepted}
+use Rattle.link_model.specs.TickEdges.{is_seen, tick_edges, shown, downs_in, downs_before, read_at}
+use Rattle.link_model.specs.Expected.{to_look, to_meeting, from_meeting}
+
+-- by rising place, no place twice
+abbrev pub RisesFrom : ℕ → List (ℕ × Bool) → Type 0
+RisesFrom from [] = Unit {0}
+RisesFrom from (c ∷ cs) = (from ≤ c.0) × RisesFrom (suc c.0) cs
+
+-- the columns of tick n, read against the keys held before it, show its edges: at most four, of different places. So
+-- it is of each accepted history under the cadence
+pub record Shows (starts : ℕ → ℕ) (edges : List Edge) (n : ℕ) : Type 0 where
+  pub same : tick_edges starts edges n ≡ shown (downs_before starts edges n) (downs_in starts edges n)
+  pub few : length (tick_edges starts edges n) ≤ 4
+  pub rising : RisesFrom 0 (tick_edges starts edges n)
+
+abbrev pub EdgesShown : Type 0
+EdgesShown =
+    (starts : ℕ → ℕ) (history : KeyHistory) (n : ℕ) → IsAccepted history → KeepsCadenceTo starts n
+    → Shows starts history.edges n
+
+-- an edge whose column tick n reads in time has one tick that sees it, and no other
+pub record SeenOnce (starts : ℕ → ℕ) (n : ℕ) (e : Edge) : Type 0 where
+  pub seen : ℕ
+  pub by_then : seen ≤ n
+  pub sees : is_seen starts seen e ≡ true
+  pub other : (m : ℕ) → is_seen starts m e ≡ true → m ≡ seen
+
+abbrev pub EachSeenOnce : Type 0
+EachSeenOnce = (starts : ℕ → ℕ) (n : ℕ) (e : Edge) → e.stamp ≤ read_at starts e.place n → SeenOnce starts n e
+
+-- what comes over the link at an offset of a tick with this meeting
+abbrev pub event_at : Meeting → ℕ → Event
+event_at (Got byte) o = if o == 288 then Begins false else if o == 608 then IsWhole else Quiet
+event_at Inhibited o = Quiet
+event_at Idle o = Quiet
+event_at (Sent byte) o = if o == 288 then Begins true else if o == 608 then Arrives byte else Quiet
+event_at Cut o = Quiet
+
+-- the lights are put before the cycle at offset 232
+abbrev pub lit_at : ℕ → ℕ → ℕ → ℕ → Side UnderWay → Side UnderWay
+lit_at start shown lights o m = if o == 232 then says_lights (232 + start) shown lights m else m
+
+-- in each cycle of a tick: the lights, what comes over the link, the host, the controller. `at` is the state before it
+pub record EachCycle (events : List HostEvent) (tested : Bool) (offer : Option ℕ) (shown lights start length : ℕ)
+    (at : ℕ → Side UnderWay) : Type 0 where
+  pub cycle : (o : ℕ) → o < length → at (suc o) ≡
+      byte_cycle events (o + start) (event_at (meeting_in tested offer (at 256) (at 288)) o)
+      (lit_at start shown lights o (at o))
+
+-- a tick in which each cycle does what is said of it comes to what the spans say
+abbrev pub CycleByCycle : Type 0
+CycleByCycle =
+    (events : List HostEvent) (start : ℕ) (at : ℕ → Side UnderWay) (rest : ℕ) (tested : Bool) (offer : Option ℕ)
+    (shown lights end : ℕ) → end ≡ 609 + rest
+    → EachCycle events tested offer shown lights start end at
+    → at end ≡ from_meeting events start rest (meeting_in tested offer (at 256) (at 288))
+    (to_meeting events start (to_look events shown lights start (at 0)))

@@ -1,0 +1,58 @@
+//! The expected log.
+
+ghost use Rattle.std.specs.Prelude.{◌≡◌, ◌<◌, ◌-◌, ◌^◌, length, All, IfOk};
+ghost use Rattle.board_lines.specs.Cadence.{IsLast, KeepsCadenceTo, listed};
+ghost use Rattle.board_lines.specs.Edges.{AreInOrder};
+ghost use Rattle.key_file.specs.Accepted.{IsAcceptedFor};
+ghost use Rattle.kbd_model.specs.Codes.{HasKey};
+ghost use Rattle.link_model.specs.Expected.{expected, expected_log};
+ghost use Rattle.link_model.specs.Machine.{keyboard};
+
+use crate::line::LogLine;
+use crate::lines::{FIRST_STAMP, log_lines};
+use crate::whole::Together;
+use board_lines::{Edge, HostEvent};
+use key_file::History;
+use layout_reader::Layout;
+use std::alloc::{AllocError, Global};
+
+/// The log that a layout and a history come to, where the ticks have these starts: what the port, INT 09h, the lights and
+/// the controller's outputs say, each with its tick. The starts are stamps in cycles. They keep the cadence, and the last
+/// of them is the first at or after the history's end; items before it are in the log. Only memory may be wanting.
+pub fn expect(
+    alloc: Global,
+    layout: &Layout,
+    history: &History,
+    starts: &[u64],
+) -> Result<Vec<LogLine>, AllocError>
+    requires accepted { IsAcceptedFor layout.now history.now }
+    requires some { 0 < length starts.now }
+    requires cadence { KeepsCadenceTo (listed starts.now) (length starts.now - 1) }
+    requires last { IsLast (listed starts.now) history.now.end (length starts.now - 1) }
+    ensures { IfOk result (λ lines. lines.items ≡ expected_log layout.now history.now starts.now) }
+{
+    expect_events(alloc, layout, history.edges(), history.host(), starts)
+}
+
+/// The same, of the edges and the host's events.
+fn expect_events(
+    alloc: Global,
+    layout: &Layout,
+    edges: &[Edge],
+    host: &[HostEvent],
+    starts: &[u64],
+) -> Result<Vec<LogLine>, AllocError>
+    requires order { AreInOrder edges.now }
+    requires keys { All (λ e. HasKey layout.now e.place) edges.now }
+    requires some { 0 < length starts.now }
+    requires near { length starts.now < 2 ^ 32 }
+    requires cadence { KeepsCadenceTo (listed starts.now) (length starts.now - 1) }
+    ensures { IfOk result (λ lines. lines.items ≡ expected (keyboard layout.now) edges.now host.now (listed starts.now) (length starts.now - 1)) }
+{
+    let mut together = Together::new(alloc, layout.rate())?;
+    together.wait(host, FIRST_STAMP + starts[0])?;
+    for n in 0..starts.len() - 1 {
+        together.next(alloc, layout, edges, host, starts, n)?;
+    }
+    log_lines(alloc, together.log(), starts)
+}

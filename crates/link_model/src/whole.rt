@@ -1,0 +1,196 @@
+//! A tick of keyboard and PC together.
+
+ghost use Rattle.std.specs.Prelude.{◌≡◌};
+ghost use Rattle.link_model.specs.Machine.{met_as as met_as_of};
+
+use crate::lines::FIRST_STAMP;
+use crate::running::Running;
+use crate::seeing::tick_edges;
+use board_lines::{Edge, HostEvent, Place};
+use byte_time::{Meeting, meeting_of};
+use host_turn::Stamped;
+use kbd_model::{Meeting as KeyboardMeeting, TickModel};
+use layout_reader::Layout;
+use std::alloc::{AllocError, Global};
+use std::marker::Model;
+
+/// The offset at which the lights are put.
+const LIGHTS: u64 = 232;
+
+/// The offset of the first look at the link.
+const LOOK: u64 = 256;
+
+/// The offset at which a byte begins.
+const MEETING: u64 = 288;
+
+/// The offset behind the cycle in which a byte ends.
+const REST: u64 = 609;
+
+/// The keyboard, the PC's side, and the lights shown. A clause sees it as a `Whole`.
+#[derive(Drop)]
+pub(crate) struct Together {
+    keys: TickModel,
+    side: Running,
+    shown: u8,
+}
+
+impl Model for Together {
+    ghost use Rattle.kbd_model.specs.Keyboard.{Keyboard};
+    ghost use Rattle.link_model.specs.Expected.{Whole};
+
+    ghost Value = { Whole Keyboard };
+
+    ghost view = { λ w. record { keys = w.keys; side = w.side; shown = w.shown } };
+}
+
+impl Running {
+    ghost use Rattle.std.specs.Prelude.{◌≡◌, ◌+◌, ◌-◌, ◌≤◌, ◌<◌, ◌^◌, IfOk};
+    ghost use Rattle.byte_time.specs.ByteTime.{meeting_in};
+    ghost use Rattle.link_model.specs.Expected.{to_look, to_meeting, from_meeting};
+
+    /// A tick's cycles up to its first look at the link.
+    fn look(
+        &mut self,
+        events: &[HostEvent],
+        start: u64,
+        shown: u8,
+        lights: u8,
+    ) -> Result<(), AllocError>
+        requires near { start < 2 ^ 62 }
+        ensures { IfOk result (λ u. self.new ≡ to_look events.now shown lights start self.old) }
+    {
+        self.run_on(events, start, start + LIGHTS)?;
+        self.say_lights(start + LIGHTS, shown, lights)?;
+        self.run_on(events, start + LIGHTS, start + LOOK)?;
+        Ok(())
+    }
+
+    /// The cycles from there to the tick's end, by whether the keyboard's test has ended and what it offers. Answers the
+    /// meeting.
+    fn meet(
+        &mut self,
+        events: &[HostEvent],
+        start: u64,
+        end: u64,
+        tested: bool,
+        offer: Option<u8>,
+    ) -> Result<Meeting, AllocError>
+        requires long { start + 609 ≤ end }
+        requires near { end < 2 ^ 62 }
+        ensures meeting { IfOk result (λ m. m ≡ meeting_in tested offer self.old (to_meeting events.now start self.old)) }
+        ensures side { IfOk result (λ m. self.new ≡ from_meeting events.now start (end - start - 609) m (to_meeting events.now start self.old)) }
+    {
+        let earlier = self.link();
+        self.run_on(events, start + LOOK, start + MEETING)?;
+        let meeting = meeting_of(tested, offer, earlier, self.link());
+        self.carry(events, meeting, start + MEETING)?;
+        self.run_on(events, start + REST, end)?;
+        Ok(meeting)
+    }
+}
+
+impl Together {
+    ghost use Rattle.std.specs.Prelude.{◌≡◌, ◌+◌, ◌-◌, ◌≤◌, ◌<◌, ◌^◌, length, All, IfOk};
+    ghost use Rattle.std.specs.Option.{ForSome};
+    ghost use Rattle.host_turn.specs.Run.{side_at_start};
+    ghost use Rattle.byte_time.specs.declared.UnderWay.{UnderWay};
+    ghost use Rattle.kbd_model.specs.Codes.{HasKey};
+    ghost use Rattle.kbd_model.specs.Keyboard.{at_power_on};
+    ghost use Rattle.board_lines.specs.Cadence.{KeepsCadenceTo, listed};
+    ghost use Rattle.board_lines.specs.Edges.{AreInOrder};
+    ghost use Rattle.byte_time.specs.ByteTime.{quietly};
+    ghost use Rattle.link_model.specs.Expected.{whole_tick, next_tick};
+    ghost use Rattle.link_model.specs.Machine.{keyboard};
+
+    /// At power-on, with a layout's rate byte.
+    pub(crate) fn new(alloc: Global, rate: u8) -> Result<Together, AllocError>
+        ensures { IfOk result (λ w. w ≡ record { keys = at_power_on rate; side = side_at_start UnderWay; shown = 0 }) }
+    {
+        Ok(Together {
+            keys: TickModel::power_on(rate),
+            side: Running::new(alloc)?,
+            shown: 0,
+        })
+    }
+
+    /// A tick from its first cycle up to that of the next, with the edges that it sees.
+    fn tick(
+        &mut self,
+        layout: &Layout,
+        events: &[HostEvent],
+        edges: &[(Place, bool)],
+        start: u64,
+        end: u64,
+    ) -> Result<(), AllocError>
+        requires long { start + 609 ≤ end }
+        requires near { end < 2 ^ 62 }
+        requires repeats { ForSome self.old.keys.repeats (λ r. HasKey layout.now r.place) }
+        requires edges { All (λ e. HasKey layout.now e.0) edges.now }
+        ensures ticked { IfOk result (λ u. self.new ≡ whole_tick (keyboard layout.now) events.now edges.now start (end - start - 609) self.old) }
+        ensures known { IfOk result (λ u. ForSome self.new.keys.repeats (λ r. HasKey layout.now r.place)) }
+    {
+        let lights = self.keys.lights();
+        self.side.look(events, start, self.shown, lights)?;
+        let meeting = self
+            .side
+            .meet(events, start, end, self.keys.tested(), self.keys.offer())?;
+        self.keys.advance(met_as(meeting), edges, layout);
+        self.shown = lights;
+        Ok(())
+    }
+
+    /// The cycles from stamp 0 up to the first tick.
+    pub(crate) fn wait(&mut self, host: &[HostEvent], end: u64) -> Result<(), AllocError>
+        requires { 4096 ≤ end }
+        ensures { IfOk result (λ u. self.new ≡ record self.old { side = quietly host.now (end - 4096) 4096 self.old.side }) }
+    {
+        self.side.run_on(host, FIRST_STAMP, end)?;
+        Ok(())
+    }
+
+    /// Tick n, of ticks with these starts.
+    pub(crate) fn next(
+        &mut self,
+        alloc: Global,
+        layout: &Layout,
+        edges: &[Edge],
+        host: &[HostEvent],
+        starts: &[u64],
+        n: usize,
+    ) -> Result<(), AllocError>
+        requires order { AreInOrder edges.now }
+        requires keys { All (λ e. HasKey layout.now e.place) edges.now }
+        requires within { n + 1 < length starts.now }
+        requires near { length starts.now < 2 ^ 32 }
+        requires cadence { KeepsCadenceTo (listed starts.now) (length starts.now - 1) }
+        requires repeats { ForSome self.old.keys.repeats (λ r. HasKey layout.now r.place) }
+        ensures ticked { IfOk result (λ u. self.new ≡ next_tick (keyboard layout.now) edges.now host.now (listed starts.now) n self.old) }
+        ensures known { IfOk result (λ u. ForSome self.new.keys.repeats (λ r. HasKey layout.now r.place)) }
+    {
+        let seen = tick_edges(alloc, edges, starts, n)?;
+        let start = FIRST_STAMP + starts[n];
+        let end = FIRST_STAMP + starts[n + 1];
+        self.tick(layout, host, seen.as_slice(), start, end)?;
+        Ok(())
+    }
+
+    /// What was said so far, with its cycles.
+    pub(crate) fn log(&self) -> &[Stamped]
+        ensures { result.now ≡ self.now.side.log }
+    {
+        self.side.log()
+    }
+}
+
+/// A meeting as the keyboard knows it: a byte that it gets has right parity.
+fn met_as(meeting: Meeting) -> KeyboardMeeting
+    ensures { result ≡ met_as_of meeting }
+{
+    match meeting {
+        Meeting::Got(byte) => KeyboardMeeting::Got(byte, true),
+        Meeting::Inhibited => KeyboardMeeting::Inhibited,
+        Meeting::Idle => KeyboardMeeting::Idle,
+        Meeting::Sent(_) => KeyboardMeeting::Sent,
+        Meeting::Cut => KeyboardMeeting::Cut,
+    }
+}
