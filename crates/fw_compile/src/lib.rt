@@ -10,6 +10,7 @@ mod tests;
 
 ghost use Rattle.std.specs.Prelude.{◌≡◌};
 ghost use Rattle.fw_compile.specs.Image.{image_of, with_tables};
+ghost use Rattle.fw_kernel.specs.Places.{HasKernel};
 
 use crate::codes::codes_of;
 use fw_kernel::KERNEL;
@@ -23,9 +24,10 @@ const CODES: usize = 0x300;
 const RATE: usize = 0x360;
 
 /// The image of a layout: the kernel with the code of place p (0 to 95) at 300 + p (hexadecimal), 00 where no entry has
-/// the place, and the rate at 360. It never refuses.
+/// the place, and the rate at 360. So outside the places 300 to 3CD it has the kernel's bytes. It never refuses.
 pub fn compile(layout: &Layout) -> Image
     ensures image { result.bytes ≡ image_of layout.now }
+    ensures kernel { HasKernel result.bytes }
 {
     let mut bytes = KERNEL;
     put_tables(&mut bytes, &codes_of(layout), layout.rate());

@@ -4,17 +4,20 @@
 //! data wire at P2.1 and T1, the lights Scroll, Num and Caps at P2.4 to P2.6, the columns at the low nibble of port 1
 //! and their rows at the bus. It must not know a layout, the controller or a stepper. The firmware is our own.
 //!
-//! **The frame.** A tick is 2,048 cycles and begins with the instruction at `TICK`, with register bank 1 selected. Its
-//! first instructions write the timer anew while the prescaler goes on, so that the overflows are exactly 2,048 cycles
-//! apart however long the work of a tick takes. No block of the tick makes a call or returns. Places 300 to 3CD
-//! (hexadecimal) hold no code: 300 to 35F are the codes of the layout's places and 360 its rate, and the rest is kept
-//! for a second layer. 3CE to 3FF are free for tables that MOVP3 reads.
+//! **The frame.** A tick is 2,048 cycles and begins with the instruction at `TICK`. The main program waits at `WAIT`
+//! with the timer's interrupt enabled, and register bank 1 is selected for good. The work of a tick is the
+//! interrupt's service and ends with RETR. Its first instructions write the timer anew while the prescaler goes on,
+//! so that the overflows are exactly 2,048 cycles apart however long the work takes; the loop at `WAIT` takes two
+//! cycles, so a tick starts in the cycle of its multiple of 2,048 or in the next. No block of the tick makes a call
+//! or returns. Places 300 to 3CD (hexadecimal) hold no code: 300 to 35F are the codes of the layout's places and 360
+//! its rate, and the rest is kept for a second layer. 3CE to 3FF are free for tables that MOVP3 reads.
 //!
-//! **This form** waits by the timer and does nothing else: both wires and all lights stay released.
+//! **This form** reads the twelve columns in each tick and keeps the held keys, puts the lights, which are off, and
+//! looks at both wires. It sends nothing: both wires stay released.
 #![tactic(auto)]
 
 mod bytes;
-mod labels;
+pub mod labels;
 mod text;
 
 pub use bytes::KERNEL;

@@ -1,0 +1,50 @@
+-- What a block of code leaves that writes no port. Its offsets count from its own start.
+use Rattle.std.specs.Prelude.{◌≡◌, ◌≤◌, ℕ, zero, suc, ◌+◌, true, false, ◌==◌, nat_le, if◌then◌else◌, List, ◌∷◌}
+use Rattle.mcs48_core.specs.Cpu.{Cpu}
+use Rattle.joint_run.specs.Run.{Board, ticks}
+use Rattle.fw_logic.proofs.Path.{Stage}
+
+-- cells by a function, before a list
+abbrev pub before : (ℕ → ℕ) → ℕ → ℕ → List ℕ → List ℕ
+before f at zero ring = ring
+before f at (suc n) ring = f at ∷ before f (at + 1) n ring
+
+-- cells with one of them changed
+abbrev pub put : (ℕ → ℕ) → ℕ → ℕ → ℕ → ℕ
+put f k v i = if i == k then v else f i
+
+-- data memory: 112 cells, and the ring
+abbrev pub memory : (ℕ → ℕ) → List ℕ → List ℕ
+memory f ring = before f 0 112 ring
+
+-- a processor at a place with a memory, in bank 1 and the lower half of the program, and with what a block may use: A, the carries and the timer
+abbrev pub scratched : Cpu → ℕ → List ℕ → Cpu → Cpu
+scratched m pc ram e =
+    record m { pc = pc; rb = true; mb = false; ram = ram; a = e.a; c = e.c; ac = e.ac; t = e.t; pre = e.pre; tf = e.tf; rq = e.rq; last_t1 = e.last_t1 }
+
+abbrev pub begin_at : (d : Board) → ℕ → (ℕ → ℕ) → List ℕ → Cpu → d.State → Stage d.State
+begin_at d pc f ring m board = record { cpu = scratched m pc (memory f ring) m; board = board; off = 0 }
+
+-- where a path of known instructions ends
+abbrev pub Shape : (d : Board) → ℕ → Cpu → d.State → ℕ → ℕ → (ℕ → ℕ) → List ℕ → Stage d.State → Type 0
+Shape d x m board pc max f ring e =
+    (e.cpu ≡ scratched m pc (memory f ring) e.cpu) × (nat_le e.off max ≡ true) ×
+    (e.board ≡ ticks e.off 0 (λ o. d.tick m.p2 (x + o)) board)
+
+-- the block ends at a place in time, and memory is then one of the set
+pub record Done (d : Board) (x : ℕ) (m : Cpu) (board : d.State) (pc max : ℕ) (M : (ℕ → ℕ) → List ℕ → Type 0) (e : Stage d.State) : Type 0 where
+  pub now : ℕ → ℕ
+  pub ring : List ℕ
+  pub cpu : e.cpu ≡ scratched m pc (memory now ring) e.cpu
+  pub short : e.off ≤ max
+  pub board_now : e.board ≡ ticks e.off x (d.tick m.p2) board
+  pub facts : M now ring
+
+abbrev pub Exactly : (ℕ → ℕ) → List ℕ → (ℕ → ℕ) → List ℕ → Type 0
+Exactly f ring g r = (g ≡ f) × (r ≡ ring)
+
+-- where a block ends: the place, the cells, the cycles it took, and the board; A, the carries and the timer are its own
+pub record At (d : Board) (k : Cpu) (pc : ℕ) (f : ℕ → ℕ) (ring : List ℕ) (cycles : ℕ) (board : d.State) (e : Stage d.State) : Type 0 where
+  pub cpu : e.cpu ≡ scratched k pc (memory f ring) e.cpu
+  pub off : e.off ≡ cycles
+  pub now : e.board ≡ board

@@ -1,0 +1,150 @@
+-- Runs between stages: composition, and one instruction.
+use Rattle.std.proofs.Common.{◌≡◌, ◌≤◌, ℕ, suc, zero, ◌+◌, ◌%◌, List, Bool, true, false, not, ◌&&◌, ◌==◌}
+use Rattle.std.proofs.Common.{Some, None, refl, ap, sym, ◌∙◌, subst, arith, inl, inr, zero-add}
+use Rattle.std.specs.declared.option.Option.{Option}
+use Rattle.mcs48_isa.specs.declared.operation.Decoded.{Decoded}
+use Rattle.mcs48_isa.specs.declared.operation.Op.{Op}
+use Rattle.mcs48_core.specs.declared.levels.Pins.{Pins}
+use Rattle.mcs48_core.specs.Cpu.{Cpu}
+use Rattle.mcs48_core.specs.Registers.{past}
+use Rattle.mcs48_core.specs.Timer.{after_timer}
+use Rattle.mcs48_core.specs.Step.{Stepped, row_at, stepped, effect, executed, entered, takes_external, takes_timer}
+use Rattle.joint_run.specs.Run.{Board, World, ticks, seen, after_step, joint_step}
+use Rattle.joint_run.specs.Starts.{calm_step, calm}
+use Rattle.fw_logic.proofs.Clock.{IsFree, is_plain, is_closed, clock_of, total, IsLater}
+use Rattle.fw_logic.proofs.Path.{Stage, Code}
+use Rattle.fw_logic.proofs.Path.{world_at, pins_at, moved}
+use Rattle.fw_logic.proofs.Path.{left, is_taken}
+use Rattle.fw_logic.proofs.Leads.{Leads, HasRows}
+use Rattle.fw_logic.proofs.Groups.{effect_clock, effect_free, plain_closed}
+use Rattle.fw_logic.proofs.Timing.{step_later, later_then}
+
+pub not_external : (pins : Pins) (m : Cpu) → IsFree m → takes_external pins m ≡ false
+not_external pins m (inl h) = rw h refl
+not_external pins m (inr h) =
+    let e = h.0 in rw e (elim (not m.svc) as (λ b. (b && false && not pins.int_pin) ≡ false) [ true ↦ refl | false ↦ refl ])
+
+pub not_timer : (m : Cpu) → IsFree m → takes_timer m ≡ false
+not_timer m (inl h) = rw h refl
+not_timer m (inr h) =
+    let e = h.1 in rw e (elim (not m.svc) as (λ b. (b && false && m.rq) ≡ false) [ true ↦ refl | false ↦ refl ])
+
+-- the step of a processor that can't be interrupted
+pub stepped_is : (bytes : List ℕ) (pins : Pins) (m : Cpu) (r : Decoded) → IsFree m → row_at bytes m.pc ≡ Some r
+    → stepped bytes pins m ≡ Some (record { cpu = after_timer m.run r.cycles pins (effect r.op bytes pins (past m)); cycles = r.cycles })
+stepped_is bytes pins m r free row =
+    let next : Stepped =
+    record { cpu = after_timer m.run r.cycles pins (effect r.op bytes pins (past m)); cycles = r.cycles } in
+    subst (λ x. (elim x as (λ v. Option Stepped) [ true ↦ Some (entered 3 pins m) | false ↦ elim (takes_timer m) as (λ v. Option Stepped) [ true ↦ Some (entered 7 pins (record m { rq = false })) | false ↦ executed (row_at bytes m.pc) bytes pins m ] ]) ≡ Some next) (sym (not_external pins m free))
+    (subst (λ x. (elim x as (λ v. Option Stepped) [ true ↦ Some (entered 7 pins (record m { rq = false })) | false ↦ executed (row_at bytes m.pc) bytes pins m ]) ≡ Some next) (sym (not_timer m free))
+    (ap (λ o. executed o bytes pins m) row))
+
+-- offsets are cycles from x on
+pub ticks_from : {S : Type 0} (n off x : ℕ) (f : ℕ → S → S) (s : S)
+    → ticks n (x + off) f s ≡ ticks n off (λ o. f (x + o)) s
+ticks_from zero off x f s = refl
+ticks_from (suc n) off x f s =
+    let e : x + off + 1 ≡ x + (off + 1) = omega arith in rw e (ticks_from n (off + 1) x f (f (x + off) s))
+
+module _ (d : Board) (code : Code) (has : HasRows code) (x : ℕ) where
+  calm_on : (n k : ℕ) (e : World d.State)
+      → ((t : World d.State) → calm d code.tick code.bytes n t ≡ Some e → calm d code.tick code.bytes (n + k) t ≡ calm d code.tick code.bytes k e)
+      → (o : Option (World d.State))
+      → (elim o as (λ v. Option (World d.State)) [ None ↦ None | Some t ↦ calm d code.tick code.bytes n t ]) ≡ Some e
+      → (elim o as (λ v. Option (World d.State)) [ None ↦ None | Some t ↦ calm d code.tick code.bytes (n + k) t ]) ≡ calm d code.tick code.bytes k e
+  calm_on n k e ih None h = absurd cc
+  calm_on n k e ih (Some t) h = ih t h
+
+  pub calm_add : (n k : ℕ) (w e : World d.State) → calm d code.tick code.bytes n w ≡ Some e
+      → calm d code.tick code.bytes (n + k) w ≡ calm d code.tick code.bytes k e
+  calm_add zero k w e h = let g : w ≡ e = cc in rw (zero-add, g) refl
+  calm_add (suc n) k w e h =
+      let c : suc n + k ≡ suc (n + k) = omega arith in rw c
+      (calm_on n k e (λ t g. calm_add n k t e g) (calm_step d code.tick code.bytes w) h)
+
+  pub chain : (Q R : Stage d.State → Type 0) (s : Stage d.State) → Leads d code x s Q
+      → ((e : Stage d.State) → Q e → IsFree e.cpu → Leads d code x e R) → Leads d code x s R
+  chain Q R s first rest =
+      let e = first.end in
+      let r = rest e first.goal first.free in
+      record {
+        steps = first.steps + r.steps;
+        end = r.end;
+        run = calm_add first.steps r.steps (world_at x s) (world_at x e) first.run ∙ r.run;
+        goal = r.goal;
+        free = r.free;
+        order = let a : s.off ≤ e.off = first.order in let b : e.off ≤ r.end.off = r.order in omega (arith, a, b);
+        clock = λ timed timing room.
+            let a : s.off ≤ e.off = first.order in
+            let b : e.off ≤ r.end.off = r.order in
+            let one = first.clock timed timing (omega (arith, room, b)) in
+            let count : total (clock_of e.cpu) + s.off ≡ total (clock_of s.cpu) + e.off = one.count in
+            later_then (clock_of s.cpu) (clock_of e.cpu) (clock_of r.end.cpu) s.off e.off r.end.off one
+            (r.clock timed one.timing (omega (arith, count, room, a, b)));
+      }
+
+  pub stay : (Q : Stage d.State → Type 0) (s : Stage d.State) → Q s → IsFree s.cpu → Leads d code x s Q
+  stay Q s h free =
+      record { steps = 0; end = s; run = refl; goal = h; free = free; order = omega arith; clock = λ timed timing room. record { count = refl; timing = timing; tf = refl; rq = refl; tim_on = refl } }
+
+  pub weaken : (Q R : Stage d.State → Type 0) (s : Stage d.State) → ((e : Stage d.State) → Q e → R e)
+      → Leads d code x s Q → Leads d code x s R
+  weaken Q R s f h =
+      record { steps = h.steps; end = h.end; run = h.run; goal = f h.end h.goal; free = h.free; order = h.order; clock = h.clock }
+
+  -- a stage comes to one of the set
+  abbrev pub To : Stage d.State → (Stage d.State → Type 0) → Type 0
+  To s K = IsFree s.cpu → Leads d code x s K
+
+  pub then : (K R : Stage d.State → Type 0) (s : Stage d.State) → To s K → ((e : Stage d.State) → K e → To e R) → To s R
+  then K R s first rest free = chain K R s (first free) rest
+
+  pub here : (K : Stage d.State → Type 0) (s : Stage d.State) → K s → To s K
+  here K s h free = stay K s h free
+
+  one_step : (s : Stage d.State) (r : Decoded) → IsFree s.cpu → row_at code.bytes s.cpu.pc ≡ Some r
+      → (s.cpu.pc % 2048 == code.tick) ≡ false
+      → calm d code.tick code.bytes 1 (world_at x s) ≡ Some (world_at x (moved d x r.cycles (left d code x r s) s))
+  one_step s r free row off =
+      let w = world_at x s in
+      let m = left d code x r s in
+      let next : Stage d.State = moved d x r.cycles m s in
+      let step : joint_step d code.bytes w ≡ Some (record { cpu = m; board = ticks r.cycles (x + s.off) (d.tick m.p2) s.board; cycle = x + s.off + r.cycles }) =
+      ap (λ o. after_step d w o) (stepped_is code.bytes (pins_at d x s) s.cpu r free row) in
+      let sum : x + s.off + r.cycles ≡ x + (s.off + r.cycles) = omega arith in
+      let one : joint_step d code.bytes w ≡ Some (world_at x next) =
+      step ∙ ap (λ b. Some (record { cpu = m; board = b; cycle = x + s.off + r.cycles })) (ticks_from r.cycles s.off x (d.tick m.p2) s.board)
+      ∙ ap (λ n. Some (record { cpu = m; board = next.board; cycle = n })) sum in
+      let calm_one : calm_step d code.tick code.bytes w ≡ Some (world_at x next) =
+      ap
+      (λ b. elim (b && not (takes_external (seen d w) w.cpu) && not (takes_timer w.cpu)) as (λ v. Option (World d.State)) [ true ↦ None | false ↦ joint_step d code.bytes w ]) off
+      ∙ one in
+      ap (λ o. elim o as (λ v. Option (World d.State)) [ None ↦ None | Some next ↦ Some next ]) calm_one
+
+  taken_closed : (b : Bool) (op : Op) → is_taken b op ≡ true → is_closed op ≡ true
+  taken_closed true op h = plain_closed op h
+  taken_closed false op h = h
+
+  -- one instruction
+  pub by_row : (K : Stage d.State → Type 0) (s : Stage d.State) (r : Decoded) → code.row s.cpu.pc ≡ Some r
+      → is_taken code.timed r.op ≡ true → (s.cpu.pc % 2048 == code.tick) ≡ false
+      → K (moved d x r.cycles (left d code x r s) s) → To s K
+  by_row K s r row taken off h free =
+      let row-is = has s.cpu.pc r row in
+      let few : r.cycles ≤ 2 = row-is.1 in
+      let pins = pins_at d x s in
+      let next = effect r.op code.bytes pins (past s.cpu) in
+      record {
+        steps = 1;
+        end = moved d x r.cycles (left d code x r s) s;
+        run = one_step s r free row-is.0 off;
+        goal = h;
+        free = effect_free r.op code.bytes pins (past s.cpu) (taken_closed code.timed r.op taken) free;
+        order = omega arith;
+        clock = λ timed timing room.
+            let plain : is_plain r.op ≡ true = ap (λ b. is_taken b r.op) (sym timed) ∙ taken in
+            let same = effect_clock r.op code.bytes pins (past s.cpu) plain in
+            subst (λ b. IsLater (clock_of s.cpu) (clock_of (after_timer b r.cycles pins next)) s.off (s.off + r.cycles))
+            (ap (λ k. k.run) same)
+            (step_later (clock_of s.cpu) next r.cycles pins s.off same timing few room);
+      }

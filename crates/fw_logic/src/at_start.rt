@@ -1,0 +1,27 @@
+//! The tick starts of a joint run.
+
+ghost use Rattle.std.specs.Prelude.{not, ◌%◌, ◌&&◌, ◌==◌, ◌≡◌};
+ghost use Rattle.fw_kernel.specs.declared.labels.TheConstants.{TICK};
+ghost use Rattle.fw_logic.specs.JointRun.{ExecutesTick, TellsTick};
+ghost use Rattle.mcs48_core.specs.Step.{takes_timer};
+
+use fw_kernel::TICK;
+use joint_run::Joint;
+use mcs48_core::Mcu;
+
+/// Whether the machine stands at a tick start: the counter, modulo 2,048, is `TICK`, and the next step is no interrupt's
+/// entry. Then the next step executes the instruction at `TICK`.
+pub fn at_tick(joint: &Joint) -> bool
+    ensures tells { TellsTick joint.now result }
+    ensures executes { ExecutesTick joint.now result }
+{
+    stands_at_tick(joint.mcu())
+}
+
+/// The same of a processor whose pin INT is high.
+fn stands_at_tick(mcu: &Mcu) -> bool
+    ensures { result ≡ (mcu.now.pc % 2048 == TICK && not (takes_timer mcu.now)) }
+{
+    let enters = !mcu.svc && mcu.tim_on && mcu.rq;
+    mcu.pc % 2048 == TICK && !enters
+}

@@ -1,0 +1,6 @@
+pub mod Made
+pub mod Numbers
+pub mod OneStep
+pub mod Passing
+pub mod Runs
+pub mod Stepping

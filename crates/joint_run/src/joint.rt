@@ -1,0 +1,104 @@
+//! The joint machine as its callers see it.
+
+ghost use Rattle.std.specs.Prelude.{◌≡◌, ◌<◌, ◌^◌, IfOk, OnErr};
+ghost use Rattle.int09.specs.Bios.{start};
+ghost use Rattle.joint_run.specs.Cycle.{outside_wires};
+ghost use Rattle.joint_run.specs.Due.{due_step, powered_on, IsJointStep};
+ghost use Rattle.joint_run.specs.History.{IsFirstOfRun, IsStepOfRun};
+
+use crate::due::{Due, Seen};
+use crate::machine::Machine;
+use crate::outside::Outside;
+use board_lines::{Lines, Matrix};
+use int09::Bios;
+use mcs48_core::{Mcu, Stuck, reset};
+use mcs48_isa::Image;
+use std::marker::Model;
+
+/// The keyboard's processor on its board, joined to the controller, the host and INT 09h. A clause sees its parts.
+#[derive(Drop)]
+pub struct Joint {
+    machine: Machine,
+}
+
+impl Model for Joint {
+    ghost use Rattle.joint_run.specs.declared.machine.Machine.{Machine};
+
+    ghost Value = { Machine };
+
+    ghost view = { λ j. j.machine };
+
+    ghost use Rattle.joint_run.specs.Sound.{IsSound};
+
+    ghost invariant = { λ j. IsSound j.machine };
+}
+
+impl Joint {
+    /// The machine at power-on, with this program and with INT 09h at its start.
+    pub fn power_on(image: &Image, bios: Bios) -> Joint
+        requires { bios ≡ start }
+        ensures parts { result ≡ powered_on image.now.bytes }
+        ensures run { IsFirstOfRun result }
+    {
+        Joint {
+            machine: Machine {
+                image: Image { bytes: image.bytes },
+                matrix: Matrix::new(),
+                mcu: reset(),
+                outside: Outside::new(bios),
+                cycle: 0,
+                steps: 0,
+            },
+        }
+    }
+
+    /// One joint step. The edges are made whose stamp is reached; the processor makes one step; then its cycles pass, in
+    /// each of which the controller looks at the wires, the host acts and the controller settles. Where the processor is
+    /// stuck nothing has changed, and no edge is made.
+    pub fn step(&mut self, due: &Due) -> Result<Seen, Stuck>
+        requires near { self.old.cycle < 2 ^ 62 }
+        ensures step { IsJointStep due.now self.old (due_step due.now self.old) result self.new }
+        ensures run { IsStepOfRun due.now self.old result self.new }
+        ensures unchanged { OnErr result (self.new ≡ self.old) }
+        ensures some { IfOk result (λ seen. 0 < seen.cycles) }
+        ensures few { IfOk result (λ seen. seen.cycles < 3) }
+    {
+        self.machine.step(due)
+    }
+
+    /// How many cycles are done; the next step begins with the cycle of this number.
+    pub fn cycle(&self) -> u64
+        ensures { result ≡ self.now.cycle }
+    {
+        self.machine.cycle
+    }
+
+    /// How many steps are done.
+    pub fn steps(&self) -> u64
+        ensures { result ≡ self.now.steps }
+    {
+        self.machine.steps
+    }
+
+    /// The processor.
+    pub fn mcu(&self) -> &Mcu
+        ensures { result.now ≡ self.now.mcu }
+    {
+        &self.machine.mcu
+    }
+
+    /// The wires after the last cycle that is done.
+    pub fn lines(&self) -> Lines
+        ensures { result ≡ outside_wires self.now.mcu.p2 self.now.outside }
+    {
+        let p2 = self.machine.mcu.p2;
+        self.machine.outside.wires(p2)
+    }
+
+    /// INT 09h.
+    pub fn bios(&self) -> &Bios
+        ensures { result.now ≡ self.now.outside.desk.bios }
+    {
+        &self.machine.outside.desk.bios
+    }
+}

@@ -1,0 +1,113 @@
+//! The joint machine's parts, and a step of them.
+
+ghost use Rattle.std.specs.Prelude.{◌≡◌, ◌<◌, ◌≤◌, ◌^◌, [], length, IfOk, OnErr};
+ghost use Rattle.board_lines.specs.Matrix.{turned_by};
+ghost use Rattle.ctl_link.specs.Empty.{IsEmptyUnlessHeld};
+ghost use Rattle.joint_run.specs.Due.{beside, due_step, made_first, IsJointStep};
+ghost use Rattle.joint_run.specs.Joint.{pins_by};
+ghost use Rattle.mcs48_core.specs.Step.{stepped, IsStep};
+
+use crate::due::{Due, Seen};
+use crate::outside::Outside;
+use arrayvec::ArrayVec;
+use board_lines::{Edge, Matrix};
+use mcs48_core::{Mcu, Pins, Stuck};
+use mcs48_isa::Image;
+
+/// The program; the matrix, with the edges made that were handed in; the processor; what stands outside it; how many cycles
+/// are done, and how many steps.
+#[derive(Drop)]
+pub struct Machine {
+    pub image: Image,
+    pub matrix: Matrix,
+    pub mcu: Mcu,
+    pub outside: Outside,
+    pub cycle: u64,
+    pub steps: u64,
+}
+
+/// The first of these edges are made, up to one whose stamp isn't reached at this cycle. Answers how many.
+fn make_edges(matrix: &mut Matrix, cycle: u64, edges: &[Edge]) -> u8
+    requires { length edges.now ≤ 4 }
+    ensures keys { matrix.new ≡ turned_by (made_first cycle edges.now) matrix.old }
+    ensures count { result ≡ length (made_first cycle edges.now) }
+    ensures few { result ≤ length edges.now }
+{
+    match edges {
+        [] => 0,
+        [edge, rest @ ..] => {
+            if cycle < 4096 || edge.stamp > cycle - 4096 {
+                return 0;
+            }
+            matrix.edge(edge.place, edge.down);
+            1 + make_edges(matrix, cycle, rest)
+        }
+    }
+}
+
+/// The levels that the processor reads: the rows of the column that port 1 selects, and the wires. All other pins are high.
+fn pins(matrix: &Matrix, outside: &Outside, mcu: &Mcu) -> Pins
+    ensures { result ≡ pins_by matrix.now mcu.now.p1 mcu.now.p2 (beside outside.now 0 []) }
+{
+    let line = outside.wires(mcu.p2);
+    Pins {
+        p1: 0xff,
+        p2: 0xff,
+        bus: matrix.rows(mcu.p1),
+        t0: line.clk,
+        t1: line.dat,
+        int_pin: true,
+    }
+}
+
+/// The processor's step over this program, with these levels at its pins.
+fn execute(image: &Image, mcu: &mut Mcu, given: Pins) -> Result<u8, Stuck>
+    ensures step { IsStep image.now.bytes mcu.old (stepped image.now.bytes given mcu.old) result mcu.new }
+    ensures some { IfOk result (λ cycles. 0 < cycles) }
+    ensures few { IfOk result (λ cycles. cycles < 3) }
+{
+    mcu.step(image, given)
+}
+
+/// The latch of port 2.
+fn port_2(mcu: &Mcu) -> u8
+    ensures { result ≡ mcu.now.p2 }
+{
+    mcu.p2
+}
+
+impl Machine {
+    /// One joint step. The edges are made whose stamp is reached; the processor makes one step; then its cycles pass.
+    /// Where the processor is stuck nothing has changed, and no edge is made.
+    pub(crate) fn step(&mut self, due: &Due) -> Result<Seen, Stuck>
+        requires near { self.old.cycle < 2 ^ 62 }
+        requires steps { self.old.steps ≤ self.old.cycle }
+        requires empty { IsEmptyUnlessHeld self.old.outside.desk.port }
+        ensures step { IsJointStep due.now self.old (due_step due.now self.old) result self.new }
+        ensures unchanged { OnErr result (self.new ≡ self.old) }
+        ensures some { IfOk result (λ seen. 0 < seen.cycles) }
+        ensures few { IfOk result (λ seen. seen.cycles < 3) }
+        ensures steps { self.new.steps ≤ self.new.cycle }
+        ensures empty { IsEmptyUnlessHeld self.new.outside.desk.port }
+    {
+        let mut matrix = self.matrix.copied();
+        let edges = make_edges(&mut matrix, self.cycle, due.edges.as_slice());
+        let given = pins(&matrix, &self.outside, &self.mcu);
+        let cycles = execute(&self.image, &mut self.mcu, given)?;
+        self.matrix = matrix;
+        let p2 = port_2(&self.mcu);
+        let mut items = ArrayVec::new();
+        let (host, first, last) = self
+            .outside
+            .pass(self.cycle, cycles, p2, due.host.as_slice(), &mut items);
+        self.cycle += cycles as u64;
+        self.steps += 1;
+        Ok(Seen {
+            cycles,
+            edges,
+            host,
+            items,
+            lines: [first, last],
+        })
+    }
+}

@@ -1,0 +1,242 @@
+//! What stands outside the processor, and a cycle of it.
+
+ghost use Rattle.std.specs.Prelude.{◌≡◌, ◌+◌, ◌-◌, ◌<◌, ◌≤◌, ◌^◌, [], ◌++◌, length, slice_get};
+ghost use Rattle.ctl_link.specs.Empty.{IsEmptyUnlessHeld};
+ghost use Rattle.ctl_wire.specs.Wire.{drive, edge_at};
+ghost use Rattle.int09.specs.Bios.{start};
+ghost use Rattle.host_turn.specs.Cycle.{cycled};
+ghost use Rattle.host_turn.specs.Run.{lights_said, stamped};
+ghost use Rattle.joint_run.specs.Due.{outside_at_start, outside_of, passed};
+ghost use Rattle.pc_wires.specs.Wires.{wires};
+ghost use Rattle.joint_run.specs.Joint.{lights_of, latch_of};
+ghost use Rattle.joint_run.specs.Cycle.{looked_outside, outside_cycle, outside_wires};
+
+use arrayvec::ArrayVec;
+use board_lines::{HostEvent, Lines};
+use ctl_link::Link;
+use ctl_wire::{Wire, drive_of, fall};
+use host_turn::{Desk, Stamped};
+use int09::Bios;
+use pc_tables::Item;
+
+/// The controller with its wire state, the host's mask and INT 09h; the level of the clock at the controller's last look;
+/// and the lights that the keyboard shows.
+#[derive(Drop)]
+pub struct Outside {
+    pub desk: Desk<Wire>,
+    pub clock: bool,
+    pub shown: u8,
+}
+
+/// The lights that port 2 lights: Scroll as bit 0, Num as bit 1, Caps as bit 2, each where its latch bit is 0.
+pub(crate) fn lights(p2: u8) -> u8
+    ensures { result ≡ lights_of p2 }
+{
+    let scroll = if p2 >> 4 & 1 == 1 { 0 } else { 1 };
+    let num = if p2 >> 5 & 1 == 1 { 0 } else { 2 };
+    let caps = if p2 >> 6 & 1 == 1 { 0 } else { 4 };
+    scroll + num + caps
+}
+
+/// What port 2 drives on the wires.
+pub(crate) fn latch(p2: u8) -> Lines
+    ensures { result ≡ latch_of p2 }
+{
+    Lines {
+        clk: p2 >> 0 & 1 == 1,
+        dat: p2 >> 1 & 1 == 1,
+    }
+}
+
+/// What the controller drives. It stands out of line, since the link is free in most cycles.
+#[inline(never)]
+fn drive_of_taken(link: &Link<Wire>) -> Lines
+    ensures { result ≡ drive link.now }
+{
+    drive_of(link)
+}
+
+/// The host's next event, once so many of these are done.
+fn next_of(host: &[HostEvent], done: u8) -> Option<HostEvent>
+    ensures { result ≡ slice_get host.now done }
+{
+    host.get(done as usize).copied()
+}
+
+impl Outside {
+    /// What stands outside the processor at power-on, with INT 09h at its start.
+    pub(crate) fn new(bios: Bios) -> Outside
+        requires { bios ≡ start }
+        ensures start { result ≡ outside_at_start }
+        ensures empty { IsEmptyUnlessHeld result.desk.port }
+    {
+        Outside {
+            desk: Desk::new(bios),
+            clock: true,
+            shown: 0,
+        }
+    }
+
+    /// The wires, with what the keyboard's port 2 drives.
+    #[inline(always)]
+    pub(crate) fn wires(&self, p2: u8) -> Lines
+        ensures { result ≡ outside_wires p2 self.now }
+    {
+        let keyboard = latch(p2);
+        let controller = match &self.desk.port.link {
+            Link::Free => Lines {
+                clk: true,
+                dat: true,
+            },
+            link => drive_of_taken(link),
+        };
+        Lines {
+            clk: keyboard.clk && controller.clk,
+            dat: keyboard.dat && controller.dat,
+        }
+    }
+
+    /// The lights that port 2 lights are shown; they are said where they changed.
+    fn show(&mut self, now: u64, p2: u8, items: &mut ArrayVec<Stamped, 16>)
+        requires room { length items.old.items < 16 }
+        ensures shown { self.new ≡ record self.old { shown = lights_of p2 } }
+        ensures said { items.new.items ≡ items.old.items ++ lights_said now self.old.shown (lights_of p2) }
+        ensures few { length items.new.items ≤ length items.old.items + 1 }
+    {
+        let lights = lights(p2);
+        if lights != self.shown {
+            items.push(Stamped {
+                cycle: now,
+                item: Item::Lights(lights),
+            });
+            self.shown = lights;
+        }
+    }
+
+    /// The clock falls, with data at this level.
+    #[inline(never)]
+    fn take_edge(&mut self, now: u64, dat: bool)
+        requires empty { IsEmptyUnlessHeld self.old.desk.port }
+        ensures port { self.new ≡ record self.old { desk = record self.old.desk { port = edge_at now dat self.old.desk.port.link self.old.desk.port } } }
+        ensures empty { IsEmptyUnlessHeld self.new.desk.port }
+    {
+        fall(&mut self.desk.port, now, dat);
+    }
+
+    /// The controller looks at the wires.
+    #[inline(always)]
+    fn look(&mut self, now: u64, p2: u8)
+        requires empty { IsEmptyUnlessHeld self.old.desk.port }
+        ensures outside { self.new ≡ looked_outside now (outside_wires p2 self.old) self.old }
+        ensures empty { IsEmptyUnlessHeld self.new.desk.port }
+    {
+        let line = self.wires(p2);
+        if self.clock && !line.clk {
+            self.take_edge(now, line.dat);
+        }
+        self.clock = line.clk;
+    }
+
+    /// The host acts and the controller settles, in a cycle in which something may happen. What is said is put behind the
+    /// items, with this cycle.
+    #[inline(never)]
+    fn go_on_busily(
+        &mut self,
+        now: u64,
+        next: Option<HostEvent>,
+        items: &mut ArrayVec<Stamped, 16>,
+    ) -> bool
+        requires room { length items.old.items ≤ 11 }
+        ensures outside { self.new ≡ record self.old { desk = (cycled now next self.old.desk).desk } }
+        ensures items { items.new.items ≡ items.old.items ++ stamped now (cycled now next self.old.desk).items }
+        ensures done { result ≡ (cycled now next self.old.desk).done }
+        ensures few { length items.new.items ≤ length items.old.items + 5 }
+        ensures empty { IsEmptyUnlessHeld self.old.desk.port → IsEmptyUnlessHeld self.new.desk.port }
+    {
+        let mut said = ArrayVec::new();
+        let done = self.desk.go_on(now, next, &mut said);
+        for item in said.iter() {
+            items.push(Stamped {
+                cycle: now,
+                item: *item,
+            });
+        }
+        done
+    }
+
+    /// The same in any cycle. In most nothing happens, and no list is made for what is said.
+    #[inline(always)]
+    fn go_on(
+        &mut self,
+        now: u64,
+        next: Option<HostEvent>,
+        items: &mut ArrayVec<Stamped, 16>,
+    ) -> bool
+        requires room { length items.old.items ≤ 11 }
+        ensures outside { self.new ≡ record self.old { desk = (cycled now next self.old.desk).desk } }
+        ensures items { items.new.items ≡ items.old.items ++ stamped now (cycled now next self.old.desk).items }
+        ensures done { result ≡ (cycled now next self.old.desk).done }
+        ensures few { length items.new.items ≤ length items.old.items + 5 }
+        ensures empty { IsEmptyUnlessHeld self.old.desk.port → IsEmptyUnlessHeld self.new.desk.port }
+    {
+        if self.desk.rests(now, next) {
+            return false;
+        }
+        self.go_on_busily(now, next, items)
+    }
+
+    /// A cycle, in which port 2 is this: lights that changed are said; the controller looks at the wires; the host acts
+    /// and the controller settles. Answers whether the host's next event was done.
+    #[inline(always)]
+    fn cycle(
+        &mut self,
+        now: u64,
+        p2: u8,
+        next: Option<HostEvent>,
+        items: &mut ArrayVec<Stamped, 16>,
+    ) -> bool
+        requires empty { IsEmptyUnlessHeld self.old.desk.port }
+        requires room { length items.old.items ≤ 10 }
+        ensures outside { self.new ≡ (outside_cycle now p2 next self.old).outside }
+        ensures items { items.new.items ≡ items.old.items ++ (outside_cycle now p2 next self.old).items }
+        ensures done { result ≡ (outside_cycle now p2 next self.old).done }
+        ensures few { length items.new.items ≤ length items.old.items + 6 }
+        ensures empty { IsEmptyUnlessHeld self.new.desk.port }
+    {
+        self.show(now, p2, items);
+        self.look(now, p2);
+        self.go_on(now, next, items)
+    }
+
+    /// The cycles of a step, 1 or 2, from this one on, in which port 2 is this. Answers how many of the host's events were
+    /// done, and the wires after the first and after the last cycle.
+    pub(crate) fn pass(
+        &mut self,
+        now: u64,
+        cycles: u8,
+        p2: u8,
+        host: &[HostEvent],
+        items: &mut ArrayVec<Stamped, 16>,
+    ) -> (u8, Lines, Lines)
+        requires near { now < 2 ^ 62 }
+        requires some { 0 < cycles }
+        requires few { cycles < 3 }
+        requires empty { IsEmptyUnlessHeld self.old.desk.port }
+        requires none { items.old.items ≡ [] }
+        ensures outside { self.new ≡ outside_of (passed cycles now p2 host.now self.old) }
+        ensures done { result.0 ≡ (passed cycles now p2 host.now self.old).pc.side.done }
+        ensures items { items.new.items ≡ (passed cycles now p2 host.now self.old).pc.side.log }
+        ensures first { result.1 ≡ wires (latch_of p2) (passed 1 now p2 host.now self.old).pc }
+        ensures last { result.2 ≡ wires (latch_of p2) (passed cycles now p2 host.now self.old).pc }
+        ensures empty { IsEmptyUnlessHeld self.new.desk.port }
+    {
+        let first_done = self.cycle(now, p2, next_of(host, 0), items) as u8;
+        let first = self.wires(p2);
+        if cycles == 1 {
+            return (first_done, first, first);
+        }
+        let last_done = self.cycle(now + 1, p2, next_of(host, first_done), items) as u8;
+        let last = self.wires(p2);
+        (first_done + last_done, first, last)
+    }
+}

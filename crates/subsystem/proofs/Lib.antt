@@ -1,0 +1,10 @@
+pub mod Advancing
+pub mod Beginning
+pub mod Counts
+pub mod Ending
+pub mod Feeding
+pub mod Judging
+pub mod Lines
+pub mod Said
+pub mod Ticks
+pub mod Timekeeping

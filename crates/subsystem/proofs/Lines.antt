@@ -1,0 +1,49 @@
+-- The lines of the log, as starts and items come.
+use Rattle.std.proofs.Common.{◌≡◌, ◌≤◌, ◌<◌, ℕ, suc, ◌+◌, ◌-◌, List, [], ◌∷◌, ◌++◌, length, map, refl, ap, sym, ◌∙◌, arith, add-one}
+use Rattle.std.proofs.lemmas.List.{length-append}
+use Rattle.board_lines.specs.Cadence.{begun, listed}
+use Rattle.host_turn.specs.declared.stamped.Stamped.{Stamped}
+use Rattle.subsystem.specs.Account.{in_tick}
+use Rattle.subsystem.specs.Progress.{AreIn, line_so_far}
+use Rattle.subsystem.specs.Running.{line_of, lines_of}
+use Rattle.subsystem.proofs.Ticks.{begun_later, all_begun}
+
+pub one_longer : (starts : List ℕ) (next : ℕ) → length (starts ++ next ∷ []) ≡ suc (length starts)
+one_longer starts next = length-append starts (next ∷ []) ∙ add-one (length starts)
+
+-- a later start changes no line
+line_later : (starts : List ℕ) (next : ℕ) (s : Stamped) → s.cycle < 4096 + next → line_so_far (starts ++ next ∷ []) s ≡ line_so_far starts s
+line_later starts next s l =
+    ap (λ (n : ℕ). record { tick = begun (listed (starts ++ next ∷ [])) s.cycle n - 1; item = s.item }) (one_longer starts next)
+    ∙ ap (λ (n : ℕ). record { tick = n - 1; item = s.item }) (begun_later starts next s.cycle l)
+
+pub lines_later : (starts : List ℕ) (next to : ℕ) (log : List Stamped) → to ≤ 4096 + next → AreIn 0 to log
+    → map (line_so_far (starts ++ next ∷ [])) log ≡ map (line_so_far starts) log
+lines_later starts next to [] l h = refl
+lines_later starts next to (s ∷ log) l h =
+    let k = h.0.1 in
+    let below : s.cycle < 4096 + next = omega (arith, k, l) in
+    ap (λ v. v ∷ map (line_so_far (starts ++ next ∷ [])) log) (line_later starts next s below)
+    ∙ ap (λ v. line_so_far starts s ∷ v) (lines_later starts next to log l h.1)
+
+-- where all starts are at or before the cycles of items, these are of the last tick
+line_now : (starts : List ℕ) (s : Stamped) → ((j : ℕ) → j < length starts → 4096 + listed starts j ≤ s.cycle) → line_so_far starts s ≡ in_tick (length starts - 1) s
+line_now starts s h = ap (λ (n : ℕ). record { tick = n - 1; item = s.item }) (all_begun starts s.cycle h)
+
+pub lines_now : (starts : List ℕ) (from to : ℕ) (items : List Stamped) → ((j : ℕ) → j < length starts → 4096 + listed starts j ≤ from) → AreIn from to items
+    → map (in_tick (length starts - 1)) items ≡ map (line_so_far starts) items
+lines_now starts from to [] h k = refl
+lines_now starts from to (s ∷ items) h k =
+    let l = k.0.0 in
+    let reached = line_now starts s (λ j below. let m = h j below in omega (arith, l, m)) in
+    ap (λ v. v ∷ map (in_tick (length starts - 1)) items) (sym reached) ∙ ap (λ v. line_so_far starts s ∷ v) (lines_now starts from to items h k.1)
+
+-- once a tick has started the lines are those of the whole run's starts
+line_whole : (starts : List ℕ) (s : Stamped) → 0 < length starts → line_so_far starts s ≡ line_of starts s
+line_whole starts s l =
+    let e : length starts ≡ suc (length starts - 1) = omega (arith, l) in
+    ap (λ (n : ℕ). record { tick = begun (listed starts) s.cycle n - 1; item = s.item }) e
+
+pub lines_whole : (starts : List ℕ) (log : List Stamped) → 0 < length starts → map (line_so_far starts) log ≡ lines_of starts log
+lines_whole starts [] l = refl
+lines_whole starts (s ∷ log) l = ap (λ v. v ∷ map (line_so_far starts) log) (line_whole starts s l) ∙ ap (λ v. line_of starts s ∷ v) (lines_whole starts log l)

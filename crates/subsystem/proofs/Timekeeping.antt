@@ -1,0 +1,162 @@
+-- The run keeps its time: what follows for the loop and for its outcome.
+use Rattle.std.proofs.Common.{◌≡◌, ◌≤◌, ◌<◌, ℕ, zero, suc, ◌+◌, ◌-◌, true, false, ◌&&◌, List, [], ◌∷◌, ◌++◌, length, leb, Some, None, refl, ap, sym, subst, ◌∙◌, arith}
+use Rattle.std.specs.Prelude.{if◌then◌else◌, nat_le}
+use Rattle.std.proofs.lemmas.Bool.Decides.{nat_tests}
+use Rattle.std.proofs.lemmas.List.{append-nil, get_or_append_left}
+use Rattle.std.proofs.Math.Seq.{get_or-append_seam}
+use Rattle.std.specs.declared.option.Option.{Option}
+use Rattle.board_lines.specs.Cadence.{IsNear, KeepsCadenceTo, listed}
+use Rattle.fw_kernel.specs.declared.labels.TheConstants.{TICK}
+use Rattle.fw_logic.specs.JointRun.{KeepsTime}
+use Rattle.mcs48_core.specs.Step.{Stepped, stepped}
+use Rattle.joint_run.specs.Joint.{Beside, joint_board, joint_start}
+use Rattle.joint_run.specs.Run.{World, after_step, joint_step, seen, step_on}
+use Rattle.joint_run.specs.Starts.{start_in, starts_before, IsStart, IsEnd}
+use Rattle.subsystem.specs.declared.outcome.Run.{Run}
+use Rattle.subsystem.specs.Running.{Story, state_at, starts_tick, start_stamp, starts_among, IsRun}
+use Rattle.subsystem.specs.Progress.{GoesOnTo, is_over}
+use Rattle.subsystem.proofs.Lines.{one_longer}
+
+-- what stands in equal options is equal
+some_is : {w v : World Beside} → Some w ≡ Some v → w ≡ v
+some_is h = cc h
+
+-- the cycle never falls
+after_grows : (s : Story) (w v : World Beside) (n : Option Stepped) → after_step (joint_board s.edges s.events) w n ≡ Some v → w.cycle ≤ v.cycle
+after_grows s w v None h = absurd cc
+after_grows s w v (Some n) h = let e : w.cycle + n.cycles ≡ v.cycle = ap (λ (u : World Beside). u.cycle) (some_is h) in omega (arith, e)
+
+one_grows : (s : Story) (k : ℕ) (w v : World Beside) → state_at s k ≡ Some w → state_at s (suc k) ≡ Some v → w.cycle ≤ v.cycle
+one_grows s k w v h g =
+    let step : joint_step (joint_board s.edges s.events) s.bytes w ≡ Some v = sym (ap (step_on (joint_board s.edges s.events) s.bytes) h) ∙ g in
+    after_grows s w v (stepped s.bytes (seen (joint_board s.edges s.events) w) w.cpu) step
+
+module _ (s : Story) (t : KeepsTime s.bytes s.edges s.events) where
+  grows : (k m : ℕ) (w v : World Beside) → k ≤ m → state_at s k ≡ Some w → state_at s m ≡ Some v → w.cycle ≤ v.cycle
+  grows k zero w v l h g =
+      let e : k ≡ 0 = omega (arith, l) in
+      let f : Some w ≡ Some v = sym h ∙ ap (state_at s) e ∙ g in
+      let same : w.cycle ≡ v.cycle = ap (λ (u : World Beside). u.cycle) (some_is f) in
+      omega (arith, same)
+  grows k (suc m) w v l h g =
+      elim (leb k m) as (λ b. leb k m ≡ b → w.cycle ≤ v.cycle) [
+        | true ↦ λ f.
+            let on = t.goes_on m in
+            let below : k ≤ m = grind (arith, nat_tests, f) in
+            let a = grows k m w on.0 below h on.1 in
+            let b = one_grows s m on.0 v on.1 g in
+            omega (arith, a, b)
+        | false ↦ λ f.
+            let e : k ≡ suc m = grind (arith, nat_tests, f, l) in
+            let i : Some w ≡ Some v = sym h ∙ ap (state_at s) e ∙ g in
+            let same : w.cycle ≡ v.cycle = ap (λ (u : World Beside). u.cycle) (some_is i) in
+            omega (arith, same)
+      ] refl
+
+  on_at : (k j : ℕ) → GoesOnTo s k → j < k → (w : World Beside) × (state_at s j ≡ Some w) × (is_over s w ≡ false)
+  on_at zero j h l = absurd (omega (arith, l))
+  on_at (suc k) j h l =
+      elim (leb k j) as (λ b. leb k j ≡ b → (w : World Beside) × (state_at s j ≡ Some w) × (is_over s w ≡ false)) [
+        | true ↦ λ f. let e : k ≡ j = grind (arith, nat_tests, f, l) in (h.1, ap (state_at s) (sym e) ∙ h.2, h.3)
+        | false ↦ λ f. on_at k j h.0 (grind (arith, nat_tests, f))
+      ] refl
+
+  -- the end is a start that comes soon enough
+  end_soon : (n : ℕ) (e : IsEnd (joint_board s.edges s.events) TICK s.bytes joint_start s.stop n) → e.start.state.cycle < s.stop + 6152
+  end_soon zero e =
+      let near = t.near zero e.stamp e.start in
+      let a = near.most in
+      let b = e.start.cycle in
+      omega (arith, a, b)
+  end_soon (suc m) e =
+      let near = t.near (suc m) e.stamp e.start in
+      let earlier = t.starts m in
+      let before = e.before m earlier.0 (omega arith) earlier.1 in
+      let least = (t.near m earlier.0 earlier.1).least in
+      let a = near.most in
+      let b = e.start.cycle in
+      omega (arith, a, b, before, least)
+
+  -- a run that isn't over by now is near its end
+  pub still_near : (k : ℕ) (w : World Beside) → GoesOnTo s k → state_at s k ≡ Some w → is_over s w ≡ false → w.cycle < s.stop + 6152
+  still_near k w on here off =
+      let end = t.ends s.stop in
+      let e = end.1 in
+      let soon = end_soon end.0 e in
+      let reaches = e.reaches in
+      let stamp = e.start.cycle in
+      elim (leb k e.start.steps) as (λ b. leb k e.start.steps ≡ b → w.cycle < s.stop + 6152) [
+        | true ↦ λ f. let a = grows k e.start.steps w e.start.state (grind (arith, nat_tests, f)) here e.start.reached in omega (arith, a, soon)
+        | false ↦ λ f.
+            let j = on_at k e.start.steps on (grind (arith, nat_tests, f)) in
+            let same : Some j.0 ≡ Some e.start.state = sym j.1 ∙ e.start.reached in
+            let open_still : is_over s e.start.state ≡ false = sym (ap (is_over s) (some_is same)) ∙ j.2 in
+            let reached : nat_le (4096 + s.stop) e.start.state.cycle ≡ true = grind (arith, nat_tests, reaches, stamp) in
+            let over : is_over s e.start.state ≡ true = ap (λ b. b && nat_le (4096 + s.stop) e.start.state.cycle) e.start.at ∙ reached in
+            absurd (cc (open_still, over))
+      ] refl
+
+  -- the starts that are told are the run's, by their numbers
+  abbrev Numbered : ℕ → Type 0
+  Numbered k = (length (starts_among s k) ≡ starts_before (joint_board s.edges s.events) TICK s.bytes joint_start k)
+      × ((j : ℕ) → j < length (starts_among s k) → IsStart (joint_board s.edges s.events) TICK s.bytes joint_start j (listed (starts_among s k) j))
+
+  numbered : (k : ℕ) → Numbered k
+  numbered zero = (refl, λ j l. absurd (omega (arith, l)))
+  numbered (suc k) =
+      let d = joint_board s.edges s.events in
+      let before = numbered k in
+      let xs = starts_among s k in
+      let on = t.goes_on k in
+      let w = on.0 in
+      let there : state_at s k ≡ Some w = on.1 in
+      let among : starts_among s (suc k) ≡ xs ++ start_stamp s (Some w) = ap (λ (o : Option (World Beside)). xs ++ start_stamp s o) there in
+      let more : starts_before d TICK s.bytes joint_start (suc k) ≡ starts_before d TICK s.bytes joint_start k + start_in d TICK (Some w) =
+      ap (λ (o : Option (World Beside)). starts_before d TICK s.bytes joint_start k + start_in d TICK o) there in
+      elim (starts_tick s w) as (λ b. starts_tick s w ≡ b → Numbered (suc k)) [
+        | true ↦ λ f.
+            let early = t.none_early k w there f in
+            let put : starts_among s (suc k) ≡ xs ++ (w.cycle - 4096) ∷ [] = among ∙ ap (λ b. xs ++ (if b then (w.cycle - 4096) ∷ [] else [])) f in
+            let long : length (starts_among s (suc k)) ≡ suc (length xs) = ap length put ∙ one_longer xs (w.cycle - 4096) in
+            let one : start_in d TICK (Some w) ≡ 1 = ap Rattle.mcs48_core.specs.Status.digit f in
+            let count = before.0 in (
+              omega (arith, long, more, one, count),
+              λ j l. elim (leb (length xs) j) as (λ b. leb (length xs) j ≡ b → IsStart d TICK s.bytes joint_start j (listed (starts_among s (suc k)) j)) [
+                | true ↦ λ g.
+                    let e : j ≡ length xs = grind (arith, nat_tests, g, l, long) in
+                    let last : listed (starts_among s (suc k)) j ≡ w.cycle - 4096 =
+                    ap (λ (v : List ℕ). listed v j) put ∙ ap (listed (xs ++ (w.cycle - 4096) ∷ [])) e ∙ get_or-append_seam xs (w.cycle - 4096) [] 0 in
+                    record { steps = k; state = w; reached = there; at = f; number = sym count ∙ sym e; cycle = omega (arith, last, early) }
+                | false ↦ λ g.
+                    let m : j < length xs = grind (arith, nat_tests, g) in
+                    let same : listed (starts_among s (suc k)) j ≡ listed xs j = ap (λ (v : List ℕ). listed v j) put ∙ get_or_append_left xs ((w.cycle - 4096) ∷ []) 0 j m in
+                    subst (IsStart d TICK s.bytes joint_start j) (sym same) (before.1 j m)
+              ] refl,
+            )
+        | false ↦ λ f.
+            let put : starts_among s (suc k) ≡ xs = among ∙ ap (λ b. xs ++ (if b then (w.cycle - 4096) ∷ [] else [])) f ∙ append-nil xs in
+            let none : start_in d TICK (Some w) ≡ 0 = ap Rattle.mcs48_core.specs.Status.digit f in
+            let count = before.0 in
+            let long : length (starts_among s (suc k)) ≡ length xs = ap length put in (
+              omega (arith, long, more, none, count),
+              λ j l. subst (λ (v : List ℕ). IsStart d TICK s.bytes joint_start j (listed v j)) (sym put) (before.1 j (subst (λ (v : List ℕ). j < length v) put l)),
+            )
+      ] refl
+
+  pub keeps_cadence : (run : Run) → IsRun s run → KeepsCadenceTo (listed run.starts.items) (length run.starts.items - 1)
+  keeps_cadence run h n l =
+      let put : starts_among s (suc run.steps) ≡ starts_among s run.steps ++ (h.world.cycle - 4096) ∷ [] =
+      ap (λ (o : Option (World Beside)). starts_among s run.steps ++ start_stamp s o) h.reached ∙ ap (λ b. starts_among s run.steps ++ (if b then (h.world.cycle - 4096) ∷ [] else [])) h.at in
+      let long : length run.starts.items ≡ suc (length (starts_among s run.steps)) = ap length (h.starts ∙ put) ∙ one_longer (starts_among s run.steps) (h.world.cycle - 4096) in
+      let below : n < length (starts_among s (suc run.steps)) = let e : length run.starts.items ≡ length (starts_among s (suc run.steps)) = ap length h.starts in omega (arith, l, long, e) in
+      subst (λ (v : List ℕ). IsNear n (listed v n)) (sym h.starts) (t.near n (listed (starts_among s (suc run.steps)) n) ((numbered (suc run.steps)).1 n below))
+
+  -- at the run's end an interrupt is in service, with register bank 1
+  pub serves_at_end : (run : Run) → IsRun s run → (run.end.svc ≡ true) × (run.end.rb ≡ true)
+  serves_at_end run h =
+      let d = joint_board s.edges s.events in
+      let early = t.none_early run.steps h.world h.reached h.at in
+      let start : IsStart d TICK s.bytes joint_start (starts_before d TICK s.bytes joint_start run.steps) (h.world.cycle - 4096) =
+      record { steps = run.steps; state = h.world; reached = h.reached; at = h.at; number = refl; cycle = omega (arith, early) } in
+      let serving = t.serves (starts_before d TICK s.bytes joint_start run.steps) (h.world.cycle - 4096) start in
+      (ap (λ m. m.svc) h.processor ∙ serving.0, ap (λ m. m.rb) h.processor ∙ serving.1)

@@ -1,0 +1,5 @@
+pub mod Account
+pub mod Feed
+pub mod Progress
+pub mod Running
+pub mod Texts

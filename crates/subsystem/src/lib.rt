@@ -1,0 +1,18 @@
+//! The subsystem as a whole: the run of a layout's compiled image under a key history, and the log's text.
+//!
+//! This layer knows where a run begins and ends, which of its steps are tick starts, and how the log is written. It makes
+//! the one joint run: the history's events are handed to the joint machine as they come near, and what it says is kept
+//! with its tick. It knows no instruction, no wire and no rule of the keyboard. Source: our own.
+#![tactic(auto)]
+
+mod account;
+mod feed;
+mod outcome;
+mod printing;
+mod progress;
+mod running;
+
+pub use link_model::LogLine;
+pub use outcome::Run;
+pub use printing::print_log;
+pub use running::run;
