@@ -1,68 +1,100 @@
 -- Where nothing stands in the way.
-use Rattle.std.proofs.Common.{◌≡◌, ℕ, ◌-◌, ◌^◌, ◌<◌, List, Some, None, Ok, ap, sym, ◌∙◌, subst, inl, inr, refl, arith}
+use Rattle.std.proofs.Common.{◌≡◌, ℕ, ◌-◌, ◌^◌, ◌<◌, Bool, List, Some, None, Ok, ap, sym, ◌∙◌, subst, inl, inr, refl, arith}
 use Rattle.layout_reader.specs.Faults.{Refusal as LayoutRefusal}
 use Rattle.layout_reader.specs.Layouts.{KeyLayout}
 use Rattle.std.specs.declared.option.Option.{Option}
 use Rattle.std.specs.declared.result.Result.{Result}
 use Rattle.hexfile.specs.Hex.{HexOutcome}
 use Rattle.io_edge.specs.Faults.{Rose}
-use Rattle.io_edge.specs.Shelf.{Told, Fetched, Found}
+use Rattle.io_edge.specs.Shelf.{Told, Fetched, Found, fetched}
 use Rattle.mcs48_isa.specs.Listing.{listing_of}
 use Rattle.kbd48_app.specs.declared.exit.Exit.{Exit}
 use Rattle.kbd48_app.specs.declared.exit.Exit.TheVariants as exits
 use Rattle.kbd48_app.specs.declared.words.Command.{Command}
-use Rattle.kbd48_app.specs.declared.words.Command.TheVariants.{OverFile, Feed}
+use Rattle.kbd48_app.specs.declared.words.Command.TheVariants.{OverFile, OverPair, Feed}
+use Rattle.kbd48_app.specs.declared.words.PairCommand.TheVariants.{Certify, OverRun}
 use Rattle.kbd48_app.specs.declared.words.FileCommand.{FileCommand}
 use Rattle.kbd48_app.specs.declared.words.FileCommand.TheVariants.{Step, Listing, Assemble, Compile}
-use Rattle.kbd48_app.specs.Answers.{Answer, exit_said, file_said, fetch_said, of_image, assembled, compiled, run_said, MayAnswerAs, MayAnswerOf, MayAnswer, Says}
+use Rattle.kbd48_app.specs.Answers.{MayAnswerOf, MayAnswer, MayEndAs}
 use Rattle.kbd48_app.specs.Complete.{IsSound, IsFaultless, IsFaultlessAs, IsLeft}
+use Rattle.kbd48_app.specs.Kinds.{kind_of, limit_of}
+use Rattle.kbd48_app.specs.Plans.{Answer, assembled, compiled, file_said, of_image, plan_of, run_said}
+use Rattle.kbd48_app.specs.Reached.{on_fetched, may_lack}
+use Rattle.kbd48_app.specs.Says.{Says, exit_said}
 use Rattle.kbd48_app.specs.Stepping.{Progress, Stands, Stopped, after_steps}
-use Rattle.kbd48_app.specs.Words.{command_of}
+use Rattle.kbd48_app.specs.Words.{command_of, name_in, second_in}
+use Rattle.kbd48_app.proofs.Certs.{cert_done}
+use Rattle.kbd48_app.proofs.Ends.{leads, ends_so, IsLed}
+use Rattle.kbd48_app.proofs.Runs.{history_exit, leads_both}
 
 -- the exit of a run
-run_left : (count : ℕ) (run : Progress) (command : Command) → IsLeft (Some (OverFile (Step count))) (exit_said (run_said count run))
-run_left count (Stands cpu cycles) command = inl refl
-run_left count (Stopped stuck) command = inr (inr refl)
+run_left : (count : ℕ) (run : Progress) → IsLeft (Some (OverFile (Step count))) (exit_said (run_said count run))
+run_left count (Stands cpu cycles) = inl refl
+run_left count (Stopped stuck) = inr (inr refl)
 
 -- the exit of a sound file's answer
 sound_left : (command : FileCommand) (bytes : List ℕ) → IsSound command bytes → IsLeft (Some (OverFile command)) (exit_said (file_said command bytes))
 sound_left (Step count) bytes sound =
     subst (λ (o : HexOutcome). IsLeft (Some (OverFile (Step count))) (exit_said (of_image (λ image. run_said count (after_steps image count)) o))) (sym sound.1)
-    (run_left count (after_steps sound.0 count) Feed)
+    (run_left count (after_steps sound.0 count))
 sound_left Listing bytes sound = inl (ap (λ (o : HexOutcome). exit_said (of_image (λ image. Ok (listing_of image)) o)) sound.1)
 sound_left Assemble bytes sound = inl (ap (λ (o : Result (List ℕ) (ℕ × ℕ)). exit_said (assembled o)) sound.1)
 sound_left Compile bytes sound = inl (ap (λ (o : Result KeyLayout LayoutRefusal). exit_said (compiled o)) sound.1)
 
 -- want of memory is always left
 memory_left : (command : Command) → IsLeft (Some command) exits.Memory
-memory_left Feed = inr refl
+memory_left (Feed bytes) = inr refl
 memory_left (OverFile (Step count)) = inr (inl refl)
 memory_left (OverFile Listing) = inr refl
 memory_left (OverFile Assemble) = inr refl
 memory_left (OverFile Compile) = inr refl
+memory_left (OverPair Certify) = inr refl
+memory_left (OverPair (OverRun command)) = inr refl
 
-answer_left : (command : Command) (said answer : Answer) → IsLeft (Some command) (exit_said said) → MayAnswerOf said answer → IsLeft (Some command) (exit_said answer)
-answer_left command said answer left may =
+answer_left : (command : Command) (led : Exit) (answer : Answer) (lack : Bool) → IsLeft (Some command) led → IsLed led lack answer → IsLeft (Some command) (exit_said answer)
+answer_left command led answer lack left may =
     elim may [
-      | inl memory ↦ subst (λ (a : Answer). IsLeft (Some command) (exit_said a)) (sym memory) (memory_left command)
-      | inr same ↦ subst (λ (a : Answer). IsLeft (Some command) (exit_said a)) (sym same) left
+      | inl same ↦ subst (λ (e : Exit). IsLeft (Some command) e) (sym same) left
+      | inr memory ↦ subst (λ (a : Answer). IsLeft (Some command) (exit_said a)) (sym memory.0) (memory_left command)
     ]
 
-answers_left : (words : List (List ℕ)) (command : Option Command) (shelf : Option Told) (answer : Answer) → IsFaultlessAs command words shelf → MayAnswerAs command words shelf answer → IsLeft command (exit_said answer)
-answers_left words None shelf answer faultless may = absurd faultless
-answers_left words (Some Feed) shelf answer faultless may = answer_left Feed _ answer (inl refl) may
-answers_left words (Some (OverFile command)) None answer faultless may = absurd faultless
-answers_left words (Some (OverFile command)) (Some shelf) answer faultless may =
-    let found : may.0 ≡ Found faultless.0 = may.1 ∙ faultless.1 in
-    answer_left (OverFile command) (fetch_said command (Found faultless.0)) answer (sound_left command faultless.0 faultless.2)
-    (subst (λ (outcome : Fetched). MayAnswerOf (fetch_said command outcome) answer) found may.2)
+fed_left : (bytes text : List ℕ) (answer : Answer) → MayAnswerOf (Ok text) answer → IsLeft (Some (Feed bytes)) (exit_said answer)
+fed_left bytes text answer may = elim may [ inl memory ↦ inr (ap exit_said memory) | inr same ↦ inl (ap exit_said same) ]
+
+found_left : (command : FileCommand) (bytes : List ℕ) (outcome : Fetched) → outcome ≡ Found bytes → IsSound command bytes → IsLeft (Some (OverFile command)) (on_fetched exits.Read exits.Input (λ bs. exit_said (file_said command bs)) outcome)
+found_left command bytes outcome is sound =
+    subst (λ (o : Fetched). IsLeft (Some (OverFile command)) (on_fetched exits.Read exits.Input (λ bs. exit_said (file_said command bs)) o)) (sym is)
+    (sound_left command bytes sound)
+
+answers_left : (words : List (List ℕ)) (command : Option Command) (shelf after : Option Told) (answer : Answer) → IsFaultlessAs command words shelf → MayEndAs command words shelf answer after → IsLeft command (exit_said answer)
+answers_left words None shelf after answer faultless may = absurd faultless
+answers_left words (Some (Feed bytes)) shelf after answer faultless may = fed_left bytes _ answer may.0
+answers_left words (Some (OverFile command)) None after answer faultless may = absurd faultless
+answers_left words (Some (OverFile command)) (Some shelf) after answer faultless may =
+    let p = plan_of (Some (OverFile command)) words in
+    answer_left (OverFile command) (leads p shelf) answer (may_lack p shelf)
+    (found_left command faultless.0 (fetched shelf (name_in words) (limit_of (kind_of command))) faultless.1 faultless.2)
+    (ends_so p shelf answer after may)
+answers_left words (Some (OverPair command)) None after answer faultless may = absurd faultless
+answers_left words (Some (OverPair Certify)) (Some shelf) after answer faultless may =
+    let p = plan_of (Some (OverPair Certify)) words in
+    let h = faultless in
+    answer_left (OverPair Certify) (leads p shelf) answer (may_lack p shelf)
+    (inl (cert_done (name_in words) (second_in words) h.0 h.2 h.4 h.6 shelf h.1 h.3 h.5 h.7))
+    (ends_so p shelf answer after may)
+answers_left words (Some (OverPair (OverRun command))) (Some shelf) after answer faultless may =
+    let p = plan_of (Some (OverPair (OverRun command))) words in
+    let h = faultless in
+    answer_left (OverPair (OverRun command)) (leads p shelf) answer (may_lack p shelf)
+    (inl (leads_both command (name_in words) (second_in words) h.0 h.4 h.2 shelf h.1 h.3 h.5 ∙ ap history_exit h.7))
+    (ends_so p shelf answer after may)
 
 not_risen : (before after : ℕ) → after ≡ before → before < 2 ^ 64 - 1 → Rose before after → ⊥
 not_risen before after same below rose = omega (arith, same, below, rose)
 
-pub left : (words : List (List ℕ)) (shelf : Option Told) (taken taken' : Option (List ℕ)) (exit : Exit) (before after : ℕ) → IsFaultless words shelf → after ≡ before → before < 2 ^ 64 - 1 → (exit ≡ exits.Write → Rose before after) → (answer : Answer) × MayAnswer words shelf answer × Says answer taken taken' exit → IsLeft (command_of words) exit
-left words shelf taken taken' exit before after faultless same below write says =
+pub left : (words : List (List ℕ)) (shelf end : Option Told) (taken taken' : Option (List ℕ)) (exit : Exit) (before after : ℕ) → IsFaultless words shelf → after ≡ before → before < 2 ^ 64 - 1 → (exit ≡ exits.Write → Rose before after) → (answer : Answer) × MayAnswer words shelf answer end × Says answer taken taken' exit → IsLeft (command_of words) exit
+left words shelf end taken taken' exit before after faultless same below write says =
     elim says.2 [
-      | inl whole ↦ subst (λ (e : Exit). IsLeft (command_of words) e) (sym whole.0) (answers_left words (command_of words) shelf says.0 faultless says.1)
+      | inl whole ↦ subst (λ (e : Exit). IsLeft (command_of words) e) (sym whole.0) (answers_left words (command_of words) shelf end says.0 faultless says.1)
       | inr part ↦ absurd (not_risen before after same below (write part.0))
     ]

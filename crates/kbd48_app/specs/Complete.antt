@@ -1,19 +1,26 @@
 -- When a call can't be refused.
 use Rattle.std.specs.Prelude.{◌≡◌, ◌⊎◌, ℕ, List, None, Some, Ok}
 use Rattle.std.specs.declared.option.Option.{Option}
+use Rattle.cycle_cert.specs.Answers.{answer_of as certificate_said}
+use Rattle.cycle_cert.specs.declared.checking.Proved.{Proved}
 use Rattle.hexfile.specs.Hex.{hex_of}
-use Rattle.io_edge.specs.Shelf.{Told, Found, fetched}
+use Rattle.io_edge.specs.Shelf.{Told, Found, after_fetch, fetched}
 use Rattle.mcs48_asm.specs.Assembly.{assembly_of}
 use Rattle.layout_reader.specs.Documents.{layout_of_document}
 use Rattle.layout_reader.specs.Layouts.{KeyLayout}
+use Rattle.key_file.specs.Histories.{KeyHistory}
+use Rattle.key_file.specs.KeyFile.{history_of}
 use Rattle.kbd48_app.specs.declared.exit.Exit.{Exit}
 use Rattle.kbd48_app.specs.declared.exit.Exit.TheVariants.{Done, Memory, Stuck}
 use Rattle.kbd48_app.specs.declared.words.Command.{Command}
-use Rattle.kbd48_app.specs.declared.words.Command.TheVariants.{OverFile, Feed}
+use Rattle.kbd48_app.specs.declared.words.Command.TheVariants.{OverFile, OverPair, Feed}
 use Rattle.kbd48_app.specs.declared.words.FileCommand.{FileCommand}
 use Rattle.kbd48_app.specs.declared.words.FileCommand.TheVariants.{Step, Listing, Assemble, Compile}
+use Rattle.kbd48_app.specs.declared.words.PairCommand.{PairCommand}
+use Rattle.kbd48_app.specs.declared.words.PairCommand.TheVariants.{Certify, OverRun}
+use Rattle.kbd48_app.specs.declared.kind.Kind.TheVariants.{Hex, Layout, Keys, Cert}
 use Rattle.kbd48_app.specs.Kinds.{limit_of, kind_of}
-use Rattle.kbd48_app.specs.Words.{command_of, name_in}
+use Rattle.kbd48_app.specs.Words.{command_of, name_in, second_in}
 
 -- the bytes are a file without a fault
 abbrev pub IsSound : FileCommand → List ℕ → Type 0
@@ -22,22 +29,39 @@ IsSound Listing bytes = (image : List ℕ) × (hex_of bytes ≡ Ok image)
 IsSound Assemble bytes = (image : List ℕ) × (assembly_of bytes ≡ Ok image)
 IsSound Compile bytes = (layout : KeyLayout) × (layout_of_document bytes ≡ Ok layout)
 
--- the shelf tells its files, the next call isn't one that fails, and under the name is a file within its limit and without a fault
+-- the shelf tells its files, the next call isn't one that fails, and under the name is a file within its limit and
+-- without a fault
 abbrev pub IsServed : FileCommand → List ℕ → Option Told → Type 0
 IsServed command name None = ⊥
 IsServed command name (Some shelf) =
     (bytes : List ℕ) × (fetched shelf name (limit_of (kind_of command)) ≡ Found bytes) × IsSound command bytes
 
--- the words have a form, and its file, if it names one, is served
+-- the same of two files: each is there, and neither has a fault
+abbrev pub AreServed : PairCommand → List ℕ → List ℕ → Option Told → Type 0
+AreServed command first second None = ⊥
+AreServed Certify first second (Some shelf) =
+    (bytes : List ℕ) × (fetched shelf first (limit_of Hex) ≡ Found bytes)
+    × (image : List ℕ) × (hex_of bytes ≡ Ok image)
+    × (text : List ℕ) × (fetched (after_fetch shelf) second (limit_of Cert) ≡ Found text)
+    × (proved : Proved) × (certificate_said image text ≡ Ok proved)
+AreServed (OverRun command) first second (Some shelf) =
+    (bytes : List ℕ) × (fetched shelf first (limit_of Layout) ≡ Found bytes)
+    × (layout : KeyLayout) × (layout_of_document bytes ≡ Ok layout)
+    × (text : List ℕ) × (fetched (after_fetch shelf) second (limit_of Keys) ≡ Found text)
+    × (history : KeyHistory) × (history_of layout text ≡ Ok history)
+
+-- the words have a form, and the files that it names are served
 abbrev pub IsFaultlessAs : Option Command → List (List ℕ) → Option Told → Type 0
 IsFaultlessAs None words shelf = ⊥
-IsFaultlessAs (Some Feed) words shelf = Unit {0}
+IsFaultlessAs (Some (Feed bytes)) words shelf = Unit {0}
 IsFaultlessAs (Some (OverFile command)) words shelf = IsServed command (name_in words) shelf
+IsFaultlessAs (Some (OverPair command)) words shelf = AreServed command (name_in words) (second_in words) shelf
 
 abbrev pub IsFaultless : List (List ℕ) → Option Told → Type 0
 IsFaultless words shelf = IsFaultlessAs (command_of words) words shelf
 
--- the exits that are left then: all was done, memory was wanting, or, in `step` alone, a byte without an instruction was met
+-- the exits that are left then: all was done, memory was wanting, or, in `step` alone, a byte without an instruction
+-- was met
 abbrev pub IsLeft : Option Command → Exit → Type 0
 IsLeft (Some (OverFile (Step count))) exit = (exit ≡ Done) ⊎ (exit ≡ Memory) ⊎ (exit ≡ Stuck)
 IsLeft command exit = (exit ≡ Done) ⊎ (exit ≡ Memory)

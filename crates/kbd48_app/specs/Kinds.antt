@@ -1,7 +1,7 @@
 -- The kinds of files: their limits in bytes, and how refusals name them.
 use Rattle.std.specs.Prelude.{ℕ, List, codes}
 use Rattle.kbd48_app.specs.declared.kind.Kind.{Kind}
-use Rattle.kbd48_app.specs.declared.kind.Kind.TheVariants.{Hex, Asm, Layout}
+use Rattle.kbd48_app.specs.declared.kind.Kind.TheVariants.{Hex, Asm, Layout, Keys, Cert}
 use Rattle.kbd48_app.specs.declared.words.FileCommand.{FileCommand}
 use Rattle.kbd48_app.specs.declared.words.FileCommand.TheVariants.{Step, Listing, Assemble, Compile}
 
@@ -9,13 +9,17 @@ abbrev pub limit_of : Kind → ℕ
 limit_of Hex = 16384
 limit_of Asm = 262144
 limit_of Layout = 65536
+limit_of Keys = 4194304
+limit_of Cert = 65536
 
 abbrev pub name_of : Kind → List ℕ
 name_of Hex = codes "hex"
 name_of Asm = codes "asm"
 name_of Layout = codes "layout"
+name_of Keys = codes "keys"
+name_of Cert = codes "cert"
 
--- the kind of the file that a command names
+-- the kind of the file that a command over one file names
 abbrev pub kind_of : FileCommand → Kind
 kind_of (Step count) = Hex
 kind_of Listing = Hex

@@ -6,6 +6,12 @@ pub mod Said
 pub mod Stepping
 pub mod Feeding
 pub mod TranslationLaw
+pub mod RunTexts
+pub mod Plans
 pub mod Answers
+pub mod Fetching
+pub mod Says
+pub mod Reached
+pub mod Causes
 pub mod ListingLaw
 pub mod Complete

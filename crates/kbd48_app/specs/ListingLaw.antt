@@ -6,9 +6,10 @@ use Rattle.hexfile.specs.Spelling.{hex_text_of}
 use Rattle.kbd48_app.specs.declared.kind.Kind.TheVariants.{Hex, Asm}
 use Rattle.kbd48_app.specs.declared.words.FileCommand.TheVariants.{Listing, Assemble}
 use Rattle.kbd48_app.specs.Kinds.{limit_of}
-use Rattle.kbd48_app.specs.Answers.{file_said}
+use Rattle.kbd48_app.specs.Plans.{file_said}
 
--- of each program memory: `list` of its HEX text prints its listing, `asm` of its listing prints its HEX text, and neither text is too long for a file
+-- of each program memory: `list` of its HEX text prints its listing, `asm` of its listing prints its HEX text, and
+-- neither text is too long for a file
 abbrev pub ListAndAsmAreInverse : Type 0
 ListAndAsmAreInverse = (memory : List ℕ) → IsMemory memory →
     (file_said Listing (hex_text_of memory) ≡ Ok (listing_of memory)) × (length (hex_text_of memory) ≤ limit_of Hex)

@@ -5,4 +5,5 @@ use Rattle.pc_tables.specs.Keys.{code_at, scan_at}
 
 -- with the translate bit set and no break begun, the keyboard code of each key gives that key's scan code
 abbrev pub EachKeyGivesItsScanCode : Type 0
-EachKeyGivesItsScanCode = (key : ℕ) → key < 84 → translation true false (code_at key) ≡ record { byte = Some (scan_at key); mark = false }
+EachKeyGivesItsScanCode =
+    (key : ℕ) → key < 84 → translation true false (code_at key) ≡ record { byte = Some (scan_at key); mark = false }

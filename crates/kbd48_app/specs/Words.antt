@@ -1,17 +1,21 @@
 -- The accepted forms of the words that follow the program's name.
-use Rattle.std.specs.Prelude.{ℕ, ◌+◌, ◌*◌, Bool, not, ◌&&◌, nat_eq, nat_lt, nat_le, false, List, [], ◌∷◌, length, None, Some, codes, is_some}
+use Rattle.std.specs.Prelude.{ℕ, ◌+◌, ◌*◌, Bool, not, true, ◌&&◌, ◌||◌, nat_eq, nat_lt, nat_le, false, List, [], ◌∷◌, length, None, Some, codes, is_some}
 use Rattle.std.specs.Prelude.{if◌then◌else◌}
 use Rattle.std.specs.Char.{is_ascii_digit}
-use Rattle.std.specs.List.{list_all, filter_map}
+use Rattle.std.specs.List.{list_all}
 use Rattle.std.specs.Option.{option_map, option_and_then}
 use Rattle.std.specs.Str.{bytes_eq}
 use Rattle.std.specs.Str.Parse.{digits_value}
 use Rattle.std.specs.declared.option.Option.{Option}
 use Rattle.hex_text.specs.Digits.{digit_value}
 use Rattle.kbd48_app.specs.declared.words.Command.{Command}
-use Rattle.kbd48_app.specs.declared.words.Command.TheVariants.{OverFile, Feed}
+use Rattle.kbd48_app.specs.declared.words.Command.TheVariants.{OverFile, OverPair, Feed}
 use Rattle.kbd48_app.specs.declared.words.FileCommand.{FileCommand}
 use Rattle.kbd48_app.specs.declared.words.FileCommand.TheVariants.{Step, Listing, Assemble, Compile}
+use Rattle.kbd48_app.specs.declared.words.PairCommand.{PairCommand}
+use Rattle.kbd48_app.specs.declared.words.PairCommand.TheVariants.{Certify, OverRun}
+use Rattle.kbd48_app.specs.declared.words.RunCommand.{RunCommand}
+use Rattle.kbd48_app.specs.declared.words.RunCommand.TheVariants.{Log, Expect}
 
 -- a NAME isn't empty and doesn't begin with `-`
 abbrev pub is_name : List ℕ → Bool
@@ -34,9 +38,6 @@ byte_of (first ∷ second ∷ []) =
     option_and_then (λ high. option_map (λ low. 16 * high + low) (digit_value second)) (digit_value first)
 byte_of word = None
 
-abbrev pub is_byte : List ℕ → Bool
-is_byte word = is_some (byte_of word)
-
 -- `step` NAME COUNT
 abbrev pub step_of : List (List ℕ) → Option Command
 step_of (name ∷ count ∷ []) =
@@ -48,12 +49,41 @@ abbrev pub named_of : FileCommand → List (List ℕ) → Option Command
 named_of command (name ∷ []) = if is_name name then Some (OverFile command) else None
 named_of command words = None
 
--- `words` BYTE ..: 1 to 4,096 of them
-abbrev pub are_bytes : List (List ℕ) → Bool
-are_bytes words = nat_lt 0 (length words) && nat_le (length words) 4096 && list_all is_byte words
+-- a command with two NAMEs alone: `cert` NAME NAME, `expect` NAME NAME
+abbrev pub pair_of : PairCommand → List (List ℕ) → Option Command
+pair_of command (first ∷ second ∷ []) = if is_name first && is_name second then Some (OverPair command) else None
+pair_of command words = None
 
+-- both options of `run`, in either order
+abbrev pub are_both : List ℕ → List ℕ → Bool
+are_both first second =
+    bytes_eq first (codes "--ticks") && bytes_eq second (codes "--steps")
+    || bytes_eq first (codes "--steps") && bytes_eq second (codes "--ticks")
+
+-- the options of `run`: `--ticks` and `--steps` in either order, each at most once
+abbrev pub log_of : List (List ℕ) → Option RunCommand
+log_of [] = Some (Log false false)
+log_of (option ∷ []) =
+    if bytes_eq option (codes "--ticks") then Some (Log true false)
+    else (if bytes_eq option (codes "--steps") then Some (Log false true) else None)
+log_of (first ∷ second ∷ []) = if are_both first second then Some (Log true true) else None
+log_of words = None
+
+-- `run` NAME NAME, and its options
+abbrev pub run_of : List (List ℕ) → Option Command
+run_of (first ∷ second ∷ options) =
+    if is_name first && is_name second then option_map (λ command. OverPair (OverRun command)) (log_of options) else None
+run_of words = None
+
+-- the bytes that words give, where each is a BYTE
+abbrev pub bytes_of : List (List ℕ) → Option (List ℕ)
+bytes_of [] = Some []
+bytes_of (word ∷ words) = option_and_then (λ byte. option_map (λ bytes. byte ∷ bytes) (bytes_of words)) (byte_of word)
+
+-- `words` BYTE ..: 1 to 4,096 of them
 abbrev pub feed_of : List (List ℕ) → Option Command
-feed_of words = if are_bytes words then Some Feed else None
+feed_of words =
+    if nat_lt 0 (length words) && nat_le (length words) 4096 then option_map Feed (bytes_of words) else None
 
 -- the command of the words, or none
 abbrev pub command_of : List (List ℕ) → Option Command
@@ -63,18 +93,27 @@ command_of (command ∷ words) =
     else (if bytes_eq command (codes "list") then named_of Listing words
     else (if bytes_eq command (codes "asm") then named_of Assemble words
     else (if bytes_eq command (codes "compile") then named_of Compile words
-    else (if bytes_eq command (codes "words") then feed_of words else None))))
+    else (if bytes_eq command (codes "cert") then pair_of Certify words
+    else (if bytes_eq command (codes "run") then run_of words
+    else (if bytes_eq command (codes "expect") then pair_of (OverRun Expect) words
+    else (if bytes_eq command (codes "words") then feed_of words else None)))))))
 
 -- the words have an accepted form
 abbrev pub is_form : List (List ℕ) → Bool
 is_form words = is_some (command_of words)
 
--- the file that a command names
+-- the first file that a command names
 abbrev pub name_in : List (List ℕ) → List ℕ
 name_in (command ∷ name ∷ others) = name
 name_in words = []
 
--- the keyboard bytes that a command gives
-abbrev pub bytes_in : List (List ℕ) → List ℕ
-bytes_in [] = []
-bytes_in (command ∷ words) = filter_map byte_of words
+-- the second file that a command names
+abbrev pub second_in : List (List ℕ) → List ℕ
+second_in (command ∷ name ∷ second ∷ others) = second
+second_in words = []
+
+-- how many files a command names; they are the words behind its own
+abbrev pub files_in : Command → ℕ
+files_in (OverFile command) = 1
+files_in (OverPair command) = 2
+files_in (Feed bytes) = 0

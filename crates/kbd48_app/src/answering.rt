@@ -1,25 +1,33 @@
 //! From the words and the files to the answer: a text, or the refusal that stands in its place.
 
-ghost use Rattle.std.specs.Prelude.{◌≡◌, ◌≤◌, map, option_map, string_bytes, length, Ok, Err, MatchResult};
+ghost use Rattle.std.specs.Prelude.{◌≡◌, ◌⊎◌, ◌≤◌, map, string_bytes, length, Ok, Err, IfOk, MatchResult};
 ghost use Rattle.io_edge.specs.Faults.{Rose};
-ghost use Rattle.io_edge.specs.Shelf.{after_fetch};
-ghost use Rattle.kbd48_app.specs.Answers.{answer_of, assembled, compiled, file_said, MayAnswer, MayAnswerOf, MayAnswerOver, told_after};
-ghost use Rattle.kbd48_app.specs.Words.{command_of};
+ghost use Rattle.kbd48_app.specs.Answers.{answer_of, MayAnswer, MayAnswerOf, MayEnd};
 ghost use Rattle.kbd48_app.specs.Kinds.{limit_of, kind_of};
+ghost use Rattle.kbd48_app.specs.Plans.{Gives, Fetches, assembled, compiled, file_said, keys_refusal, pair_plan};
 ghost use Rattle.hexfile.specs.Hex.{hex_of};
 ghost use Rattle.hexfile.specs.declared.fault.HexFault.{HexFault};
 ghost use Rattle.layout_reader.specs.Documents.{layout_of_document};
+ghost use Rattle.layout_reader.specs.Faults.{Refusal as LayoutRefusal};
+ghost use Rattle.key_file.specs.Accepted.{IsAcceptedFor};
+ghost use Rattle.key_file.specs.KeyFile.{history_of};
+ghost use Rattle.key_file.specs.declared.fault.KeyFault.{KeyFault as KeysFault};
 ghost use Rattle.mcs48_asm.specs.Assembly.{assembly_of};
 ghost use Rattle.mcs48_isa.specs.Listing.{listing_of};
 
+use crate::certifying::certify;
 use crate::feeding::feed;
+use crate::fetching::fetch_file;
+use crate::kind::Kind;
 use crate::refusal::Refusal;
 use crate::stepping::step;
-use crate::words::{Command, FileCommand, read_command};
+use crate::telling::tell;
+use crate::words::{Command, FileCommand, PairCommand, RunCommand, read_command};
 use fw_compile::compile;
-use hexfile::{HexFault, read_hex, write_hex};
-use io_edge::{FetchFault, Shelf};
-use layout_reader::{LayoutFault, read_layout};
+use hexfile::{read_hex, write_hex};
+use io_edge::Shelf;
+use key_file::{History, KeyFault, read_history};
+use layout_reader::{Layout, LayoutFault, read_layout};
 use mcs48_asm::{AsmFault, assemble};
 use mcs48_isa::{Image, list};
 use std::alloc::Global;
@@ -39,10 +47,7 @@ fn image_in(file: &[u8]) -> Result<Image, Refusal>
 fn listing(alloc: Global, image: &Image) -> Result<Vec<u8>, Refusal>
     ensures { MayAnswerOf (Ok (listing_of image.now.bytes)) (answer_of result) }
 {
-    match list(alloc, image) {
-        Ok(text) => Ok(text),
-        Err(_) => Err(Refusal::Memory),
-    }
+    list(alloc, image).map_err(|_| Refusal::Memory)
 }
 
 /// The HEX text of a source's image.
@@ -53,10 +58,39 @@ fn assembled(alloc: Global, source: &[u8]) -> Result<Vec<u8>, Refusal>
     match assemble(alloc, source) {
         Err(AsmFault::Line { line, number }) => Err(Refusal::Asm { line, number }),
         Err(AsmFault::Memory) => Err(Refusal::Memory),
-        Ok(image) => match write_hex(alloc, &image) {
-            Ok(text) => Ok(text),
-            Err(_) => Err(Refusal::Memory),
-        },
+        Ok(image) => write_hex(alloc, &image).map_err(|_| Refusal::Memory),
+    }
+}
+
+/// The layout of a document.
+fn layout_in(alloc: Global, document: &[u8]) -> Result<Layout, Refusal>
+    ensures { MatchResult result (λ layout. layout_of_document document.now ≡ Ok layout) (λ refusal. (refusal ≡ Refusal.Memory)
+        ⊎ ((fault : LayoutRefusal) × (layout_of_document document.now ≡ Err fault) × (refusal ≡ Refusal.Layout fault.entry fault.number))) }
+{
+    match read_layout(alloc, document) {
+        Ok(layout) => Ok(layout),
+        Err(LayoutFault::Entry { entry, number }) => Err(Refusal::Layout { entry, number }),
+        Err(LayoutFault::Memory) => Err(Refusal::Memory),
+    }
+}
+
+/// The history of a key file for a layout.
+fn history_in(alloc: Global, text: &[u8], layout: &Layout) -> Result<History, Refusal>
+    requires { length text.now ≤ 4194304 }
+    ensures history { MatchResult result (λ history. history_of layout.now text.now ≡ Ok history) (λ refusal. (refusal ≡ Refusal.Memory)
+        ⊎ ((fault : KeysFault) × (history_of layout.now text.now ≡ Err fault) × (refusal ≡ keys_refusal fault))) }
+    ensures accepted { IfOk result (IsAcceptedFor layout.now) }
+{
+    match read_history(alloc, text, layout) {
+        Ok(history) => Ok(history),
+        Err(KeyFault::Input { line, number }) => Err(Refusal::Keys { line, number }),
+        Err(KeyFault::Timing { line, number, a, b }) => Err(Refusal::Timing {
+            line,
+            number,
+            first: a,
+            second: b,
+        }),
+        Err(KeyFault::Memory) => Err(Refusal::Memory),
     }
 }
 
@@ -64,14 +98,8 @@ fn assembled(alloc: Global, source: &[u8]) -> Result<Vec<u8>, Refusal>
 fn compiled(alloc: Global, document: &[u8]) -> Result<Vec<u8>, Refusal>
     ensures { MayAnswerOf (compiled (layout_of_document document.now)) (answer_of result) }
 {
-    match read_layout(alloc, document) {
-        Err(LayoutFault::Entry { entry, number }) => Err(Refusal::Layout { entry, number }),
-        Err(LayoutFault::Memory) => Err(Refusal::Memory),
-        Ok(layout) => match write_hex(alloc, &compile(&layout)) {
-            Ok(text) => Ok(text),
-            Err(_) => Err(Refusal::Memory),
-        },
-    }
+    let layout = layout_in(alloc, document)?;
+    write_hex(alloc, &compile(&layout)).map_err(|_| Refusal::Memory)
 }
 
 /// Carries a command out over the bytes of its file.
@@ -80,47 +108,97 @@ fn carry_out(alloc: Global, command: FileCommand, file: &[u8]) -> Result<Vec<u8>
     ensures { MayAnswerOf (file_said command file.now) (answer_of result) }
 {
     match command {
-        FileCommand::Step { count } => match image_in(file) {
-            Ok(image) => step(alloc, &image, count),
-            Err(refusal) => Err(refusal),
-        },
-        FileCommand::Listing => match image_in(file) {
-            Ok(image) => listing(alloc, &image),
-            Err(refusal) => Err(refusal),
-        },
+        FileCommand::Step { count } => step(alloc, &image_in(file)?, count),
+        FileCommand::Listing => listing(alloc, &image_in(file)?),
         FileCommand::Assemble => assembled(alloc, file),
         FileCommand::Compile => compiled(alloc, file),
     }
 }
 
 /// Fetches the file of a command, and carries the command out.
-fn answer_over<F: Shelf>(
+fn over_file<F: Shelf>(
     alloc: Global,
     command: FileCommand,
     name: &str,
     shelf: &mut F,
 ) -> Result<Vec<u8>, Refusal>
-    ensures answer { MayAnswerOver command name.now (F.told shelf.old) (answer_of result) }
+    ensures ends { MayEnd (Fetches (kind_of command) name.now (λ bytes. Gives (file_said command bytes)))
+        (F.told shelf.old) (answer_of result) (F.told shelf.new) }
     ensures read { result ≡ Err Refusal.Read → Rose (F.faults shelf.old) (F.faults shelf.new) }
-    ensures fetches { F.told shelf.new ≡ option_map after_fetch (F.told shelf.old) }
+    ensures steady { (result ≡ Err Refusal.Read) ⊎ (F.faults shelf.new ≡ F.faults shelf.old) }
 {
-    match shelf.fetch(alloc, name, command.kind().limit()) {
-        Err(FetchFault::Failed) => Err(Refusal::Read),
-        Err(FetchFault::TooLong) => Err(Refusal::TooLong(command.kind())),
-        Err(FetchFault::Memory) => Err(Refusal::Memory),
-        Ok(file) => carry_out(alloc, command, &file),
+    let file = fetch_file(alloc, shelf, name, command.kind())?;
+    carry_out(alloc, command, &file)
+}
+
+/// `cert`: fetches the image and judges it, and then fetches the certificate and judges it for the image.
+fn over_cert<F: Shelf>(
+    alloc: Global,
+    image: &str,
+    certificate: &str,
+    shelf: &mut F,
+) -> Result<Vec<u8>, Refusal>
+    ensures ends { MayEnd (pair_plan PairCommand.Certify image.now certificate.now)
+        (F.told shelf.old) (answer_of result) (F.told shelf.new) }
+    ensures read { result ≡ Err Refusal.Read → Rose (F.faults shelf.old) (F.faults shelf.new) }
+    ensures steady { (result ≡ Err Refusal.Read) ⊎ (F.faults shelf.new ≡ F.faults shelf.old) }
+{
+    let file = fetch_file(alloc, shelf, image, Kind::Hex)?;
+    let image = image_in(&file)?;
+    let text = fetch_file(alloc, shelf, certificate, Kind::Cert)?;
+    certify(alloc, &image, &text)
+}
+
+/// `run` and `expect`: fetches the layout and judges it, then fetches the key file and judges it for the layout, and then
+/// makes the run.
+fn over_run<F: Shelf>(
+    alloc: Global,
+    command: RunCommand,
+    layout: &str,
+    keys: &str,
+    shelf: &mut F,
+) -> Result<Vec<u8>, Refusal>
+    ensures ends { MayEnd (pair_plan (PairCommand.OverRun command) layout.now keys.now)
+        (F.told shelf.old) (answer_of result) (F.told shelf.new) }
+    ensures read { result ≡ Err Refusal.Read → Rose (F.faults shelf.old) (F.faults shelf.new) }
+    ensures steady { (result ≡ Err Refusal.Read) ⊎ (F.faults shelf.new ≡ F.faults shelf.old) }
+{
+    let document = fetch_file(alloc, shelf, layout, Kind::Layout)?;
+    let layout = layout_in(alloc, &document)?;
+    let text = fetch_file(alloc, shelf, keys, Kind::Keys)?;
+    let history = history_in(alloc, &text, &layout)?;
+    tell(alloc, command, &layout, &history)
+}
+
+/// A command over two files.
+fn over_pair<F: Shelf>(
+    alloc: Global,
+    command: PairCommand,
+    first: &str,
+    second: &str,
+    shelf: &mut F,
+) -> Result<Vec<u8>, Refusal>
+    ensures ends { MayEnd (pair_plan command first.now second.now)
+        (F.told shelf.old) (answer_of result) (F.told shelf.new) }
+    ensures read { result ≡ Err Refusal.Read → Rose (F.faults shelf.old) (F.faults shelf.new) }
+    ensures steady { (result ≡ Err Refusal.Read) ⊎ (F.faults shelf.new ≡ F.faults shelf.old) }
+{
+    match command {
+        PairCommand::Certify => over_cert(alloc, first, second, shelf),
+        PairCommand::OverRun(command) => over_run(alloc, command, first, second, shelf),
     }
 }
 
 /// The answer to the words.
 pub fn answer<F: Shelf>(alloc: Global, words: &[String], shelf: &mut F) -> Result<Vec<u8>, Refusal>
-    ensures answer { MayAnswer (map string_bytes words.now) (F.told shelf.old) (answer_of result) }
+    ensures ends { MayAnswer (map string_bytes words.now) (F.told shelf.old) (answer_of result) (F.told shelf.new) }
     ensures read { result ≡ Err Refusal.Read → Rose (F.faults shelf.old) (F.faults shelf.new) }
-    ensures fetches { F.told shelf.new ≡ told_after (command_of (map string_bytes words.now)) (F.told shelf.old) }
+    ensures steady { (result ≡ Err Refusal.Read) ⊎ (F.faults shelf.new ≡ F.faults shelf.old) }
 {
     match read_command(words) {
         None => Err(Refusal::Words),
-        Some(Command::Feed) => feed(alloc, &words[1..]),
-        Some(Command::OverFile(command)) => answer_over(alloc, command, &words[1], shelf),
+        Some(Command::Feed(bytes)) => feed(alloc, bytes.as_slice()),
+        Some(Command::OverFile(command)) => over_file(alloc, command, &words[1], shelf),
+        Some(Command::OverPair(command)) => over_pair(alloc, command, &words[1], &words[2], shelf),
     }
 }

@@ -8,6 +8,8 @@ pub enum Kind {
     Hex,
     Asm,
     Layout,
+    Keys,
+    Cert,
 }
 
 impl Kind {
@@ -20,7 +22,8 @@ impl Kind {
         match self {
             Kind::Hex => 16_384,
             Kind::Asm => 262_144,
-            Kind::Layout => 65_536,
+            Kind::Layout | Kind::Cert => 65_536,
+            Kind::Keys => 4_194_304,
         }
     }
 
@@ -32,6 +35,8 @@ impl Kind {
             Kind::Hex => "hex",
             Kind::Asm => "asm",
             Kind::Layout => "layout",
+            Kind::Keys => "keys",
+            Kind::Cert => "cert",
         }
     }
 }

@@ -7,13 +7,17 @@
 #![tactic(auto)]
 
 mod answering;
+mod bytes;
+mod certifying;
 mod exit;
 mod feeding;
+mod fetching;
 mod kind;
 mod law;
 mod refusal;
 mod saying;
 mod stepping;
+mod telling;
 mod top;
 mod words;
 

@@ -3,7 +3,7 @@
 ghost use Rattle.std.specs.Prelude.{◌≡◌, ◌+◌, ◌≤◌, ◌++◌, codes, length};
 ghost use Rattle.arrayvec.specs.ArrayVec.{array_vec_len};
 ghost use Rattle.kbd48_app.specs.Kinds.{name_of};
-ghost use Rattle.kbd48_app.specs.Refusals.{exit_of, fault_line, line_of};
+ghost use Rattle.kbd48_app.specs.Refusals.{exit_of, fault_line, line_of, timing_line};
 
 use crate::exit::Exit;
 use crate::kind::Kind;
@@ -23,9 +23,32 @@ pub enum Refusal {
     /// The HEX file has this fault.
     Hex(HexFault),
     /// The line of the assembler source, counted from 1, and its fault.
-    Asm { line: u32, number: u8 },
+    Asm {
+        line: u32,
+        number: u8,
+    },
     /// The entry of the layout, counted from 1, or 0 for its top level, and its fault.
-    Layout { entry: u32, number: u8 },
+    Layout {
+        entry: u32,
+        number: u8,
+    },
+    /// The line of the key file, counted from 1, and its fault, which is none of time.
+    Keys {
+        line: u32,
+        number: u8,
+    },
+    /// The line of the certificate, counted from 1, and its fault.
+    Cert {
+        line: u32,
+        number: u8,
+    },
+    /// The line of the key file, counted from 1, its fault, which is one of time, and two stamps, in cycles.
+    Timing {
+        line: u32,
+        number: u8,
+        first: u64,
+        second: u64,
+    },
     /// A step met a byte without an instruction.
     Stuck(Stuck),
     /// Memory was wanting.
@@ -62,6 +85,7 @@ fn input_line(kind: Kind) -> Line
     line
 }
 
+/// The line of a file with too many bytes.
 fn long_line(kind: Kind) -> Line
     ensures { result.items ≡ line_of (Refusal.TooLong kind) }
 {
@@ -84,6 +108,23 @@ fn fault_line(kind: Kind, unit: &str, at: u32, number: u8) -> Line
     line
 }
 
+/// The line of a key file's first fault of time, with two stamps.
+fn timing_line(line: u32, number: u8, first: u64, second: u64) -> Line
+    ensures { result.items ≡ timing_line line number first second }
+{
+    let mut text = fixed_line("timing: line ");
+    append(&mut text, itoa::Buffer::new().format(line).as_bytes());
+    append(&mut text, b" fault ");
+    append(&mut text, itoa::Buffer::new().format(number).as_bytes());
+    append(&mut text, b" stamps ");
+    append(&mut text, itoa::Buffer::new().format(first).as_bytes());
+    append(&mut text, b" ");
+    append(&mut text, itoa::Buffer::new().format(second).as_bytes());
+    append(&mut text, b"\n");
+    text
+}
+
+/// The line of a byte without an instruction, and its place.
 fn stuck_line(stuck: Stuck) -> Line
     ensures { result.items ≡ line_of (Refusal.Stuck stuck) }
 {
@@ -103,8 +144,13 @@ impl Refusal {
         match self {
             Refusal::Words => Exit::Words,
             Refusal::Read => Exit::Read,
-            Refusal::TooLong(_) | Refusal::Hex(_) | Refusal::Asm { .. } | Refusal::Layout { .. } =>
-                Exit::Input,
+            Refusal::TooLong(_)
+            | Refusal::Hex(_)
+            | Refusal::Asm { .. }
+            | Refusal::Layout { .. }
+            | Refusal::Keys { .. }
+            | Refusal::Cert { .. } => Exit::Input,
+            Refusal::Timing { .. } => Exit::Timing,
             Refusal::Stuck(_) => Exit::Stuck,
             Refusal::Memory => Exit::Memory,
         }
@@ -126,6 +172,14 @@ impl Refusal {
                 *entry,
                 *number,
             ),
+            Refusal::Keys { line, number } => fault_line(Kind::Keys, " line ", *line, *number),
+            Refusal::Cert { line, number } => fault_line(Kind::Cert, " line ", *line, *number),
+            Refusal::Timing {
+                line,
+                number,
+                first,
+                second,
+            } => timing_line(*line, *number, *first, *second),
             Refusal::Stuck(stuck) => stuck_line(*stuck),
             Refusal::Memory => fixed_line("memory: none left\n"),
         }

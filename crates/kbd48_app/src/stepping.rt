@@ -1,7 +1,8 @@
 //! `step`: a run of the processor from reset, with all pins high.
 
 ghost use Rattle.std.specs.Prelude.{◌≡◌, MatchResult};
-ghost use Rattle.kbd48_app.specs.Answers.{answer_of, run_said, MayAnswerOf};
+ghost use Rattle.kbd48_app.specs.Answers.{answer_of, MayAnswerOf};
+ghost use Rattle.kbd48_app.specs.Plans.{run_said};
 ghost use Rattle.kbd48_app.specs.Stepping.{after_steps, Stands, Stopped};
 
 use crate::refusal::Refusal;
@@ -49,9 +50,8 @@ pub fn step(alloc: Global, image: &Image, count: u32) -> Result<Vec<u8>, Refusal
 {
     match run(image, count) {
         Err(stuck) => Err(Refusal::Stuck(stuck)),
-        Ok(ran) => match state_text(alloc, &ran.mcu, u64::from(count), ran.cycles) {
-            Ok(text) => Ok(text),
-            Err(_) => Err(Refusal::Memory),
-        },
+        Ok(ran) => state_text(alloc, &ran.mcu, u64::from(count), ran.cycles).map_err(
+            |_| Refusal::Memory,
+        ),
     }
 }

@@ -1,10 +1,17 @@
 //! The top call.
 
-ghost use Rattle.std.specs.Prelude.{◌≡◌, ◌-◌, ◌^◌, ◌<◌, ◌⊎◌, map, string_bytes, None, Err};
+ghost use Rattle.std.specs.Prelude.{◌≡◌, ℕ, ◌-◌, ◌^◌, ◌<◌, ◌⊎◌, map, string_bytes, true, None, Err, IfSome};
+ghost use Rattle.hexfile.specs.declared.fault.HexFault.{HexFault};
 ghost use Rattle.io_edge.specs.Faults.{Rose};
-ghost use Rattle.kbd48_app.specs.Answers.{Answer, Says, answer_of, MayAnswer, told_after};
+ghost use Rattle.layout_reader.specs.Faults.{Refusal as LayoutRefusal};
+ghost use Rattle.kbd48_app.specs.declared.kind.Kind.{Kind};
+ghost use Rattle.kbd48_app.specs.Answers.{answer_of, MayAnswer};
+ghost use Rattle.kbd48_app.specs.Causes.{HasAsmFault, HasCertFault, HasFileFault, HasHexFault, HasKeysFault, HasLayoutFault, HasTimingFault, IsStuck, IsUntimely, MayExit};
 ghost use Rattle.kbd48_app.specs.Complete.{IsFaultless, IsLeft};
-ghost use Rattle.kbd48_app.specs.Said.{TakesAll, TakesPart};
+ghost use Rattle.kbd48_app.specs.Plans.{Answer, plan};
+ghost use Rattle.kbd48_app.specs.Reached.{IsTooLong, IsUnserved, fetches_of, Makes, may_lack};
+ghost use Rattle.kbd48_app.specs.Said.{ByLines, TakesAll, TakesPart};
+ghost use Rattle.kbd48_app.specs.Says.{Says, text_said};
 ghost use Rattle.kbd48_app.specs.Words.{command_of};
 
 use crate::answering::answer;
@@ -21,6 +28,7 @@ fn print<K: Sink>(out: &mut K, text: &[u8], exit: Exit) -> Exit
     ensures write { (result ≡ exit) ⊎ Rose (K.faults out.old) (K.faults out.new) }
     ensures exits { (result ≡ exit) ⊎ (result ≡ Exit.Write) }
     ensures put_failed { K.faults out.old < K.faults out.new → result ≡ Exit.Write }
+    ensures lines { ByLines (K.told out.old) (K.told out.new) text.now }
 {
     match say(out, text) {
         Ok(()) => exit,
@@ -31,10 +39,10 @@ fn print<K: Sink>(out: &mut K, text: &[u8], exit: Exit) -> Exit
 /// Prints an answer, and ends with its exit, or with `Write` where the sink fails.
 fn conclude<K: Sink>(out: &mut K, answer: &Result<Vec<u8>, Refusal>) -> Exit
     ensures says { Says (answer_of answer.now) (K.taken out.old) (K.taken out.new) result }
-    ensures words { result ≡ Exit.Words → answer.now ≡ Err Refusal.Words }
     ensures read { result ≡ Exit.Read → answer.now ≡ Err Refusal.Read }
     ensures write { result ≡ Exit.Write → Rose (K.faults out.old) (K.faults out.new) }
     ensures put_failed { K.faults out.old < K.faults out.new → result ≡ Exit.Write }
+    ensures lines { ByLines (K.told out.old) (K.told out.new) (text_said (answer_of answer.now)) }
 {
     match answer {
         Ok(text) => print(out, text, Exit::Done),
@@ -44,22 +52,65 @@ fn conclude<K: Sink>(out: &mut K, answer: &Result<Vec<u8>, Refusal>) -> Exit
 
 /// The program, from the words that follow its name to its exit.
 ///
-/// Words outside the accepted forms are refused first. Then the file that the words name, if they name one, is fetched,
-/// once, and judged.
-/// All that is said goes to the sink line by line, each line offered whole in one `put`. A sink that fails ends the call
-/// with `Write`; want of memory with `Memory`, which never comes for words outside the forms.
+/// Words outside the accepted forms are refused first. Then the files that the words name are fetched and judged, in the
+/// order of the words, each before the next is fetched; the first refusal ends the call. All that is said goes to the
+/// sink line by line, each line offered whole in one `put`. A sink that fails ends the call with `Write`; want of memory
+/// with `Memory`, which never comes for words outside the forms.
 pub fn kbd48<F: Shelf, K: Sink>(alloc: Global, words: &[String], shelf: &mut F, out: &mut K) -> Exit
-    ensures says { (answer : Answer) × MayAnswer (map string_bytes words.now) (F.told shelf.old) answer
-        × Says answer (K.taken out.old) (K.taken out.new) result }
-    ensures words { result ≡ Exit.Words → command_of (map string_bytes words.now) ≡ None }
+    // What is printed: the text of an answer that the words and the shelf may give, each line whole in one put.
+    ensures says { (answer : Answer) × MayAnswer (map string_bytes words.now) (F.told shelf.old) answer (F.told shelf.new)
+        × Says answer (K.taken out.old) (K.taken out.new) result
+        × ByLines (K.told out.old) (K.told out.new) (text_said answer) }
+    // Words: exactly where the words have no form.
+    ensures words { command_of (map string_bytes words.now) ≡ None → (result ≡ Exit.Words) ⊎ (result ≡ Exit.Write) }
+    ensures words_only { result ≡ Exit.Words → command_of (map string_bytes words.now) ≡ None }
+    // Read: only where the shelf's count of faults rose, and where it did, nothing but Read or Write comes.
     ensures read { result ≡ Exit.Read → Rose (F.faults shelf.old) (F.faults shelf.new) }
+    ensures fetch_failed { F.faults shelf.old < F.faults shelf.new → (result ≡ Exit.Read) ⊎ (result ≡ Exit.Write) }
+    // Read, of a shelf that tells its files: exactly where a fetch that is reached fails.
+    ensures unserved { IfSome (F.told shelf.old) (λ told.
+        IsUnserved (plan (map string_bytes words.now)) told → MayExit Exit.Read result) }
+    ensures unserved_only { IfSome (F.told shelf.old) (λ told.
+        result ≡ Exit.Read → IsUnserved (plan (map string_bytes words.now)) told) }
+    // Input, of a shelf that tells its files: exactly where a file that is reached is too long, or has a fault.
+    ensures too_long { IfSome (F.told shelf.old) (λ told. (kind : Kind) →
+        IsTooLong kind (plan (map string_bytes words.now)) told → MayExit Exit.Input result) }
+    ensures hex { IfSome (F.told shelf.old) (λ told. (fault : HexFault) →
+        HasHexFault fault (plan (map string_bytes words.now)) told → MayExit Exit.Input result) }
+    ensures asm { IfSome (F.told shelf.old) (λ told. (fault : ℕ × ℕ) →
+        HasAsmFault fault (plan (map string_bytes words.now)) told → MayExit Exit.Input result) }
+    ensures layout { IfSome (F.told shelf.old) (λ told. (fault : LayoutRefusal) →
+        HasLayoutFault fault (plan (map string_bytes words.now)) told → MayExit Exit.Input result) }
+    ensures cert { IfSome (F.told shelf.old) (λ told. (fault : ℕ × ℕ) →
+        HasCertFault fault (plan (map string_bytes words.now)) told → MayExit Exit.Input result) }
+    ensures keys { IfSome (F.told shelf.old) (λ told. (fault : ℕ × ℕ) →
+        HasKeysFault fault (plan (map string_bytes words.now)) told → MayExit Exit.Input result) }
+    ensures input_only { IfSome (F.told shelf.old) (λ told.
+        result ≡ Exit.Input → HasFileFault (plan (map string_bytes words.now)) told) }
+    // Timing, of a shelf that tells its files: exactly where a key file that is reached has a fault of time first.
+    ensures timing { IfSome (F.told shelf.old) (λ told. (fault : ℕ × ℕ) (stamps : ℕ × ℕ) →
+        HasTimingFault fault stamps (plan (map string_bytes words.now)) told → MayExit Exit.Timing result) }
+    ensures timing_only { IfSome (F.told shelf.old) (λ told.
+        result ≡ Exit.Timing → IsUntimely (plan (map string_bytes words.now)) told) }
+    // Stuck, of a shelf that tells its files: exactly where a step of `step` meets a byte without an instruction.
+    ensures stuck { IfSome (F.told shelf.old) (λ told. let texts = map string_bytes words.now in
+        IsStuck (command_of texts) (plan texts) told → MayExit Exit.Stuck result) }
+    ensures stuck_only { IfSome (F.told shelf.old) (λ told. let texts = map string_bytes words.now in
+        result ≡ Exit.Stuck → IsStuck (command_of texts) (plan texts) told) }
+    // Memory: never where the first fetch fails, or finds a file that is too long.
+    ensures memory { IfSome (F.told shelf.old) (λ told.
+        result ≡ Exit.Memory → may_lack (plan (map string_bytes words.now)) told ≡ true) }
+    // Write: only where the sink's count of faults rose, and where it did, nothing else comes.
     ensures write { result ≡ Exit.Write → Rose (K.faults out.old) (K.faults out.new) }
     ensures put_failed { K.faults out.old < K.faults out.new → result ≡ Exit.Write }
-    // Where nothing stands in the way, and no put failed, only want of memory is left, or in `step` a byte without an instruction.
+    // Where nothing stands in the way, and no put failed, only want of memory is left, or in `step` a byte without an
+    // instruction.
     ensures complete { IsFaultless (map string_bytes words.now) (F.told shelf.old)
         → K.faults out.new ≡ K.faults out.old → K.faults out.old < 2 ^ 64 - 1
         → IsLeft (command_of (map string_bytes words.now)) result }
-    ensures fetches { F.told shelf.new ≡ told_after (command_of (map string_bytes words.now)) (F.told shelf.old) }
+    // The fetches: those that the words come to, in their order, and no others.
+    ensures fetches { IfSome (F.told shelf.old) (λ told.
+        Makes (fetches_of (plan (map string_bytes words.now)) told) told (F.told shelf.new) result) }
 {
     let answer = answer(alloc, words, shelf);
     conclude(out, &answer)

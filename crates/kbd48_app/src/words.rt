@@ -1,17 +1,16 @@
 //! The words that follow the program's name, read by their places.
 
-ghost use Rattle.std.specs.Prelude.{◌≡◌, map, string_bytes};
+ghost use Rattle.std.specs.Prelude.{◌≡◌, ◌<◌, ◌≤◌, codes, length, map, string_bytes, IfSome};
+ghost use Rattle.std.specs.Str.{bytes_eq};
 ghost use Rattle.std.specs.Char.{is_ascii_digit};
 ghost use Rattle.std.specs.List.{list_all};
-ghost use Rattle.kbd48_app.specs.Words.{is_name, is_short_number, count_of, byte_of, is_byte, are_bytes, step_of, named_of, feed_of, command_of, is_form};
+ghost use Rattle.kbd48_app.specs.Words.{is_name, is_short_number, count_of, step_of, named_of, pair_of, are_both, log_of, run_of, feed_of, command_of, files_in, is_form};
 
+use crate::bytes::KeyboardBytes;
 use crate::kind::Kind;
 
 /// The greatest COUNT.
 const MOST_STEPS: u32 = 1_000_000;
-
-/// The most BYTEs.
-const MOST_BYTES: usize = 4096;
 
 /// A command over one file, with its numbers. The file's name is the word behind the command.
 #[derive(Clone, Copy, Debug, PartialEq, Eq, Drop)]
@@ -26,12 +25,33 @@ pub enum FileCommand {
     Compile,
 }
 
-/// A command, as the words give it.
+/// What is told of a run.
 #[derive(Clone, Copy, Debug, PartialEq, Eq, Drop)]
+pub enum RunCommand {
+    /// `run`: its log, then with `--ticks` its tick starts, and then with `--steps` the state at its end.
+    Log { ticks: bool, steps: bool },
+    /// `expect`: the model's log at its tick starts.
+    Expect,
+}
+
+/// A command over two files. Their names are the two words behind the command.
+#[derive(Clone, Copy, Debug, PartialEq, Eq, Drop)]
+pub enum PairCommand {
+    /// `cert` NAME NAME: a HEX image, and a certificate for it.
+    Certify,
+    /// `run` NAME NAME and its options, `expect` NAME NAME: a layout, and a key file for it.
+    OverRun(RunCommand),
+}
+
+/// A command, as the words give it.
+#[derive(Debug, Drop)]
 pub enum Command {
+    /// A command over the file that the word behind it names.
     OverFile(FileCommand),
-    /// `words` BYTE ..: the bytes are the words behind the command.
-    Feed,
+    /// A command over the files that the two words behind it name.
+    OverPair(PairCommand),
+    /// `words` BYTE ..
+    Feed(KeyboardBytes),
 }
 
 impl FileCommand {
@@ -49,6 +69,7 @@ impl FileCommand {
     }
 }
 
+/// Whether the word isn't empty and doesn't begin with `-`.
 fn is_name(word: &str) -> bool
     ensures { result ≡ is_name word.now }
 {
@@ -58,18 +79,21 @@ fn is_name(word: &str) -> bool
     }
 }
 
+/// Whether the word has no other bytes than decimal digits.
 fn has_digits_alone(word: &[u8]) -> bool
     ensures { result ≡ list_all is_ascii_digit word.now }
 {
     word.iter().all(|byte| byte.is_ascii_digit())
 }
 
+/// Whether the word is one to seven decimal digits.
 fn is_short_number(word: &[u8]) -> bool
     ensures { result ≡ is_short_number word.now }
 {
     !word.is_empty() && word.len() <= 7 && has_digits_alone(word)
 }
 
+/// The value of a COUNT, at most 1,000,000.
 #[tactic(auto, using(crate::proofs::Numbers::no_count))]
 fn count(word: &str) -> Option<u32>
     ensures { result ≡ count_of word.now }
@@ -83,37 +107,10 @@ fn count(word: &str) -> Option<u32>
     }
 }
 
-/// The value of a BYTE.
-pub fn read_byte(word: &str) -> Option<u8>
-    ensures { result ≡ byte_of word.now }
-{
-    match word.as_bytes() {
-        [first, second] => {
-            let high = hex_text::digit_value(*first)?;
-            let low = hex_text::digit_value(*second)?;
-            Some(16 * high + low)
-        }
-        _ => None,
-    }
-}
-
-/// Each word is a BYTE.
-fn each_is_byte(words: &[String]) -> bool
-    ensures { result ≡ list_all (λ word. is_byte (string_bytes word)) words.now }
-{
-    words.iter().all(|word| read_byte(word).is_some())
-}
-
-/// The words are BYTEs, as many as `words` takes.
-#[tactic(auto, using(crate::proofs::Forms::bytes_by_words))]
-fn are_bytes(words: &[String]) -> bool
-    ensures { result ≡ are_bytes (map string_bytes words.now) }
-{
-    !words.is_empty() && words.len() <= MOST_BYTES && each_is_byte(words)
-}
-
+/// `step` NAME COUNT
 fn read_step(words: &[String]) -> Option<Command>
-    ensures { result ≡ step_of (map string_bytes words.now) }
+    ensures command { result ≡ step_of (map string_bytes words.now) }
+    ensures named { IfSome result (λ command. files_in command ≤ length words.now) }
 {
     match words {
         [name, steps] if is_name(name) => {
@@ -126,7 +123,8 @@ fn read_step(words: &[String]) -> Option<Command>
 
 /// A command that takes a NAME alone.
 fn read_named(command: FileCommand, words: &[String]) -> Option<Command>
-    ensures { result ≡ named_of command (map string_bytes words.now) }
+    ensures command { result ≡ named_of command (map string_bytes words.now) }
+    ensures named { IfSome result (λ command. files_in command ≤ length words.now) }
 {
     match words {
         [name] if is_name(name) => Some(Command::OverFile(command)),
@@ -134,15 +132,89 @@ fn read_named(command: FileCommand, words: &[String]) -> Option<Command>
     }
 }
 
-fn read_feed(words: &[String]) -> Option<Command>
-    ensures { result ≡ feed_of (map string_bytes words.now) }
+/// A command that takes two NAMEs alone.
+fn read_pair(command: PairCommand, words: &[String]) -> Option<Command>
+    ensures command { result ≡ pair_of command (map string_bytes words.now) }
+    ensures named { IfSome result (λ command. files_in command ≤ length words.now) }
 {
-    are_bytes(words).then_some(Command::Feed)
+    match words {
+        [first, second] if is_name(first) && is_name(second) => Some(Command::OverPair(command)),
+        _ => None,
+    }
+}
+
+/// Whether the word is the option for a run's tick starts.
+fn is_ticks(word: &str) -> bool
+    ensures { result ≡ bytes_eq word.now (codes "--ticks") }
+{
+    word == "--ticks"
+}
+
+/// Whether the word is the option for the state at a run's end.
+fn is_steps(word: &str) -> bool
+    ensures { result ≡ bytes_eq word.now (codes "--steps") }
+{
+    word == "--steps"
+}
+
+/// Whether two words are both options of `run`, in either order.
+fn are_both(first: &str, second: &str) -> bool
+    ensures { result ≡ are_both first.now second.now }
+{
+    is_ticks(first) && is_steps(second) || is_steps(first) && is_ticks(second)
+}
+
+/// The options of `run`, each at most once.
+fn read_options(words: &[String]) -> Option<RunCommand>
+    ensures { result ≡ log_of (map string_bytes words.now) }
+{
+    match words {
+        [] => Some(RunCommand::Log {
+            ticks: false,
+            steps: false,
+        }),
+        [option] if is_ticks(option) => Some(RunCommand::Log {
+            ticks: true,
+            steps: false,
+        }),
+        [option] if is_steps(option) => Some(RunCommand::Log {
+            ticks: false,
+            steps: true,
+        }),
+        [first, second] if are_both(first, second) => Some(RunCommand::Log {
+            ticks: true,
+            steps: true,
+        }),
+        _ => None,
+    }
+}
+
+/// `run` NAME NAME, and its options.
+fn read_run(words: &[String]) -> Option<Command>
+    ensures command { result ≡ run_of (map string_bytes words.now) }
+    ensures named { IfSome result (λ command. files_in command ≤ length words.now) }
+{
+    match words {
+        [first, second, options @ ..] if is_name(first) && is_name(second) => {
+            let command = read_options(options)?;
+            Some(Command::OverPair(PairCommand::OverRun(command)))
+        }
+        _ => None,
+    }
+}
+
+/// `words` BYTE ..
+fn read_feed(words: &[String]) -> Option<Command>
+    ensures command { result ≡ feed_of (map string_bytes words.now) }
+    ensures named { IfSome result (λ command. files_in command ≤ length words.now) }
+{
+    KeyboardBytes::read(words).map(Command::Feed)
 }
 
 /// The command of the words, or none where the words are outside the accepted forms.
 pub fn read_command(words: &[String]) -> Option<Command>
-    ensures { result ≡ command_of (map string_bytes words.now) }
+    ensures command { result ≡ command_of (map string_bytes words.now) }
+    ensures named { IfSome result (λ command. files_in command < length words.now) }
 {
     let (command, words) = words.split_first()?;
     match command.as_str() {
@@ -150,6 +222,9 @@ pub fn read_command(words: &[String]) -> Option<Command>
         "list" => read_named(FileCommand::Listing, words),
         "asm" => read_named(FileCommand::Assemble, words),
         "compile" => read_named(FileCommand::Compile, words),
+        "cert" => read_pair(PairCommand::Certify, words),
+        "run" => read_run(words),
+        "expect" => read_pair(PairCommand::OverRun(RunCommand::Expect), words),
         "words" => read_feed(words),
         _ => None,
     }

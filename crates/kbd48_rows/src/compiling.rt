@@ -1,6 +1,10 @@
 //! `compile`: the HEX text of a layout's image, and the first fault of a layout; and the kernel's source.
 
 use crate::rows::{Row, check};
+use fw_kernel::labels::{
+    DONE, EDGES, GOT, IDLE, INHIBITED, LAMPS, LOOKS, OFFER, PULLED, READ, SCAN, SEND, START,
+    TESTED, TICK, WAIT,
+};
 use fw_kernel::{KERNEL, SOURCE};
 use kbd48_app::Exit;
 use mcs48_asm::assemble;
@@ -123,5 +127,47 @@ fn one_key_in_the_kernel(rt: HostRuntime) -> Result<(), Fail> {
 fn the_source_is_the_kernels(rt: HostRuntime) -> Result<(), Fail> {
     let image = assemble(rt.alloc(), SOURCE.as_bytes())?;
     assert!(rt; image.bytes == KERNEL);
+    Ok(())
+}
+
+/// The labels' names and places.
+static LABELS: [(&str, u16); 16] = [
+    ("tick", TICK),
+    ("read", READ),
+    ("offer", OFFER),
+    ("lamps", LAMPS),
+    ("tested", TESTED),
+    ("looks", LOOKS),
+    ("send", SEND),
+    ("inhibited", INHIBITED),
+    ("idle", IDLE),
+    ("got", GOT),
+    ("pulled", PULLED),
+    ("start", START),
+    ("wait", WAIT),
+    ("scan", SCAN),
+    ("edges", EDGES),
+    ("done", DONE),
+];
+
+/// A jump to each label, assembled behind the source, goes to the place that its constant gives.
+#[test]
+fn each_label_has_its_place(rt: HostRuntime) -> Result<(), Fail> {
+    let alloc = rt.alloc();
+    let mut text = String::from_str(alloc, SOURCE)?;
+    text.push_str("\n ORG 700H\n")?;
+    for (name, _) in LABELS {
+        text.push_str(" JMP ")?;
+        text.push_str(name)?;
+        text.push_str("\n")?;
+    }
+    assert!(rt; text.len() < 32_768);
+    let image = assemble(alloc, text.as_bytes())?;
+    for index in 0..LABELS.len() {
+        let (name, place) = LABELS[index];
+        let at = 0x700 + 2 * index;
+        assert_eq!(rt; image.bytes[at], (place / 256 * 32 + 4) as u8, "{name}");
+        assert_eq!(rt; image.bytes[at + 1], (place % 256) as u8, "{name}");
+    }
     Ok(())
 }

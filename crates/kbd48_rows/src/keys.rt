@@ -8,8 +8,8 @@ use std::alloc::{AllocError, Global};
 use std::test::Fail;
 
 /// A key's name, keyboard code, scan code, and the words that it enters alone, with shift, with Ctrl and with Alt.
-struct Expected {
-    name: &'static str,
+pub struct Expected {
+    pub name: &'static str,
     code: u8,
     scan: u8,
     words: [Option<u16>; 4],
@@ -37,7 +37,7 @@ macro_rules! key {
     };
 }
 
-static KEYS: [Expected; 84] = [
+pub static KEYS: [Expected; 84] = [
     key!("grave" 0x0e 0x29: 0x2960 0x297e _ _),
     key!("1" 0x16 0x02: 0x0231 0x0221 _ 0x7800),
     key!("2" 0x1e 0x03: 0x0332 0x0340 0x0300 0x7900),

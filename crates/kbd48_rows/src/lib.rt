@@ -7,7 +7,11 @@
 #[cfg(test)]
 mod assembling;
 #[cfg(test)]
+mod certifying;
+#[cfg(test)]
 mod compiling;
+#[cfg(test)]
+mod kernel;
 #[cfg(test)]
 mod keys;
 #[cfg(test)]
@@ -15,6 +19,10 @@ mod listing;
 #[cfg(test)]
 mod rows;
 #[cfg(test)]
+mod runs;
+#[cfg(test)]
 mod step;
+#[cfg(test)]
+mod ticks;
 #[cfg(test)]
 mod words;

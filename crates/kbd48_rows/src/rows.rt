@@ -30,11 +30,25 @@ pub fn owned(alloc: Global, words: &[&str]) -> Result<Vec<String>, AllocError> {
     Ok(all)
 }
 
-/// A shelf with one file, of which the fetches with these numbers fail.
-pub fn shelf_of(alloc: Global, file: &[u8], fails: &[u32]) -> Result<MemShelf, AllocError> {
+/// A shelf with these files, of which the fetches with these numbers fail.
+pub fn shelf_with(
+    alloc: Global,
+    named: &[(&str, &[u8])],
+    fails: &[u32],
+) -> Result<MemShelf, AllocError> {
     let mut files = Vec::new(alloc);
-    files.push((String::from_str(alloc, "f")?, Vec::from_slice(alloc, file)?))?;
+    for (name, file) in named {
+        files.push((
+            String::from_str(alloc, name)?,
+            Vec::from_slice(alloc, file)?,
+        ))?;
+    }
     Ok(MemShelf::new(files, Vec::from_slice(alloc, fails)?))
+}
+
+/// A shelf with one file, which is called `f`, of which the fetches with these numbers fail.
+pub fn shelf_of(alloc: Global, file: &[u8], fails: &[u32]) -> Result<MemShelf, AllocError> {
+    shelf_with(alloc, &[("f", file)], fails)
 }
 
 /// Runs the program over this shelf and a sink of so much room, of which the puts with these numbers fail.
@@ -54,6 +68,16 @@ impl Outcome {
     /// The sink took exactly this text.
     pub fn printed(&self, text: &str) -> bool {
         self.sink.taken() == text.as_bytes()
+    }
+
+    /// What the sink took begins with this.
+    pub fn begins_with(&self, text: &[u8]) -> bool {
+        self.sink.taken().starts_with(text)
+    }
+
+    /// What the sink took ends with this.
+    pub fn ends_with(&self, text: &[u8]) -> bool {
+        self.sink.taken().ends_with(text)
     }
 
     /// The sink took this line.

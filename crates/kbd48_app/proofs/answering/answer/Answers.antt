@@ -1,19 +1,13 @@
-use Rattle.std.proofs.Common.{map, string_bytes, sym, ◌∙◌, ap, Some}
-use Rattle.kbd48_app.proofs.Outcomes.{has_name, refused_answer, fed_answer, named_answer}
+use Rattle.std.proofs.Common.{sym, ◌∙◌, ap, Some}
+use Rattle.kbd48_app.proofs.Named.{ends_over_file, ends_over_pair}
 use Rattle.kbd48_app.proofs.answering.answer.Goals as goal
 
-pub bounds-words-1 : goal.bounds-words-1
-bounds-words-1 g c = has_name c.args.words.now c.in-Some-OverFile.command (sym c.read_command.ensures ∙ (c.in-Some-OverFile.is ∙ ap (λ f. Some f) c.in-Some-OverFile.field-0-is))
+pub returns-in-Some-OverFile-clause-ends : goal.returns-in-Some-OverFile-clause-ends
+returns-in-Some-OverFile-clause-ends g c =
+    ends_over_file c.args.words.now c.in-Some-OverFile.command c.index-words-1.result _ (g.F.Shelf.told c.args.shelf.now) _ _
+    (sym c.read_command.ensures.command ∙ (c.in-Some-OverFile.is ∙ ap (λ f. Some f) c.in-Some-OverFile.field-0-is)) (rw c.in-Some-OverFile.field-0-is at c.in-Some-OverFile.ensures.named) c.index-words-1.is c.deref.ensures c.over_file.ensures.ends
 
-pub returns-in-None-clause-answer : goal.returns-in-None-clause-answer
-returns-in-None-clause-answer g c =
-    refused_answer (map string_bytes c.args.words.now) (g.F.Shelf.told c.args.shelf.now) (sym c.read_command.ensures ∙ c.in-None.is)
-
-pub returns-in-Some-Feed-clause-answer : goal.returns-in-Some-Feed-clause-answer
-returns-in-Some-Feed-clause-answer g c =
-    fed_answer c.args.words.now (g.F.Shelf.told c.args.shelf.now) _ (sym c.read_command.ensures ∙ (c.in-Some-Feed.is ∙ ap (λ f. Some f) c.in-Some-Feed.field-0-is)) c.feed.ensures
-
-pub returns-in-Some-OverFile-clause-answer : goal.returns-in-Some-OverFile-clause-answer
-returns-in-Some-OverFile-clause-answer g c =
-    named_answer c.args.words.now c.in-Some-OverFile.command c.index-words-1.result _ (g.F.Shelf.told c.args.shelf.now) _
-    (sym c.read_command.ensures ∙ (c.in-Some-OverFile.is ∙ ap (λ f. Some f) c.in-Some-OverFile.field-0-is)) c.index-words-1.is c.deref.ensures c.answer_over.ensures.answer
+pub returns-in-Some-OverPair-clause-ends : goal.returns-in-Some-OverPair-clause-ends
+returns-in-Some-OverPair-clause-ends g c =
+    ends_over_pair c.args.words.now c.in-Some-OverPair.command c.index-words-1-in-Some-OverPair.result c.index-words-2.result _ _ (g.F.Shelf.told c.args.shelf.now) _ _
+    (sym c.read_command.ensures.command ∙ (c.in-Some-OverPair.is ∙ ap (λ f. Some f) c.in-Some-OverPair.field-0-is)) (rw c.in-Some-OverPair.field-0-is at c.in-Some-OverPair.ensures.named) c.index-words-1-in-Some-OverPair.is c.index-words-2.is c.deref-in-Some-OverPair.ensures c.deref-in-Some-OverPair-2.ensures c.over_pair.ensures.ends

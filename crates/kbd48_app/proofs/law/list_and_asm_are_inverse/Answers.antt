@@ -1,11 +1,10 @@
-use Rattle.std.proofs.Common.{◌≡◌, ◌≤◌, Ok, ap, length, arith}
+use Rattle.std.proofs.Common.{Ok, ap, arith}
 use Rattle.mcs48_isa.specs.Listing.{listing_of}
 use Rattle.mcs48_isa.proofs.Lengths.{listing-within}
 use Rattle.mcs48_asm.proofs.RoundTrip.{round_trip}
-use Rattle.hexfile.specs.Spelling.{hex_text_of}
 use Rattle.hexfile.proofs.BackRows.{text_back}
 use Rattle.hexfile.proofs.Rows.{text_short}
-use Rattle.kbd48_app.specs.Answers.{of_image, assembled}
+use Rattle.kbd48_app.specs.Plans.{of_image, assembled}
 use Rattle.kbd48_app.proofs.law.list_and_asm_are_inverse.Goals as goal
 
 pub returns : goal.returns

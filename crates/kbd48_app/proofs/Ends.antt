@@ -1,0 +1,66 @@
+-- How a plan ends over a shelf that tells its files.
+use Rattle.std.proofs.Common.{◌≡◌, ℕ, Bool, true, false, List, Some, None, Err, inl, inr, refl, ap, subst, ◌∙◌, ◌⊎◌}
+use Rattle.std.specs.declared.option.Option.{Option}
+use Rattle.io_edge.specs.Shelf.{Told, Fetched, Fails, Long, Found, after_fetch, fetched}
+use Rattle.kbd48_app.specs.declared.exit.Exit.{Exit}
+use Rattle.kbd48_app.specs.declared.exit.Exit.TheVariants as exits
+use Rattle.kbd48_app.specs.declared.kind.Kind.{Kind}
+use Rattle.kbd48_app.specs.declared.refusal.Refusal.TheVariants.{Read, TooLong, Memory}
+use Rattle.kbd48_app.specs.declared.words.Command.{Command}
+use Rattle.kbd48_app.specs.Answers.{OnFetched, MayEnd, MayEndAs, MayAnswer}
+use Rattle.kbd48_app.specs.Kinds.{limit_of}
+use Rattle.kbd48_app.specs.Plans.{Answer, Plan, Gives, Runs, Fetches, plan, plan_of}
+use Rattle.kbd48_app.specs.Reached.{on_fetched, may_lack}
+use Rattle.kbd48_app.specs.Says.{Says, exit_said}
+use Rattle.kbd48_app.specs.Words.{command_of}
+
+-- the exit where memory isn't wanting
+abbrev pub leads : Plan → Told → Exit
+leads (Gives said) shelf = exit_said said
+leads (Runs command layout history) shelf = exits.Done
+leads (Fetches kind name next) shelf =
+    on_fetched exits.Read exits.Input (λ bytes. leads (next bytes) (after_fetch shelf)) (fetched shelf name (limit_of kind))
+
+-- an answer's exit is the one that a plan leads to, or memory was wanting
+abbrev pub IsLed : Exit → Bool → Answer → Type 0
+IsLed exit lack answer = (exit_said answer ≡ exit) ⊎ ((answer ≡ Err Memory) × (lack ≡ true))
+
+after_fetched : (kind : Kind) (on : List ℕ → Type 0) (exit : List ℕ → Exit) (end : Type 0) (answer : Answer) → ((bytes : List ℕ) → on bytes → IsLed (exit bytes) true answer) → (outcome : Fetched) → OnFetched ((answer ≡ Err Read) × end) ((answer ≡ Err (TooLong kind)) × end) (λ bytes. ((answer ≡ Err Memory) × end) ⊎ on bytes) outcome → IsLed (on_fetched exits.Read exits.Input exit outcome) (on_fetched false false (λ bytes. true) outcome) answer
+after_fetched kind on exit end answer goes Fails h = inl (ap exit_said h.0)
+after_fetched kind on exit end answer goes Long h = inl (ap exit_said h.0)
+after_fetched kind on exit end answer goes (Found bytes) h = elim h [ inl memory ↦ inr (memory.0, refl) | inr more ↦ goes bytes more ]
+
+weaker : (exit : Exit) (lack : Bool) (answer : Answer) → IsLed exit lack answer → IsLed exit true answer
+weaker exit lack answer h = elim h [ inl same ↦ inl same | inr memory ↦ inr (memory.0, refl) ]
+
+pub ends_so : (p : Plan) (shelf : Told) (answer : Answer) (after : Option Told) → MayEnd p (Some shelf) answer after → IsLed (leads p shelf) (may_lack p shelf) answer
+ends_so (Gives said) shelf answer after h = elim h.0 [ inl memory ↦ inr (memory, refl) | inr same ↦ inl (ap exit_said same) ]
+ends_so (Runs command layout history) shelf answer after h =
+    elim h.0 [ inl memory ↦ inr (memory, refl) | inr said ↦ inl (ap exit_said said.2) ]
+ends_so (Fetches kind name next) shelf answer after h =
+    let on : List ℕ → Type 0 = λ bytes. MayEnd (next bytes) (Some (after_fetch shelf)) answer after in
+    let exit : List ℕ → Exit = λ bytes. leads (next bytes) (after_fetch shelf) in
+    let end : Type 0 = after ≡ Some (after_fetch shelf) in
+    after_fetched kind on exit end answer
+    (λ bytes more. weaker (exit bytes) (may_lack (next bytes) (after_fetch shelf)) answer (ends_so (next bytes) (after_fetch shelf) answer after more))
+    (fetched shelf name (limit_of kind))
+    (subst (λ (o : Fetched). OnFetched ((answer ≡ Err Read) × end) ((answer ≡ Err (TooLong kind)) × end) (λ bytes. ((answer ≡ Err Memory) × end) ⊎ on bytes) o) h.1 h.2)
+
+ends_as : (command : Option Command) (words : List (List ℕ)) (shelf : Told) (answer : Answer) (after : Option Told) → MayEndAs command words (Some shelf) answer after → IsLed (leads (plan_of command words) shelf) (may_lack (plan_of command words) shelf) answer
+ends_as None words shelf answer after h = inl (ap exit_said h.0)
+ends_as (Some command) words shelf answer after h = ends_so (plan_of (Some command) words) shelf answer after h
+
+-- the exit is the one that the plan leads to, or memory was wanting, or the sink failed
+abbrev pub IsExit : Exit → Bool → Exit → Type 0
+IsExit led lack exit = (exit ≡ led) ⊎ ((exit ≡ exits.Memory) × (lack ≡ true)) ⊎ (exit ≡ exits.Write)
+
+pub exits_so : (words : List (List ℕ)) (shelf : Told) (taken taken' : Option (List ℕ)) (exit : Exit) (after : Option Told) → (answer : Answer) × MayAnswer words (Some shelf) answer after × Says answer taken taken' exit → IsExit (leads (plan words) shelf) (may_lack (plan words) shelf) exit
+exits_so words shelf taken taken' exit after h =
+    elim h.2 [
+      | inl whole ↦
+          elim (ends_as (command_of words) words shelf h.0 after h.1) [
+            | inl same ↦ inl (whole.0 ∙ same)
+            | inr memory ↦ inr (inl (whole.0 ∙ ap exit_said memory.0, memory.1))
+          ]
+      | inr part ↦ inr (inr part.0)
+    ]

@@ -1,0 +1,119 @@
+-- Words outside the forms, over any shelf.
+use Rattle.std.proofs.Common.{◌≡◌, ℕ, List, Some, None, Ok, Err, inl, inr, refl, ap, sym, ◌∙◌, ◌⊎◌}
+use Rattle.std.specs.declared.option.Option.{Option}
+use Rattle.std.specs.declared.result.Result.{Result}
+use Rattle.hexfile.specs.Hex.{HexOutcome, hex_of}
+use Rattle.key_file.specs.Histories.{KeyHistory}
+use Rattle.key_file.specs.KeyFile.{history_of}
+use Rattle.key_file.specs.declared.fault.KeyFault.{KeyFault}
+use Rattle.key_file.specs.declared.fault.KeyFault.TheVariants as faults
+use Rattle.layout_reader.specs.Documents.{layout_of_document}
+use Rattle.layout_reader.specs.Faults.{Refusal as LayoutRefusal}
+use Rattle.layout_reader.specs.Layouts.{KeyLayout}
+use Rattle.io_edge.specs.Shelf.{Told, Fetched, Fails, Long, Found, after_fetch}
+use Rattle.kbd48_app.specs.declared.exit.Exit.{Exit}
+use Rattle.kbd48_app.specs.declared.exit.Exit.TheVariants as exits
+use Rattle.kbd48_app.specs.declared.refusal.Refusal.TheVariants.{Words, Read, TooLong, Memory}
+use Rattle.kbd48_app.specs.declared.words.Command.{Command}
+use Rattle.kbd48_app.specs.declared.words.Command.TheVariants.{OverFile, OverPair, Feed}
+use Rattle.kbd48_app.specs.declared.words.PairCommand.TheVariants.{Certify, OverRun}
+use Rattle.kbd48_app.specs.declared.words.RunCommand.{RunCommand}
+use Rattle.kbd48_app.specs.declared.words.FileCommand.{FileCommand}
+use Rattle.std.specs.Option.{option_map}
+use Rattle.kbd48_app.specs.Answers.{OnFetched, MayAnswerOf, MayAnswer, MayEnd, MayEndAs}
+use Rattle.kbd48_app.specs.declared.kind.Kind.{Kind}
+use Rattle.kbd48_app.specs.Plans.{Answer, Plan, Gives, Runs, Fetches, cert_next, cert_said, file_said, keys_next, plan_of, with_history, with_image, with_layout}
+use Rattle.kbd48_app.specs.Says.{Says, exit_said}
+use Rattle.kbd48_app.specs.Words.{command_of, second_in}
+use Rattle.kbd48_app.proofs.Certs.{cert_exits}
+use Rattle.kbd48_app.proofs.FileExits.{Exits, file_exits}
+
+-- the exit is that of the answer, or the sink failed
+pub said_exit : (answer : Answer) (taken taken' : Option (List ℕ)) (exit : Exit) → Says answer taken taken' exit → (exit ≡ exit_said answer) ⊎ (exit ≡ exits.Write)
+said_exit answer taken taken' exit h = elim h [ inl whole ↦ inl whole.0 | inr part ↦ inr part.0 ]
+
+never_file : (command : FileCommand) (bytes : List ℕ) (said : Answer) → Exits command bytes said → exit_said said ≡ exits.Words → ⊥
+never_file command bytes said h is =
+    elim h [ inl done ↦ cc | inr more ↦ elim more [ inl input ↦ let e = input.0 in cc | inr stuck ↦ let e = stuck.0 in cc ] ]
+
+never_said : (said answer : Answer) → (exit_said said ≡ exits.Words → ⊥) → MayAnswerOf said answer → exit_said answer ≡ exits.Words → ⊥
+never_said said answer never h is =
+    elim h [
+      | inl memory ↦ let e : exits.Memory ≡ exits.Words = sym (ap exit_said memory) ∙ is in cc
+      | inr same ↦ never (sym (ap exit_said same) ∙ is)
+    ]
+
+-- a plan never says that the words have no form
+abbrev Never : Plan → Type 0
+Never (Gives said) = exit_said said ≡ exits.Words → ⊥
+Never (Runs command layout history) = Unit {0}
+Never (Fetches kind name next) = (bytes : List ℕ) → Never (next bytes)
+
+never_by : (kind : Kind) (answer : Answer) (end : Type 0) (on : List ℕ → Type 0) → ((bytes : List ℕ) → on bytes → exit_said answer ≡ exits.Words → ⊥) → (outcome : Fetched) → OnFetched ((answer ≡ Err Read) × end) ((answer ≡ Err (TooLong kind)) × end) (λ bytes. ((answer ≡ Err Memory) × end) ⊎ on bytes) outcome → exit_said answer ≡ exits.Words → ⊥
+never_by kind answer end on goes Fails h is = let e : exits.Read ≡ exits.Words = sym (ap exit_said h.0) ∙ is in cc
+never_by kind answer end on goes Long h is = let e : exits.Input ≡ exits.Words = sym (ap exit_said h.0) ∙ is in cc
+never_by kind answer end on goes (Found bytes) h is =
+    elim h [
+      | inl memory ↦ let e : exits.Memory ≡ exits.Words = sym (ap exit_said memory.0) ∙ is in cc
+      | inr more ↦ goes bytes more is
+    ]
+
+never_ends : (p : Plan) → Never p → (shelf after : Option Told) (answer : Answer) → MayEnd p shelf answer after → exit_said answer ≡ exits.Words → ⊥
+never_ends (Gives said) never shelf after answer h is = never_said said answer never h.0 is
+never_ends (Runs command layout history) never shelf after answer h is =
+    elim h.0 [
+      | inl memory ↦ let e : exits.Memory ≡ exits.Words = sym (ap exit_said memory) ∙ is in cc
+      | inr said ↦ let e : exits.Done ≡ exits.Words = sym (ap exit_said said.2) ∙ is in cc
+    ]
+never_ends (Fetches kind name next) never shelf after answer h is =
+    never_by kind answer (after ≡ option_map after_fetch shelf) (λ bytes. MayEnd (next bytes) (option_map after_fetch shelf) answer after)
+    (λ bytes more. never_ends (next bytes) (never bytes) (option_map after_fetch shelf) after answer more) h.0 h.2 is
+
+never_certified : (image text : List ℕ) → exit_said (cert_said image text) ≡ exits.Words → ⊥
+never_certified image text is =
+    elim (cert_exits image text) [ inl done ↦ cc | inr fault ↦ let e : exits.Input ≡ exits.Words = sym (ap exit_said fault.1) ∙ is in cc ]
+
+never_image : (second : List ℕ) (outcome : HexOutcome) → Never (with_image (cert_next second) outcome)
+never_image second (Ok image) = never_certified image
+never_image second (Err fault) = λ is. cc
+
+never_history : (command : RunCommand) (layout : KeyLayout) (outcome : Result KeyHistory KeyFault) → Never (with_history (Runs command layout) outcome)
+never_history command layout (Ok history) = tt
+never_history command layout (Err (faults.Input line number)) = λ is. cc
+never_history command layout (Err (faults.Timing line number earlier stamp)) = λ is. cc
+never_history command layout (Err faults.Memory) = λ is. cc
+
+never_layout : (command : RunCommand) (second : List ℕ) (outcome : Result KeyLayout LayoutRefusal) → Never (with_layout (keys_next command second) outcome)
+never_layout command second (Ok layout) = λ text. never_history command layout (history_of layout text)
+never_layout command second (Err fault) = λ is. cc
+
+never_command : (command : Command) (words : List (List ℕ)) → Never (plan_of (Some command) words)
+never_command (Feed bytes) words = λ is. cc
+never_command (OverFile command) words = λ bytes. never_file command bytes (file_said command bytes) (file_exits command bytes)
+never_command (OverPair Certify) words = λ bytes. never_image (second_in words) (hex_of bytes)
+never_command (OverPair (OverRun command)) words = λ bytes. never_layout command (second_in words) (layout_of_document bytes)
+
+only_none : (command : Option Command) (words : List (List ℕ)) (shelf after : Option Told) (answer : Answer) → MayEndAs command words shelf answer after → exit_said answer ≡ exits.Words → command ≡ None
+only_none None words shelf after answer h is = refl
+only_none (Some command) words shelf after answer h is =
+    absurd (never_ends (plan_of (Some command) words) (never_command command words) shelf after answer h is)
+
+-- the words are refused only where they have no form
+pub words_only : (words : List (List ℕ)) (shelf after : Option Told) (taken taken' : Option (List ℕ)) (exit : Exit) → (answer : Answer) × MayAnswer words shelf answer after × Says answer taken taken' exit → exit ≡ exits.Words → command_of words ≡ None
+words_only words shelf after taken taken' exit h is =
+    elim (said_exit h.0 taken taken' exit h.2) [
+      | inl same ↦ only_none (command_of words) words shelf after h.0 h.1 (sym same ∙ is)
+      | inr write ↦ absurd (cc)
+    ]
+
+none_refused : (command : Option Command) (words : List (List ℕ)) (shelf after : Option Told) (answer : Answer) → MayEndAs command words shelf answer after → command ≡ None → answer ≡ Err Words
+none_refused None words shelf after answer h is = h.0
+none_refused (Some command) words shelf after answer h is = absurd cc
+
+-- and wherever they have none
+pub words_refused : (words : List (List ℕ)) (shelf after : Option Told) (taken taken' : Option (List ℕ)) (exit : Exit) → (answer : Answer) × MayAnswer words shelf answer after × Says answer taken taken' exit → command_of words ≡ None → (exit ≡ exits.Words) ⊎ (exit ≡ exits.Write)
+words_refused words shelf after taken taken' exit h is =
+    elim (said_exit h.0 taken taken' exit h.2) [
+      | inl same ↦ inl (same ∙ ap exit_said (none_refused (command_of words) words shelf after h.0 h.1 is))
+      | inr write ↦ inr write
+    ]

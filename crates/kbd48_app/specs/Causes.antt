@@ -1,0 +1,82 @@
+-- What causes each exit, of a shelf that tells its files: one definition a cause.
+use Rattle.std.specs.Prelude.{◌≡◌, ◌⊎◌, ℕ, List, Some, Ok, Err}
+use Rattle.std.specs.declared.option.Option.{Option}
+use Rattle.hexfile.specs.Hex.{hex_of}
+use Rattle.hexfile.specs.declared.fault.HexFault.{HexFault}
+use Rattle.mcs48_asm.specs.Assembly.{assembly_of}
+use Rattle.layout_reader.specs.Documents.{layout_of_document}
+use Rattle.layout_reader.specs.Faults.{Refusal as LayoutRefusal}
+use Rattle.layout_reader.specs.Layouts.{KeyLayout}
+use Rattle.key_file.specs.KeyFile.{history_of}
+use Rattle.key_file.specs.declared.fault.KeyFault.{KeyFault}
+use Rattle.key_file.specs.declared.fault.KeyFault.TheVariants.{Input as InputFault, Timing as TimingFault}
+use Rattle.mcs48_core.specs.declared.stepping.Stuck.{Stuck}
+use Rattle.io_edge.specs.Shelf.{Told}
+use Rattle.kbd48_app.specs.declared.exit.Exit.{Exit}
+use Rattle.kbd48_app.specs.declared.exit.Exit.TheVariants.{Memory, Write}
+use Rattle.kbd48_app.specs.declared.kind.Kind.{Kind}
+use Rattle.kbd48_app.specs.declared.kind.Kind.TheVariants.{Hex, Asm, Layout, Keys, Cert}
+use Rattle.kbd48_app.specs.declared.refusal.Refusal.TheVariants as refusals
+use Rattle.kbd48_app.specs.declared.words.Command.{Command}
+use Rattle.kbd48_app.specs.declared.words.Command.TheVariants.{OverFile}
+use Rattle.kbd48_app.specs.declared.words.FileCommand.TheVariants.{Step}
+use Rattle.kbd48_app.specs.Plans.{Plan, cert_said}
+use Rattle.kbd48_app.specs.Reached.{IsTooLong, Reads}
+use Rattle.kbd48_app.specs.Stepping.{Stopped, after_steps}
+
+-- a HEX file is reached, and this is its first fault
+abbrev pub HasHexFault : HexFault → Plan → Told → Type 0
+HasHexFault fault plan shelf = (bytes : List ℕ) × Reads Hex bytes plan shelf × (hex_of bytes ≡ Err fault)
+
+-- a source is reached, and this is its first fault, with its line
+abbrev pub HasAsmFault : ℕ × ℕ → Plan → Told → Type 0
+HasAsmFault fault plan shelf = (bytes : List ℕ) × Reads Asm bytes plan shelf × (assembly_of bytes ≡ Err fault)
+
+-- a layout is reached, and this is its first fault, with its entry
+abbrev pub HasLayoutFault : LayoutRefusal → Plan → Told → Type 0
+HasLayoutFault fault plan shelf =
+    (bytes : List ℕ) × Reads Layout bytes plan shelf × (layout_of_document bytes ≡ Err fault)
+
+-- a certificate is reached, for the image of a HEX file, and this is its first fault, with its line
+abbrev pub HasCertFault : ℕ × ℕ → Plan → Told → Type 0
+HasCertFault fault plan shelf =
+    (bytes : List ℕ) × Reads Hex bytes plan shelf × (image : List ℕ) × (hex_of bytes ≡ Ok image)
+    × (text : List ℕ) × Reads Cert text plan shelf × (cert_said image text ≡ Err (refusals.Cert fault.0 fault.1))
+
+-- a key file is reached, for the layout of a document, and this is its first fault, with its line
+abbrev pub HasKeyFault : KeyFault → Plan → Told → Type 0
+HasKeyFault fault plan shelf =
+    (bytes : List ℕ) × Reads Layout bytes plan shelf × (layout : KeyLayout) × (layout_of_document bytes ≡ Ok layout)
+    × (text : List ℕ) × Reads Keys text plan shelf × (history_of layout text ≡ Err fault)
+
+-- the first fault is one of the key file's lines or events, or one of time, with two stamps
+abbrev pub HasKeysFault : ℕ × ℕ → Plan → Told → Type 0
+HasKeysFault fault plan shelf = HasKeyFault (InputFault fault.0 fault.1) plan shelf
+
+abbrev pub HasTimingFault : ℕ × ℕ → ℕ × ℕ → Plan → Told → Type 0
+HasTimingFault fault stamps plan shelf = HasKeyFault (TimingFault fault.0 fault.1 stamps.0 stamps.1) plan shelf
+
+abbrev pub IsUntimely : Plan → Told → Type 0
+IsUntimely plan shelf = (fault : ℕ × ℕ) × (stamps : ℕ × ℕ) × HasTimingFault fault stamps plan shelf
+
+-- a file that is reached has too many bytes, or a fault, which is none of time
+abbrev pub HasFileFault : Plan → Told → Type 0
+HasFileFault plan shelf =
+    ((kind : Kind) × IsTooLong kind plan shelf)
+    ⊎ ((fault : HexFault) × HasHexFault fault plan shelf)
+    ⊎ ((fault : ℕ × ℕ) × HasAsmFault fault plan shelf)
+    ⊎ ((fault : LayoutRefusal) × HasLayoutFault fault plan shelf)
+    ⊎ ((fault : ℕ × ℕ) × HasCertFault fault plan shelf)
+    ⊎ ((fault : ℕ × ℕ) × HasKeysFault fault plan shelf)
+
+-- one of the COUNT steps of `step`, over the image of the HEX file, meets a byte without an instruction
+abbrev pub IsStuck : Option Command → Plan → Told → Type 0
+IsStuck command plan shelf =
+    (count : ℕ) × (command ≡ Some (OverFile (Step count)))
+    × (bytes : List ℕ) × Reads Hex bytes plan shelf
+    × (image : List ℕ) × (hex_of bytes ≡ Ok image)
+    × (stuck : Stuck) × (after_steps image count ≡ Stopped stuck)
+
+-- a call ends with the exit of its cause, or with that of want of memory, or of a sink that fails
+abbrev pub MayExit : Exit → Exit → Type 0
+MayExit exit result = (result ≡ exit) ⊎ (result ≡ Memory) ⊎ (result ≡ Write)

@@ -1,0 +1,134 @@
+-- What a command does with files: which it asks for, in what order, and what it says of their bytes.
+use Rattle.std.specs.Prelude.{ℕ, List, ◌++◌, Ok, Err, None, Some, codes, decimal}
+use Rattle.std.specs.declared.option.Option.{Option}
+use Rattle.std.specs.declared.result.Result.{Result}
+use Rattle.cycle_cert.specs.Answers.{answer_of as certificate_said}
+use Rattle.cycle_cert.specs.Faults.{number_of}
+use Rattle.cycle_cert.specs.declared.checking.Proved.{Proved}
+use Rattle.first_fault.specs.FirstFault.{Fault}
+use Rattle.hexfile.specs.Hex.{HexOutcome, hex_of}
+use Rattle.hexfile.specs.Spelling.{hex_text_of}
+use Rattle.mcs48_asm.specs.Assembly.{assembly_of}
+use Rattle.layout_reader.specs.Documents.{layout_of_document}
+use Rattle.layout_reader.specs.Faults.{Refusal as LayoutRefusal}
+use Rattle.layout_reader.specs.Layouts.{KeyLayout}
+use Rattle.key_file.specs.Histories.{KeyHistory}
+use Rattle.key_file.specs.KeyFile.{history_of}
+use Rattle.key_file.specs.declared.fault.KeyFault.{KeyFault}
+use Rattle.key_file.specs.declared.fault.KeyFault.TheVariants as keys
+use Rattle.fw_compile.specs.Image.{image_of}
+use Rattle.mcs48_isa.specs.Listing.{listing_of}
+use Rattle.mcs48_core.specs.StateText.{state_text_of}
+use Rattle.kbd48_app.specs.declared.kind.Kind.{Kind}
+use Rattle.kbd48_app.specs.declared.kind.Kind.TheVariants as kinds
+use Rattle.kbd48_app.specs.declared.refusal.Refusal.{Refusal}
+use Rattle.kbd48_app.specs.declared.refusal.Refusal.TheVariants.{Words, Hex, Asm, Layout, Keys, Cert, Timing, Stuck, Memory}
+use Rattle.kbd48_app.specs.declared.words.Command.{Command}
+use Rattle.kbd48_app.specs.declared.words.Command.TheVariants.{OverFile, OverPair, Feed}
+use Rattle.kbd48_app.specs.declared.words.FileCommand.{FileCommand}
+use Rattle.kbd48_app.specs.declared.words.FileCommand.TheVariants.{Step, Listing, Assemble, Compile}
+use Rattle.kbd48_app.specs.declared.words.PairCommand.{PairCommand}
+use Rattle.kbd48_app.specs.declared.words.PairCommand.TheVariants.{Certify, OverRun}
+use Rattle.kbd48_app.specs.declared.words.RunCommand.{RunCommand}
+use Rattle.kbd48_app.specs.Kinds.{kind_of}
+use Rattle.kbd48_app.specs.Feeding.{fed_text}
+use Rattle.kbd48_app.specs.Words.{command_of, name_in, second_in}
+use Rattle.kbd48_app.specs.Stepping.{Progress, Stands, Stopped, after_steps}
+
+-- a text, or a refusal
+abbrev pub Answer : Type 0
+Answer = Result (List ℕ) Refusal
+
+-- a plan says something, or what a command says of the run of a layout under a history, or it fetches the file of this
+-- kind and name, and goes on with the file's bytes
+pub data Plan : Type 0 where
+  Gives : Answer → Plan
+  Runs : RunCommand → KeyLayout → KeyHistory → Plan
+  Fetches : Kind → List ℕ → (List ℕ → Plan) → Plan
+
+-- `step` of a run that stands or has stopped after its steps
+abbrev pub run_said : ℕ → Progress → Answer
+run_said count (Stands cpu cycles) = Ok (state_text_of cpu count cycles)
+run_said count (Stopped stuck) = Err (Stuck stuck)
+
+-- what is said of the image of a HEX file, or the file's first fault
+abbrev pub of_image : (List ℕ → Answer) → HexOutcome → Answer
+of_image said (Ok image) = said image
+of_image said (Err fault) = Err (Hex fault)
+
+-- the HEX text of a source's image, or the source's first fault
+abbrev pub assembled : Result (List ℕ) (ℕ × ℕ) → Answer
+assembled (Ok image) = Ok (hex_text_of image)
+assembled (Err fault) = Err (Asm fault.0 fault.1)
+
+-- the HEX text of a layout's image, or the layout's first fault
+abbrev pub compiled : Result KeyLayout LayoutRefusal → Answer
+compiled (Ok layout) = Ok (hex_text_of (image_of layout))
+compiled (Err refusal) = Err (Layout refusal.entry refusal.number)
+
+-- a command over one file, of the file's bytes
+abbrev pub file_said : FileCommand → List ℕ → Answer
+file_said (Step count) bytes = of_image (λ image. run_said count (after_steps image count)) (hex_of bytes)
+file_said Listing bytes = of_image (λ image. Ok (listing_of image)) (hex_of bytes)
+file_said Assemble bytes = assembled (assembly_of bytes)
+file_said Compile bytes = compiled (layout_of_document bytes)
+
+-- what is fetched for the image of a HEX file, or the file's first fault
+abbrev pub with_image : (List ℕ → Plan) → HexOutcome → Plan
+with_image next (Ok image) = next image
+with_image next (Err fault) = Gives (Err (Hex fault))
+
+-- how many places a certificate gives a bound, and the greatest bound
+abbrev pub proved_text : Proved → List ℕ
+proved_text proved =
+    codes "ok places " ++ decimal proved.places ++ codes " greatest " ++ decimal proved.greatest ++ codes "\n"
+
+-- what is said of a certificate that was judged by rules with these numbers, or its first fault
+abbrev pub certified : {Rule : Type 0} → (Rule → ℕ) → Result Proved (Fault Rule) → Answer
+certified number (Ok proved) = Ok (proved_text proved)
+certified number (Err fault) = Err (Cert fault.item (number fault.rule))
+
+-- what is said of a certificate for an image
+abbrev pub cert_said : List ℕ → List ℕ → Answer
+cert_said image text = certified number_of (certificate_said image text)
+
+-- `cert`: the image comes first, and then the certificate
+abbrev pub cert_next : List ℕ → List ℕ → Plan
+cert_next name image = Fetches kinds.Cert name (λ text. Gives (cert_said image text))
+
+-- what is fetched for a layout, or the document's first fault
+abbrev pub with_layout : (KeyLayout → Plan) → Result KeyLayout LayoutRefusal → Plan
+with_layout next (Ok layout) = next layout
+with_layout next (Err refusal) = Gives (Err (Layout refusal.entry refusal.number))
+
+-- the refusal of a key file; want of memory is no fault of the file
+abbrev pub keys_refusal : KeyFault → Refusal
+keys_refusal (keys.Input line number) = Keys line number
+keys_refusal (keys.Timing line number first second) = Timing line number first second
+keys_refusal keys.Memory = Memory
+
+-- what is said of a history, or the key file's first fault
+abbrev pub with_history : (KeyHistory → Plan) → Result KeyHistory KeyFault → Plan
+with_history next (Ok history) = next history
+with_history next (Err fault) = Gives (Err (keys_refusal fault))
+
+-- `run` and `expect`: the layout comes first, and then the key file, which is read for the layout
+abbrev pub keys_next : RunCommand → List ℕ → KeyLayout → Plan
+keys_next command name layout = Fetches kinds.Keys name (λ text. with_history (Runs command layout) (history_of layout text))
+
+-- a command over two files, by their names
+abbrev pub pair_plan : PairCommand → List ℕ → List ℕ → Plan
+pair_plan Certify first second = Fetches kinds.Hex first (λ bytes. with_image (cert_next second) (hex_of bytes))
+pair_plan (OverRun command) first second =
+    Fetches kinds.Layout first (λ bytes. with_layout (keys_next command second) (layout_of_document bytes))
+
+-- a command's plan, with the words that it came from; words without a command are refused
+abbrev pub plan_of : Option Command → List (List ℕ) → Plan
+plan_of None words = Gives (Err Words)
+plan_of (Some (Feed bytes)) words = Gives (Ok (fed_text bytes))
+plan_of (Some (OverFile command)) words =
+    Fetches (kind_of command) (name_in words) (λ bytes. Gives (file_said command bytes))
+plan_of (Some (OverPair command)) words = pair_plan command (name_in words) (second_in words)
+
+abbrev pub plan : List (List ℕ) → Plan
+plan words = plan_of (command_of words) words

@@ -1,0 +1,67 @@
+-- What a plan reaches on a shelf that tells its files.
+use Rattle.std.specs.Prelude.{◌≡◌, ◌⊎◌, ℕ, zero, suc, ◌<◌, ◌≤◌, Bool, true, false, List, [], ◌∷◌, length, Some}
+use Rattle.std.specs.declared.option.Option.{Option}
+use Rattle.io_edge.specs.Shelf.{Told, Fetched, Fails, Long, Found, after_fetch, fetched}
+use Rattle.kbd48_app.specs.declared.exit.Exit.{Exit}
+use Rattle.kbd48_app.specs.declared.exit.Exit.TheVariants.{Memory, Write}
+use Rattle.kbd48_app.specs.declared.kind.Kind.{Kind}
+use Rattle.kbd48_app.specs.Answers.{OnFetched}
+use Rattle.kbd48_app.specs.Kinds.{limit_of}
+use Rattle.kbd48_app.specs.Plans.{Plan, Gives, Runs, Fetches}
+
+-- a value for each thing that a fetch may come to
+abbrev pub on_fetched : {A : Type 0} → A → A → (List ℕ → A) → Fetched → A
+on_fetched fails long found Fails = fails
+on_fetched fails long found Long = long
+on_fetched fails long found (Found bytes) = found bytes
+
+-- a fetch that is reached fails
+abbrev pub IsUnserved : Plan → Told → Type 0
+IsUnserved (Gives said) shelf = ⊥
+IsUnserved (Runs command layout history) shelf = ⊥
+IsUnserved (Fetches kind name next) shelf =
+    OnFetched (Unit {0}) ⊥ (λ bytes. IsUnserved (next bytes) (after_fetch shelf)) (fetched shelf name (limit_of kind))
+
+-- a file of this kind that is reached has too many bytes
+abbrev pub IsTooLong : Kind → Plan → Told → Type 0
+IsTooLong long (Gives said) shelf = ⊥
+IsTooLong long (Runs command layout history) shelf = ⊥
+IsTooLong long (Fetches kind name next) shelf =
+    OnFetched ⊥ (kind ≡ long)
+    (λ bytes. IsTooLong long (next bytes) (after_fetch shelf))
+    (fetched shelf name (limit_of kind))
+
+-- a file of this kind is reached, and has these bytes
+abbrev pub Reads : Kind → List ℕ → Plan → Told → Type 0
+Reads read file (Gives said) shelf = ⊥
+Reads read file (Runs command layout history) shelf = ⊥
+Reads read file (Fetches kind name next) shelf =
+    OnFetched ⊥ ⊥
+    (λ bytes. ((kind ≡ read) × (bytes ≡ file)) ⊎ Reads read file (next bytes) (after_fetch shelf))
+    (fetched shelf name (limit_of kind))
+
+-- memory may be wanting: no file is named, or the first one is found
+abbrev pub may_lack : Plan → Told → Bool
+may_lack (Gives said) shelf = true
+may_lack (Runs command layout history) shelf = true
+may_lack (Fetches kind name next) shelf = on_fetched false false (λ bytes. true) (fetched shelf name (limit_of kind))
+
+-- the names and the limits of the fetches that a plan comes to, in order, where memory isn't wanting
+abbrev pub fetches_of : Plan → Told → List (List ℕ × ℕ)
+fetches_of (Gives said) shelf = []
+fetches_of (Runs command layout history) shelf = []
+fetches_of (Fetches kind name next) shelf =
+    (name, limit_of kind)
+    ∷ on_fetched [] [] (λ bytes. fetches_of (next bytes) (after_fetch shelf)) (fetched shelf name (limit_of kind))
+
+-- a shelf after so many fetches
+abbrev pub after_fetches : ℕ → Told → Told
+after_fetches zero shelf = shelf
+after_fetches (suc n) shelf = after_fetches n (after_fetch shelf)
+
+-- so many of these fetches were made, in their order, and no others: all of them, or, where memory was wanting, the
+-- first ones
+abbrev pub Makes : List (List ℕ × ℕ) → Told → Option Told → Exit → Type 0
+Makes fetches shelf after exit =
+    (n : ℕ) × (n ≤ length fetches) × (after ≡ Some (after_fetches n shelf))
+    × ((n ≡ length fetches) ⊎ ((0 < n) × ((exit ≡ Memory) ⊎ (exit ≡ Write))))
