@@ -6,7 +6,8 @@ use Rattle.std.proofs.lemmas.Bool.Decides.{nat_tests}
 use Rattle.std.proofs.lemmas.List.{set-append_left, set-append_right, get_or_append_left, get_or-append_right}
 use Rattle.board_lines.specs.Columns.{column_keys, keys_in}
 use Rattle.board_lines.specs.Matrix.{row_bit, column_rows, rows_of, turned}
-use Rattle.board_lines.proofs.Cases.{every_below, at_each, same_bits, same_bits-true}
+use Rattle.bits.proofs.Every.{every_below, at_each}
+use Rattle.board_lines.proofs.Cases.{same_bits, same_bits-true}
 
 -- a row's key goes down: its bit is cleared
 abbrev clears : ℕ → ℕ → Bool

@@ -5,7 +5,8 @@ use Rattle.std.specs.declared.option.Option.{Option}
 use Rattle.std.proofs.lemmas.Bool.{eqb-true}
 use Rattle.board_lines.specs.Bits.{data_bits, value, is_odd}
 use Rattle.board_lines.specs.Frame.{frame_bits, is_right, byte_of}
-use Rattle.board_lines.proofs.Cases.{at_each, and-left, and-right, same_bits, same_bits-true, each_bit, at_bit}
+use Rattle.bits.proofs.Every.{at_each, and-left, and-right}
+use Rattle.board_lines.proofs.Cases.{same_bits, same_bits-true, each_bit, at_bit}
 
 -- each bit, by its mask
 abbrev masked : ℕ → List Bool

@@ -4,10 +4,10 @@ ghost use Rattle.board_lines.specs.Laws.{EdgesShown, FirstEdgesShown};
 
 /// Edges that are made in their order show each key as its own edges say.
 pub fn edges_shown()
-    ensures { EdgesShown }
+    ensures shown { EdgesShown }
 {}
 
 /// A matrix to which the edges up to a cycle were applied in order shows the keys that are down at it.
 pub fn first_edges_shown()
-    ensures { FirstEdgesShown }
+    ensures shown { FirstEdgesShown }
 {}

@@ -27,7 +27,7 @@ impl Model for Matrix {
 impl Matrix {
     /// The matrix with all keys up.
     pub fn new() -> Matrix
-        ensures { result ≡ all_up }
+        ensures keys { result ≡ all_up }
     {
         Matrix {
             columns: [0xff; 12],
@@ -36,7 +36,7 @@ impl Matrix {
 
     /// The key at a place goes down, or up. The others stay.
     pub fn edge(&mut self, place: Place, down: bool)
-        ensures { self.new ≡ turned place down self.old }
+        ensures keys { self.new ≡ turned place down self.old }
     {
         let column = (place.number() / 8) as usize;
         self.columns[column] = turn_row(self.columns[column], place.number() % 8, down);
@@ -44,7 +44,7 @@ impl Matrix {
 
     /// A matrix of its own in which the same keys are down.
     pub fn copied(&self) -> Matrix
-        ensures { result ≡ self.now }
+        ensures keys { result ≡ self.now }
     {
         Matrix {
             columns: self.columns,
@@ -54,7 +54,7 @@ impl Matrix {
     /// The rows that the bus reads: bit k is row k of the column that the low nibble of `p1` selects, 0 for down. The
     /// nibbles 12 to 15 select no column and read FF.
     pub fn rows(&self, p1: u8) -> u8
-        ensures { result ≡ rows_of self.now p1 }
+        ensures rows { result ≡ rows_of self.now p1 }
     {
         let column = (p1 % 16) as usize;
         if column < 12 {

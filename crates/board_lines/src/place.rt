@@ -26,7 +26,7 @@ impl Model for Place {
 impl Place {
     /// The place in this column (0 to 11) and row (0 to 7); None exactly where one of them is out of range.
     pub fn at(column: u8, row: u8) -> Option<Place>
-        ensures { result ≡ place_at column row }
+        ensures place { result ≡ place_at column row }
     {
         if column < 12 && row < 8 {
             Some(Place {

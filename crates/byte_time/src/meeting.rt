@@ -25,7 +25,7 @@ pub fn meeting_of(
     earlier: Link<UnderWay>,
     later: Link<UnderWay>,
 ) -> Meeting
-    ensures { result ≡ meeting_by tested offer earlier later }
+    ensures meeting { result ≡ meeting_by tested offer earlier later }
 {
     if !tested {
         return Meeting::Idle;

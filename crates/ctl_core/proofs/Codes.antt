@@ -5,7 +5,7 @@ use Rattle.std.specs.declared.option.Option.{Option}
 use Rattle.std.proofs.lemmas.Bool.{eqb-true}
 use Rattle.ctl_core.specs.ScanCodes.{translated, scan_codes}
 use Rattle.ctl_core.specs.declared.translation.TheConstants.{SCAN_CODES}
-use Rattle.ctl_core.proofs.Cases.{at_each}
+use Rattle.bits.proofs.Every.{at_each}
 
 -- whether two answers are the same
 abbrev pub same : Option ℕ → Option ℕ → Bool

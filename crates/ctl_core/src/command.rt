@@ -28,7 +28,7 @@ pub enum Command {
 
 /// The command that a byte is.
 pub fn decode_command(byte: u8) -> Command
-    ensures { result ≡ command_of byte }
+    ensures command { result ≡ command_of byte }
 {
     match byte {
         0x20 => Command::ReadCommandByte,

@@ -65,7 +65,7 @@ impl Model for Controller {
 impl Controller {
     /// The controller at its start: both buffers empty, the command byte 45.
     pub fn new() -> Controller
-        ensures { result ≡ at_start }
+        ensures start { result ≡ at_start }
     {
         Controller {
             input: None,
@@ -108,7 +108,7 @@ impl Controller {
 
     /// The host reads port 64h: the status.
     pub fn status(&self) -> u8
-        ensures { result ≡ status_of self.now }
+        ensures status { result ≡ status_of self.now }
     {
         let mut status = Status::UNLOCKED;
         status.set(Status::OUTPUT_FULL, self.output_full);
@@ -124,42 +124,42 @@ impl Controller {
 
     /// Whether the output buffer is full.
     pub fn output_full(&self) -> bool
-        ensures { result ≡ self.now.output_full }
+        ensures full { result ≡ self.now.output_full }
     {
         self.output_full
     }
 
     /// Whether the input buffer is full.
     pub fn input_full(&self) -> bool
-        ensures { result ≡ is_some self.now.input }
+        ensures full { result ≡ is_some self.now.input }
     {
         self.input.is_some()
     }
 
     /// Whether the command byte lets the interrupt of a full output buffer through.
     pub fn interrupt_enabled(&self) -> bool
-        ensures { result ≡ interrupt_enabled self.now }
+        ensures enabled { result ≡ interrupt_enabled self.now }
     {
         self.command_byte.contains(CommandByte::INTERRUPT)
     }
 
     /// Whether the command byte disables the keyboard.
     pub fn is_disabled(&self) -> bool
-        ensures { result ≡ is_disabled self.now }
+        ensures disabled { result ≡ is_disabled self.now }
     {
         self.command_byte.contains(CommandByte::DISABLE)
     }
 
     /// Whether both buffers are empty and the keyboard isn't disabled.
     pub fn is_idle(&self) -> bool
-        ensures { result ≡ is_idle self.now }
+        ensures idle { result ≡ is_idle self.now }
     {
         self.input.is_none() && !self.output_full && !self.is_disabled()
     }
 
     /// The command byte.
     pub fn command_byte(&self) -> u8
-        ensures { result ≡ self.now.command_byte }
+        ensures byte { result ≡ self.now.command_byte }
     {
         self.command_byte.bits()
     }
@@ -167,7 +167,7 @@ impl Controller {
     /// Takes the byte of the input buffer and does what it says, while the output buffer is empty. `None` exactly where
     /// the input buffer is empty.
     pub fn take_input(&mut self) -> Option<Did>
-        requires { self.old.output_full ≡ false }
+        requires output_empty { self.old.output_full ≡ false }
         ensures some { IsSome result ↔ IsSome self.old.input }
         ensures told { result ≡ option_map (λ t. t.did) (taken self.old) }
         ensures after { self.new ≡ after_taken self.old }
@@ -231,7 +231,7 @@ impl Controller {
     /// A byte from the keyboard, while the output buffer is empty, and whether its parity was right. It is put out, by
     /// the translation that the command byte asks for, or begins a break. With wrong parity nothing changes.
     pub fn receive(&mut self, byte: u8, good: bool) -> Received
-        requires { self.old.output_full ≡ false }
+        requires output_empty { self.old.output_full ≡ false }
         ensures bad { (result ≡ Received.Bad) ↔ (good ≡ false) }
         ensures answer { result ≡ received_as self.old byte good }
         ensures after { self.new ≡ after_received self.old byte good }

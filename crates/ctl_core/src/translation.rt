@@ -29,7 +29,7 @@ pub struct Translated {
 /// The scan code of a keyboard code, FF for the overrun 00, and the byte itself for a byte below 80 that no key has.
 /// `None` exactly where the byte passes unchanged and leaves the break mark, and for F0.
 pub fn translate(byte: u8) -> Option<u8>
-    ensures { result ≡ translated byte }
+    ensures code { result ≡ translated byte }
 {
     match byte {
         0x83 => Some(0x41),
@@ -47,7 +47,7 @@ fn entry_at(table: &[u8], place: u8) -> Option<u8>
 
 /// What is put out for a byte from the keyboard, by the translate bit and the break mark.
 pub fn translate_marked(translating: bool, mark: bool, byte: u8) -> Translated
-    ensures { result ≡ translation translating mark byte }
+    ensures answer { result ≡ translation translating mark byte }
 {
     let (byte, mark) = if !translating {
         (Some(byte), mark)

@@ -48,7 +48,7 @@ impl<F: Drop> Port<F> {
     /// A byte of the keyboard has come whole in cycle `now`, or has come wrong (`None`), while the output buffer is empty.
     /// No reply is awaited any more, and the link is held from this cycle on.
     pub fn receive(&mut self, now: u64, byte: Option<u8>)
-        requires { self.old.core.output_full ≡ false }
+        requires output_empty { self.old.core.output_full ≡ false }
         ensures port { self.new ≡ received now byte self.old }
         ensures empty { IsEmptyUnlessHeld self.new }
     {
@@ -62,7 +62,7 @@ impl<F: Drop> Port<F> {
 
     /// A byte for the keyboard has gone whole: the link is free, and a reply is awaited.
     pub fn hand_over(&mut self)
-        requires { self.old.core.output_full ≡ false }
+        requires output_empty { self.old.core.output_full ≡ false }
         ensures port { self.new ≡ handed_over self.old }
         ensures empty { IsEmptyUnlessHeld self.new }
     {

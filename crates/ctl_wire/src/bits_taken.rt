@@ -26,7 +26,7 @@ impl Model for Bits {
 impl Bits {
     /// The first bit of a frame.
     pub fn first(bit: bool) -> Bits
-        ensures { result ≡ bit ∷ [] }
+        ensures bits { result ≡ bit ∷ [] }
     {
         let mut bits = [false; 11];
         bits[0] = bit;
@@ -43,8 +43,8 @@ impl Bits {
 
     /// The next bit has come, and it isn't the last.
     pub fn push(&mut self, bit: bool)
-        requires { length self.old < 10 }
-        ensures { self.new ≡ self.old ++ bit ∷ [] }
+        requires before_last { length self.old < 10 }
+        ensures bits { self.new ≡ self.old ++ bit ∷ [] }
     {
         self.bits[self.count] = bit;
         self.count += 1;
@@ -52,8 +52,8 @@ impl Bits {
 
     /// The frame, with its last bit.
     pub fn ended_by(&self, bit: bool) -> Frame
-        requires { length self.now ≡ 10 }
-        ensures { result.bits ≡ self.now ++ bit ∷ [] }
+        requires ten { length self.now ≡ 10 }
+        ensures bits { result.bits ≡ self.now ++ bit ∷ [] }
     {
         let mut bits = self.bits;
         bits[10] = bit;

@@ -28,7 +28,7 @@ const DATA_PULLED: Lines = Lines {
 /// What the controller drives, by its link: it pulls the clock while it holds the keyboard off or has a byte for it; a
 /// request pulls data, which is the start bit; and after each falling edge of its frame the next bit stands on data.
 pub fn drive_of(link: &Link<Wire>) -> Lines
-    ensures { result ≡ drive link.now }
+    ensures driven { result ≡ drive link.now }
 {
     match link {
         Link::Free => RELEASED,

@@ -25,7 +25,7 @@ impl Model for Edges {
 impl Edges {
     /// The first edge has been.
     pub fn first() -> Edges
-        ensures { result ≡ 1 }
+        ensures number { result ≡ 1 }
     {
         Edges { count: 1 }
     }
@@ -40,8 +40,8 @@ impl Edges {
 
     /// One edge more has been, and it isn't the last.
     pub fn next(&self) -> Edges
-        requires { self.now < 10 }
-        ensures { result ≡ self.now + 1 }
+        requires before_last { self.now < 10 }
+        ensures number { result ≡ self.now + 1 }
     {
         Edges {
             count: self.count + 1,

@@ -14,7 +14,7 @@ use ctl_link::{Link, Port};
 /// that requests, the frame for the keyboard. A frame under way counts the edge and takes the bit, and the eleventh edge
 /// ends it: the byte is received, or handed over. While the controller pulls the clock, edges are ignored.
 pub fn fall(port: &mut Port<Wire>, now: u64, dat: bool)
-    requires { IsEmptyUnlessHeld port.old }
+    requires empty { IsEmptyUnlessHeld port.old }
     ensures port { port.new ≡ edge_at now dat port.old.link port.old }
     ensures empty { IsEmptyUnlessHeld port.new }
 {

@@ -38,7 +38,7 @@ impl Model for CtlWire {
 impl CtlWire {
     /// The controller at its start, before its first look: the clock was high.
     pub fn new() -> CtlWire
-        ensures { result ≡ at_start }
+        ensures start { result ≡ at_start }
     {
         CtlWire {
             port: Port::new(),
@@ -53,7 +53,7 @@ impl CtlWire {
         requires settled { self.old.waits ≡ false }
         requires cycle { now ≡ next_cycle self.old.cycle }
         requires range { now < 2 ^ 63 }
-        ensures { self.new ≡ looked now line self.old }
+        ensures after { self.new ≡ looked now line self.old }
     {
         if self.clock && !line.clk {
             fall(&mut self.port, now, line.dat);
@@ -83,7 +83,7 @@ impl CtlWire {
 
     /// The controller without its wires, for its status and its command byte.
     pub fn core(&self) -> &Controller
-        ensures { result.now ≡ self.now.port.core }
+        ensures core { result.now ≡ self.now.port.core }
     {
         &self.port.core
     }
@@ -102,14 +102,14 @@ impl CtlWire {
 
     /// What the controller drives since its last cycle; both wires are high before the first.
     pub fn drive(&self) -> Lines
-        ensures { result ≡ drive self.now.port.link }
+        ensures driven { result ≡ drive self.now.port.link }
     {
         drive_of(&self.port.link)
     }
 
     /// The cycle in which the output buffer was last filled, 0 at first.
     pub fn filled(&self) -> u64
-        ensures { result ≡ self.now.port.filled }
+        ensures filled { result ≡ self.now.port.filled }
     {
         self.port.filled
     }

@@ -11,7 +11,8 @@ use Rattle.cycle_cert.specs.declared.rows.When.TheVariants.{Always, NotAtOne, At
 use Rattle.cycle_cert.specs.Bounds.{byte_values, weight, cycles_at}
 use Rattle.cycle_cert.specs.Rows.{fits, values_after, heaviest, value_given, writes}
 use Rattle.cycle_cert.specs.Falling.{is_open, falls_at, falls, lightest}
-use Rattle.cycle_cert.proofs.Values.{both, true_or_false, not_each, at_value, each_value}
+use Rattle.bits.proofs.Every.{both}
+use Rattle.cycle_cert.proofs.Values.{true_or_false, not_each, at_value, each_value}
 
 and_true : (b : Bool) → (b && true) ≡ b
 and_true true = refl

@@ -20,8 +20,9 @@ use Rattle.mcs48_core.specs.Flow.{flow}
 use Rattle.mcs48_core.specs.Step.{effect}
 use Rattle.cycle_cert.specs.Bounds.{byte_values}
 use Rattle.cycle_cert.specs.Rows.{is_certifiable, writes, value_given, values_after}
-use Rattle.cycle_cert.proofs.Values.{both, at_value}
-use Rattle.cycle_cert.proofs.Operands.{gives_low}
+use Rattle.bits.proofs.Every.{both}
+use Rattle.cycle_cert.proofs.Values.{at_value}
+use Rattle.mcs48_ranges.proofs.Operands.{gives_low}
 use Rattle.cycle_cert.proofs.Registers.{keeps}
 
 some_if : (b : Bool) (x v : ℕ) → (if b then Some x else None) ≡ Some v → (b ≡ true) × (x ≡ v)

@@ -2,13 +2,7 @@ pub mod Values
 pub mod FallsLemmas
 pub mod Fields
 pub mod Registers
-pub mod Operands
 pub mod Given
-pub mod Table
-pub mod Parts
-pub mod RangesOfMoves
-pub mod RangesOfJumps
-pub mod Ranges
 pub mod Places
 pub mod Plain
 pub mod Sound

@@ -30,8 +30,8 @@ use Rattle.mcs48_core.specs.Step.{effect}
 use Rattle.cycle_cert.specs.declared.rows.When.TheVariants.{NotAtOne, AtOne}
 use Rattle.cycle_cert.specs.declared.rows.Way.{Way}
 use Rattle.cycle_cert.specs.Rows.{is_certifiable, fits, place_after, way, branch_ways, counting_ways, ways}
-use Rattle.cycle_cert.proofs.Values.{both}
-use Rattle.cycle_cert.proofs.Operands.{small, size}
+use Rattle.bits.proofs.Every.{both}
+use Rattle.mcs48_ranges.proofs.Operands.{small, size}
 
 -- of ways that all pass a test, one that leads to a place and that the registers allow
 pub record Takes (test : Way → Bool) (place : ℕ) (value : ℕ → ℕ) : Type 0 where

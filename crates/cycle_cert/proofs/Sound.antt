@@ -19,12 +19,15 @@ use Rattle.cycle_cert.specs.declared.rows.Way.{Way}
 use Rattle.cycle_cert.specs.Bounds.{byte_values, cycles_at, nothing_left}
 use Rattle.cycle_cert.specs.Rows.{is_certifiable, fits, ways, values_after}
 use Rattle.cycle_cert.specs.Falling.{values_beside, falls_at, falls}
-use Rattle.cycle_cert.specs.Runs.{IsByte, IsInRange, ArePins, IsPlain, run, later, ComesTo}
+use Rattle.mcs48_ranges.specs.Sizes.{IsByte, IsFine}
+use Rattle.cycle_cert.specs.Runs.{ArePins, IsPlain, run, later, ComesTo}
 use Rattle.cycle_cert.specs.Certificates.{Certificate, bound_in, bound_at, passage, is_known, way_falls, ways_fault, row_fault, place_fault, first_fault, Keeps}
-use Rattle.cycle_cert.proofs.Values.{both, at_value}
-use Rattle.cycle_cert.proofs.Table.{Regular, row_regular}
-use Rattle.cycle_cert.proofs.Parts.{read_byte, register_byte, past_in_range}
-use Rattle.cycle_cert.proofs.Ranges.{effect_in_range, timer_in_range}
+use Rattle.bits.proofs.Every.{both}
+use Rattle.cycle_cert.proofs.Values.{at_value}
+use Rattle.mcs48_ranges.proofs.Rows.{Regular, row_regular}
+use Rattle.mcs48_ranges.proofs.Parts.{read_byte, register_byte, past_fine}
+use Rattle.mcs48_ranges.proofs.Flow.{effect_fine}
+use Rattle.mcs48_ranges.proofs.Steps.{timer_fine}
 use Rattle.cycle_cert.proofs.Given.{value_left}
 use Rattle.cycle_cert.proofs.Places.{Takes, takes, values_of}
 use Rattle.cycle_cert.proofs.Plain.{effect_plain, step_executes}
@@ -108,7 +111,7 @@ module _ (bytes : List ℕ) (cert : Certificate) (program : All IsByte bytes) (c
   record Moved (pins : Pins) (m : Cpu) (before : Bound) : Type 0 where
     pub next : Stepped
     pub is : stepped bytes pins m ≡ Some next
-    pub range : IsInRange next.cpu
+    pub range : IsFine next.cpu
     pub plain : IsPlain next.cpu
     pub after : Bound
     pub known : bound_at cert (next.cpu.pc % 2048) ≡ Some after
@@ -119,13 +122,13 @@ module _ (bytes : List ℕ) (cert : Certificate) (program : All IsByte bytes) (c
   low_at true p b e = let s : nothing_left ≡ b = cc in subst (λ v. v.register < 8) s (omega arith)
   low_at false p b e = low p b e
 
-  moved_by : (pins : Pins) (m : Cpu) (before : Bound) → IsInRange m → IsPlain m → ArePins pins → before.register < 8
+  moved_by : (pins : Pins) (m : Cpu) (before : Bound) → IsFine m → IsPlain m → ArePins pins → before.register < 8
       → (o : Option Decoded) → row_at bytes m.pc ≡ o → row_fault cert o (m.pc % 2048) before ≡ None → Moved pins m before
   moved_by pins m before range plain levels register_low None row f = absurd cc
   moved_by pins m before range plain levels register_low (Some d) row f = record {
     next = record { cpu = left; cycles = d.cycles };
     is = step_executes bytes pins m plain ∙ ap (λ o. executed o bytes pins m) row;
-    range = timer_in_range m.run d.cycles pins done regular.few done_range;
+    range = timer_fine m.run d.cycles pins done regular.few done_range;
     plain = effect_plain d.op bytes pins (past m) certified plain;
     after = after;
     known = subst (λ p. bound_at cert p ≡ Some after) took.to known.1;
@@ -145,8 +148,8 @@ module _ (bytes : List ℕ) (cert : Certificate) (program : All IsByte bytes) (c
       left : Cpu
       left = after_timer m.run d.cycles pins done
 
-      done_range : IsInRange done
-      done_range = effect_in_range d.op bytes pins (past m) program levels.2 regular.operands (past_in_range m range)
+      done_range : IsFine done
+      done_range = effect_fine d.op bytes pins (past m) program levels.2 regular.operands (past_fine m range)
 
       clear_row : (is_certifiable d.op ≡ true) × (ways_fault cert d before (ways d.op d.len (m.pc % 2048)) ≡ None)
       clear_row = row_clear (is_certifiable d.op) (ways_fault cert d before (ways d.op d.len (m.pc % 2048))) _ f
@@ -183,7 +186,7 @@ module _ (bytes : List ℕ) (cert : Certificate) (program : All IsByte bytes) (c
       fall : falls way ≡ true
       fall = subst (λ o. (elim o as (λ v. Bool) [ None ↦ true | Some a ↦ falls (passage d before took.out a) ]) ≡ true) known.1 passed.1
 
-  moved : (pins : Pins) (m : Cpu) (before : Bound) → IsInRange m → IsPlain m → ArePins pins → bound_in cert.entries (m.pc % 2048) ≡ Some before
+  moved : (pins : Pins) (m : Cpu) (before : Bound) → IsFine m → IsPlain m → ArePins pins → bound_in cert.entries (m.pc % 2048) ≡ Some before
       → Moved pins m before
   moved pins m before range plain levels here =
       let f : row_fault cert (row_at bytes (m.pc % 2048)) (m.pc % 2048) before ≡ None = found bytes cert cert.entries (m.pc % 2048) before clear here in
@@ -227,7 +230,7 @@ module _ (bytes : List ℕ) (cert : Certificate) (program : All IsByte bytes) (c
   goes_on pins m before s false e f rest =
       first_then pins m s.next (cycles_at before (register before.register m)) (cycles_at s.after (register s.after.register s.next.cpu)) s.is s.falls (rest f)
 
-  keeps_by : (n : ℕ) (pins : ℕ → Pins) (m : Cpu) (before : Bound) → IsInRange m → IsPlain m → ((i : ℕ) → ArePins (pins i))
+  keeps_by : (n : ℕ) (pins : ℕ → Pins) (m : Cpu) (before : Bound) → IsFine m → IsPlain m → ((i : ℕ) → ArePins (pins i))
       → bound_in cert.entries (m.pc % 2048) ≡ Some before → cycles_at before (register before.register m) < n
       → ComesTo bytes pins m cert.target (cycles_at before (register before.register m))
   keeps_by zero pins m before range plain levels here l = absurd (omega (arith, l))

@@ -1,13 +1,9 @@
 -- What holds of each value of a register, as a test over all of them.
-use Rattle.std.proofs.Common.{◌≡◌, ◌<◌, ℕ, zero, suc, ◌+◌, Bool, true, false, ◌&&◌, length, get_or, refl, ◌∙◌, zero-add, arith}
+use Rattle.std.proofs.Common.{◌≡◌, ◌<◌, ℕ, zero, suc, ◌+◌, Bool, true, false, length, get_or, refl, ◌∙◌, zero-add, arith}
 use Rattle.std.proofs.lemmas.List.Folds.{list_all_at}
 use Rattle.std.proofs.lemmas.List.FromFn.{length-range_with_len, get_or-range_with_len}
 use Rattle.std.specs.List.{list_all, range_with_len}
 use Rattle.cycle_cert.specs.Bounds.{byte_values}
-
-pub both : (a b : Bool) → (a && b) ≡ true → (a ≡ true) × (b ≡ true)
-both true b h = (refl, h)
-both false b h = absurd cc
 
 pub true_or_false : (P : Type 0) (b : Bool) → (b ≡ true → P) → (b ≡ false → P) → P
 true_or_false P true then_true then_false = then_true refl

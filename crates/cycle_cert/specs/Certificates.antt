@@ -16,7 +16,8 @@ use Rattle.cycle_cert.specs.declared.rows.Way.{Way}
 use Rattle.cycle_cert.specs.Bounds.{cycles_at, nothing_left}
 use Rattle.cycle_cert.specs.Rows.{is_certifiable, ways}
 use Rattle.cycle_cert.specs.Falling.{falls}
-use Rattle.cycle_cert.specs.Runs.{IsInRange, IsPlain, ArePins, ComesTo}
+use Rattle.mcs48_ranges.specs.Sizes.{IsFine}
+use Rattle.cycle_cert.specs.Runs.{IsPlain, ArePins, ComesTo}
 
 -- the target, and the certified places in the order of their lines
 pub record Certificate : Type 0 where
@@ -75,5 +76,5 @@ first_fault bytes cert (entry ∷ more) =
 -- each certified place keeps its bound: from any state with bank 0 and the interrupts off, with any pins at each step
 abbrev pub Keeps : List ℕ → Certificate → Type 0
 Keeps bytes cert = (m : Cpu) (pins : ℕ → Pins) (bound : Bound)
-    → IsInRange m → IsPlain m → ((i : ℕ) → ArePins (pins i)) → bound_in cert.entries (m.pc % 2048) ≡ Some bound
+    → IsFine m → IsPlain m → ((i : ℕ) → ArePins (pins i)) → bound_in cert.entries (m.pc % 2048) ≡ Some bound
     → ComesTo bytes pins m cert.target (cycles_at bound (register bound.register m))

@@ -1,30 +1,8 @@
 -- Runs of the processor, and what a bound says of them.
-use Rattle.std.specs.Prelude.{◌≡◌, ℕ, zero, suc, ◌+◌, ◌%◌, ◌<◌, ◌≤◌, false, List, All, length, Option, Some, None}
+use Rattle.std.specs.Prelude.{◌≡◌, ℕ, zero, suc, ◌+◌, ◌%◌, ◌<◌, ◌≤◌, false, List, Option, Some, None}
 use Rattle.mcs48_core.specs.declared.levels.Pins.{Pins}
 use Rattle.mcs48_core.specs.Cpu.{Cpu}
 use Rattle.mcs48_core.specs.Step.{Stepped, stepped}
-
--- 00 to FF
-abbrev pub IsByte : ℕ → Type 0
-IsByte b = b < 256
-
--- the counter has 12 bits, the prescaler counts to 32, the stack pointer has three bits, data memory has 128 places,
--- and all else is bytes
-pub record AreInRange (counter acc : ℕ) (cells : List ℕ) (timer prescaler port1 port2 port0 stack : ℕ) : Type 0 where
-  pub pc : counter < 4096
-  pub a : acc < 256
-  pub ram : All IsByte cells
-  pub long : length cells ≡ 128
-  pub t : timer < 256
-  pub pre : prescaler < 32
-  pub p1 : port1 < 256
-  pub p2 : port2 < 256
-  pub bus : port0 < 256
-  pub sp : stack < 8
-
--- the ranges that a processor keeps, whatever its flags and modes
-abbrev pub IsInRange : Cpu → Type 0
-IsInRange m = AreInRange m.pc m.a m.ram m.t m.pre m.p1 m.p2 m.bus m.sp
 
 -- levels of pins that are bytes
 abbrev pub ArePins : Pins → Type 0

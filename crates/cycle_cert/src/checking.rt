@@ -41,7 +41,7 @@ pub struct Proved {
 /// Source: our own.
 #[tactic(auto, unfolding(crate::specs::Reading::certificate_of, crate::specs::Answers::answer_of))]
 pub fn check_cert(alloc: Global, image: &Image, text: &[u8]) -> Result<Proved, CertFault>
-    requires { length text.now ≤ 65536 }
+    requires size { length text.now ≤ 65536 }
     ensures proved { IfOk result (λ proved. answer_of image.now.bytes text.now ≡ Ok proved) }
     ensures fault { IfErr result (IsFaultOf (answer_of image.now.bytes text.now)) }
     ensures sound { IfOk result (λ _. IfOk (certificate_of text.now) (Keeps image.now.bytes)) }

@@ -6,5 +6,5 @@ ghost use Rattle.cycle_cert.specs.Examples.{examples, AreRight};
 /// fault. The readings that the rules' sentences leave open are among them. Nothing is done when it is called; the law
 /// is its contract.
 pub fn worked_certificates()
-    ensures { AreRight examples }
+    ensures examples { AreRight examples }
 {}

@@ -6,5 +6,5 @@ ghost use Rattle.cycle_cert.specs.RowLaw.{RegisterLaw};
 /// can't write the register, as this layer tells it, leaves it, and one that gives it a value leaves that value in it.
 /// Nothing is done when it is called; the law is its contract.
 pub fn what_rows_do_to_registers()
-    ensures { RegisterLaw }
+    ensures registers { RegisterLaw }
 {}

@@ -9,7 +9,7 @@ ghost use Rattle.hex_text.specs.Digits.{hex_digit, digit_value, hex_byte, hex_ad
 
 /// The character of a digit below 16: `0` to `9`, then `A` to `F`. Its value is the number again.
 pub fn digit(value: u8) -> u8
-    requires { value < 16 }
+    requires small { value < 16 }
     ensures character { result ≡ hex_digit value }
     ensures back { digit_value result ≡ Some value }
 {
@@ -35,14 +35,14 @@ pub fn digit_value(character: u8) -> Option<u8>
 
 /// The two digits of a byte.
 pub fn byte(value: u8) -> [u8; 2]
-    ensures { result ≡ hex_byte value }
+    ensures digits { result ≡ hex_byte value }
 {
     [digit(value / 16), digit(value % 16)]
 }
 
 /// The three digits of an address of 12 bits. Of a greater number they are the low three digits.
 pub fn address(value: u16) -> [u8; 3]
-    ensures { result ≡ hex_address value }
+    ensures digits { result ≡ hex_address value }
 {
     let [high, low] = byte((value % 256) as u8);
     [digit((value / 256 % 16) as u8), high, low]
@@ -50,7 +50,7 @@ pub fn address(value: u16) -> [u8; 3]
 
 /// The four digits of a word.
 pub fn word(value: u16) -> [u8; 4]
-    ensures { result ≡ hex_word value }
+    ensures digits { result ≡ hex_word value }
 {
     let [first, second] = byte((value / 256) as u8);
     let [third, fourth] = byte((value % 256) as u8);

@@ -1,17 +1,18 @@
 -- What is written is read again: the digits, the records and the lines.
 use Rattle.std.proofs.Common.{◌≡◌, ℕ, ◌+◌, ◌-◌, ◌*◌, ◌/◌, ◌%◌, ◌<◌, ◌==◌, true, false, List, [], ◌∷◌, ◌++◌, length, take, sum, All, slice_index, Option, Some, option_and_then, refl, ap, ◌∙◌, append_assoc, arith}
-use Rattle.std.specs.List.{flat_map}
+use Rattle.std.specs.List.{flat_map, slice_split}
 use Rattle.std.specs.Str.Lines.{lines, strip_carriage_return}
 use Rattle.std.proofs.lemmas.Grind.{common_steps}
 use Rattle.std.proofs.lemmas.Bool.Decides.{nat_tests}
 use Rattle.std.proofs.lemmas.List.{take_all, take-append-le}
 use Rattle.std.proofs.lemmas.List.Elements.{All-nil, All-cons, All-head, All-tail, All-append, All-weaker, All-get_or}
+use Rattle.std.proofs.lemmas.List.Splits.{slice_split_at}
 use Rattle.std.proofs.lemmas.List.Sums.{sum_by-append}
 use Rattle.hex_text.specs.Digits.{hex_digit, digit_value, hex_byte}
 use Rattle.hexfile.specs.Record.{Record, bytes_of, record_of, record_in}
 use Rattle.hexfile.specs.Spelling.{sum_byte}
 use Rattle.hexfile.proofs.Digits.{pair_onto}
-use Rattle.hexfile.proofs.Splits.{lines-line}
+use Rattle.text_lines.proofs.FirstLine.{lines-first}
 
 -- each of these is a byte
 abbrev pub AllBytes : List ℕ → Type 0
@@ -101,5 +102,7 @@ not_lf c h = grind (arith, nat_tests)
 -- a line of plain characters is the first of its text
 pub first_line : (line rest : List ℕ) → 0 < length line → AllPlain line → lines ((line ++ 10 ∷ []) ++ rest) ≡ line ∷ lines rest
 first_line line rest h all =
-    lines-line ((line ++ 10 ∷ []) ++ rest) line rest (append_assoc line (10 ∷ []) rest) (All-weaker (λ c. 47 < c) (λ c. (c == 10) ≡ false) not_lf line all)
+    let no_lf = All-weaker (λ c. 47 < c) (λ c. (c == 10) ≡ false) not_lf line all in
+    lines-first ((line ++ 10 ∷ []) ++ rest) line rest
+    (ap (slice_split (λ c. c == 10)) (append_assoc line (10 ∷ []) rest) ∙ slice_split_at (λ c. c == 10) line 10 rest no_lf refl)
     ∙ ap (λ first. first ∷ lines rest) (no_return line h all)

@@ -6,12 +6,12 @@ ghost use Rattle.hexfile.specs.Record.{said_by, record_of, record_in};
 ghost use Rattle.hexfile.specs.Hex.{hex_of, after_line, fault_at};
 
 use crate::fault::{HexFault, Rule, number_of};
-use crate::lines::next_line;
 use crate::memory::{PLACES, image_of};
 use crate::progress::{Progress, broken_by, obey};
 use crate::record::{LONGEST, decoded, parsed};
 use arrayvec::ArrayVec;
 use mcs48_isa::Image;
+use text_lines::next_line;
 
 /// The bytes of a line. None where it has no record: it is no colon with pairs of digits, or has more of them than a
 /// count can say.
@@ -65,7 +65,7 @@ fn fault_at(line: u32, rule: Rule) -> HexFault
 /// 1 form, 2 sum, 3 type, 4 a byte of data past place 2,047, 5 a place that is given twice, 7 a line after the end. A
 /// text without an end has number 6, at its number of lines plus one. It takes no memory.
 pub fn read_hex(bytes: &[u8]) -> Result<Image, HexFault>
-    requires { length bytes.now ≤ 16384 }
+    requires size { length bytes.now ≤ 16384 }
     ensures image { IfOk result (λ image. hex_of bytes.now ≡ Ok image.bytes) }
     ensures fault { IfErr result (λ fault. hex_of bytes.now ≡ Err fault) }
 {

@@ -93,7 +93,7 @@ impl Bios {
 
     /// The state's parts but for the words.
     pub fn flags(&self) -> Flags9
-        ensures { result ≡ flags_of self.now }
+        ensures flags { result ≡ flags_of self.now }
     {
         Flags9 {
             b17: self.shifts.0,
@@ -114,7 +114,7 @@ impl Bios {
 
     /// The word at this place, from 0, the one to be taken next; None exactly from `count` on.
     pub fn word_at(&self, i: usize) -> Option<u16>
-        ensures { result ≡ slice_get self.now.words i }
+        ensures word { result ≡ slice_get self.now.words i }
     {
         self.words.get(i).copied()
     }

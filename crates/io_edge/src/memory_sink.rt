@@ -67,7 +67,7 @@ impl Sink for MemSink {
     ghost told = { λ s. Some s };
 
     fn put(&mut self, piece: &[u8]) -> Result<usize, SinkFault>
-        requires { 0 < length piece.now }
+        requires some { 0 < length piece.now }
         ensures count { self.old.faults ≤ self.new.faults }
         ensures some { IfOk result (λ n. 0 < n) }
         ensures within { IfOk result (λ n. n ≤ length piece.now) }

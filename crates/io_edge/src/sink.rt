@@ -23,7 +23,7 @@ pub trait Sink {
 
     /// Takes a prefix of the piece, which isn't empty, and answers how many bytes it took, at least 1.
     fn put(&mut self, piece: &[u8]) -> Result<usize, SinkFault>
-        requires { 0 < length piece.now }
+        requires some { 0 < length piece.now }
         ensures count { faults self.old ≤ faults self.new }
         ensures some { IfOk result (λ n. 0 < n) }
         ensures within { IfOk result (λ n. n ≤ length piece.now) }

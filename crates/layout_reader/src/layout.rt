@@ -59,7 +59,7 @@ impl Layout {
     /// The code that the keyboard sends for this place (scan set 2), which is that of the key that its entry sends; None
     /// exactly where no entry has the place.
     pub fn code_at(&self, place: Place) -> Option<u8>
-        ensures { result ≡ code_at place self.now }
+        ensures code { result ≡ code_at place self.now }
     {
         match self.entries.iter().find(|entry| entry.place == place) {
             Some(entry) => Some(code_of(entry.sends)),
@@ -69,7 +69,7 @@ impl Layout {
 
     /// The place of this key; None exactly where no entry has it.
     pub fn place_of(&self, key: Key) -> Option<Place>
-        ensures { result ≡ place_of key self.now }
+        ensures place { result ≡ place_of key self.now }
     {
         match self.entries.iter().find(|entry| entry.key == key) {
             Some(entry) => Some(entry.place),

@@ -28,7 +28,7 @@ fn sample_entry(number: u8) -> Entry
 /// 44. It is made from the numbers of the keys; no text is read.
 #[tactic(auto, unfolding(crate::specs::Layouts::us84))]
 pub fn us84_layout(alloc: Global) -> Result<Layout, AllocError>
-    ensures { IfOk result (λ layout. layout ≡ us84) }
+    ensures layout { IfOk result (λ layout. layout ≡ us84) }
 {
     let mut entries = Vec::new(alloc);
     for number in 0..84 {

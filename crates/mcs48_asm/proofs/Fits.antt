@@ -16,7 +16,8 @@ use Rattle.mcs48_asm.specs.Rows.{Reading, Form, read_all, operands_of}
 use Rattle.mcs48_asm.specs.Statements.{Statement, Instruction, first_fit, statement_of, is_known_word, is_spelled, line_of_parts, line_with, flawed, line_of}
 use Rattle.mcs48_asm.proofs.Plain.{is_plain, IsPlain, is_unbroken, all_weaker, one_part, first_part, uncut, plain-allowed, plain-semicolon, plain-colon, unbroken-comma, unbroken-blank, unbroken-plain, word-unbroken}
 use Rattle.mcs48_asm.proofs.Numerals.{IsNumeral}
-use Rattle.mcs48_asm.proofs.Texts.{IsCons, split-is_cons, operands_are}
+use Rattle.text_lines.proofs.FirstLine.{IsCons, split-is_cons}
+use Rattle.mcs48_asm.proofs.Texts.{operands_are}
 use Rattle.mcs48_asm.proofs.Readings.{said}
 
 -- what a row says of operands

@@ -2,7 +2,6 @@ pub mod Commutes
 pub mod Tables
 pub mod Worked
 pub mod Trims
-pub mod Splits
 pub mod Texts
 pub mod Keeps
 pub mod Counts

@@ -18,7 +18,7 @@ use Rattle.mcs48_asm.specs.Names.{Meanings, definitions, value_named, bytes_of}
 use Rattle.mcs48_asm.specs.Faults.{fault_of, is_past_end, is_filled_again}
 use Rattle.mcs48_asm.specs.Assembly.{lines_in, first_fault, byte_at, image_of, image_unless, outcome_of, assembly_of}
 use Rattle.mcs48_asm.proofs.Plain.{is_plain, IsPlain, first_part, plain-upper, plain-newline, plain-return}
-use Rattle.mcs48_asm.proofs.Texts.{lines-first}
+use Rattle.text_lines.proofs.FirstLine.{lines-first}
 use Rattle.mcs48_asm.proofs.Ranges.{places-of}
 use Rattle.mcs48_asm.proofs.Steps.{is_filled-push}
 use Rattle.mcs48_asm.proofs.Sizes.{IsSized}

@@ -1,33 +1,14 @@
 -- The texts of operands.
-use Rattle.std.proofs.Common.{◌≡◌, ℕ, ◌==◌, Bool, true, false, cond, List, [], ◌∷◌, length, map, None, refl, ap, sym, ◌∙◌, arith}
-use Rattle.std.specs.List.{slice_split, onto_first}
+use Rattle.std.proofs.Common.{◌≡◌, ℕ, ◌==◌, false, List, [], ◌∷◌, length, map, None, refl, ap, sym, ◌∙◌, arith}
+use Rattle.std.specs.List.{slice_split}
 use Rattle.std.proofs.lemmas.Bool.Decides.{nat_tests}
 use Rattle.mcs48_isa.specs.Instructions.{Operand}
 use Rattle.mcs48_asm.specs.declared.flaw.Flaw.TheVariants.{Syntax}
 use Rattle.mcs48_asm.specs.Characters.{is_comma, is_colon}
 use Rattle.mcs48_asm.specs.Words.{trimmed}
-use Rattle.std.specs.Str.Lines.{lines, lines_of_parts, strip_carriage_return}
 use Rattle.mcs48_asm.specs.Statements.{flawed, line_of_parts}
 use Rattle.mcs48_asm.specs.Rows.{read_all, operands_of}
-
--- a list of lists with a first element
-pub record IsCons (parts : List (List ℕ)) : Type 0 where
-  pub first : List ℕ
-  pub rest : List (List ℕ)
-  pub is : parts ≡ first ∷ rest
-
-onto_first-is_cons : (c : ℕ) (parts : List (List ℕ)) → IsCons (onto_first c parts)
-onto_first-is_cons c [] = record { first = c ∷ []; rest = []; is = refl }
-onto_first-is_cons c (part ∷ parts) = record { first = c ∷ part; rest = parts; is = refl }
-
-cond-is_cons : (b : Bool) (c : ℕ) (parts : List (List ℕ)) → IsCons (cond b ([] ∷ parts) (onto_first c parts))
-cond-is_cons true c parts = record { first = []; rest = parts; is = refl }
-cond-is_cons false c parts = onto_first-is_cons c parts
-
--- a text has a first part
-pub split-is_cons : (p : ℕ → Bool) (xs : List ℕ) → IsCons (slice_split p xs)
-split-is_cons p [] = record { first = []; rest = []; is = refl }
-split-is_cons p (x ∷ xs) = cond-is_cons (p x) x (slice_split p xs)
+use Rattle.text_lines.proofs.FirstLine.{split-is_cons}
 
 filled : (c : ℕ) (cs : List ℕ) → (length (c ∷ cs) == 0) ≡ false
 filled c cs = grind (arith, nat_tests)
@@ -72,12 +53,6 @@ read_two-more first second text front back middle last split other =
     let parts = split-is_cons is_comma last in
     sym (ap (read_all (first ∷ second ∷ [])) (operands_are text (more_parts text front back middle (slice_split is_comma last) split other)
     ∙ ap (map trimmed) (split ∙ ap (λ rest. front ∷ rest) (other ∙ ap (λ rest. middle ∷ rest) parts.is))))
-
--- a line and the lines behind it
-pub lines-first : (text front rest : List ℕ) → slice_split (λ c. c == 10) text ≡ front ∷ slice_split (λ c. c == 10) rest → lines text ≡ strip_carriage_return front ∷ lines rest
-lines-first text front rest split =
-    let parts = split-is_cons (λ c. c == 10) rest in
-    ap lines_of_parts (split ∙ ap (λ more. front ∷ more) parts.is) ∙ sym (ap (λ more. strip_carriage_return front ∷ lines_of_parts more) parts.is)
 
 -- a text with two colons
 pub line_of_parts-more : (text front back middle last : List ℕ) → slice_split is_colon text ≡ front ∷ slice_split is_colon back → slice_split is_colon back ≡ middle ∷ slice_split is_colon last

@@ -13,13 +13,14 @@ ghost use Rattle.mcs48_isa.specs.Listing.{listing_of};
 use crate::fault::AsmFault;
 use crate::faults::fault_of;
 use crate::filling::fill;
-use crate::line::{line_of, next_line};
+use crate::line::line_of;
 use crate::names::{Names, define_names, names_in};
 use crate::places::{place_after, start_of};
 use crate::text_hash::TextHash;
 use indexmap::IndexMap;
 use mcs48_isa::Image;
 use std::alloc::{AllocError, Global};
+use text_lines::next_line;
 
 /// The places of a program memory.
 const PLACES: usize = 2048;
@@ -68,7 +69,7 @@ fn upper_case(alloc: Global, text: &[u8]) -> Result<Vec<u8>, AllocError>
 ///
 /// Source: the texts of the MCS-48 Family User's Manual, instruction set; the form of lines is our own.
 pub fn assemble(alloc: Global, text: &[u8]) -> Result<Image, AsmFault>
-    requires { length text.now ≤ 262144 }
+    requires size { length text.now ≤ 262144 }
     ensures outcome { IsOutcome result (assembly_of text.now) }
     ensures listing { (memory : List ℕ) → IsMemory memory → text.now ≡ listing_of memory → IsOutcome result (Ok memory) }
 {

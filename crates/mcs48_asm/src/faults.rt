@@ -15,11 +15,11 @@ use crate::meaning::meaning;
 use crate::memory::is_any_filled;
 use crate::names::{Names, value_named};
 use crate::operands::is_reserved;
-use crate::pieces::split_once;
 use crate::places::count_of;
 use crate::statement::Statement;
 use crate::values::part_value;
 use crate::words::trimmed;
+use text_lines::split_once;
 
 /// Whether a value means a number past this one.
 fn is_above(names: &Names<'_>, limit: u32, value: Value<'_>) -> bool

@@ -1,9 +1,8 @@
 //! What a line says.
 
-ghost use Rattle.std.specs.Prelude.{◌≡◌, ◌∷◌, ◌<◌, not, [], IfSome, MatchOption, length};
+ghost use Rattle.std.specs.Prelude.{◌≡◌, ◌∷◌, not, []};
 ghost use Rattle.std.specs.List.{list_all, slice_split};
 ghost use Rattle.std.specs.Option.{option_map};
-ghost use Rattle.std.specs.Str.Lines.{lines, strip_carriage_return};
 ghost use Rattle.mcs48_asm.specs.Characters.{is_word_character, is_allowed, is_colon};
 ghost use Rattle.mcs48_asm.specs.Words.{trimmed};
 ghost use Rattle.mcs48_asm.specs.Statements.{statement_of, flawed, line_with, line_of_parts, is_known_word, is_spelled, line_of};
@@ -12,10 +11,11 @@ ghost use Rattle.mcs48_asm.specs.Views.{found_seen, line_seen};
 
 use crate::characters::{is_allowed, is_word_character};
 use crate::flaw::Flaw;
-use crate::pieces::{before_comment, split_once};
+use crate::pieces::before_comment;
 use crate::statement::{Statement, statement_of};
 use crate::values::number_of;
 use crate::words::{is_name, trimmed};
+use text_lines::split_once;
 
 /// A line. Where it has a fault of form, it says nothing.
 #[derive(Clone, Copy)]
@@ -26,28 +26,6 @@ pub(crate) struct Line<'a> {
     pub(crate) label: Option<&'a [u8]>,
     /// The statement.
     pub(crate) statement: Statement<'a>,
-}
-
-/// A line without the carriage return at its end.
-fn strip_carriage_return(line: &[u8]) -> &[u8]
-    ensures { result.now ≡ strip_carriage_return line.now }
-{
-    match line {
-        [front @ .., b'\r'] => front,
-        _ => line,
-    }
-}
-
-/// The first line of a text, and the text behind it.
-pub(crate) fn next_line(text: &[u8]) -> Option<(&[u8], &[u8])>
-    ensures line { MatchOption result (lines text.now ≡ []) (λ parts. lines text.now ≡ parts.0.now ∷ lines parts.1.now) }
-    ensures shorter { IfSome result (λ parts. length parts.1.now < length text.now) }
-{
-    match split_once(b'\n', text) {
-        Some((line, rest)) => Some((strip_carriage_return(line), rest)),
-        None if text.is_empty() => None,
-        None => Some((text, &text[text.len()..])),
-    }
 }
 
 /// A line whose form has this flaw.

@@ -7,11 +7,11 @@ ghost use Rattle.mcs48_asm.specs.Views.{kept_value, kept_part, value_seen, state
 
 use crate::argument::{Role, Value};
 use crate::names::{Names, value_named};
-use crate::pieces::split_once;
 use crate::statement::Statement;
 use crate::values::part_value;
 use crate::words::trimmed;
 use std::alloc::{AllocError, Global};
+use text_lines::split_once;
 
 /// The number that a value means, where its name has one.
 pub(crate) fn meaning(names: &Names<'_>, value: Value<'_>) -> Option<u32>

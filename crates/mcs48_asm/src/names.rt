@@ -9,13 +9,14 @@ ghost use Rattle.mcs48_asm.specs.Capped.{kept_line, kept_places};
 ghost use Rattle.mcs48_asm.specs.Rows.{is_reserved};
 ghost use Rattle.mcs48_asm.specs.Views.{kept_value, line_seen};
 
-use crate::line::{Line, line_of, next_line};
+use crate::line::{Line, line_of};
 use crate::operands::is_reserved;
 use crate::places::{place_after, start_of};
 use crate::statement::Statement;
 use crate::text_hash::TextHash;
 use indexmap::IndexMap;
 use std::alloc::{AllocError, Global};
+use text_lines::next_line;
 
 /// Names, each with its value.
 pub(crate) type Names<'a> = IndexMap<&'a [u8], u32, TextHash>;

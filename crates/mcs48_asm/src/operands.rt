@@ -11,10 +11,10 @@ ghost use Rattle.mcs48_asm.specs.Views.{value_seen, reading_seen, spelled, opera
 
 use crate::argument::{Argument, Reading, Role, Value};
 use crate::characters::is_blank;
-use crate::pieces::split_once;
 use crate::rows::{Operand, RESERVED, ROWS, Row, Shape};
 use crate::values::value_of;
 use crate::words::trimmed;
+use text_lines::split_once;
 
 /// The place of the first blank in a word of the table.
 fn place_of_blank(word: &[u8]) -> Option<usize>

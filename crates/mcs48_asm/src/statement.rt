@@ -13,10 +13,10 @@ ghost use Rattle.mcs48_asm.specs.Views.{reading_seen, statement_seen, found_seen
 use crate::argument::{Argument, Reading};
 use crate::flaw::Flaw;
 use crate::operands::{instructions, is_instruction, is_spelled, read_all};
-use crate::pieces::split_once;
 use crate::rows::Row;
 use crate::values::{number_of, value_of};
 use crate::words::{is_name, split_word, trimmed, two_words};
+use text_lines::split_once;
 
 /// The words of the statements that are no instruction.
 const EQU: &[u8] = b"EQU";

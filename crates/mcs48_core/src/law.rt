@@ -6,5 +6,5 @@ ghost use Rattle.mcs48_core.specs.Path.{PathLaw};
 /// registers, flags, latches, timer and data memory: the state that they come to and the 55 machine cycles that they
 /// take. Nothing is done when it is called; the law is its contract.
 pub fn a_path_of_thirty_six_instructions()
-    ensures { PathLaw }
+    ensures path { PathLaw }
 {}

@@ -9,7 +9,7 @@ use crate::processor::{Count, Mcu};
 /// stopped, all flags clear. The manual leaves the rest open; here the accumulator, the timer, the prescaler and data
 /// memory are 0, the carries are clear, and the last level of T1 is high.
 pub fn reset() -> Mcu
-    ensures { result ≡ reset_cpu }
+    ensures reset { result ≡ reset_cpu }
 {
     Mcu {
         pc: 0,

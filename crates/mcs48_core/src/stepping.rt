@@ -57,6 +57,7 @@ impl Mcu {
     ///
     /// An external interrupt comes before one of the timer, and none is due while one is in service (MCS-48 Family
     /// User's Manual, instruction set, interrupts and timer; the order within a step is our own).
+    #[inline(always)]
     pub fn step(&mut self, image: &Image, pins: Pins) -> Result<u8, Stuck>
         ensures step { IsStep image.now.bytes self.old (stepped image.now.bytes pins self.old) result self.new }
         ensures unchanged { OnErr result (self.new ≡ self.old) }

@@ -134,7 +134,7 @@ fn count_line(alloc: Global, steps: u64, cycles: u64) -> Result<Vec<u8>, AllocEr
 ///
 /// The only error is want of memory.
 pub fn state_text(alloc: Global, mcu: &Mcu, steps: u64, cycles: u64) -> Result<Vec<u8>, AllocError>
-    ensures { IfOk result (λ text. text.items ≡ state_text_of mcu.now steps cycles) }
+    ensures text { IfOk result (λ text. text.items ≡ state_text_of mcu.now steps cycles) }
 {
     let mut text = counter_line(alloc, mcu)?;
     text.extend_from_slice(&timer_line(alloc, mcu)?)?;

@@ -188,7 +188,7 @@ fn control_code(op: ControlOp) -> Code
 ///
 /// Source: MCS-48 Family User's Manual, instruction set.
 pub fn encode(op: Op) -> Code
-    requires { IsOp op }
+    requires operands { IsOp op }
     ensures code { result ≡ code_of op }
     ensures operation { IsSomeAnd (row_of_code result) (λ d. d.op ≡ op) }
     ensures length { IsSomeAnd (row_of_code result) (λ d. d.len ≡ result.len) }

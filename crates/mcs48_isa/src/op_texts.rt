@@ -22,7 +22,7 @@ fn push_digit(text: &mut Vec<u8>, head: &[u8], number: u8, tail: &[u8]) -> Resul
 
 /// Appends the bytes of `head`, then a value.
 pub fn push_value(text: &mut Vec<u8>, head: &[u8], number: u8) -> Result<(), AllocError>
-    ensures { OnOk result (text.new.items ≡ text.old.items ++ (head.now ++ value number)) }
+    ensures text { OnOk result (text.new.items ≡ text.old.items ++ (head.now ++ value number)) }
 {
     let [high, low] = hex_text::byte(number);
     text.extend_from_slice(head)?;
@@ -232,7 +232,7 @@ fn push_control(text: &mut Vec<u8>, op: ControlOp) -> Result<(), AllocError>
 pub fn push_op(text: &mut Vec<u8>, op: Op, at: u16) -> Result<(), AllocError>
     requires operands { IsOp op }
     requires within { at < 2048 }
-    ensures { OnOk result (text.new.items ≡ text.old.items ++ text_of op at) }
+    ensures text { OnOk result (text.new.items ≡ text.old.items ++ text_of op at) }
 {
     match op {
         Op::Moves(op) => push_move(text, op),
@@ -253,7 +253,7 @@ pub fn push_op(text: &mut Vec<u8>, op: Op, at: u16) -> Result<(), AllocError>
 pub fn op_text(alloc: Global, op: Op, at: u16) -> Result<Vec<u8>, AllocError>
     requires operands { IsOp op }
     requires within { at < 2048 }
-    ensures { IfOk result (λ text. text.items ≡ text_of op at) }
+    ensures text { IfOk result (λ text. text.items ≡ text_of op at) }
 {
     let mut text = Vec::new(alloc);
     push_op(&mut text, op, at)?;

@@ -3,7 +3,7 @@ use Rattle.std.proofs.Common.{◌≡◌, ℕ, ◌<◌, Bool, true, false, ◌&&�
 use Rattle.std.proofs.lemmas.Bool.{eqb-true}
 use Rattle.std.proofs.lemmas.Bool.Decides.{nat_tests}
 use Rattle.pc_tables.specs.Keys.{keys, name_at, code_at, scan_at, key_with_name, key_with_code, key_with_scan}
-use Rattle.pc_tables.proofs.Every.{at_each}
+use Rattle.bits.proofs.Every.{at_each}
 
 -- whether the answer is this number
 abbrev is_just : ℕ → Option ℕ → Bool

@@ -1,4 +1,3 @@
-pub mod Every
 pub mod First
 pub mod KeyLaws
 pub mod WordLaws

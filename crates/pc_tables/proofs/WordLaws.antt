@@ -2,7 +2,7 @@
 use Rattle.std.proofs.Common.{◌≡◌, ℕ, ◌<◌, Bool, true, false, not, is_some, refl}
 use Rattle.pc_tables.specs.Keys.{keys}
 use Rattle.pc_tables.specs.Words.{words, letter_on, words_at, has_words}
-use Rattle.pc_tables.proofs.Every.{at_each}
+use Rattle.bits.proofs.Every.{at_each}
 
 abbrev same : Bool → Bool → Bool
 same true b = b

@@ -85,7 +85,7 @@ fn push_word(text: &mut Vec<u8>, name: &[u8], word: u16) -> Result<(), AllocErro
 ///
 /// Source: the spelling of the log is our own.
 pub fn push_item(text: &mut Vec<u8>, item: Item) -> Result<(), AllocError>
-    ensures { text.new.items ≡ (if is_ok result then text.old.items ++ text_of item else text.old.items) }
+    ensures text { text.new.items ≡ (if is_ok result then text.old.items ++ text_of item else text.old.items) }
 {
     match item {
         Item::Port(byte) => push_byte(text, b"port ", byte),
@@ -111,7 +111,7 @@ pub fn push_item(text: &mut Vec<u8>, item: Item) -> Result<(), AllocError>
 
 /// The item's text, as `push_item` appends it. An error where memory runs out.
 pub fn item_text(alloc: Global, item: Item) -> Result<Vec<u8>, AllocError>
-    ensures { IfOk result (λ text. text.items ≡ text_of item) }
+    ensures text { IfOk result (λ text. text.items ≡ text_of item) }
 {
     let mut text = Vec::new(alloc);
     push_item(&mut text, item)?;

@@ -28,7 +28,7 @@ impl Model for Key {
 impl Key {
     /// The key with this number; None exactly from 84 on.
     pub fn numbered(n: u8) -> Option<Key>
-        ensures { result ≡ key_numbered n }
+        ensures key { result ≡ key_numbered n }
     {
         if n < 84 {
             Some(Key { number: n })
@@ -48,14 +48,14 @@ impl Key {
 
 /// The key with this name; None exactly where no key has it. Names are lower case and are compared exactly.
 pub fn key_named(name: &str) -> Option<Key>
-    ensures { result ≡ key_with_name name.now }
+    ensures key { result ≡ key_with_name name.now }
 {
     key_spelled(name.as_bytes())
 }
 
 /// The key whose name has these bytes; None exactly where no key's has, as where they are no text.
 pub fn key_spelled(name: &[u8]) -> Option<Key>
-    ensures { result ≡ key_with_name name.now }
+    ensures key { result ≡ key_with_name name.now }
 {
     for number in 0..84 {
         if key_row(number).name.as_bytes() == name {

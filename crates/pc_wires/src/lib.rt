@@ -13,7 +13,7 @@ use board_lines::Lines;
 
 /// The levels of two wires that both sides drive: a wire is low where either side pulls it.
 pub fn join(a: Lines, b: Lines) -> Lines
-    ensures { result ≡ joined a b }
+    ensures levels { result ≡ joined a b }
 {
     Lines {
         clk: a.clk && b.clk,

@@ -5,14 +5,14 @@ ghost use Rattle.text_lines.specs.Fields.{is_blank, is_blank_line};
 
 /// Whether the character is a space or a tab.
 pub fn is_blank(character: u8) -> bool
-    ensures { result ≡ is_blank character }
+    ensures blank { result ≡ is_blank character }
 {
     character == b' ' || character == b'\t'
 }
 
 /// Whether a line has nothing but spaces and tabs.
 pub fn is_blank_line(line: &[u8]) -> bool
-    ensures { result ≡ is_blank_line line.now }
+    ensures blank { result ≡ is_blank_line line.now }
 {
     line.iter().all(|character| is_blank(*character))
 }

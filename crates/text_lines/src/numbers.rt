@@ -44,7 +44,7 @@ fn hexadecimal_in(text: &[u8]) -> Option<u32>
 /// The number that a text of one to `most` decimal digits writes; None for every other text. Leading zeros count as
 /// digits.
 pub fn decimal(most: usize, text: &[u8]) -> Option<u32>
-    requires { most ≤ 9 }
+    requires few { most ≤ 9 }
     ensures number { result ≡ decimal_of most text.now }
     ensures below { IfSome result (λ number. number < 10 ^ most) }
 {
@@ -56,7 +56,7 @@ pub fn decimal(most: usize, text: &[u8]) -> Option<u32>
 
 /// The number that a text of exactly `count` hexadecimal digits of either case writes; None for every other text.
 pub fn hexadecimal(count: usize, text: &[u8]) -> Option<u32>
-    requires { count ≤ 8 }
+    requires few { count ≤ 8 }
     ensures number { result ≡ hexadecimal_of count text.now }
     ensures below { IfSome result (λ number. number < 16 ^ count) }
 {

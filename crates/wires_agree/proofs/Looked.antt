@@ -19,7 +19,8 @@ use Rattle.wires_agree.specs.Ticks.{Ticked, IsNone, SentTick, GotTick, CutTick, 
 use Rattle.wires_agree.proofs.Spans.{IsAt}
 use Rattle.wires_agree.proofs.Between.{between, low_span}
 use Rattle.wires_agree.proofs.Pulls.{pulled_span}
-use Rattle.wires_agree.proofs.Whole.{cycles_more, quiet_more, sent_frame, got_frame, IsBehind}
+use Rattle.byte_time.proofs.Quiet.{quiet_more}
+use Rattle.wires_agree.proofs.Whole.{cycles_more, sent_frame, got_frame, IsBehind}
 use Rattle.wires_agree.proofs.Meetings.{free_at, request_at, free_or_pulls, not_busy, cut_of, none_passes}
 
 module _ (events : List HostEvent) (latch : ℕ → Lines) (start rest : ℕ) (at256 : Pc) where

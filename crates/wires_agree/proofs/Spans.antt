@@ -58,7 +58,7 @@ pub still_cycle : (events : List HostEvent) (now : ℕ) (latch : Lines) (b : Pc)
 still_cycle events now latch b e =
     ap (λ s. seen_in_bytes s) (board_by events now latch b b.side e) ∙ sym (goes_on_same without_bits events now b.side) ∙ sym (quiet_by events now (seen_in_bytes b.side))
 
-and-true : (a : Bool) → (a && true) ≡ a
+pub and-true : (a : Bool) → (a && true) ≡ a
 and-true true = refl
 and-true false = refl
 

@@ -17,11 +17,12 @@ use Rattle.pc_wires.specs.Wires.{Pc, board_cycle}
 use Rattle.byte_time.specs.declared.UnderWay.{UnderWay}
 use Rattle.byte_time.specs.ByteTime.{quietly, byte_cycle, happened_at, carried, Event, Quiet, Begins, Arrives, IsWhole}
 use Rattle.byte_time.specs.declared.meeting.Meeting.TheVariants.{Sent, Got}
+use Rattle.byte_time.proofs.Quiet.{quiet_more}
 use Rattle.wires_agree.specs.Without.{seen_in_bytes, without_bits, port_by}
 use Rattle.wires_agree.specs.Cycles.{board_cycles}
 use Rattle.wires_agree.specs.Laws.{FrameShown}
 use Rattle.wires_agree.specs.Cells.{IsCell, IsFrame, bits_to}
-use Rattle.wires_agree.proofs.Spans.{IsAt}
+use Rattle.wires_agree.proofs.Spans.{IsAt, and-true}
 use Rattle.wires_agree.proofs.Frames.{fall_cycle, cell}
 use Rattle.wires_agree.proofs.Between.{stays_free}
 
@@ -37,18 +38,6 @@ cycles_more events latch (suc m) n (suc k) now b e =
     let z : m + suc now ≡ suc m + now = omega arith in
     cycles_more events latch m n k (suc now) (board_cycle events now (latch now) b) (omega (arith, e))
     ∙ ap (λ j. board_cycles events latch n j (board_cycles events latch (suc m) now b)) z
-
-pub quiet_more : (events : List HostEvent) (m n k now : ℕ) (s : Side UnderWay) → m + n ≡ k
-    → quietly events k now s ≡ quietly events n (m + now) (quietly events m now s)
-quiet_more events zero n k now s e =
-    let a : k ≡ n = omega (arith, e) in
-    let z : now ≡ 0 + now = omega arith in
-    ap (λ j. quietly events j now s) a ∙ ap (λ j. quietly events n j s) z
-quiet_more events (suc m) n zero now s e = absurd (omega (arith, e))
-quiet_more events (suc m) n (suc k) now s e =
-    let z : m + suc now ≡ suc m + now = omega arith in
-    quiet_more events m n k (suc now) (byte_cycle events now Quiet s) (omega (arith, e))
-    ∙ ap (λ j. quietly events n j (quietly events (suc m) now s)) z
 
 -- what is known of the byte after edge k, for k = 0 to 9, with these levels of the keyboard's data wire; p0 is the
 -- controller before the first edge, q0 behind it
@@ -125,10 +114,6 @@ module _ (events : List HostEvent) (latch : ℕ → Lines) (now : ℕ) (bits : �
         },
       )
 
-and-true : (a : Bool) → (a && true) ≡ a
-and-true true = refl
-and-true false = refl
-
 length-bits : (bits : ℕ → Bool) (k : ℕ) → length (bits_to bits k) ≡ k
 length-bits bits zero = refl
 length-bits bits (suc k) = let e = length-bits bits k in let l : length (bits_to bits k ++ bits k ∷ []) ≡ length (bits_to bits k) + 1 = length-append (bits_to bits k) (bits k ∷ []) in omega (arith, e, l)
@@ -137,7 +122,7 @@ not_ten : (n k : ℕ) → n ≡ suc k → k < 9 → (n == 10) ≡ false
 not_ten n k e l = grind (arith, nat_tests)
 
 -- the way of a byte of the keyboard, with its bits
-sent_way : (bits : ℕ → Bool) (p : Port Wire) → IsWay p (record p { link = Busy (Recv (bits_to bits 1)) }) Free (λ k. Recv (bits_to bits (suc k))) true bits
+pub sent_way : (bits : ℕ → Bool) (p : Port Wire) → IsWay p (record p { link = Busy (Recv (bits_to bits 1)) }) Free (λ k. Recv (bits_to bits (suc k))) true bits
 sent_way bits p = record {
   first = λ now. ap (λ d. record p { link = Busy (Recv (d ∷ [])) }) (and-true (bits 0));
   begins = refl;

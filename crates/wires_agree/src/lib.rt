@@ -10,46 +10,46 @@ ghost use Rattle.wires_agree.specs.Ticks.{CutTick, GotTick, SentTick, StillTick}
 
 /// Once it is known what came over the link in a cycle, the rest of it is the same at the wires and in byte time.
 pub fn goes_on_alike()
-    ensures { GoesOnAlike }
+    ensures alike { GoesOnAlike }
 {}
 
 /// While the keyboard leaves the clock alone and no byte is under way, the cycles at the wires are those of byte time in
 /// which nothing comes over the link.
 pub fn between_frames()
-    ensures { BetweenFrames }
+    ensures between { BetweenFrames }
 {}
 
 /// The same for the 64 cycles of a pull of the clock by the controller, whatever the keyboard does meanwhile.
 pub fn while_pulled()
-    ensures { WhilePulled }
+    ensures pulled { WhilePulled }
 {}
 
 /// Before stamp 0 nothing happens.
 pub fn stamp_zero_first()
-    ensures { StampZeroFirst }
+    ensures first { StampZeroFirst }
 {}
 
 /// The keyboard reads the bits of the controller's frame, one behind each edge.
 pub fn frame_shown()
-    ensures { FrameShown }
+    ensures shown { FrameShown }
 {}
 
 /// A tick in which the keyboard sends a frame into a free link: in byte time the byte arrives.
 pub fn sent_tick()
-    ensures { SentTick }
+    ensures sent { SentTick }
 {}
 
 /// A tick in which the keyboard clocks a frame for the controller: in byte time the byte is handed over.
 pub fn got_tick()
-    ensures { GotTick }
+    ensures got { GotTick }
 {}
 
 /// A tick in which the controller pulls the clock before the keyboard's first edge: in byte time nothing passes.
 pub fn cut_tick()
-    ensures { CutTick }
+    ensures cut { CutTick }
 {}
 
 /// A tick in which the keyboard leaves the clock alone: in byte time nothing passes.
 pub fn still_tick()
-    ensures { StillTick }
+    ensures still { StillTick }
 {}

@@ -2,4 +2,4 @@ use Rattle.wires_agree.proofs.Whole.{frame_shown}
 use Rattle.wires_agree.proofs.frame_shown.Goals as goal
 
 pub returns : goal.returns
-returns c = frame_shown
+returns c = record { shown = frame_shown }

@@ -2,4 +2,4 @@ use Rattle.wires_agree.proofs.Same.{in_bytes_same}
 use Rattle.wires_agree.proofs.goes_on_alike.Goals as goal
 
 pub returns : goal.returns
-returns c = in_bytes_same
+returns c = record { alike = in_bytes_same }

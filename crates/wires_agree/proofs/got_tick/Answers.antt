@@ -2,4 +2,4 @@ use Rattle.wires_agree.proofs.Looked.{all_got}
 use Rattle.wires_agree.proofs.got_tick.Goals as goal
 
 pub returns : goal.returns
-returns c = all_got
+returns c = record { got = all_got }

@@ -2,4 +2,4 @@ use Rattle.wires_agree.proofs.Looked.{all_sent}
 use Rattle.wires_agree.proofs.sent_tick.Goals as goal
 
 pub returns : goal.returns
-returns c = all_sent
+returns c = record { sent = all_sent }

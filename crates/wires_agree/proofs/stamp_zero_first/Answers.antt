@@ -2,4 +2,4 @@ use Rattle.wires_agree.proofs.Start.{waits_for_stamp_0}
 use Rattle.wires_agree.proofs.stamp_zero_first.Goals as goal
 
 pub returns : goal.returns
-returns c = waits_for_stamp_0
+returns c = record { first = waits_for_stamp_0 }

@@ -2,4 +2,4 @@ use Rattle.wires_agree.proofs.Looked.{all_still}
 use Rattle.wires_agree.proofs.still_tick.Goals as goal
 
 pub returns : goal.returns
-returns c = all_still
+returns c = record { still = all_still }

@@ -2,4 +2,4 @@ use Rattle.wires_agree.proofs.Pulls.{while_pulled}
 use Rattle.wires_agree.proofs.while_pulled.Goals as goal
 
 pub returns : goal.returns
-returns c = while_pulled
+returns c = record { pulled = while_pulled }

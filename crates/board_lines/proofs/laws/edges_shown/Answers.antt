@@ -2,4 +2,4 @@ use Rattle.board_lines.proofs.Shown.{edges_shown}
 use Rattle.board_lines.proofs.laws.edges_shown.Goals as goal
 
 pub returns : goal.returns
-returns c = edges_shown
+returns c = record { shown = edges_shown }

@@ -9,4 +9,4 @@ use Rattle.cycle_cert.proofs.examples.worked_certificates.Goals as goal
 
 pub returns : goal.returns
 unfolding examples answer_of certificate_of draft_of falls byte_values
-returns c = (refl, (refl, (refl, (refl, (refl, (refl, (refl, (refl, (refl, (refl, (refl, tt)))))))))))
+returns c = record { examples = (refl, (refl, (refl, (refl, (refl, (refl, (refl, (refl, (refl, (refl, (refl, tt))))))))))) }

@@ -18,4 +18,4 @@ pub returns : goal.returns
 unfolding us84
 returns c =
     let all : c.loop-number.number ≡ 84 = omega arith in
-    rw (c.new.ensures, c.loop-number.invariant, all) refl
+    record { layout = rw (c.new.ensures, c.loop-number.invariant, all) refl }

@@ -18,7 +18,7 @@ pub returns-in-Some-fault_of : goal.returns-in-Some-fault_of
 returns-in-Some-fault_of c =
     let names = kept_value c.args.names.now.entries in
     let all = kept_places 0 (map kept_line (lines c.args.text.now)) in
-    let turn = placed-turn c.loop-line.place c.start_of-start.result _ c.loop-line.rest.now c.in-Some.more.now c.in-Some.line.now (line_seen c.line_of-line.result) c.in-Some.ensures.line c.line_of-line.ensures c.start_of-start.ensures refl in
+    let turn = placed-turn c.loop-line.place c.start_of-start.result _ c.loop-line.rest.now c.in-Some.more.now c.in-Some.line.now (line_seen c.line_of-line.result) c.in-Some.ensures.lines c.line_of-line.ensures c.start_of-start.ensures refl in
     let held = c.loop-line.invariant.pass in
     faulty names all _ _ (kept_value c.loop-line.seen.entries) c.loop-line.filled c.loop-line.bytes c.loop-line.number held.0 c.in-Some-fault_of.flaw
     (subst (λ rest. Stands names all rest (kept_value c.loop-line.seen.entries) c.loop-line.filled c.loop-line.bytes c.loop-line.number held.0) turn held.1)
@@ -29,7 +29,7 @@ pub loop-line-preserved : goal.loop-line-preserved
 loop-line-preserved c =
     let names = kept_value c.args.names.now.entries in
     let all = kept_places 0 (map kept_line (lines c.args.text.now)) in
-    let turn = placed-turn c.loop-line.place c.start_of-start.result c.place_after-place.result c.loop-line.rest.now c.in-Some.more.now c.in-Some.line.now (line_seen c.line_of-line.result) c.in-Some.ensures.line c.line_of-line.ensures c.start_of-start.ensures c.place_after-place.ensures in
+    let turn = placed-turn c.loop-line.place c.start_of-start.result c.place_after-place.result c.loop-line.rest.now c.in-Some.more.now c.in-Some.line.now (line_seen c.line_of-line.result) c.in-Some.ensures.lines c.line_of-line.ensures c.start_of-start.ensures c.place_after-place.ensures in
     let held = c.loop-line.invariant.pass in
     record {
       memory = search rules;
@@ -49,5 +49,5 @@ returns c =
     let held = c.loop-line.invariant.pass in
     ended names all (kept_value c.loop-line.seen.entries) c.loop-line.filled c.loop-line.bytes c.loop-line.number held.0
     (subst (λ rest. Stands names all rest (kept_value c.loop-line.seen.entries) c.loop-line.filled c.loop-line.bytes c.loop-line.number held.0)
-    (ap (λ ls. kept_places c.loop-line.place (map kept_line ls)) c.in_default.ensures.line) held.1)
+    (ap (λ ls. kept_places c.loop-line.place (map kept_line ls)) c.in_default.ensures.lines) held.1)
     c.loop-line.invariant.memory

@@ -8,4 +8,4 @@ use Rattle.mcs48_asm.proofs.operands.read_one.Goals as goal
 pub returns-in-Some : goal.returns-in-Some
 returns-in-Some c =
     ap (option_map reading_capped)
-    (read_one-more (operand_seen c.args.operand) c.args.text.now c.in-Some.field-0.0.now c.in-Some.field-0.1.now (cc) c.in-Some.ensures.parts)
+    (read_one-more (operand_seen c.args.operand) c.args.text.now c.in-Some.field-0.0.now c.in-Some.field-0.1.now (cc) c.in-Some.ensures.pieces)

@@ -8,4 +8,4 @@ use Rattle.mcs48_asm.proofs.operands.read_two.Goals as goal
 pub returns-in-Some-split_once : goal.returns-in-Some-split_once
 returns-in-Some-split_once c =
     ap (option_map reading_capped)
-    (read_two-more (operand_seen c.args.first) (operand_seen c.args.second) c.args.text.now c.in-Some.front.now c.in-Some.back.now c.in-Some-split_once.field-0.0.now c.in-Some-split_once.field-0.1.now c.in-Some.ensures.parts c.in-Some-split_once.ensures.parts)
+    (read_two-more (operand_seen c.args.first) (operand_seen c.args.second) c.args.text.now c.in-Some.front.now c.in-Some.back.now c.in-Some-split_once.field-0.0.now c.in-Some-split_once.field-0.1.now c.in-Some.ensures.pieces c.in-Some-split_once.ensures.pieces)

@@ -7,11 +7,13 @@ appended : {new old piece text line : List ℕ} → new ≡ old ++ piece → old
 appended {piece = piece} {text = text} e f g = e ∙ ap (λ x. x ++ piece) f ∙ ap (λ x. text ++ x) g
 
 pub returns : goal.returns
-returns c =
-    appended c.in_ok-extend_from_slice-4.ensures.items
-    (appended c.in_ok-extend_from_slice-3.ensures.items
-    (appended c.in_ok-extend_from_slice-2.ensures.items
-    (appended c.in_ok-extend_from_slice.ensures.items c.in_ok-text.ensures (c.deref.ensures.value ∙ c.in_ok-timer_line.ensures))
-    (c.deref-2.ensures.value ∙ c.in_ok-latch_line.ensures))
-    (c.deref-3.ensures.value ∙ c.in_ok-register_line.ensures))
-    (c.deref-4.ensures.value ∙ c.in_ok-count_line.ensures)
+returns c = record {
+  text =
+      appended c.in_ok-extend_from_slice-4.ensures.items
+      (appended c.in_ok-extend_from_slice-3.ensures.items
+      (appended c.in_ok-extend_from_slice-2.ensures.items
+      (appended c.in_ok-extend_from_slice.ensures.items c.in_ok-text.ensures (c.deref.ensures.value ∙ c.in_ok-timer_line.ensures))
+      (c.deref-2.ensures.value ∙ c.in_ok-latch_line.ensures))
+      (c.deref-3.ensures.value ∙ c.in_ok-register_line.ensures))
+      (c.deref-4.ensures.value ∙ c.in_ok-count_line.ensures);
+}

@@ -4,7 +4,7 @@ use Rattle.std.proofs.Math.ListN.{drop_of_length-le}
 use Rattle.std.proofs.lemmas.List.Elements.{All-from_get_or}
 use Rattle.cycle_cert.specs.Answers.{said_by}
 use Rattle.cycle_cert.specs.Certificates.{first_fault}
-use Rattle.cycle_cert.specs.Runs.{IsByte}
+use Rattle.mcs48_ranges.specs.Sizes.{IsByte}
 use Rattle.cycle_cert.proofs.Sound.{keeps_bounds}
 use Rattle.cycle_cert.proofs.judging.Certificate.judged.Goals as goal
 

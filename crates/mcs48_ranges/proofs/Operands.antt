@@ -1,4 +1,4 @@
--- The operands that the opcode table gives, and the lengths and cycles of its rows.
+-- Operands that are bytes, addresses or registers, and the bytes of a row.
 use Rattle.std.proofs.Common.{◌≡◌, ◌<◌, ℕ, Bool, true, ltb, refl, arith}
 use Rattle.std.proofs.lemmas.Bool.Decides.{nat_tests}
 use Rattle.mcs48_isa.specs.declared.operation.Op.{Op}
@@ -13,11 +13,6 @@ use Rattle.mcs48_isa.specs.declared.operation.FlowOp.TheVariants.{Jmp, Call, Ret
 use Rattle.mcs48_isa.specs.declared.operation.PortOp.{PortOp}
 use Rattle.mcs48_isa.specs.declared.operation.PortOp.TheVariants.{AnlP1, AnlP2, AnlBus, OrlP1, OrlP2, OrlBus}
 use Rattle.mcs48_isa.specs.Operands.{IsOp}
-use Rattle.mcs48_core.specs.declared.levels.Pins.{Pins}
-
--- the levels of the bus are a byte; those of the ports are masked by the latches
-abbrev pub IsBusByte : Pins → Type 0
-IsBusByte pins = pins.bus < 256
 
 -- an operand that is a byte of the program is one, and an address is in the memory
 abbrev pub small_move : MoveOp → Bool

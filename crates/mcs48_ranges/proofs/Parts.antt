@@ -1,5 +1,6 @@
--- The parts of a processor within their ranges, one at a time.
-use Rattle.std.proofs.Common.{◌≡◌, ◌≤◌, ◌<◌, ℕ, ◌+◌, ◌%◌, List, Bool, true, false, ltb, bit_and, All, length, get_or, set, refl, ◌∙◌, arith}
+-- The parts of a processor in their ranges, one at a time.
+use Rattle.std.proofs.Common.{◌≡◌, ◌≤◌, ◌<◌, ℕ, ◌+◌, ◌%◌, List, Bool, true, false, ltb}
+use Rattle.std.proofs.Common.{bit_and, All, length, get_or, set, refl, ◌∙◌, arith}
 use Rattle.std.proofs.lemmas.Bool.Decides.{nat_tests}
 use Rattle.std.proofs.lemmas.List.{length-set, get_or_past}
 use Rattle.std.proofs.lemmas.List.Elements.{All-set, All-get_or}
@@ -8,11 +9,12 @@ use Rattle.mcs48_core.specs.Cpu.{Cpu}
 use Rattle.mcs48_core.specs.Status.{digit, high_status, psw_of}
 use Rattle.mcs48_core.specs.Registers.{past, counted, register, indirect, bank_start}
 use Rattle.mcs48_core.specs.Moves.{digits_of}
-use Rattle.cycle_cert.specs.Runs.{IsByte, IsInRange}
+use Rattle.mcs48_ranges.specs.Sizes.{IsByte, IsFine}
 
 read_by : (xs : List ℕ) (i : ℕ) → All IsByte xs → (b : Bool) → ltb i (length xs) ≡ b → get_or xs i 0 < 256
 read_by xs i h true e = All-get_or IsByte xs i 0 (grind (arith, nat_tests, e)) h
-read_by xs i h false e = let none : get_or xs i 0 ≡ 0 = get_or_past xs i 0 (grind (arith, nat_tests, e)) in omega (arith, none)
+read_by xs i h false e =
+    let none : get_or xs i 0 ≡ 0 = get_or_past xs i 0 (grind (arith, nat_tests, e)) in omega (arith, none)
 
 pub read_byte : (xs : List ℕ) (i : ℕ) → All IsByte xs → get_or xs i 0 < 256
 read_byte xs i h = read_by xs i h (ltb i (length xs)) refl
@@ -29,25 +31,29 @@ status_small m =
     let d : digit m.rb ≤ 1 = digit_small m.rb in
     omega (arith, a, b, c, d)
 
-pub with_a : (m : Cpu) (v : ℕ) → v < 256 → IsInRange m → IsInRange (record m { a = v })
-with_a m v l h = record { pc = h.pc; a = l; ram = h.ram; long = h.long; t = h.t; pre = h.pre; p1 = h.p1; p2 = h.p2; bus = h.bus; sp = h.sp }
+pub with_a : (m : Cpu) (v : ℕ) → v < 256 → IsFine m → IsFine (record m { a = v })
+with_a m v l h =
+    record { pc = h.pc; a = l; ram = h.ram; long = h.long; t = h.t; pre = h.pre; p1 = h.p1; p2 = h.p2; bus = h.bus; sp = h.sp }
 
-pub with_pc : (m : Cpu) (v : ℕ) → v < 4096 → IsInRange m → IsInRange (record m { pc = v })
-with_pc m v l h = record { pc = l; a = h.a; ram = h.ram; long = h.long; t = h.t; pre = h.pre; p1 = h.p1; p2 = h.p2; bus = h.bus; sp = h.sp }
+pub with_pc : (m : Cpu) (v : ℕ) → v < 4096 → IsFine m → IsFine (record m { pc = v })
+with_pc m v l h =
+    record { pc = l; a = h.a; ram = h.ram; long = h.long; t = h.t; pre = h.pre; p1 = h.p1; p2 = h.p2; bus = h.bus; sp = h.sp }
 
-pub with_cell : (m : Cpu) (i v : ℕ) → v < 256 → IsInRange m → IsInRange (record m { ram = set m.ram i v })
-with_cell m i v l h = record { pc = h.pc; a = h.a; ram = All-set IsByte m.ram i v l h.ram; long = length-set m.ram i v ∙ h.long; t = h.t; pre = h.pre; p1 = h.p1; p2 = h.p2; bus = h.bus; sp = h.sp }
+pub with_cell : (m : Cpu) (i v : ℕ) → v < 256 → IsFine m → IsFine (record m { ram = set m.ram i v })
+with_cell m i v l h =
+    record { pc = h.pc; a = h.a; ram = All-set IsByte m.ram i v l h.ram; long = length-set m.ram i v ∙ h.long; t = h.t; pre = h.pre; p1 = h.p1; p2 = h.p2; bus = h.bus; sp = h.sp }
 
-pub with_sp : (m : Cpu) (v : ℕ) → v < 8 → IsInRange m → IsInRange (record m { sp = v })
-with_sp m v l h = record { pc = h.pc; a = h.a; ram = h.ram; long = h.long; t = h.t; pre = h.pre; p1 = h.p1; p2 = h.p2; bus = h.bus; sp = l }
+pub with_sp : (m : Cpu) (v : ℕ) → v < 8 → IsFine m → IsFine (record m { sp = v })
+with_sp m v l h =
+    record { pc = h.pc; a = h.a; ram = h.ram; long = h.long; t = h.t; pre = h.pre; p1 = h.p1; p2 = h.p2; bus = h.bus; sp = l }
 
-pub past_in_range : (m : Cpu) → IsInRange m → IsInRange (past m)
-past_in_range m h = let l : m.pc < 4096 = h.pc in with_pc m (counted m.pc) (omega (arith, l)) h
+pub past_fine : (m : Cpu) → IsFine m → IsFine (past m)
+past_fine m h = let l : m.pc < 4096 = h.pc in with_pc m (counted m.pc) (omega (arith, l)) h
 
-pub register_byte : (r : ℕ) (m : Cpu) → IsInRange m → register r m < 256
+pub register_byte : (r : ℕ) (m : Cpu) → IsFine m → register r m < 256
 register_byte r m h = read_byte m.ram (bank_start m.rb + r) h.ram
 
-pub indirect_byte : (i : ℕ) (m : Cpu) → IsInRange m → indirect i m < 256
+pub indirect_byte : (i : ℕ) (m : Cpu) → IsFine m → indirect i m < 256
 indirect_byte i m h = read_byte m.ram (register i m % 128) h.ram
 
 pub lt_of : (n k : ℕ) → ltb n k ≡ true → n < k
