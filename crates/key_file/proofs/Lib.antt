@@ -1,4 +1,5 @@
 pub mod LastEdges
+pub mod HexBytes
 pub mod Pushes
 pub mod Unbroken
 pub mod Sound

@@ -10,7 +10,7 @@ use Rattle.board_lines.specs.Edges.{of_place, AreInOrder}
 use Rattle.board_lines.specs.Laws.{ArePlaces}
 use Rattle.layout_reader.specs.Layouts.{KeyLayout}
 use Rattle.key_file.specs.declared.event.Event.TheVariants.{EdgeOf, HostOf, End}
-use Rattle.key_file.specs.Accepted.{AreHostEventsInOrder, Alternates, Dwells, IsThin, IsPlaceOf, IsAcceptedFor}
+use Rattle.key_file.specs.Accepted.{AreHostEventsInOrder, WritesByte, AreWritten, Alternates, Dwells, IsThin, IsPlaceOf, IsAcceptedFor}
 use Rattle.key_file.specs.Histories.{Before, at_first, with_event}
 use Rattle.key_file.proofs.LastEdges.{of_place-push, of_place-other}
 use Rattle.key_file.proofs.Pushes.{in_order-push, host_in_order-push, alternates-push, dwells-push, thin-push}
@@ -25,6 +25,7 @@ EndsAt stamp (Some end) = end ≡ stamp
 pub record IsSound (layout : KeyLayout) (before : Before) : Type 0 where
   pub edges_in_order : AreInOrder before.edges
   pub host_in_order : AreHostEventsInOrder before.host
+  pub written : AreWritten before.host
   pub edges_before : All (λ edge. edge.stamp ≤ before.stamp) before.edges
   pub host_before : All (λ event. event.stamp ≤ before.stamp) before.host
   pub stamp_in_range : before.stamp ≤ 240000000
@@ -39,6 +40,7 @@ pub sound-first : (layout : KeyLayout) → IsSound layout at_first
 sound-first layout = record {
   edges_in_order = tt;
   host_in_order = tt;
+  written = λ k d within. absurd (omega arith);
   edges_before = λ k d within. absurd (omega arith);
   host_before = λ k d within. absurd (omega arith);
   stamp_in_range = omega arith;
@@ -73,6 +75,7 @@ sound-edge layout before e sound fits place =
     record {
       edges_in_order = in_order-push before.edges e sound.edges_in_order earlier;
       host_in_order = sound.host_in_order;
+      written = sound.written;
       edges_before = All-push (λ edge. edge.stamp ≤ e.stamp) before.edges e earlier (omega arith);
       host_before = λ k d within. omega (arith, sound.host_before k d within);
       stamp_in_range = fits.in_range;
@@ -84,14 +87,15 @@ sound-edge layout before e sound fits place =
       places = All-push (λ edge. IsPlaceOf layout edge.place) before.edges e sound.places place;
     }
 
-pub sound-host : (layout : KeyLayout) (before : Before) (e : HostEvent) → IsSound layout before → Fits before (HostOf e) → IsSound layout (with_event before (HostOf e))
-sound-host layout before e sound fits =
+pub sound-host : (layout : KeyLayout) (before : Before) (e : HostEvent) → IsSound layout before → WritesByte e.act → Fits before (HostOf e) → IsSound layout (with_event before (HostOf e))
+sound-host layout before e sound byte fits =
     let order = fits.order in
     let few = fits.few in
     let earlier : All (λ event. event.stamp ≤ e.stamp) before.host = λ k d within. omega (arith, sound.host_before k d within) in
     record {
       edges_in_order = sound.edges_in_order;
       host_in_order = host_in_order-push before.host e sound.host_in_order earlier;
+      written = All-push (λ event. WritesByte event.act) before.host e sound.written byte;
       edges_before = λ k d within. omega (arith, sound.edges_before k d within);
       host_before = All-push (λ event. event.stamp ≤ e.stamp) before.host e earlier (omega arith);
       stamp_in_range = fits.in_range;
@@ -109,6 +113,7 @@ sound-end layout before stamp sound fits =
     record {
       edges_in_order = sound.edges_in_order;
       host_in_order = sound.host_in_order;
+      written = sound.written;
       edges_before = λ k d within. omega (arith, sound.edges_before k d within);
       host_before = λ k d within. omega (arith, sound.host_before k d within);
       stamp_in_range = fits.in_range;
@@ -129,6 +134,7 @@ accepted layout before end places sound is =
         in_matrix = places;
         edges_in_order = sound.edges_in_order;
         host_in_order = sound.host_in_order;
+        written = sound.written;
         edges_before_end = λ k d within. omega (arith, last, sound.edges_before k d within);
         host_before_end = λ k d within. omega (arith, last, sound.host_before k d within);
         end_in_range = omega (arith, last, sound.stamp_in_range);

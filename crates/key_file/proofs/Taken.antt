@@ -1,5 +1,5 @@
 -- Each line keeps what the lines before it came to sound.
-use Rattle.std.proofs.Common.{◌≡◌, ℕ, Bool, true, false, ◌==◌, List, [], ◌∷◌, cond, None, Some, Ok, Err, refl, subst, arith}
+use Rattle.std.proofs.Common.{◌≡◌, ◌<◌, ℕ, Bool, true, false, ◌==◌, List, [], ◌∷◌, cond, None, Some, Ok, Err, refl, subst, arith}
 use Rattle.std.specs.Prelude.{find, IsSome}
 use Rattle.std.specs.Option.{option_map, option_and_then}
 use Rattle.std.specs.declared.option.Option.{Option}
@@ -19,11 +19,12 @@ use Rattle.key_file.specs.declared.word.Word.{Word}
 use Rattle.key_file.specs.declared.word.Word.TheVariants as word
 use Rattle.key_file.specs.declared.rule.Rule.{Rule}
 use Rattle.key_file.specs.declared.rule.Rule.TheVariants.{Form, UnknownWord, UnknownKey}
-use Rattle.key_file.specs.Accepted.{IsPlaceOf}
+use Rattle.key_file.specs.Accepted.{IsPlaceOf, WritesByte}
 use Rattle.key_file.specs.Histories.{Before, with_event}
 use Rattle.key_file.specs.Fields.{is_skipped, place_named, edge_of, write_of, alone, event_of, event_in, stamp_of, word_named, only}
 use Rattle.key_file.specs.Rules.{judgements}
 use Rattle.key_file.specs.KeyFile.{take_event, take_line}
+use Rattle.key_file.proofs.HexBytes.{argument_below}
 use Rattle.key_file.proofs.Sound.{IsSound, sound-edge, sound-host, sound-end}
 use Rattle.key_file.proofs.Unbroken.{Fits, fits}
 
@@ -58,10 +59,10 @@ unfolding place_of
 named layout None place h = absurd (cc)
 named layout (Some key) place h = found (λ entry. entry.key == key) layout.entries place h
 
--- an event fits the layout where its place is the layout's
+-- an event fits the layout where its place is the layout's, and what the host writes is a byte
 abbrev pub IsOf : KeyLayout → Event → Type 0
 IsOf layout (EdgeOf e) = IsPlaceOf layout e.place
-IsOf layout (HostOf e) = Unit {0}
+IsOf layout (HostOf e) = WritesByte e.act
 IsOf layout (End stamp) = Unit {0}
 
 edge_of-layout : (layout : KeyLayout) (stamp : ℕ) (down : Bool) (arguments : List (List ℕ)) (event : Event) → edge_of layout stamp down arguments ≡ Ok event → IsOf layout event
@@ -72,12 +73,15 @@ edge_of-layout layout stamp down arguments event h =
     let same : EdgeOf (record { stamp = stamp; place = b.value; down = down }) ≡ event = cc (b.then) in
     subst (IsOf layout) same (named layout (key_with_name a.value) b.value (some_of UnknownKey (place_named layout a.value) b.value b.was))
 
-write_of-layout : (layout : KeyLayout) (stamp : ℕ) (act : ℕ → HostAct) (arguments : List (List ℕ)) (event : Event) → write_of stamp act arguments ≡ Ok event → IsOf layout event
-write_of-layout layout stamp act arguments event h =
+write_of-layout : (layout : KeyLayout) (stamp : ℕ) (act : ℕ → HostAct) (arguments : List (List ℕ)) (event : Event)
+    → ((byte : ℕ) → byte < 256 → WritesByte (act byte)) → write_of stamp act arguments ≡ Ok event → IsOf layout event
+write_of-layout layout stamp act arguments event writes h =
     let write : ℕ → Result Event Rule = λ byte. Ok (HostOf (record { stamp = stamp; act = act byte })) in
     let a = step (some_or Form (option_and_then (hexadecimal_of 2) (only arguments))) write event h in
     let same : HostOf (record { stamp = stamp; act = act a.value }) ≡ event = cc (a.then) in
-    subst (IsOf layout) same tt
+    let number = some_of Form (option_and_then (hexadecimal_of 2) (only arguments)) a.value a.was in
+    let below : a.value < 256 = argument_below (only arguments) a.value number in
+    subst (IsOf layout) same (writes a.value below)
 
 alone-layout : (layout : KeyLayout) (event after : Event) (arguments : List (List ℕ)) → IsOf layout event → alone event arguments ≡ Ok after → IsOf layout after
 alone-layout layout event after [] fit h = let same : event ≡ after = cc in subst (IsOf layout) same fit
@@ -86,8 +90,8 @@ alone-layout layout event after (a ∷ more) fit h = absurd (cc)
 event_of-layout : (layout : KeyLayout) (stamp : ℕ) (w : Word) (arguments : List (List ℕ)) (event : Event) → event_of layout stamp w arguments ≡ Ok event → IsOf layout event
 event_of-layout layout stamp word.Press arguments event h = edge_of-layout layout stamp true arguments event h
 event_of-layout layout stamp word.Release arguments event h = edge_of-layout layout stamp false arguments event h
-event_of-layout layout stamp word.Write60 arguments event h = write_of-layout layout stamp act.Write60 arguments event h
-event_of-layout layout stamp word.Write64 arguments event h = write_of-layout layout stamp act.Write64 arguments event h
+event_of-layout layout stamp word.Write60 arguments event h = write_of-layout layout stamp act.Write60 arguments event (λ byte below. below) h
+event_of-layout layout stamp word.Write64 arguments event h = write_of-layout layout stamp act.Write64 arguments event (λ byte below. below) h
 event_of-layout layout stamp word.Read60 arguments event h = alone-layout layout (HostOf (record { stamp = stamp; act = act.Read60 })) event arguments tt h
 event_of-layout layout stamp word.Mask arguments event h = alone-layout layout (HostOf (record { stamp = stamp; act = act.Mask })) event arguments tt h
 event_of-layout layout stamp word.Unmask arguments event h = alone-layout layout (HostOf (record { stamp = stamp; act = act.Unmask })) event arguments tt h
@@ -105,7 +109,7 @@ event_in-layout layout (first ∷ second ∷ arguments) event h =
 
 sound-event : (layout : KeyLayout) (before : Before) (event : Event) → IsSound layout before → IsOf layout event → Fits before event → IsSound layout (with_event before event)
 sound-event layout before (EdgeOf e) sound fit kept = sound-edge layout before e sound kept fit
-sound-event layout before (HostOf e) sound fit kept = sound-host layout before e sound kept
+sound-event layout before (HostOf e) sound fit kept = sound-host layout before e sound fit kept
 sound-event layout before (End stamp) sound fit kept = sound-end layout before stamp sound kept
 
 unless_ok : (o : Option Rule) (value after : Before) → unless o value ≡ Ok after → (o ≡ None) × (value ≡ after)

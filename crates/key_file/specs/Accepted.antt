@@ -1,6 +1,8 @@
 -- Accepted histories: those that a run is about.
-use Rattle.std.specs.Prelude.{◌≡◌, ◌≤◌, ℕ, ◌+◌, Bool, false, not, List, [], ◌∷◌, length, All, IsSome}
+use Rattle.std.specs.Prelude.{◌≡◌, ◌≤◌, ◌<◌, ℕ, ◌+◌, Bool, false, not, List, [], ◌∷◌, length, All, IsSome}
 use Rattle.board_lines.specs.declared.event.Edge.{Edge}
+use Rattle.board_lines.specs.declared.event.HostAct.{HostAct}
+use Rattle.board_lines.specs.declared.event.HostAct.TheVariants.{Write60, Write64, Read60, Mask, Unmask, Take, Status}
 use Rattle.board_lines.specs.declared.event.HostEvent.{HostEvent}
 use Rattle.board_lines.specs.Edges.{of_place, AreInOrder}
 use Rattle.board_lines.specs.Laws.{ArePlaces}
@@ -12,6 +14,20 @@ abbrev pub AreHostEventsInOrder : List HostEvent → Type 0
 AreHostEventsInOrder [] = Unit {0}
 AreHostEventsInOrder (e ∷ []) = Unit {0}
 AreHostEventsInOrder (e ∷ f ∷ es) = (e.stamp ≤ f.stamp) × AreHostEventsInOrder (f ∷ es)
+
+-- what the host writes, where it writes, is a byte
+abbrev pub WritesByte : HostAct → Type 0
+WritesByte (Write60 byte) = byte < 256
+WritesByte (Write64 byte) = byte < 256
+WritesByte Read60 = Unit {0}
+WritesByte Mask = Unit {0}
+WritesByte Unmask = Unit {0}
+WritesByte Take = Unit {0}
+WritesByte Status = Unit {0}
+
+-- the same of each event
+abbrev pub AreWritten : List HostEvent → Type 0
+AreWritten events = All (λ event. WritesByte event.act) events
 
 -- the edges of a key are press, release, press and so on, where it was down before them or up
 abbrev pub Alternates : Bool → List Edge → Type 0
@@ -39,6 +55,7 @@ pub record IsAccepted (history : KeyHistory) : Type 0 where
   pub in_matrix : ArePlaces history.edges
   pub edges_in_order : AreInOrder history.edges
   pub host_in_order : AreHostEventsInOrder history.host
+  pub written : AreWritten history.host
   pub edges_before_end : All (λ edge. edge.stamp ≤ history.end) history.edges
   pub host_before_end : All (λ event. event.stamp ≤ history.end) history.host
   pub end_in_range : history.end ≤ 240000000

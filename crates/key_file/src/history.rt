@@ -34,8 +34,8 @@ impl Model for History {
 impl History {
     /// A history of edges, of the host's events and of an end, which are accepted.
     pub fn new(edges: Vec<Edge>, host: Vec<HostEvent>, end: u64) -> History
-        requires { IsAccepted (record { edges = edges.items; host = host.items; end = end }) }
-        ensures { result ≡ record { edges = edges.items; host = host.items; end = end } }
+        requires accepted { IsAccepted (record { edges = edges.items; host = host.items; end = end }) }
+        ensures history { result ≡ record { edges = edges.items; host = host.items; end = end } }
     {
         History { edges, host, end }
     }

@@ -57,7 +57,7 @@ fn take_line(
 /// exactly the first faulty line with the lowest number of a rule that it breaks: each line is judged after those before
 /// it. Want of memory may come at any time, and says nothing of the file.
 pub fn read_history(alloc: Global, bytes: &[u8], layout: &Layout) -> Result<History, KeyFault>
-    requires { length bytes.now ≤ 4194304 }
+    requires within { length bytes.now ≤ 4194304 }
     ensures history { IfOk result (λ history. history_of layout.now bytes.now ≡ Ok history) }
     ensures accepted { IfOk result (IsAcceptedFor layout.now) }
     ensures fault { IfErr result (IsFaultOf (history_of layout.now bytes.now)) }
