@@ -3,3 +3,4 @@ pub mod Edges
 pub mod Order
 pub mod Whole
 pub mod Once
+pub mod Adds

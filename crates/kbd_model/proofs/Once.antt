@@ -1,18 +1,18 @@
 -- What leaves the keyboard leaves it once.
-use Rattle.std.proofs.Common.{◌≡◌, ℕ, ◌%◌, ◌==◌, Bool, true, false, not, ◌&&◌, ◌||◌, List, [], ◌∷◌, ◌++◌, Some, None, refl, ap, sym, ◌∙◌, arith}
-use Rattle.std.specs.Prelude.{if◌then◌else◌, slice_get, nat_lt, nat_le}
+use Rattle.std.proofs.Common.{◌≡◌, ℕ, ◌%◌, ◌==◌, Bool, true, false, List, [], ◌∷◌, ◌++◌, Some, None, refl, ap, sym, ◌∙◌, arith}
+use Rattle.std.specs.Prelude.{if◌then◌else◌, slice_get, nat_lt, nat_le, IsSome}
 use Rattle.std.specs.declared.option.Option.{Option}
 use Rattle.std.proofs.lemmas.Bool.Decides.{nat_tests}
 use Rattle.std.proofs.lemmas.Bool.{eqb-true}
-use Rattle.kbd_model.specs.declared.meeting.Meeting.TheVariants.{Got, Sent}
+use Rattle.kbd_model.specs.declared.meeting.Meeting.TheVariants.{Sent}
 use Rattle.kbd_model.specs.declared.state.Mode.{Mode}
 use Rattle.kbd_model.specs.declared.state.Mode.TheVariants.{Ready, WantRate, WantLights}
 use Rattle.kbd_model.specs.declared.state.Reply.{Reply}
 use Rattle.kbd_model.specs.Codes.{Keys}
 use Rattle.kbd_model.specs.Queue.{KeyQueue, first_of, without_first, clear}
 use Rattle.kbd_model.specs.Keyboard.{Keyboard, offered, offer}
-use Rattle.kbd_model.specs.Commands.{commanded, parameter, obeyed_in, obeyed}
-use Rattle.kbd_model.specs.Tick.{met, without_offered, sent_byte}
+use Rattle.kbd_model.specs.Commands.{commanded, parameter, obeyed_in}
+use Rattle.kbd_model.specs.Tick.{reset, met, without_offered, sent_byte}
 use Rattle.kbd_model.specs.Once.{reply_bytes, byte_if, queued, waiting, is_reset_due, clears_queue, GotKeeps}
 
 -- the offer
@@ -49,21 +49,40 @@ sent_leaves keys k byte h n =
     went_by keys (record k { last = if byte == 0xFE then k.last else byte }) k.reply k.aa_due byte refl refl h n
     ∙ sym (ap (λ o. byte ∷ waiting (sent_byte o keys k)) h)
 
--- a command leaves AA, and the queue but for those that clear it
+-- a reset leaves the cleared queue alone
+reset_by : (keys : Keys) (k : Keyboard) (r : Option Reply) → k.reply ≡ r → is_reset_due r ≡ true
+    → waiting (met Sent keys k) ≡ queued (clear k.queue)
+reset_by keys k None e h = absurd cc
+reset_by keys k (Some r) e h =
+    let k' : Keyboard = record k { last = if r.byte == 0xFE then k.last else r.byte } in
+    ap (λ v. waiting (sent_byte (offered v k.aa_due k.queue) keys k)) e
+    ∙ ap (λ v. waiting (without_offered v keys k')) e
+    ∙ ap (λ c. waiting (if c then reset keys k' else record k' { reply = None })) h
+
+pub reset_leaves : (keys : Keys) (k : Keyboard) → is_reset_due k.reply ≡ true
+    → waiting (met Sent keys k) ≡ queued (clear k.queue)
+reset_leaves keys k h = reset_by keys k k.reply refl h
+
+-- a command has a reply, and leaves AA, and the queue but for those that clear it
 record Keeps (byte : ℕ) (k k' : Keyboard) : Type 0 where
   queue : k'.queue ≡ (if clears_queue byte then clear k.queue else k.queue)
   aa_due : k'.aa_due ≡ k.aa_due
+  reply : IsSome k'.reply
 
 either : (P : Keyboard → Type 0) (t : Bool) (a b : Keyboard) → (t ≡ true → P a) → (t ≡ false → P b) → P (if t then a else b)
 either P true a b f g = f refl
 either P false a b f g = g refl
 
 module _ (keys : Keys) (byte : ℕ) where
-  off : (k k' : Keyboard) → clears_queue byte ≡ false → k'.queue ≡ k.queue → k'.aa_due ≡ k.aa_due → Keeps byte k k'
-  off k k' h q a = record { queue = q ∙ sym (ap (λ c. if c then clear k.queue else k.queue) h); aa_due = a }
+  off : (k k' : Keyboard) → clears_queue byte ≡ false → k'.queue ≡ k.queue → k'.aa_due ≡ k.aa_due → IsSome k'.reply
+      → Keeps byte k k'
+  off k k' h q a r =
+      record { queue = q ∙ sym (ap (λ c. if c then clear k.queue else k.queue) h); aa_due = a; reply = r }
 
-  on : (k k' : Keyboard) → clears_queue byte ≡ true → k'.queue ≡ clear k.queue → k'.aa_due ≡ k.aa_due → Keeps byte k k'
-  on k k' h q a = record { queue = q ∙ sym (ap (λ c. if c then clear k.queue else k.queue) h); aa_due = a }
+  on : (k k' : Keyboard) → clears_queue byte ≡ true → k'.queue ≡ clear k.queue → k'.aa_due ≡ k.aa_due → IsSome k'.reply
+      → Keeps byte k k'
+  on k k' h q a r =
+      record { queue = q ∙ sym (ap (λ c. if c then clear k.queue else k.queue) h); aa_due = a; reply = r }
 
   is : (n : ℕ) (c : Bool) → clears_queue n ≡ c → (byte == n) ≡ true → clears_queue byte ≡ c
   is n c h e = ap clears_queue (eqb-true byte n e) ∙ h
@@ -80,21 +99,23 @@ module _ (keys : Keys) (byte : ℕ) where
 
   command_keeps : (k : Keyboard) → Keeps byte k (commanded keys byte k)
   command_keeps k =
-      either (Keeps byte k) (byte == 0xFF) _ _ (λ e. off k _ (is 0xFF false refl e) refl refl) (λ _.
-      either (Keeps byte k) (byte == 0xFE) _ _ (λ e. off k _ (is 0xFE false refl e) refl refl) (λ _.
-      either (Keeps byte k) (byte == 0xF6) _ _ (λ e. on k _ (is 0xF6 true refl e) refl refl) (λ a.
-      either (Keeps byte k) (byte == 0xF5) _ _ (λ e. on k _ (is 0xF5 true refl e) refl refl) (λ b.
-      either (Keeps byte k) (byte == 0xF4) _ _ (λ e. on k _ (is 0xF4 true refl e) refl refl) (λ c.
-      either (Keeps byte k) (byte == 0xF3) _ _ (λ e. off k _ (none a b c) refl refl) (λ _.
-      either (Keeps byte k) (byte == 0xED) _ _ (λ e. off k _ (none a b c) refl refl) (λ _.
-      either (Keeps byte k) (byte == 0xEE) _ _ (λ e. off k _ (none a b c) refl refl) (λ _.
-      either (Keeps byte k) (nat_le 0xEF byte) _ _ (λ e. off k _ (none a b c) refl refl) (λ _. off k _ (none a b c) refl refl)))))))))
+      either (Keeps byte k) (byte == 0xFF) _ _ (λ e. off k _ (is 0xFF false refl e) refl refl refl) (λ _.
+      either (Keeps byte k) (byte == 0xFE) _ _ (λ e. off k _ (is 0xFE false refl e) refl refl refl) (λ _.
+      either (Keeps byte k) (byte == 0xF6) _ _ (λ e. on k _ (is 0xF6 true refl e) refl refl refl) (λ a.
+      either (Keeps byte k) (byte == 0xF5) _ _ (λ e. on k _ (is 0xF5 true refl e) refl refl refl) (λ b.
+      either (Keeps byte k) (byte == 0xF4) _ _ (λ e. on k _ (is 0xF4 true refl e) refl refl refl) (λ c.
+      either (Keeps byte k) (byte == 0xF3) _ _ (λ e. off k _ (none a b c) refl refl refl) (λ _.
+      either (Keeps byte k) (byte == 0xED) _ _ (λ e. off k _ (none a b c) refl refl refl) (λ _.
+      either (Keeps byte k) (byte == 0xEE) _ _ (λ e. off k _ (none a b c) refl refl refl) (λ _.
+      either (Keeps byte k) (nat_le 0xEF byte) _ _ (λ e. off k _ (none a b c) refl refl refl) (λ _.
+      off k _ (none a b c) refl refl refl)))))))))
 
   parameter_keeps : (k with_it : Keyboard) → with_it.queue ≡ k.queue → with_it.aa_due ≡ k.aa_due → Keeps byte k (parameter keys byte with_it k)
   parameter_keeps k with_it q a =
-      either (Keeps byte k) (nat_lt byte 0x80) _ _ (λ h. off k _ (low (grind (arith, nat_tests, h))) q a) (λ _.
-      either (Keeps byte k) (nat_lt byte 0xED) _ _ (λ h. off k _ (low h) refl refl) (λ _.
-      let c = command_keeps (record k { mode = Ready }) in record { queue = c.queue; aa_due = c.aa_due }))
+      either (Keeps byte k) (nat_lt byte 0x80) _ _ (λ h. off k _ (low (grind (arith, nat_tests, h))) q a refl) (λ _.
+      either (Keeps byte k) (nat_lt byte 0xED) _ _ (λ h. off k _ (low h) refl refl refl) (λ _.
+      let c = command_keeps (record k { mode = Ready }) in
+      record { queue = c.queue; aa_due = c.aa_due; reply = c.reply }))
 
   obeyed_keeps : (m : Mode) (k : Keyboard) → Keeps byte k (obeyed_in m keys byte k)
   obeyed_keeps Ready k = command_keeps k
@@ -102,5 +123,7 @@ module _ (keys : Keys) (byte : ℕ) where
   obeyed_keeps WantLights k = parameter_keeps k (record k { lights = byte % 8 }) refl refl
 
 pub got_leaves : (keys : Keys) (byte : ℕ) (good : Bool) (k : Keyboard) → GotKeeps keys byte good k
-got_leaves keys byte true k = let h = obeyed_keeps keys byte k.mode k in record { queue = h.queue; aa_due = h.aa_due }
-got_leaves keys byte false k = record { queue = refl; aa_due = refl }
+got_leaves keys byte true k =
+    let h = obeyed_keeps keys byte k.mode k in
+    record { queue = h.queue; aa_due = h.aa_due; reply = h.reply }
+got_leaves keys byte false k = record { queue = refl; aa_due = refl; reply = refl }

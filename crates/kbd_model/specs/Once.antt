@@ -1,12 +1,13 @@
 -- Exactly once: what waits to be sent, and what leaves it.
-use Rattle.std.specs.Prelude.{◌≡◌, ℕ, ◌==◌, Bool, true, false, ◌&&◌, ◌||◌, if◌then◌else◌, List, [], ◌∷◌, ◌++◌, Some, None, slice_get}
+use Rattle.std.specs.Prelude.{◌≡◌, ℕ, ◌==◌, Bool, true, false, ◌&&◌, ◌||◌, if◌then◌else◌, List, [], ◌∷◌, ◌++◌, Some, None, IsSome, slice_get}
 use Rattle.std.specs.declared.option.Option.{Option}
+use Rattle.kbd_model.specs.declared.meeting.Meeting.{Meeting}
 use Rattle.kbd_model.specs.declared.meeting.Meeting.TheVariants.{Got, Inhibited, Idle, Sent, Cut}
 use Rattle.kbd_model.specs.declared.state.Reply.{Reply}
 use Rattle.kbd_model.specs.Codes.{Keys}
 use Rattle.kbd_model.specs.Queue.{KeyQueue, clear}
 use Rattle.kbd_model.specs.Keyboard.{Keyboard, offer}
-use Rattle.kbd_model.specs.Tick.{met}
+use Rattle.kbd_model.specs.Tick.{met, ticked}
 
 -- the bytes that wait, in the order in which they will be offered: the reply, AA, the queue, and the 00 of an overrun
 abbrev pub reply_bytes : Option Reply → List ℕ
@@ -36,6 +37,11 @@ abbrev pub SentLeaves : Type 0
 SentLeaves = (keys : Keys) (k : Keyboard) (byte : ℕ) → offer k ≡ Some byte → is_reset_due k.reply ≡ false
     → waiting k ≡ byte ∷ waiting (met Sent keys k)
 
+-- a reset, once its reply is sent: that reply and a due AA are gone, and the queue is cleared
+abbrev pub ResetLeaves : Type 0
+ResetLeaves = (keys : Keys) (k : Keyboard) → is_reset_due k.reply ≡ true
+    → waiting (met Sent keys k) ≡ queued (clear k.queue)
+
 -- where nothing is sent and nothing is got nothing changes; a byte that was cut off is still offered
 pub record NothingElseLeaves : Type 0 where
   pub inhibited : (keys : Keys) (k : Keyboard) → met Inhibited keys k ≡ k
@@ -46,11 +52,40 @@ pub record NothingElseLeaves : Type 0 where
 abbrev pub clears_queue : ℕ → Bool
 clears_queue byte = (byte == 0xF6) || (byte == 0xF5) || (byte == 0xF4)
 
--- a byte from the system leaves the queue, but for these commands with right parity; it leaves AA; its reply takes the
--- place of the one that waited
+-- a byte from the system leaves the queue as it is, but for these commands with right parity, and a due AA; it has a
+-- reply, which takes the place of the one that waited
 pub record GotKeeps (keys : Keys) (byte : ℕ) (good : Bool) (k : Keyboard) : Type 0 where
   pub queue : (met (Got byte good) keys k).queue ≡ (if good && clears_queue byte then clear k.queue else k.queue)
   pub aa_due : (met (Got byte good) keys k).aa_due ≡ k.aa_due
+  pub reply : IsSome (met (Got byte good) keys k).reply
 
 abbrev pub GotLeaves : Type 0
 GotLeaves = (keys : Keys) (byte : ℕ) (good : Bool) (k : Keyboard) → GotKeeps keys byte good k
+
+-- what waited waits on, in its order, and what is new stands behind it
+pub record IsBehind (before after : List ℕ) : Type 0 where
+  pub more : List ℕ
+  pub is : after ≡ before ++ more
+
+-- the rest of a tick, whatever its meeting: it takes nothing away. Codes may enter the queue, and AA may become due
+pub record OnlyAdds (before after : Keyboard) : Type 0 where
+  pub reply : after.reply ≡ before.reply
+  pub aa_due : before.aa_due ≡ true → after.aa_due ≡ true
+  pub queue : IsBehind (queued before.queue) (queued after.queue)
+
+abbrev pub RestAdds : Type 0
+RestAdds =
+    (keys : Keys) (meeting : Meeting) (edges : List (ℕ × Bool)) (k : Keyboard)
+    → OnlyAdds (met meeting keys k) (ticked keys meeting edges k)
+
+-- where the test had ended nothing gets ahead of what waits
+abbrev pub StaysInLine : Type 0
+StaysInLine =
+    (keys : Keys) (meeting : Meeting) (edges : List (ℕ × Bool)) (k : Keyboard) → k.test ≡ 0
+    → IsBehind (waiting (met meeting keys k)) (waiting (ticked keys meeting edges k))
+
+-- so a byte that was cut off is offered again
+abbrev pub CutIsOffered : Type 0
+CutIsOffered =
+    (keys : Keys) (edges : List (ℕ × Bool)) (k : Keyboard) (byte : ℕ) → k.test ≡ 0 → offer k ≡ Some byte
+    → offer (ticked keys Cut edges k) ≡ Some byte

@@ -34,7 +34,7 @@ impl Queue {
 
     /// A queue that is empty, with no overrun and no break started.
     pub fn new() -> Queue
-        ensures { result ≡ empty }
+        ensures empty { result ≡ empty }
     {
         Queue {
             bytes: ArrayVec::new(),
@@ -46,7 +46,7 @@ impl Queue {
     /// Enters a code of one or two bytes, whole. Where it finds no room there is an overrun, and until that is told all
     /// codes are lost.
     pub fn enter(&mut self, code: &[u8])
-        requires { IsCode code.now }
+        requires code { IsCode code.now }
         ensures entered { self.new ≡ enter code.now self.old }
         ensures sixteen { length self.new.bytes ≤ 16 }
     {
@@ -58,7 +58,7 @@ impl Queue {
     /// The byte to be sent next: the queue's first, or 00 where it is empty after an overrun. None exactly where it is
     /// empty and there was none.
     pub fn first(&self) -> Option<u8>
-        ensures { result ≡ first self.now }
+        ensures first { result ≡ first self.now }
     {
         match self.bytes.first() {
             Some(byte) => Some(*byte),
@@ -70,7 +70,7 @@ impl Queue {
     /// Takes the first byte away, which may be the 00 that tells an overrun. F0 starts a break, and the byte behind it
     /// ends it.
     pub fn drop_first(&mut self)
-        requires { IsSome (first self.old) }
+        requires some { IsSome (first self.old) }
         ensures dropped { self.new ≡ drop_first self.old }
     {
         match self.bytes.pop_at(0) {

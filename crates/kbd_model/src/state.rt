@@ -77,7 +77,7 @@ impl TickModel {
 
     /// The keyboard at power-on, with the layout's rate byte: the test runs, and nothing is held, queued or lit.
     pub fn power_on(rate: u8) -> TickModel
-        ensures { result ≡ at_power_on rate }
+        ensures start { result ≡ at_power_on rate }
     {
         TickModel {
             test: TEST_TICKS,
@@ -97,7 +97,7 @@ impl TickModel {
     /// The byte that is offered to the line: the reply to a command, else AA where the test has just ended, else the
     /// queue's first; None exactly where there is none of them.
     pub fn offer(&self) -> Option<u8>
-        ensures { result ≡ offer self.now }
+        ensures offer { result ≡ offer self.now }
     {
         match self.reply {
             Some(reply) => Some(reply.byte),
@@ -108,14 +108,14 @@ impl TickModel {
 
     /// The lights: bit 0 Scroll, bit 1 Num, bit 2 Caps.
     pub fn lights(&self) -> u8
-        ensures { result ≡ self.now.lights }
+        ensures lights { result ≡ self.now.lights }
     {
         self.lights
     }
 
     /// Whether the power-on test has no ticks left.
     pub fn tested(&self) -> bool
-        ensures { result ≡ (self.now.test == 0) }
+        ensures tested { result ≡ (self.now.test == 0) }
     {
         self.test == 0
     }

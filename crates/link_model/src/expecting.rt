@@ -29,7 +29,7 @@ pub fn expect(
     requires some { 0 < length starts.now }
     requires cadence { KeepsCadenceTo (listed starts.now) (length starts.now - 1) }
     requires last { IsLast (listed starts.now) history.now.end (length starts.now - 1) }
-    ensures { IfOk result (λ lines. lines.items ≡ expected_log layout.now history.now starts.now) }
+    ensures log { IfOk result (λ lines. lines.items ≡ expected_log layout.now history.now starts.now) }
 {
     expect_events(alloc, layout, history.edges(), history.host(), starts)
 }

@@ -5,16 +5,16 @@ ghost use Rattle.link_model.specs.Laws.{CycleByCycle, EachSeenOnce, EdgesShown};
 /// The edges of a tick are what the columns of the matrix show against the keys held before it: at most four, of
 /// different places, by rising place.
 pub fn edges_shown()
-    ensures { EdgesShown }
+    ensures shown { EdgesShown }
 {}
 
 /// An edge that a tick reads in time is seen by one tick, and by no other.
 pub fn each_seen_once()
-    ensures { EachSeenOnce }
+    ensures once { EachSeenOnce }
 {}
 
 /// What the spans of a tick come to is what each of its cycles does: the lights, what comes over the link, the host, the
 /// controller.
 pub fn cycle_by_cycle()
-    ensures { CycleByCycle }
+    ensures cycles { CycleByCycle }
 {}

@@ -14,5 +14,5 @@ carry-requires-clause-may_begin c =
     c.link.ensures ∙ ap (λ (v : Side UnderWay). v.port.link) c.in_ok-run_on.ensures
     ∙ quiet_request c.args.events.now (c.args.start + 288 - (c.args.start + 256)) (c.args.start + 256) c.args.self.now byte (sym c.link-earlier.ensures ∙ e) in
     subst (λ (l : Link UnderWay). MayBegin c.meeting_of-meeting.result l) c.link.ensures
-    (subst (λ (m : Meeting). MayBegin m c.link.result) (sym c.meeting_of-meeting.ensures)
+    (subst (λ (m : Meeting). MayBegin m c.link.result) (sym c.meeting_of-meeting.ensures.meeting)
     (may_begin c.args.tested c.args.offer c.link-earlier.result c.link.result stays))

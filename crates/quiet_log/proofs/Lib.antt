@@ -1,0 +1,11 @@
+pub mod Calm
+pub mod Undue
+pub mod Carrying
+pub mod Acting
+pub mod Ahead
+pub mod Passing
+pub mod SameEdges
+pub mod Saying
+pub mod Ticking
+pub mod Ran
+pub mod Once
