@@ -2,5 +2,6 @@ pub mod Made
 pub mod Numbers
 pub mod OneStep
 pub mod Passing
+pub mod Quiet
 pub mod Runs
 pub mod Stepping

@@ -1,5 +1,5 @@
 -- A tick start that is reached from one start to the next is reached by that many steps of the run, with its number.
-use Rattle.std.proofs.Common.{◌≡◌, ℕ, suc, zero, ◌+◌, List, Bool, true, false, Some, None, refl, ap, sym, ◌∙◌, arith}
+use Rattle.std.proofs.Common.{◌≡◌, ℕ, suc, zero, ◌+◌, List, Bool, true, false, Some, None, refl, ap, ◌∙◌, arith}
 use Rattle.std.specs.declared.option.Option.{Option}
 use Rattle.mcs48_core.specs.Status.{digit}
 use Rattle.joint_run.specs.Run.{Board, World, joint_step, step_on, run_at}

@@ -1,6 +1,6 @@
 -- The step of the machine is the joint step under every history in order whose next events are handed in.
 use Rattle.std.proofs.Common.{◌≡◌, ◌<◌, ℕ, suc, ◌+◌, List, [], ◌++◌, length, take, Some, None, Ok, Err, refl, ap, sym, ◌∙◌, arith}
-use Rattle.std.specs.Prelude.{slice_get, IfOk}
+use Rattle.std.specs.Prelude.{slice_get, IfOk, OnOk}
 use Rattle.std.specs.declared.option.Option.{Option}
 use Rattle.std.specs.declared.result.Result.{Result}
 use Rattle.board_lines.specs.declared.event.Edge.{Edge}
@@ -15,7 +15,7 @@ use Rattle.joint_run.specs.declared.due.Seen.{Seen}
 use Rattle.joint_run.specs.declared.machine.Machine.{Machine}
 use Rattle.joint_run.specs.Run.{World, ticks, seen, after_step, step_on, run_at}
 use Rattle.joint_run.specs.Joint.{Beside, keys_at, pins_by, joint_pins, joint_cycle, joint_board, joint_start}
-use Rattle.joint_run.specs.Due.{beside, outside_of, passed, made_first, keys_in_step, due_board, world_of, due_step, machine_after, IsSeen, IsJointStep}
+use Rattle.joint_run.specs.Due.{beside, outside_of, passed, made_first, keys_in_step, due_board, world_of, due_step, machine_after, told, IsSeen, IsJointStep}
 use Rattle.joint_run.specs.History.{IsInRun, IsDueOf, GoesOn, IsNext, IsStepOfRun}
 use Rattle.joint_run.proofs.Made.{made_now, taken_now, reached_now, turned_on}
 use Rattle.joint_run.proofs.Runs.{next_one, next_two, behind, same_cycles}
@@ -28,9 +28,9 @@ pins_are edges p1 p2 cycle s = refl
 abbrev pub AreFew : Result Seen Stuck → Type 0
 AreFew result = IfOk result (λ seen. (0 < seen.cycles) × (seen.cycles < 3))
 
-pub are_few : (result : Result Seen Stuck) → IfOk result (λ seen. 0 < seen.cycles) → IfOk result (λ seen. seen.cycles < 3) → AreFew result
-are_few (Ok seen) some few = (some, few)
-are_few (Err stuck) some few = tt
+pub are_few_told : (result : Result (Unit {0}) Stuck) (seen : Seen) → OnOk result (0 < seen.cycles) → OnOk result (seen.cycles < 3) → AreFew (told result seen)
+are_few_told (Ok done) seen some few = (some, few)
+are_few_told (Err stuck) seen some few = tt
 
 module _ (edges : List Edge) (events : List HostEvent) (order : AreInOrder edges) (m : Machine) (made : ℕ) (w : World Beside)
     (r : IsInRun edges events m made w) (due : Due) (d : IsDueOf edges events made w due) where

@@ -1,5 +1,5 @@
 -- A cycle outside the processor, by the host's next event.
-use Rattle.std.specs.Prelude.{ℕ, Bool, List, ◌++◌}
+use Rattle.std.specs.Prelude.{ℕ, Bool, List, ◌++◌, not, ◌&&◌, ◌==◌}
 use Rattle.std.specs.declared.option.Option.{Option}
 use Rattle.board_lines.specs.declared.event.HostEvent.{HostEvent}
 use Rattle.board_lines.specs.declared.lines.Lines.{Lines}
@@ -8,6 +8,7 @@ use Rattle.ctl_wire.specs.Cycles.{port_looked}
 use Rattle.ctl_wire.specs.Wire.{drive}
 use Rattle.host_turn.specs.declared.stamped.Stamped.{Stamped}
 use Rattle.host_turn.specs.Cycle.{Cycled, cycled}
+use Rattle.host_turn.specs.Rest.{is_at_rest, is_due}
 use Rattle.host_turn.specs.Run.{lights_said, stamped}
 use Rattle.joint_run.specs.declared.outside.Outside.{Outside}
 use Rattle.pc_wires.specs.Wires.{joined}
@@ -40,3 +41,9 @@ outside_cycle now p2 next o =
       items = lights_said now o.shown (lights_of p2) ++ stamped now c.items;
       done = c.done;
     }
+
+-- nothing happens in a cycle and nothing is said: the host and the controller rest, the lights stay, and the clock, which
+-- no one but the keyboard drives then, doesn't fall
+abbrev pub is_quiet : ℕ → ℕ → Option HostEvent → Outside → Bool
+is_quiet now p2 next o =
+    (is_at_rest o.desk && not (is_due now next)) && (lights_of p2 == o.shown) && not (o.clock && not (latch_of p2).clk)

@@ -121,3 +121,18 @@ IsJointStep due old (Some w) (Err stuck) new = ⊥
 IsJointStep due old None (Ok seen) new = ⊥
 IsJointStep due old None (Err stuck) new =
     (stuck ≡ record { pc = old.mcu.pc; byte = slice_index old.image.bytes (old.mcu.pc % 2048) }) × (new ≡ old)
+
+-- what a step that is told in a place of the caller's answers
+abbrev pub told : Result (Unit {0}) Stuck → Seen → Result Seen Stuck
+told (Ok done) seen = Ok seen
+told (Err stuck) seen = Err stuck
+
+-- nothing was done and said yet
+abbrev pub nothing_seen : Seen
+nothing_seen = record {
+  cycles = 0;
+  edges = 0;
+  host = 0;
+  items = record { items = [] };
+  lines = record { clk = true; dat = true } ∷ record { clk = true; dat = true } ∷ [];
+}

@@ -1,5 +1,8 @@
 //! What a step is handed, and what it answers.
 
+ghost use Rattle.std.specs.Prelude.{◌≡◌};
+ghost use Rattle.joint_run.specs.Due.{nothing_seen};
+
 use arrayvec::ArrayVec;
 use board_lines::{Edge, HostEvent, Lines};
 use host_turn::Stamped;
@@ -21,4 +24,23 @@ pub struct Seen {
     pub host: u8,
     pub items: ArrayVec<Stamped, 16>,
     pub lines: [Lines; 2],
+}
+
+impl Seen {
+    /// Nothing is done and said yet.
+    pub fn nothing() -> Seen
+        ensures nothing { result ≡ nothing_seen }
+    {
+        let high = Lines {
+            clk: true,
+            dat: true,
+        };
+        Seen {
+            cycles: 0,
+            edges: 0,
+            host: 0,
+            items: ArrayVec::new(),
+            lines: [high, high],
+        }
+    }
 }

@@ -1,9 +1,9 @@
 //! The joint machine as its callers see it.
 
-ghost use Rattle.std.specs.Prelude.{◌≡◌, ◌<◌, ◌^◌, IfOk, OnErr};
+ghost use Rattle.std.specs.Prelude.{◌≡◌, ◌<◌, ◌^◌, IfOk, OnErr, OnOk};
 ghost use Rattle.int09.specs.Bios.{start};
 ghost use Rattle.joint_run.specs.Cycle.{outside_wires};
-ghost use Rattle.joint_run.specs.Due.{due_step, powered_on, IsJointStep};
+ghost use Rattle.joint_run.specs.Due.{due_step, powered_on, told, IsJointStep};
 ghost use Rattle.joint_run.specs.History.{IsFirstOfRun, IsStepOfRun};
 
 use crate::due::{Due, Seen};
@@ -36,7 +36,7 @@ impl Model for Joint {
 impl Joint {
     /// The machine at power-on, with this program and with INT 09h at its start.
     pub fn power_on(image: &Image, bios: Bios) -> Joint
-        requires { bios ≡ start }
+        requires start { bios ≡ start }
         ensures parts { result ≡ powered_on image.now.bytes }
         ensures run { IsFirstOfRun result }
     {
@@ -63,33 +63,48 @@ impl Joint {
         ensures some { IfOk result (λ seen. 0 < seen.cycles) }
         ensures few { IfOk result (λ seen. seen.cycles < 3) }
     {
-        self.machine.step(due)
+        let mut seen = Seen::nothing();
+        self.step_into(due, &mut seen)?;
+        Ok(seen)
+    }
+
+    /// The same step, told in `seen` in place of what stood there, which no longer counts: for a caller that makes many
+    /// steps, since no list is made anew. Where the processor is stuck, `seen` says nothing of use.
+    pub fn step_into(&mut self, due: &Due, seen: &mut Seen) -> Result<(), Stuck>
+        requires near { self.old.cycle < 2 ^ 62 }
+        ensures step { IsJointStep due.now self.old (due_step due.now self.old) (told result seen.new) self.new }
+        ensures run { IsStepOfRun due.now self.old (told result seen.new) self.new }
+        ensures unchanged { OnErr result (self.new ≡ self.old) }
+        ensures some { OnOk result (0 < seen.new.cycles) }
+        ensures few { OnOk result (seen.new.cycles < 3) }
+    {
+        self.machine.step(due, seen)
     }
 
     /// How many cycles are done; the next step begins with the cycle of this number.
     pub fn cycle(&self) -> u64
-        ensures { result ≡ self.now.cycle }
+        ensures cycle { result ≡ self.now.cycle }
     {
         self.machine.cycle
     }
 
     /// How many steps are done.
     pub fn steps(&self) -> u64
-        ensures { result ≡ self.now.steps }
+        ensures steps { result ≡ self.now.steps }
     {
         self.machine.steps
     }
 
     /// The processor.
     pub fn mcu(&self) -> &Mcu
-        ensures { result.now ≡ self.now.mcu }
+        ensures processor { result.now ≡ self.now.mcu }
     {
         &self.machine.mcu
     }
 
     /// The wires after the last cycle that is done.
     pub fn lines(&self) -> Lines
-        ensures { result ≡ outside_wires self.now.mcu.p2 self.now.outside }
+        ensures wires { result ≡ outside_wires self.now.mcu.p2 self.now.outside }
     {
         let p2 = self.machine.mcu.p2;
         self.machine.outside.wires(p2)
@@ -97,7 +112,7 @@ impl Joint {
 
     /// INT 09h.
     pub fn bios(&self) -> &Bios
-        ensures { result.now ≡ self.now.outside.desk.bios }
+        ensures bios { result.now ≡ self.now.outside.desk.bios }
     {
         &self.machine.outside.desk.bios
     }

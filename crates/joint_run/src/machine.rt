@@ -1,9 +1,9 @@
 //! The joint machine's parts, and a step of them.
 
-ghost use Rattle.std.specs.Prelude.{◌≡◌, ◌<◌, ◌≤◌, ◌^◌, [], length, IfOk, OnErr};
+ghost use Rattle.std.specs.Prelude.{◌≡◌, ◌<◌, ◌≤◌, ◌^◌, [], length, IfOk, OnErr, OnOk};
 ghost use Rattle.board_lines.specs.Matrix.{turned_by};
 ghost use Rattle.ctl_link.specs.Empty.{IsEmptyUnlessHeld};
-ghost use Rattle.joint_run.specs.Due.{beside, due_step, made_first, IsJointStep};
+ghost use Rattle.joint_run.specs.Due.{beside, due_step, made_first, told, IsJointStep};
 ghost use Rattle.joint_run.specs.Joint.{pins_by};
 ghost use Rattle.mcs48_core.specs.Step.{stepped, IsStep};
 
@@ -11,6 +11,7 @@ use crate::due::{Due, Seen};
 use crate::outside::Outside;
 use arrayvec::ArrayVec;
 use board_lines::{Edge, Matrix};
+use host_turn::Stamped;
 use mcs48_core::{Mcu, Pins, Stuck};
 use mcs48_isa::Image;
 
@@ -76,17 +77,26 @@ fn port_2(mcu: &Mcu) -> u8
     mcu.p2
 }
 
+/// Nothing is said yet. In most steps nothing was said before, and the list is left as it is.
+fn empty_out(items: &mut ArrayVec<Stamped, 16>)
+    ensures { items.new.items ≡ [] }
+{
+    if !items.is_empty() {
+        items.clear();
+    }
+}
+
 impl Machine {
-    /// One joint step. The edges are made whose stamp is reached; the processor makes one step; then its cycles pass.
-    /// Where the processor is stuck nothing has changed, and no edge is made.
-    pub(crate) fn step(&mut self, due: &Due) -> Result<Seen, Stuck>
+    /// One joint step, told in `seen`. The edges are made whose stamp is reached; the processor makes one step; then its
+    /// cycles pass. Where the processor is stuck nothing has changed, and no edge is made.
+    pub(crate) fn step(&mut self, due: &Due, seen: &mut Seen) -> Result<(), Stuck>
         requires near { self.old.cycle < 2 ^ 62 }
         requires steps { self.old.steps ≤ self.old.cycle }
         requires empty { IsEmptyUnlessHeld self.old.outside.desk.port }
-        ensures step { IsJointStep due.now self.old (due_step due.now self.old) result self.new }
+        ensures step { IsJointStep due.now self.old (due_step due.now self.old) (told result seen.new) self.new }
         ensures unchanged { OnErr result (self.new ≡ self.old) }
-        ensures some { IfOk result (λ seen. 0 < seen.cycles) }
-        ensures few { IfOk result (λ seen. seen.cycles < 3) }
+        ensures some { OnOk result (0 < seen.new.cycles) }
+        ensures few { OnOk result (seen.new.cycles < 3) }
         ensures steps { self.new.steps ≤ self.new.cycle }
         ensures empty { IsEmptyUnlessHeld self.new.outside.desk.port }
     {
@@ -96,18 +106,20 @@ impl Machine {
         let cycles = execute(&self.image, &mut self.mcu, given)?;
         self.matrix = matrix;
         let p2 = port_2(&self.mcu);
-        let mut items = ArrayVec::new();
-        let (host, first, last) = self
-            .outside
-            .pass(self.cycle, cycles, p2, due.host.as_slice(), &mut items);
+        empty_out(&mut seen.items);
+        let (host, first, last) = self.outside.pass(
+            self.cycle,
+            cycles,
+            p2,
+            due.host.as_slice(),
+            &mut seen.items,
+        );
         self.cycle += cycles as u64;
         self.steps += 1;
-        Ok(Seen {
-            cycles,
-            edges,
-            host,
-            items,
-            lines: [first, last],
-        })
+        seen.cycles = cycles;
+        seen.edges = edges;
+        seen.host = host;
+        seen.lines = [first, last];
+        Ok(())
     }
 }

@@ -9,7 +9,7 @@ ghost use Rattle.host_turn.specs.Run.{lights_said, stamped};
 ghost use Rattle.joint_run.specs.Due.{outside_at_start, outside_of, passed};
 ghost use Rattle.pc_wires.specs.Wires.{wires};
 ghost use Rattle.joint_run.specs.Joint.{lights_of, latch_of};
-ghost use Rattle.joint_run.specs.Cycle.{looked_outside, outside_cycle, outside_wires};
+ghost use Rattle.joint_run.specs.Cycle.{is_quiet, looked_outside, outside_cycle, outside_wires};
 
 use arrayvec::ArrayVec;
 use board_lines::{HostEvent, Lines};
@@ -208,9 +208,19 @@ impl Outside {
         self.go_on(now, next, items)
     }
 
-    /// The cycles of a step, 1 or 2, from this one on, in which port 2 is this. Answers how many of the host's events were
-    /// done, and the wires after the first and after the last cycle.
-    pub(crate) fn pass(
+    /// Whether in the cycles up to this one nothing happens for certain and nothing is said, as in most: with this latch of
+    /// port 2 the lights stay as they are and the clock doesn't fall, and the host and the controller rest.
+    #[inline(always)]
+    fn is_quiet(&self, last: u64, p2: u8, next: Option<HostEvent>) -> bool
+        ensures { result ≡ is_quiet last p2 next self.now }
+    {
+        self.desk.rests(last, next) && lights(p2) == self.shown && !(self.clock && !latch(p2).clk)
+    }
+
+    /// The cycles of a step, 1 or 2, from this one on, in which port 2 is this and something may happen. Answers how many of
+    /// the host's events were done, and the wires after the first and after the last cycle.
+    #[inline(never)]
+    fn pass_busily(
         &mut self,
         now: u64,
         cycles: u8,
@@ -238,5 +248,35 @@ impl Outside {
         let last_done = self.cycle(now + 1, p2, next_of(host, first_done), items) as u8;
         let last = self.wires(p2);
         (first_done + last_done, first, last)
+    }
+
+    /// The same in any cycles. In most nothing happens: the clock's level is noted, and no cycle is made.
+    pub(crate) fn pass(
+        &mut self,
+        now: u64,
+        cycles: u8,
+        p2: u8,
+        host: &[HostEvent],
+        items: &mut ArrayVec<Stamped, 16>,
+    ) -> (u8, Lines, Lines)
+        requires near { now < 2 ^ 62 }
+        requires some { 0 < cycles }
+        requires few { cycles < 3 }
+        requires empty { IsEmptyUnlessHeld self.old.desk.port }
+        requires none { items.old.items ≡ [] }
+        ensures outside { self.new ≡ outside_of (passed cycles now p2 host.now self.old) }
+        ensures done { result.0 ≡ (passed cycles now p2 host.now self.old).pc.side.done }
+        ensures items { items.new.items ≡ (passed cycles now p2 host.now self.old).pc.side.log }
+        ensures first { result.1 ≡ wires (latch_of p2) (passed 1 now p2 host.now self.old).pc }
+        ensures last { result.2 ≡ wires (latch_of p2) (passed cycles now p2 host.now self.old).pc }
+        ensures empty { IsEmptyUnlessHeld self.new.desk.port }
+    {
+        let last = now + cycles as u64 - 1;
+        if self.is_quiet(last, p2, next_of(host, 0)) {
+            let line = latch(p2);
+            self.clock = line.clk;
+            return (0, line, line);
+        }
+        self.pass_busily(now, cycles, p2, host, items)
     }
 }

@@ -17,7 +17,7 @@ returns-clause-step c =
     let keys : c.make_edges-edges.new.matrix ≡ keys_in_step due m =
     c.make_edges-edges.ensures.keys
     ∙ ap (λ es. turned_by (made_first m.cycle es) c.copied-matrix.result) c.as_slice.ensures.value
-    ∙ ap (λ k. turned_by (made_first m.cycle due.edges.items) k) c.copied-matrix.ensures in
+    ∙ ap (λ k. turned_by (made_first m.cycle due.edges.items) k) c.copied-matrix.ensures.keys in
     let count : c.make_edges-edges.result ≡ length (made_first m.cycle due.edges.items) =
     c.make_edges-edges.ensures.count ∙ ap (λ es. length (made_first m.cycle es)) c.as_slice.ensures.value in
     let given = c.pins-given.ensures ∙ ap (λ k. pins_by k m.mcu.p1 m.mcu.p2 (beside m.outside 0 [])) keys in

@@ -1,42 +1,33 @@
-use Rattle.std.proofs.Common.{◌≡◌, ap, sym, ◌∙◌, arith}
-use Rattle.joint_run.specs.Due.{outside_of, passed}
-use Rattle.joint_run.specs.Joint.{latch_of, Beside}
+use Rattle.std.proofs.Common.{◌≡◌, ◌≤◌, ◌+◌, ◌-◌, [], refl, ap, sym, ◌∙◌, arith}
+use Rattle.std.specs.Prelude.{slice_get}
+use Rattle.board_lines.specs.declared.lines.Lines.{Lines}
+use Rattle.joint_run.specs.Cycle.{is_quiet}
+use Rattle.joint_run.specs.Due.{beside, outside_of}
+use Rattle.joint_run.specs.Joint.{Beside, latch_of}
 use Rattle.pc_wires.specs.Wires.{wires}
-use Rattle.joint_run.proofs.Passing.{pass_one, pass_two}
+use Rattle.joint_run.proofs.Quiet.{IsQuiet, noted, quiet_parts, quiet_before, link_free, quiet_one, quiet_step, wires_free}
 use Rattle.joint_run.proofs.outside.Outside.pass.Goals as goal
 
-pub returns-then-cycles-eq1 : goal.returns-then-cycles-eq1
-returns-then-cycles-eq1 c =
-    let one = pass_one c.args.host.now c.args.p2 c.args.now c.args.self.now c.cycle-first_done.new.self c.cycle-first_done.result
-    c.args.items.now.items c.cycle-first_done.new.items.items c.next_of.result c.requires.none c.next_of.ensures
-    c.cycle-first_done.ensures.outside c.cycle-first_done.ensures.done c.cycle-first_done.ensures.items in
-    let all = ap (λ k. passed k c.args.now c.args.p2 c.args.host.now c.args.self.now) c.if-cycles-eq1.true ∙ one in
+pub returns-then-is_quiet : goal.returns-then-is_quiet
+returns-then-is_quiet c =
+    let o = c.args.self.now in
+    let p2 = c.args.p2 in
+    let now = c.args.now in
+    let events = c.args.host.now in
+    let last = now + c.args.cycles - 1 in
+    let q : IsQuiet last p2 (slice_get events 0) o =
+    quiet_parts last p2 (slice_get events 0) o
+    (ap (λ e. is_quiet last p2 e o) (sym c.next_of.ensures) ∙ sym c.is_quiet.ensures ∙ c.if-is_quiet.true) in
+    let before : now ≤ last = let some = c.requires.some in omega (arith, some) in
+    let all = quiet_step events p2 c.args.cycles now last o c.requires.some c.requires.few refl q in
+    let one = quiet_one events p2 now o (quiet_before now last p2 (slice_get events 0) o before q) in
+    let line : c.latch-line.result ≡ wires (latch_of p2) (beside (noted p2 o) 0 []).pc =
+    c.latch-line.ensures ∙ sym (wires_free (latch_of p2) o.desk.port.link (link_free last p2 (slice_get events 0) o q)) in
     record {
-      outside = ap outside_of (sym all);
+      outside = ap (λ (l : Lines). record o { clock = l.clk }) c.latch-line.ensures ∙ ap outside_of (sym all);
       done = ap (λ (s : Beside). s.pc.side.done) (sym all);
-      items = ap (λ (s : Beside). s.pc.side.log) (sym all);
-      first = c.wires-first.ensures ∙ ap (λ (s : Beside). wires (latch_of c.args.p2) s.pc) (sym one);
-      last = c.wires-first.ensures ∙ ap (λ (s : Beside). wires (latch_of c.args.p2) s.pc) (sym all);
-      empty = c.cycle-first_done.ensures.empty;
-    }
-
-pub returns : goal.returns
-returns c =
-    let one = pass_one c.args.host.now c.args.p2 c.args.now c.args.self.now c.cycle-first_done.new.self c.cycle-first_done.result
-    c.args.items.now.items c.cycle-first_done.new.items.items c.next_of.result c.requires.none c.next_of.ensures
-    c.cycle-first_done.ensures.outside c.cycle-first_done.ensures.done c.cycle-first_done.ensures.items in
-    let two = pass_two c.args.host.now c.args.p2 c.args.now c.args.self.now c.cycle-first_done.new.self c.cycle-first_done.result
-    c.args.items.now.items c.cycle-first_done.new.items.items c.next_of.result c.requires.none c.next_of.ensures
-    c.cycle-first_done.ensures.outside c.cycle-first_done.ensures.done c.cycle-first_done.ensures.items
-    c.cycle-last_done.new.self c.cycle-last_done.result c.cycle-last_done.new.items.items c.next_of-2.result c.next_of-2.ensures
-    c.cycle-last_done.ensures.outside c.cycle-last_done.ensures.done c.cycle-last_done.ensures.items in
-    let count : c.args.cycles ≡ 2 = omega (arith, c.requires.some, c.requires.few, c.if-cycles-eq1.false) in
-    let all = ap (λ k. passed k c.args.now c.args.p2 c.args.host.now c.args.self.now) count ∙ two in
-    record {
-      outside = ap outside_of (sym all);
-      done = ap (λ (s : Beside). s.pc.side.done) (sym all);
-      items = ap (λ (s : Beside). s.pc.side.log) (sym all);
-      first = c.wires-first.ensures ∙ ap (λ (s : Beside). wires (latch_of c.args.p2) s.pc) (sym one);
-      last = c.wires-last.ensures ∙ ap (λ (s : Beside). wires (latch_of c.args.p2) s.pc) (sym all);
-      empty = c.cycle-last_done.ensures.empty;
+      items = c.requires.none ∙ ap (λ (s : Beside). s.pc.side.log) (sym all);
+      first = line ∙ ap (λ (s : Beside). wires (latch_of p2) s.pc) (sym one);
+      last = line ∙ ap (λ (s : Beside). wires (latch_of p2) s.pc) (sym all);
+      empty = c.requires.empty;
     }
