@@ -10,10 +10,12 @@
 //! so that the overflows are exactly 2,048 cycles apart however long the work takes; the loop at `WAIT` takes two
 //! cycles, so a tick starts in the cycle of its multiple of 2,048 or in the next. No block of the tick makes a call
 //! or returns. Places 300 to 3CD (hexadecimal) hold no code: 300 to 35F are the codes of the layout's places and 360
-//! its rate, and the rest is kept for a second layer. 3CE to 3FF are free for tables that MOVP3 reads.
+//! its rate, and the rest is kept for a second layer. From 3CE on stand the delays and periods that MOVP3 reads.
 //!
-//! **This form** reads the twelve columns in each tick and keeps the held keys, puts the lights, which are off, and
-//! looks at both wires. It sends nothing: both wires stay released.
+//! **A tick** reads the twelve columns, finds what is to be sent, puts the lights, and looks at both wires. Where the
+//! power-on test runs it counts one of the test's ticks. Otherwise it sends a byte, receives one, or does neither. Then
+//! what was sent goes from where it stood, or the command is obeyed; the repeating key is counted; and the edges enter
+//! the queue in the order of their places.
 #![tactic(auto)]
 
 mod bytes;

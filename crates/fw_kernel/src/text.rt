@@ -2,26 +2,54 @@
 
 /// The assembler text of the kernel. Its labels have the places that the constants of the same names give.
 pub const SOURCE: &str = r"
-; The keyboard's firmware. In this form it reads the columns, keeps the held keys, puts the lights, looks at the wires.
+; The keyboard's firmware: it reads the columns, makes the power-on test, keeps the queue of codes and the repeating key,
+; sends and receives frames, obeys the system's commands and puts the lights.
 ;
 ; The work of a tick is the service of the timer's interrupt, in register bank 1. It makes no call, and no register
-; lives from tick to tick: what does is in the cells below, which are 00 at power-on. Numbers at the right are cycles
-; since the tick's start. Each block is headed by what it needs beside the cells that it names, what it leaves to later
-; blocks (every other register is free), and its cycles, from its head to the next head.
+; lives from tick to tick: what does is in the cells below, which are 00 at power-on but for TEST, LAST and RATE. Numbers
+; at the right are cycles since the tick's start. Each block is headed by what it needs beside the cells that it names,
+; what it leaves to later blocks (every other register is free), and its cycles, from its head to the next head.
 ;
 ; Data memory (hexadecimal)
 ;   08, 09  the service's way back: counter and status of the main program
 ;   18..1F  R0..R7    working registers of a tick
 ;   20..2B  HELD      byte c: the keys that are down in column c, row r at bit r
 ;   30..3B  CHANGED   byte c: the keys whose state changed in this tick
+;   40      REPLYDUE  0 no reply, 1 a reply is due, 3 the reply to a reset is due
+;   41      AADUE     0, or 1 where AA is due
+;   42      COUNT     bits 0..4 the queue's length, bit 7 the overrun mark
+;   43      HEAD      the ring's place of the queue's first byte is 70 + HEAD modulo 16
+;   44      STARTED   1 where the F0 of a break has gone and its code is still in the queue
+;   45      TEST      ticks left of the power-on test
+;   46      MODE      0 Ready, 1 WantRate, 2 WantLights
+;   47      DISABLED  0, or 1 where scanning is disabled
+;   48      RINDEX    the repeating key's place, which is the place of its code in page 3
+;   49      RATE      rate byte
+;   4A      RCOUNT    ticks until the key repeats, 0 where nothing repeats
+;   4B      REPLY     the reply that is due
+;   4C      LAST      last byte sent that wasn't FE
 ;   4D      LIGHTS    bits 4..6: Scroll, Num, Caps are lit
+;   70..7F  ring      the queue's bytes
 ;
-; F1: the controller holds the clock or asks to send; cleared by block tested, set by block inhibited, nowhere else.
+; F0: scanning is on; set by block scan alone.
+; F1: the controller holds the clock; cleared by block tested, set by block inhibited, nowhere else.
 ; P1: the column, in its low digit.  P2: bit 0 clock, bit 1 data (0 pulls), bits 4..6 lights (0 lights).
 ; T0: the clock wire.  T1: the data wire.
 
 HELD     EQU 20H
 CHANGED  EQU 30H
+REPLYDUE EQU 40H
+AADUE    EQU 41H
+COUNT    EQU 42H
+STARTED  EQU 44H
+TEST     EQU 45H
+MODE     EQU 46H
+DISABLED EQU 47H
+RINDEX   EQU 48H
+RATE     EQU 49H
+RCOUNT   EQU 4AH
+REPLY    EQU 4BH
+LAST     EQU 4CH
 LIGHTS   EQU 4DH
 
         ORG 0
@@ -60,33 +88,43 @@ read:   INS A,BUS           ; 16+16c
         NOP
         DJNZ R3,read        ; 30
 
-; -- offer: nothing is sent yet: a delay.
-; needs: nothing. leaves: nothing.
-; cycles: 20.
-offer:  MOV R0,#8           ; 208
-o_on:   DJNZ R0,o_on        ; 210 to 225
-        JMP lamps           ; 226
+; -- offer: what the tick before left to be sent: the reply, else AA, else the queue's first byte, else 00 for the mark.
+; needs: nothing. leaves: R4 the byte; R5 = 0 where nothing is offered.
+; cycles: 20 on each way to lamps, three of which go by o_due or o_mark.
+offer:  MOV R1,#REPLYDUE    ; 208
+        MOV A,@R1           ; 210
+        INC R1              ; 211: AADUE
+        ORL A,@R1           ; 212
+        JNZ o_due           ; 213
+        INC R1              ; 215: COUNT
+        MOV A,@R1           ; 216
+        MOV R5,A            ; 217
+        ADD A,R5            ; 218: 0 where the queue is empty, marked or not
+        JZ o_mark           ; 219
+        INC R1              ; 221: HEAD
+        MOV A,@R1           ; 222
+        ORL A,#70H          ; 223
+        MOV R1,A            ; 225
+        MOV A,@R1           ; 226
+        MOV R4,A            ; 227
 
 ; -- lamps: puts the lights; both wires stay released.
 ; needs: LIGHTS. leaves: nothing.
 ; cycles: 6.
-        ORG 38H
 lamps:  MOV R1,#LIGHTS      ; 228
         MOV A,@R1           ; 230
         CPL A               ; 231
         OUTL P2,A           ; 232
 
-; -- tested: there is no power-on test yet: a delay.
-; needs: nothing. leaves: F1 = 0.
+; -- tested: does the power-on test run?
+; needs: nothing. leaves: F1 = 0; for testing: A the ticks left, R1 = TEST.
 ; cycles: 6.
 tested: CLR F1              ; 234
-        NOP                 ; 235
-        NOP
-        NOP
-        NOP
-        NOP
+        MOV R1,#TEST        ; 235
+        MOV A,@R1           ; 237
+        JNZ testing         ; 238
 
-; -- looks: at the clock, at data. Both are looked at in every tick.
+; -- looks: at the clock, at data. Both are looked at in every tick; where the test runs, by block testing.
 ; needs: nothing. leaves: nothing. Goes to pulled, got or send.
 ; cycles: 18 to pulled, 20 to got and send.
 looks:  MOV R0,#7           ; 240
@@ -94,22 +132,103 @@ l_on:   DJNZ R0,l_on        ; 242 to 255
         JNT0 pulled         ; 256
         JNT1 got            ; 258
 
-; -- send: nothing is sent yet.
+; -- send: the byte and its parity are made ready; data falls for the start bit.
+; needs: R4, R5 of offer, LIGHTS. leaves: R4; R6 the byte; C its parity bit; R2 the latch with data low; R3 = 10.
+; cycles: 3 to 28.
+send:   MOV A,R5            ; 260
+        JZ idle             ; 261
+        MOV R1,#LIGHTS      ; 263
+        MOV A,@R1           ; 265
+        CPL A               ; 266
+        ANL A,#0FDH         ; 267
+        MOV R2,A            ; 269
+        OUTL P2,A           ; 270: data falls
+        MOV A,R4            ; 272
+        MOV R6,A            ; 273
+        SWAP A              ; 274
+        XRL A,R4            ; 275
+        MOV R1,A            ; 276
+        RR A                ; 277
+        RR A                ; 278
+        XRL A,R1            ; 279
+        MOV R1,A            ; 280
+        RR A                ; 281
+        XRL A,R1            ; 282: FF where the number of ones is odd, else 00
+        CPL A               ; 283
+        RRC A               ; 284: the parity bit in C
+        MOV R3,#10          ; 285
+        NOP                 ; 287
+
+; -- s_cell: cell k of a sent frame: the clock falls upon bit k, it is looked at, and bit k+1 is put.
+; needs: R2, R3, R6, C. leaves: the same for cell k+1; R4 is kept. Goes to cut where the clock is low.
+; cycles: 20 to 32.
+s_cell: ANL P2,#0FEH        ; 288+32k
+        MOV A,R6            ; 290
+        RRC A               ; 291
+        MOV R6,A            ; 292
+        CLR A               ; 293
+        RLC A               ; 294
+        RL A                ; 295: the next bit at the data wire's place
+        ORL A,R2            ; 296
+        CPL C               ; 297: C was 0; ones follow the parity bit, the first is the stop bit
+        MOV R0,#2           ; 298
+s_low:  DJNZ R0,s_low       ; 300 to 303
+        ORL P2,#1           ; 304
+        JNT0 cut            ; 306
+        OUTL P2,A           ; 308
+        MOV R0,#3           ; 310
+s_high: DJNZ R0,s_high      ; 312 to 317
+        DJNZ R3,s_cell      ; 318
+
+; -- s_stop: the eleventh fall; the frame ends.
+; needs: nothing; R4 is kept.
+; cycles: 20.
+s_stop: ANL P2,#0FEH        ; 608
+        MOV R0,#6           ; 610
+s_end:  DJNZ R0,s_end       ; 612 to 623
+        ORL P2,#1           ; 624
+        JMP sent            ; 626
+
+; -- cut: the controller has pulled the clock; both wires are released, nothing was sent.
 ; needs: nothing. leaves: nothing.
-; cycles: 2.
-send:   JMP scan            ; 260
+; cycles: 4.
+cut:    ORL P2,#3
+        JMP scan
 
 ; -- inhibited, idle: the tick has no frame.
-; needs: nothing. leaves: F1 in inhibited.
-; cycles: inhibited 3, idle 2.
-        ORG 8DH
+; needs: nothing. leaves: F1.
+; cycles: inhibited 1, idle 2.
 inhibited: CPL F1
 idle:   JMP scan
 
-; -- got: the controller asks to send, and isn't heard yet.
+; -- got: the controller asks to send.
 ; needs: nothing. leaves: nothing.
 ; cycles: 2.
-got:    JMP inhibited       ; 260
+got:    JMP receive         ; 260
+
+; -- o_due, o_reply, o_mark: the other ways of offer; each comes to lamps at 228.
+; needs: for o_due A, not 0. leaves: R4, R5 as offer.
+; cycles: o_due 6 to 13, o_reply 7, o_mark 7.
+        ORG 9CH
+o_due:  MOV R5,A            ; 215
+        MOV R1,#REPLYDUE    ; 216
+        MOV A,@R1           ; 218
+        JNZ o_reply         ; 219
+        MOV R4,#0AAH        ; 221
+        NOP                 ; 223
+        NOP
+        NOP
+        JMP lamps           ; 226
+o_reply: MOV R1,#REPLY      ; 221
+        MOV A,@R1           ; 223
+        MOV R4,A            ; 224
+        NOP                 ; 225
+        JMP lamps           ; 226
+o_mark: MOV R4,#0           ; 221
+        NOP                 ; 223
+        NOP
+        NOP
+        JMP lamps           ; 226
 
 ; -- pulled: the controller holds the clock; data is looked at without an effect.
 ; needs: nothing. leaves: nothing.
@@ -118,28 +237,526 @@ got:    JMP inhibited       ; 260
 pulled: JT1 p_seen          ; 258
 p_seen: JMP inhibited       ; 260
 
+; -- testing: the test runs: both looks are made without an effect, and the test's ticks fall; with the last AA is due.
+; needs: A the ticks left, R1 = TEST. leaves: TEST, AADUE.
+; cycles: 26 to 30.
+testing: MOV R0,#7          ; 240
+e_on:   DJNZ R0,e_on        ; 242 to 255
+        JT0 e_clock         ; 256
+e_clock: JT1 e_data         ; 258
+e_data: DEC A               ; 260
+        MOV @R1,A           ; 261
+        JNZ idle            ; 262
+        MOV R1,#AADUE       ; 264
+        MOV @R1,#1          ; 266
+        JMP scan            ; 268
+
 ; -- start: power-on. Times are the cycles since reset; the first overflow comes with the end of cycle 4,093.
-; needs: the state after reset. leaves: register bank 1, the timer's interrupt enabled.
-; cycles: 60.
+; needs: the state after reset; R0 of power. leaves: register bank 1, the timer's interrupt enabled.
+; cycles: 3 to power; from begin 37.
         ORG 0F2H
 start:  SEL RB1             ; 2
-        MOV A,#82H          ; 3: 126 counts of 32 cycles until the first overflow
-        MOV T,A             ; 5
-        MOV R0,#26          ; 6
-pause:  DJNZ R0,pause       ; 8 to 59
+        JMP power           ; 3
+begin:  MOV A,#82H          ; 25: 126 counts of 32 cycles until the first overflow
+        MOV T,A             ; 27
+pause:  DJNZ R0,pause       ; 28 to 59
         EN TCNTI            ; 60: the overflow asks for the tick
         STRT T              ; 61: the prescaler is 0 when cycle 62 begins
 
 ; -- wait: the main program, between ticks.
 wait:   JMP wait
 
-; -- scan, edges, done: the tick ends, and the main program goes on.
-; needs: nothing. leaves: nothing.
-; cycles: scan 2, edges 2, done 2.
-        ORG 258H
-scan:   JMP edges
-        ORG 409H
-edges:  JMP done
-        ORG 414H
+; -- receive: the first cell follows.
+; needs: nothing. leaves: R3 = 8.
+; cycles: 26.
+        ORG 100H
+receive: MOV R3,#8          ; 262
+        MOV R0,#11          ; 264
+r_on:   DJNZ R0,r_on        ; 266 to 287
+
+; -- r_cell: cell k of a received frame, k = 0..7: data bit k comes into bit 7 of A.
+; needs: R3; A the bits so far. leaves: A the byte, after the eighth.
+; cycles: 32.
+r_cell: ANL P2,#0FEH        ; 288+32k
+        RR A                ; 290
+        ANL A,#7FH          ; 291
+        MOV R0,#4           ; 293
+r_low:  DJNZ R0,r_low       ; 295 to 302
+        NOP                 ; 303
+        ORL P2,#1           ; 304
+        JT1 r_one           ; 306
+        JMP r_bit           ; 308
+r_one:  ORL A,#80H          ; 308
+r_bit:  MOV R0,#3           ; 310
+r_high: DJNZ R0,r_high      ; 312 to 317
+        DJNZ R3,r_cell      ; 318
+
+; -- r_parity: the parity bit is weighed against the byte.
+; needs: A the byte. leaves: R4 the byte; R5 = FF where the parity is right, else 00.
+; cycles: 32.
+r_parity: ANL P2,#0FEH      ; 544
+        MOV R4,A            ; 546
+        SWAP A              ; 547
+        XRL A,R4            ; 548
+        MOV R1,A            ; 549
+        RR A                ; 550
+        RR A                ; 551
+        XRL A,R1            ; 552
+        MOV R1,A            ; 553
+        RR A                ; 554
+        XRL A,R1            ; 555: FF where the number of ones is odd, else 00
+        MOV R0,#1           ; 556
+p_low:  DJNZ R0,p_low       ; 558
+        ORL P2,#1           ; 560
+        JT1 p_one           ; 562
+        JMP p_bit           ; 564
+p_one:  CPL A               ; 564
+        NOP                 ; 565
+p_bit:  MOV R5,A            ; 566
+        MOV R0,#3           ; 567
+p_high: DJNZ R0,p_high      ; 569 to 574
+        NOP                 ; 575
+
+; -- r_stop: the cell of the stop bit, which the controller always releases.
+; needs: nothing; R4, R5 are kept.
+; cycles: 32.
+r_stop: ANL P2,#0FEH        ; 576
+        MOV R0,#6           ; 578
+t_low:  DJNZ R0,t_low       ; 580 to 591
+        ORL P2,#1           ; 592
+        JT1 t_on            ; 594: read, without an effect
+t_on:   MOV R0,#5           ; 596
+t_high: DJNZ R0,t_high      ; 598 to 607
+
+; -- r_ack: the eleventh fall, with data pulled; the frame ends.
+; needs: nothing; R4, R5 are kept.
+; cycles: 18.
+r_ack:  ANL P2,#0FCH        ; 608
+        MOV R0,#6           ; 610
+r_end:  DJNZ R0,r_end       ; 612 to 623
+        ORL P2,#3           ; 624
+
+; -- command: FA is the reply unless a later line says otherwise.
+; needs: R4 the byte, R5 its parity. Goes on to waiting, ready or scan.
+; cycles: 16 to 19.
+command: MOV R1,#REPLYDUE   ; 626
+        MOV @R1,#1
+        MOV R1,#REPLY
+        MOV @R1,#0FAH
+        MOV A,R5
+        JZ refuse
+        MOV R1,#MODE
+        MOV A,@R1
+        JZ ready
+        MOV A,R4
+        JB7 waiting
+
+; -- parameter: of the rate or of the lights.
+; needs: R4 below 80, R1 = MODE, MODE 1 or 2. leaves: RATE or LIGHTS, MODE.
+; cycles: 11 to 14.
+parameter: MOV A,@R1
+        MOV @R1,#0
+        JB0 setrate
+        MOV A,R4
+        SWAP A
+        ANL A,#70H
+        MOV R1,#LIGHTS
+        MOV @R1,A
+        JMP scan
+setrate: MOV A,R4
+        MOV R1,#RATE
+        MOV @R1,A
+        JMP scan
+
+; -- waiting: no parameter: a command ends the wait, another byte is refused.
+; needs: R4 from 80 on, A = R4, R1 = MODE. leaves: MODE.
+; cycles: 6 to 10.
+waiting: ADD A,#13H
+        JNC refuse
+        MOV @R1,#0
+
+; -- ready: which command? Bytes below ED are refused, bytes without a row do nothing.
+; needs: R4.
+; cycles: 11 to 36.
+ready:  MOV A,R4
+        ADD A,#13H
+        JNC refuse
+        JZ c_lights         ; ED
+        DEC A
+        JZ c_echo           ; EE
+        ADD A,#0FBH
+        JZ c_rate           ; F3
+        DEC A
+        JZ c_enable         ; F4
+        DEC A
+        JZ c_disable        ; F5
+        DEC A
+        JZ c_default        ; F6
+        ADD A,#0F8H
+        JZ c_resend         ; FE
+        DEC A
+        JZ c_reset          ; FF
+        JMP scan
+c_lights: MOV R1,#MODE
+        MOV @R1,#2
+        JMP scan
+c_echo: MOV R1,#REPLY
+        MOV @R1,#0EEH
+        JMP scan
+c_rate: MOV R1,#MODE
+        MOV @R1,#1
+        JMP scan
+c_enable: MOV R1,#DISABLED
+        MOV @R1,#0
+        JMP clear
+c_disable: MOV R1,#DISABLED
+        MOV @R1,#1
+c_default: JMP default
+c_resend: MOV R1,#LAST
+        MOV A,@R1
+        MOV R1,#REPLY
+        MOV @R1,A
+        JMP scan
+c_reset: MOV R1,#REPLYDUE
+        MOV @R1,#3
+        JMP scan
+refuse: MOV R1,#REPLY
+        MOV @R1,#0FEH
+        JMP scan
+
+; -- sent: the byte is the last one sent, except FE.
+; needs: R4. leaves: LAST; R4 is kept.
+; cycles: 5 to 9.
+        ORG 200H
+sent:   MOV A,R4
+        XRL A,#0FEH
+        JZ drop
+        MOV R1,#LAST
+        MOV A,R4
+        MOV @R1,A
+
+; -- drop: what was offered goes: the reply, else AA, else the queue's first byte, else the mark.
+; needs: R4. leaves: REPLYDUE, AADUE, COUNT, HEAD, STARTED.
+; cycles: 9 to 31.
+drop:   MOV R1,#REPLYDUE
+        MOV A,@R1
+        JNZ d_reply
+        INC R1              ; AADUE
+        MOV A,@R1
+        JNZ gone
+        INC R1              ; COUNT
+        MOV A,@R1
+        ADD A,@R1
+        JZ gone             ; the mark alone: COUNT was 80
+        MOV A,@R1
+        DEC A
+        MOV @R1,A
+        INC R1              ; HEAD
+        INC @R1
+        INC R1              ; STARTED
+        MOV A,R4
+        XRL A,#0F0H
+        JNZ gone            ; not the F0 of a break
+        MOV A,@R1
+        XRL A,#1
+        MOV @R1,A
+        JMP scan
+gone:   MOV @R1,#0
+        JMP scan
+d_reply: MOV @R1,#0
+        JB1 reset           ; FA to a reset: REPLYDUE was 3
+        JMP scan
+
+; -- reset: all as at power-on but for the queue, the lights off, the test to come.
+; needs: nothing. leaves: TEST, MODE, DISABLED, AADUE, LAST, LIGHTS; goes on to default.
+; cycles: 22.
+reset:  MOV R1,#TEST
+        MOV @R1,#64
+        INC R1              ; MODE
+        MOV @R1,#0
+        INC R1              ; DISABLED
+        MOV @R1,#0
+        MOV R1,#AADUE
+        MOV @R1,#0
+        MOV R1,#LAST
+        MOV @R1,#0AAH
+        MOV R1,#LIGHTS
+        MOV @R1,#0
+
+; -- default: the layout's rate.
+; needs: nothing. leaves: RATE; goes on to clear.
+; cycles: 7.
+default: MOV A,#60H
+        MOVP3 A,@A
+        MOV R1,#RATE
+        MOV @R1,A
+
+; -- clear: nothing repeats; the queue keeps the second byte of a started break alone.
+; needs: a started break has its code first in the queue. leaves: RCOUNT, COUNT.
+; cycles: 10.
+clear:  MOV R1,#RCOUNT
+        MOV @R1,#0
+        MOV R1,#STARTED
+        MOV A,@R1
+        MOV R1,#COUNT
+        MOV @R1,A
+
+; -- scan: is scanning on? Where it is off nothing repeats.
+; needs: TEST, MODE, DISABLED. leaves: F0; RCOUNT.
+; cycles: 11 to 16.
+scan:   CLR F0
+        MOV R1,#TEST
+        MOV A,@R1
+        INC R1              ; MODE
+        ORL A,@R1
+        INC R1              ; DISABLED
+        ORL A,@R1
+        JZ on
+        MOV R1,#RCOUNT
+        MOV @R1,#0
+        JMP edges
+on:     CPL F0
+
+; -- repeat: the count of the repeating key falls.
+; needs: RCOUNT, F1. leaves: RCOUNT; goes to fire at 0.
+; cycles: 7 to 11.
+repeat: MOV R1,#RCOUNT
+        MOV A,@R1
+        JZ rest             ; nothing repeats
+        DEC A
+        MOV @R1,A
+        JNZ rest
+
+; -- fire: the count becomes the period; the make is entered unless the meeting was Inhibited.
+; needs: RATE, RINDEX, F1. leaves: RCOUNT, R2 the code.
+; cycles: 15 to 19.
+fire:   MOV R1,#RATE
+        MOV A,@R1
+        ANL A,#1FH
+        ADD A,#0D2H
+        MOVP3 A,@A          ; the period
+        INC R1              ; RCOUNT
+        MOV @R1,A
+        JF1 rest
+        MOV R1,#RINDEX
+        MOV A,@R1
+        MOVP3 A,@A
+        MOV R2,A
+
+; -- again: enters the byte R2, as the block enter.
+; needs: R2. leaves: COUNT, the ring.
+; cycles: 13 to 17.
+again:  MOV R1,#COUNT
+        MOV A,@R1
+        ADD A,#0F0H
+        JC a_over           ; 16 bytes or marked
+        INC @R1
+        INC R1              ; HEAD
+        ADD A,@R1
+        ORL A,#70H
+        MOV R1,A
+        MOV A,R2
+        MOV @R1,A
+rest:   JMP edges
+a_over: MOV A,@R1
+        ORL A,#80H
+        MOV @R1,A
+        JMP edges
+
+; -- power: what isn't 00 at power-on. Times are the cycles since reset.
+; needs: nothing. leaves: TEST, LAST, RATE, R0.
+; cycles: 20.
+power:  MOV R1,#TEST        ; 5
+        MOV @R1,#64         ; 7
+        MOV R1,#LAST        ; 9
+        MOV @R1,#0AAH       ; 11
+        MOV A,#60H          ; 13
+        MOVP3 A,@A          ; 15
+        MOV R1,#RATE        ; 17
+        MOV @R1,A           ; 19
+        NOP                 ; 20
+        MOV R0,#16          ; 21
+        JMP begin           ; 23
+
+; -- tables: behind the layout's, the delays by bits 5 and 6 of the rate, the periods by bits 0 to 4, in ticks.
+        ORG 3CEH
+        DB 49, 98, 146, 195
+        DB 7, 7, 8, 9, 10, 11, 11, 12
+        DB 13, 15, 16, 18, 20, 21, 23, 24
+        DB 26, 29, 33, 36, 39, 42, 46, 49
+        DB 52, 59, 65, 72, 78, 85, 91, 98
+
+; -- the bit of a row, by the rows left.
+        ORG 401H
+        DB 80H, 40H, 20H, 10H, 8, 4, 2, 1
+
+; -- edges: the columns in order, then the tick ends.
+; needs: nothing. leaves: R0 = CHANGED.
+; cycles: 2.
+edges:  MOV R0,#CHANGED
+
+; -- column: pass c.
+; needs: R0 = CHANGED + c. leaves: R0 one more; for moved: A the changes, R0.
+; cycles: 3 to 4.
+column: MOV A,@R0
+        JNZ moved
+        INC R0
+
+; -- more: is there another column?
+; needs: R0. leaves: R0.
+; cycles: 5 to 7.
+more:   MOV A,R0
+        XRL A,#3CH
+        JNZ column
 done:   RETR
+        ORG 416H
+
+; -- moved: what the rows of a changed column need.
+; needs: R0 = CHANGED + c, A the changes. leaves: R4 the changes, R7 the held keys, R6 the place of row 0.
+; cycles: 16.
+moved:  MOV R4,A
+        MOV A,R0
+        XRL A,#10H          ; HELD + c
+        MOV R1,A
+        MOV A,@R1
+        MOV R7,A
+        MOV A,R0
+        RL A
+        RL A
+        RL A
+        ANL A,#78H          ; 8c
+        MOV R6,A
+        JMP rows
+        ORG 42FH
+
+; -- rows: the rows of a changed column in order.
+; needs: R4. leaves: A the changes, R3 = 8.
+; cycles: 3.
+rows:   MOV R3,#8
+        MOV A,R4
+
+; -- row: pass r: A the changes turned right by r, R6 the place, R3 = 8 - r.
+; needs: A, R3, R6; R0, R7. leaves: the same for pass r + 1; after the eighth R0.
+; cycles: 3 to 8.
+row:    RR A
+        JB7 edge
+        INC R6
+        DJNZ R3,row
+        JMP foot
+
+; -- edge: which way?
+; needs: A the turned changes, R3, R7. leaves: R4 the turned changes, R2 the row's bit.
+; cycles: 8.
+edge:   MOV R4,A
+        MOV A,R3
+        MOVP A,@A
+        MOV R2,A
+        ANL A,R7
+        JZ release
+
+; -- press.
+; needs: R6, F0. leaves: R2 the index, A the code.
+; cycles: 6 to 8.
+press:  MOV A,R6
+        MOV R2,A
+        MOVP3 A,@A
+        JF0 begins
+        JMP entered
+        ORG 454H
+
+; -- begins: this key repeats, after the delay.
+; needs: A the code, R2 the index, RATE. leaves: RINDEX, RCOUNT, R2 the code.
+; cycles: 16.
+begins: XCH A,R2
+        MOV R1,#RINDEX
+        MOV @R1,A
+        INC R1              ; RATE
+        MOV A,@R1
+        SWAP A
+        RR A
+        ANL A,#3
+        ADD A,#0CEH
+        MOVP3 A,@A          ; the delay
+        INC R1              ; RCOUNT
+        MOV @R1,A
+
+; -- enter: the byte R2 enters where it fits and there is no mark; else the mark is set.
+; needs: R2, R4. leaves: COUNT, the ring.
+; cycles: 13 to 17.
+enter:  MOV R1,#COUNT
+        MOV A,@R1
+        ADD A,#0F0H
+        JC over             ; 16 bytes or marked
+        INC @R1
+        INC R1              ; HEAD
+        ADD A,@R1           ; F0 leaves the low digit
+        ORL A,#70H
+        MOV R1,A
+        MOV A,R2
+        MOV @R1,A
+        JMP entered
+over:   MOV A,@R1
+        ORL A,#80H
+        MOV @R1,A
+        JMP entered
+
+        ORG 486H
+; -- release.
+; needs: R6, F0. leaves: R2 the index, A the code.
+; cycles: 6 to 8.
+release: MOV A,R6
+        MOV R2,A
+        MOVP3 A,@A
+        JF0 ends
+        JMP entered
+        ORG 497H
+
+; -- ends: if this key is the repeating one, nothing repeats any more. Both ways take 10 cycles.
+; needs: A the code, R2 the index. leaves: RCOUNT, R2 the code.
+; cycles: 12.
+ends:   XCH A,R2
+        MOV R1,#RINDEX
+        XRL A,@R1
+        JNZ other
+        MOV R1,#RCOUNT
+        MOV @R1,#0
+silent: JMP enter2
+        ORG 4A8H
+other:  NOP
+        NOP
+        JMP silent
+
+; -- enter2: F0 and the byte R2 enter where both fit and there is no mark; else the mark is set.
+; needs: R2, R4. leaves: COUNT, the ring.
+; cycles: 13 to 23.
+enter2: MOV R1,#COUNT
+        MOV A,@R1
+        ADD A,#0F1H
+        JC over             ; 15 bytes or more, or marked
+        INC @R1
+        INC @R1
+        INC R1              ; HEAD
+        DEC A
+        ADD A,@R1
+        ORL A,#70H
+        MOV R1,A
+        MOV @R1,#0F0H
+        INC A
+        ORL A,#70H
+        MOV R1,A
+        MOV A,R2
+        MOV @R1,A
+
+; -- entered: the row has been dealt with.
+; needs: R3, R4, R6. leaves: A the turned changes.
+; cycles: 4.
+entered: MOV A,R4
+        INC R6
+        DJNZ R3,row
+
+; -- foot: the next column.
+; needs: R0 = CHANGED + c. leaves: R0 = CHANGED + c + 1.
+; cycles: 3.
+foot:   INC R0
+        JMP more
 ";

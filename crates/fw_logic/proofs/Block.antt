@@ -1,5 +1,5 @@
 -- What a block of code leaves that writes no port. Its offsets count from its own start.
-use Rattle.std.specs.Prelude.{◌≡◌, ◌≤◌, ℕ, zero, suc, ◌+◌, true, false, ◌==◌, nat_le, if◌then◌else◌, List, ◌∷◌}
+use Rattle.std.specs.Prelude.{◌≡◌, ℕ, zero, suc, ◌+◌, true, false, ◌==◌, nat_le, if◌then◌else◌, List, ◌∷◌}
 use Rattle.mcs48_core.specs.Cpu.{Cpu}
 use Rattle.joint_run.specs.Run.{Board, ticks}
 use Rattle.fw_logic.proofs.Path.{Stage}
@@ -30,18 +30,6 @@ abbrev pub Shape : (d : Board) → ℕ → Cpu → d.State → ℕ → ℕ → (
 Shape d x m board pc max f ring e =
     (e.cpu ≡ scratched m pc (memory f ring) e.cpu) × (nat_le e.off max ≡ true) ×
     (e.board ≡ ticks e.off 0 (λ o. d.tick m.p2 (x + o)) board)
-
--- the block ends at a place in time, and memory is then one of the set
-pub record Done (d : Board) (x : ℕ) (m : Cpu) (board : d.State) (pc max : ℕ) (M : (ℕ → ℕ) → List ℕ → Type 0) (e : Stage d.State) : Type 0 where
-  pub now : ℕ → ℕ
-  pub ring : List ℕ
-  pub cpu : e.cpu ≡ scratched m pc (memory now ring) e.cpu
-  pub short : e.off ≤ max
-  pub board_now : e.board ≡ ticks e.off x (d.tick m.p2) board
-  pub facts : M now ring
-
-abbrev pub Exactly : (ℕ → ℕ) → List ℕ → (ℕ → ℕ) → List ℕ → Type 0
-Exactly f ring g r = (g ≡ f) × (r ≡ ring)
 
 -- where a block ends: the place, the cells, the cycles it took, and the board; A, the carries and the timer are its own
 pub record At (d : Board) (k : Cpu) (pc : ℕ) (f : ℕ → ℕ) (ring : List ℕ) (cycles : ℕ) (board : d.State) (e : Stage d.State) : Type 0 where

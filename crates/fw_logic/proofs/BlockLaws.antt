@@ -43,7 +43,7 @@ others_are f g ring written same i out =
 
 module _ (d : Board) (bytes : List ℕ) (has : HasKernel bytes) where
   -- a law of a block, from a state of the run
-  from_world : (w : World d.State) (place : ℕ) → IsAt place w.cpu → (f : ℕ → ℕ)
+  pub from_world : (w : World d.State) (place : ℕ) → IsAt place w.cpu → (f : ℕ → ℕ)
       → w.cpu.ram ≡ memory f (drop 112 w.cpu.ram)
       → (k : Cpu) (pc n : ℕ) (g : ℕ → ℕ) (board : d.State) (Q : World d.State → Type 0)
       → Leads d (kernel_in true bytes) w.cycle (begin_at d place f (drop 112 w.cpu.ram) w.cpu w.board) (At d k pc g (drop 112 w.cpu.ram) n board)
@@ -126,7 +126,7 @@ module _ (d : Board) (bytes : List ℕ) (has : HasKernel bytes) where
       })
 
   -- the processor at a block's end
-  at_end : (w e : World d.State) (k : Cpu) (pc : ℕ) (g : ℕ → ℕ) → length w.cpu.ram ≡ 128
+  pub at_end : (w e : World d.State) (k : Cpu) (pc : ℕ) (g : ℕ → ℕ) → length w.cpu.ram ≡ 128
       → e.cpu ≡ scratched k pc (memory g (drop 112 w.cpu.ram)) e.cpu → IsFree e.cpu → IsAt pc e.cpu
   at_end w e k pc g long cpu free =
       let ring = drop 112 w.cpu.ram in

@@ -8,8 +8,8 @@ use Rattle.joint_run.specs.Starts.{calm}
 use Rattle.fw_logic.proofs.Clock.{IsFree, clock_of, total}
 use Rattle.fw_logic.proofs.Path.{Stage, Code, Note, Path}
 use Rattle.fw_logic.proofs.Leads.{Leads, HasRows}
-use Rattle.fw_logic.proofs.Block.{memory, scratched, begin_at, Shape, Done, Exactly, At}
-use Rattle.fw_logic.proofs.Sound.{chain, weaken, sound, ticks_from}
+use Rattle.fw_logic.proofs.Block.{memory, scratched, begin_at, At}
+use Rattle.fw_logic.proofs.Sound.{weaken, sound, ticks_from}
 
 pub ticks_add : {S : Type 0} (n k x : ℕ) (f : ℕ → S → S) (s : S)
     → ticks (n + k) x f s ≡ ticks k (x + n) f (ticks n x f s)
@@ -48,65 +48,6 @@ module _ (d : Board) (code : Code) (has : HasRows code) where
             record { count = omega (arith, c); timing = k.timing; tf = k.tf; rq = k.rq; tim_on = k.tim_on };
       }
 
-  -- one block after another: the second's law stands for any processor, board and memory with the facts
-  pub seq : (x : ℕ) (m : Cpu) (board : d.State) (pc max to more : ℕ) (M N : (ℕ → ℕ) → List ℕ → Type 0) (s : Stage d.State)
-      → Leads d code x s (Done d x m board pc max M)
-      → ((x' : ℕ) (m' : Cpu) (board' : d.State) (g : ℕ → ℕ) (ring : List ℕ) → M g ring → IsFree (scratched m' pc (memory g ring) m') → Leads d code x' (begin_at d pc g ring m' board') (Done d x' m' board' to more N))
-      → Leads d code x s (Done d x m board to (max + more) N)
-  seq x m board pc max to more M N s first rest =
-      chain d code has x (Done d x m board pc max M) (Done d x m board to (max + more) N) s first
-      (λ e a free.
-      let o = e.off in
-      let n : Cpu = e.cpu in
-      let begin = begin_at d pc a.now a.ring n e.board in
-      -- the second block begins in this very state
-      let same : begin.cpu ≡ e.cpu =
-      ap (λ k. scratched n k.pc k.ram n) (sym a.cpu) ∙ ap (λ k. record n { rb = k.rb; mb = k.mb }) (sym a.cpu) in
-      let z : o + 0 ≡ o = add-zero o in
-      let h = rest (x + o) n e.board a.now a.ring a.facts (subst IsFree (sym same) free) in
-      let l : e.off ≤ max = a.short in
-      let done : Leads d code x (later o begin) (Done d x m board to (max + more) N) =
-      resume x o begin (Done d (x + o) n e.board to more N) (Done d x m board to (max + more) N)
-      (λ e2 b. record {
-        now = b.now;
-        ring = b.ring;
-        cpu = b.cpu ∙ ap (λ k. scratched k to (memory b.now b.ring) e2.cpu) a.cpu;
-        short = let r : e2.off ≤ more = b.short in omega (arith, l, r);
-        board_now =
-            b.board_now ∙ ap (λ k. ticks e2.off (x + o) (d.tick k.p2) e.board) a.cpu ∙ ap
-            (λ q. ticks e2.off (x + o) (d.tick m.p2) q) a.board_now ∙ sym (ticks_add o e2.off x (d.tick m.p2) board);
-        facts = b.facts;
-      }) h in
-      subst (λ k. Leads d code x (record { cpu = k; board = e.board; off = o }) (Done d x m board to (max + more) N)) same
-      (subst (λ k. Leads d code x (record { cpu = begin.cpu; board = e.board; off = k }) (Done d x m board to (max + more) N)) z done))
-
-  -- the facts and the time in other words
-  pub relax : (x : ℕ) (m : Cpu) (board : d.State) (to max max' : ℕ) (M N : (ℕ → ℕ) → List ℕ → Type 0) (s : Stage d.State)
-      → max ≤ max' → ((g : ℕ → ℕ) (ring : List ℕ) → M g ring → N g ring)
-      → Leads d code x s (Done d x m board to max M) → Leads d code x s (Done d x m board to max' N)
-  relax x m board to max max' M N s l f h =
-      weaken d code has x (Done d x m board to max M) (Done d x m board to max' N) s
-      (λ e a. record { now = a.now; ring = a.ring; cpu = a.cpu; short = (let k : e.off ≤ max = a.short in omega (arith, k, l)); board_now = a.board_now; facts = f a.now a.ring a.facts }) h
-
-  -- a block that is a path
-  pub leaf : (plan : List Note) (from to max : ℕ) (g : ℕ → ℕ) (r : List ℕ) (x : ℕ) (m : Cpu) (board : d.State) (f : ℕ → ℕ) (ring : List ℕ)
-      → IsFree m
-      → Path d code x plan (begin_at d from f ring m board) (Shape d x m board to max g r)
-      → Leads d code x (begin_at d from f ring m board) (Done d x m board to max (Exactly g r))
-  leaf plan from to max g r x m board f ring free path =
-      let z : x + 0 ≡ x = add-zero x in
-      weaken d code has x (Shape d x m board to max g r) (Done d x m board to max (Exactly g r))
-      (begin_at d from f ring m board)
-      (λ e h. record {
-        now = g;
-        ring = r;
-        cpu = h.0;
-        short = within e.off max h.1;
-        board_now = h.2 ∙ sym (ticks_from e.off 0 x (d.tick m.p2) board) ∙ ap (λ n. ticks e.off n (d.tick m.p2) board) z;
-        facts = (refl, refl);
-      })
-      (sound d code has x plan (Shape d x m board to max g r) (begin_at d from f ring m board) path free)
-
   -- a law of a block, from a stage at which the block begins
   pub from_stage : (x pc : ℕ) (n : Cpu) (g : ℕ → ℕ) (ring : List ℕ) (e : Stage d.State) (R T : Stage d.State → Type 0)
       → e.cpu ≡ scratched n pc (memory g ring) e.cpu → ((e2 : Stage d.State) → R e2 → T (later e.off e2))
@@ -120,22 +61,6 @@ module _ (d : Board) (code : Code) (has : HasRows code) where
       let done : Leads d code x (later e.off begin) T = resume x e.off begin R T f h in
       subst (λ k. Leads d code x (record { cpu = k; board = e.board; off = e.off }) T) same
       (subst (λ k. Leads d code x (record { cpu = begin.cpu; board = e.board; off = k }) T) z done)
-
-  -- a block behind one whose end is known: T is what the second leaves of the processor that it begins with
-  pub follows : (y : ℕ) (s : Stage d.State) (k : Cpu) (pc : ℕ) (f : ℕ → ℕ) (ring : List ℕ) (n : ℕ) (board : d.State)
-      (T : Cpu → Stage d.State → Type 0) (Z : Stage d.State → Type 0) → Leads d code y s (At d k pc f ring n board)
-      → ((c : Cpu) (e : Stage d.State) → T (scratched k pc (memory f ring) c) e → Z (later n e))
-      → ((c : Cpu) → c ≡ scratched k pc (memory f ring) c → IsFree c → Leads d code (y + n) (begin_at d pc f ring c board) (T c))
-      → Leads d code y s Z
-  follows y s k pc f ring n board T Z first turn second =
-      chain d code has y (At d k pc f ring n board) Z s first
-      (λ e a free.
-      let c : Cpu = e.cpu in
-      let rest : Leads d code (y + e.off) (begin_at d pc f ring c e.board) (T c) =
-      subst (λ o. Leads d code (y + o) (begin_at d pc f ring c e.board) (T c)) (sym a.off)
-      (subst (λ b. Leads d code (y + n) (begin_at d pc f ring c b) (T c)) (sym a.now) (second c a.cpu free)) in
-      from_stage y pc k f ring e (T c) Z a.cpu
-      (λ e2 h. subst (λ o. Z (later o e2)) (sym a.off) (turn c e2 (subst (λ z. T z e2) a.cpu h))) rest)
 
   -- a block that is a path of known length
   pub straight : (plan : List Note) (y : ℕ) (k : Cpu) (from to n : ℕ) (f g : ℕ → ℕ) (ring : List ℕ) (k' : Cpu) (board after : d.State)

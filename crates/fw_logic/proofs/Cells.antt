@@ -1,5 +1,5 @@
 -- Data memory by its cells.
-use Rattle.std.proofs.Common.{◌≡◌, ◌<◌, ℕ, suc, zero, ◌+◌, List, false, ◌∷◌, ◌%◌, ◌==◌, slice_set, slice_index}
+use Rattle.std.proofs.Common.{◌≡◌, ◌<◌, ℕ, suc, zero, ◌+◌, List, false, ◌==◌, slice_index}
 use Rattle.std.proofs.Common.{length, refl, ap, sym, ◌∙◌, arith, zero-add}
 use Rattle.fw_logic.proofs.Block.{put, before, memory}
 
@@ -36,19 +36,3 @@ before_long f from (suc n) ring =
 -- and its length is the same, whatever the cells are
 pub cells_long : (f g : ℕ → ℕ) (ring : List ℕ) → length (memory f ring) ≡ length (memory g ring)
 cells_long f g ring = before_long f 0 112 ring ∙ sym (before_long g 0 112 ring)
-
--- the ring behind the cells, by its places
-pub set_behind : (f : ℕ → ℕ) (from n : ℕ) (ring : List ℕ) (j v : ℕ)
-    → slice_set (before f from n ring) (n + j) v ≡ before f from n (slice_set ring j v)
-set_behind f from zero ring j v = rw zero-add refl
-set_behind f from (suc n) ring j v =
-    let e : suc n + j ≡ suc (n + j) = omega arith in
-    rw e (ap (λ t. f from ∷ t) (set_behind f (from + 1) n ring j v))
-
-pub ring_set : (f : ℕ → ℕ) (ring : List ℕ) (j v : ℕ) → j < 16
-    → slice_set (memory f ring) ((112 + j) % 128) v ≡ memory f (slice_set ring j v)
-ring_set f ring j v l = let e : (112 + j) % 128 ≡ 112 + j = omega arith in rw e (set_behind f 0 112 ring j v)
-
-pub ring_get : (f : ℕ → ℕ) (ring : List ℕ) (j : ℕ) → j < 16
-    → slice_index (memory f ring) ((112 + j) % 128) ≡ slice_index ring j
-ring_get f ring j l = let e : (112 + j) % 128 ≡ 112 + j = omega arith in rw e (behind_cells f 0 112 ring j)

@@ -5,7 +5,6 @@ use Rattle.board_lines.specs.Cadence.{IsNear}
 use Rattle.fw_kernel.specs.declared.labels.TheConstants.{TICK}
 use Rattle.joint_run.specs.Run.{Board, World, run_at}
 use Rattle.joint_run.specs.Starts.{at_tick, starts_before, Comes, Tick, IsNth, IsStart, IsEnd}
-use Rattle.fw_logic.specs.Cadence.{Starts}
 use Rattle.fw_logic.proofs.Numbers.{Reached, nth_reached, same_start, goes_on, least}
 
 -- a set of tick starts, by how many cycles they are late, and what is to be shown of it
@@ -64,16 +63,6 @@ module _ (d : Board) (bytes : List ℕ) (from : World d.State) (S : ℕ → Worl
       let c : k.w.cycle ≡ 4096 + 2048 * n + k.late = k.cycle in
       let l : k.late ≤ 1 = k.most in
       (omega (arith, c), omega (arith, c, l))
-
-  -- the starts keep the cadence
-  pub cadence : (n : ℕ) → Starts d bytes from n
-  cadence n =
-      let k = known n in
-      let c = cycle_of n in
-      let l : 4096 + 2048 * n ≤ k.w.cycle = c.0 in
-      let u : k.w.cycle ≤ 4096 + 2048 * n + 1 = c.1 in
-      let s = clock.serves k.late k.w k.set in
-      record { w = k.w; nth = k.nth; at = at_start n; least = l; most = omega (arith, u); serves = s.0; bank = s.1 }
 
   -- how the run comes to the n-th start
   reached : (n : ℕ) → Reached d TICK bytes from n (known n).w

@@ -1,4 +1,4 @@
--- The rows at the kernel's places, in every image that has it, and the bytes of a layout's image.
+-- The rows at the kernel's places, in every image that has it.
 use Rattle.std.proofs.Common.{◌≡◌, ◌<◌, ℕ, suc, zero, ◌+◌, ◌*◌, ◌/◌, ◌%◌, List, [], ◌∷◌, Bool, true, false, not}
 use Rattle.std.proofs.Common.{◌&&◌, Some, refl, ap, sym, ◌∙◌, arith, take, drop, get_or, slice_index}
 use Rattle.std.proofs.lemmas.List.{get_or-take, get_or-drop}

@@ -1,5 +1,5 @@
 -- Laws of the relation between states of the joint run: composition, one step, other words, counted loops.
-use Rattle.std.proofs.Common.{◌≡◌, ◌⊎◌, inl, inr, ℕ, suc, zero, ◌+◌, List, true, false, Some, None, refl, ap, ◌∙◌}
+use Rattle.std.proofs.Common.{◌≡◌, ℕ, suc, zero, ◌+◌, List, true, false, Some, None, refl, ap, ◌∙◌}
 use Rattle.std.proofs.Common.{arith, zero-add}
 use Rattle.std.specs.declared.option.Option.{Option}
 use Rattle.mcs48_core.specs.Step.{Stepped, stepped}
@@ -50,20 +50,6 @@ module _ (d : Board) (tick : ℕ) (bytes : List ℕ) where
       ap (λ b. elim b as (λ v. Option (World d.State)) [ true ↦ None | false ↦ joint_step d bytes w ]) off ∙ ap
       (λ o. after_step d w o) step in
       record { steps = suc rest.steps; end = rest.end; run = ap (λ o. elim o as (λ v. Option (World d.State)) [ None ↦ None | Some t ↦ calm d tick bytes rest.steps t ]) one ∙ rest.run; goal = rest.goal }
-
-  -- by cases
-  pub comes_cases : (A B : Type 0) (Q : World d.State → Type 0) (w : World d.State) → A ⊎ B
-      → (A → Comes d tick bytes w Q)
-      → (B → Comes d tick bytes w Q) → Comes d tick bytes w Q
-  comes_cases A B Q w (inl a) one other = one a
-  comes_cases A B Q w (inr b) one other = other b
-
-  -- a loop by a count
-  pub comes_down : (P : ℕ → World d.State → Type 0)
-      → ((k : ℕ) (w : World d.State) → P (suc k) w → Comes d tick bytes w (P k)) → (n : ℕ) (w : World d.State) → P n w
-      → Comes d tick bytes w (P 0)
-  comes_down P body zero w h = comes_here (P 0) w h
-  comes_down P body (suc n) w h = comes_then (P n) (P 0) w (body n w h) (λ e g. comes_down P body n e g)
 
 -- the same between stages of a code
 module _ (d : Board) (code : Code) (has : HasRows code) (x : ℕ) where

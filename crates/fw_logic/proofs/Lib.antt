@@ -2,7 +2,6 @@ pub mod Clock
 pub mod Path
 pub mod Leads
 pub mod Kernel
-pub mod Small
 pub mod Block
 pub mod Timing
 pub mod Groups
@@ -11,8 +10,6 @@ pub mod Sound
 pub mod Laws
 pub mod Image
 pub mod Short
-pub mod FineMoves
-pub mod FineFlow
 pub mod Fine
 pub mod Blocks
 pub mod Memory
@@ -22,16 +19,11 @@ pub mod Serves
 pub mod Starting
 pub mod Columns
 pub mod Looks
-pub mod Work
 pub mod Cells
 pub mod Bytes
-pub mod Ticks
 pub mod Scanned
-pub mod Cadence
 pub mod BlockLaws
 pub mod HeadLaw
 pub mod Numbers
 pub mod Clockwork
-pub mod JointRun
 pub mod AtTick
-pub mod One

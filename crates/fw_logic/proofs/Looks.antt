@@ -1,7 +1,7 @@
--- The lights, the looks at both wires, and the ways to the service's end. Each law counts cycles from its block's head.
+-- The lights, and the looks at both wires. Each law counts cycles from its block's head.
 use Rattle.std.proofs.Common.{◌≡◌, ℕ, ◌+◌, ◌-◌, List, [], ◌∷◌, Bool, true, false, not, refl, ap, sym, ◌∙◌}
 use Rattle.mcs48_core.specs.Cpu.{Cpu}
-use Rattle.fw_kernel.specs.declared.labels.TheConstants.{OFFER, LAMPS, TESTED, LOOKS, SEND, GOT, PULLED, DONE}
+use Rattle.fw_kernel.specs.declared.labels.TheConstants.{LAMPS, TESTED, LOOKS, SEND, GOT, PULLED}
 use Rattle.fw_kernel.specs.Places.{HasKernel}
 use Rattle.joint_run.specs.Run.{Board, ticks}
 use Rattle.fw_logic.specs.Scan.{levels_in}
@@ -19,12 +19,6 @@ module _ (d : Board) (bytes : List ℕ) (has : HasKernel bytes) (y : ℕ) (k : C
   abbrev step : ℕ → d.State → d.State
   step = d.tick k.p2
 
-  -- the offer's delay: twenty cycles
-  pub offer : Leads d (kernel_in true bytes) y (begin_at d OFFER f ring k board) (At d k LAMPS (put f 24 0) ring 20 (ticks 20 y step board))
-  offer =
-      straight d (kernel_in true bytes) (has_rows true bytes has) (Until LAMPS ∷ []) y k OFFER LAMPS 20 f (put f 24 0) ring
-      k board (ticks 20 y step board) free (refl, refl, absolute 20 y step board)
-
   -- the lights are put in the fifth of six cycles
   abbrev pub lit : Cpu
   lit = record k { p2 = 255 - f 77 }
@@ -41,12 +35,6 @@ module _ (d : Board) (bytes : List ℕ) (has : HasKernel bytes) (y : ℕ) (k : C
         sym (ticks_from 2 4 y (d.tick (255 - f 77)) (ticks 4 0 (λ o. step (y + o)) board))
             ∙ ap (λ b. ticks 2 (y + 4) (d.tick (255 - f 77)) b) (absolute 4 y step board),
       )
-
-  -- flag 1 is cleared: six cycles
-  pub tested : Leads d (kernel_in true bytes) y (begin_at d TESTED f ring k board) (At d (record k { f1 = false }) LOOKS f ring 6 (ticks 6 y step board))
-  tested =
-      straight d (kernel_in true bytes) (has_rows true bytes has) (Until LOOKS ∷ []) y k TESTED LOOKS 6 f f ring
-      (record k { f1 = false }) board (ticks 6 y step board) free (refl, refl, absolute 6 y step board)
 
   -- the clock is looked at in cycle 16, data in cycle 18
   abbrev pub clock : Bool
@@ -83,26 +71,3 @@ module _ (d : Board) (bytes : List ℕ) (has : HasKernel bytes) (y : ℕ) (k : C
       (put f 24 0) ring
       k board (ticks 20 y step board) free
       (ap not (clock_is ∙ high), (ap not (data_is ∙ high'), (refl, refl, absolute 20 y step board)))
-
-  -- to the service's end: data is looked at in the first cycle of pulled, without an effect
-  pulled_by : (b : Bool) → (d.pins k.p1 k.p2 (y + 0) board).t1 ≡ b
-      → Leads d (kernel_in true bytes) y (begin_at d PULLED f ring k board) (At d (record k { f1 = not k.f1 }) DONE f ring 11 (ticks 11 y step board))
-  pulled_by true e =
-      straight d (kernel_in true bytes) (has_rows true bytes has) (Go true ∷ Until DONE ∷ []) y k PULLED DONE 11 f f ring
-      (record k { f1 = not k.f1 }) board (ticks 11 y step board) free (e, (refl, refl, absolute 11 y step board))
-  pulled_by false e =
-      straight d (kernel_in true bytes) (has_rows true bytes has) (Go false ∷ Until DONE ∷ []) y k PULLED DONE 11 f f ring
-      (record k { f1 = not k.f1 }) board (ticks 11 y step board) free (e, (refl, refl, absolute 11 y step board))
-
-  pub pulled_ends : Leads d (kernel_in true bytes) y (begin_at d PULLED f ring k board) (At d (record k { f1 = not k.f1 }) DONE f ring 11 (ticks 11 y step board))
-  pulled_ends = pulled_by (d.pins k.p1 k.p2 (y + 0) board).t1 refl
-
-  pub got_ends : Leads d (kernel_in true bytes) y (begin_at d GOT f ring k board) (At d (record k { f1 = not k.f1 }) DONE f ring 9 (ticks 9 y step board))
-  got_ends =
-      straight d (kernel_in true bytes) (has_rows true bytes has) (Until DONE ∷ []) y k GOT DONE 9 f f ring
-      (record k { f1 = not k.f1 }) board (ticks 9 y step board) free (refl, refl, absolute 9 y step board)
-
-  pub send_ends : Leads d (kernel_in true bytes) y (begin_at d SEND f ring k board) (At d k DONE f ring 6 (ticks 6 y step board))
-  send_ends =
-      straight d (kernel_in true bytes) (has_rows true bytes has) (Until DONE ∷ []) y k SEND DONE 6 f f ring
-      k board (ticks 6 y step board) free (refl, refl, absolute 6 y step board)

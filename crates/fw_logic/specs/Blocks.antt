@@ -1,4 +1,4 @@
--- The blocks of a tick's work that stand in every form of the kernel: the columns, the lights and the looks.
+-- The blocks of a tick's work before its frame: the head, the columns, the lights and the looks.
 use Rattle.std.specs.Prelude.{◌≡◌, ◌≤◌, ◌<◌, ◌⊎◌, ℕ, ◌+◌, ◌-◌, Bool, true, false, ◌&&◌, ◌||◌, ◌==◌, nat_le, nat_lt}
 use Rattle.std.specs.Prelude.{List, length, slice_index, bit_xor}
 use Rattle.mcs48_core.specs.declared.levels.Pins.{Pins}

@@ -35,7 +35,3 @@ pub record KeepsTime (bytes : List ℕ) (edges : List Edge) (events : List HostE
   pub serves : (n stamp : ℕ) (s : IsStart (joint_board edges events) TICK bytes joint_start n stamp)
       → (s.state.cpu.svc ≡ true) × (s.state.cpu.rb ≡ true)
   pub ends : (stop : ℕ) → (n : ℕ) × IsEnd (joint_board edges events) TICK bytes joint_start stop n
-
--- so it is with every image that has the kernel's bytes outside the layout's tables, under every history
-abbrev pub JointLaw : Type 0
-JointLaw = (bytes : List ℕ) → HasKernel bytes → (edges : List Edge) (events : List HostEvent) → KeepsTime bytes edges events

@@ -5,7 +5,7 @@ use Rattle.mcs48_core.specs.Cpu.{Cpu}
 use Rattle.mcs48_core.specs.Step.{Stepped, stepped, row_at}
 use Rattle.fw_kernel.specs.declared.bytes.TheConstants.{KERNEL}
 use Rattle.fw_kernel.specs.Places.{is_table, HasKernel}
-use Rattle.fw_logic.specs.Sizes.{IsByte, IsFine, IsFinePins}
+use Rattle.mcs48_ranges.specs.Sizes.{IsByte, IsFine, IsFinePins}
 
 -- outside the tables the rows are the kernel's
 abbrev pub RowsLaw : Type 0

@@ -1,4 +1,4 @@
-//! The laws of the compiled image: that its firmware keeps its time, and what each of its ticks reads, keeps and puts.
+//! Laws of the compiled image: of each step, of the blocks that frame a tick, and of the service that a tick is.
 //!
 //! This layer knows the processor's definitions, the joint run and the kernel's bytes. It must not know a layout, the
 //! controller, a frame, a queue or a log. Its laws stand for every image that has the kernel's bytes outside the
@@ -7,15 +7,9 @@
 #![tactic(auto)]
 
 mod at_start;
-mod bare;
 mod parts;
 mod steps;
-mod ticking;
-mod timekeeping;
 
 pub use at_start::at_tick;
-pub use bare::bare_kernel;
 pub use parts::{heading, looking_at_wires, putting_lights, reading_columns};
 pub use steps::{bytes_stay_bytes, every_row};
-pub use ticking::{every_start, every_tick};
-pub use timekeeping::every_joint_run;

@@ -1,5 +1,4 @@
-//! Laws of the blocks that stand in every form of the kernel: from a block's head to the next, for any working
-//! processor.
+//! Laws of the blocks of a tick before its frame: from a block's head to the next, for any working processor.
 
 ghost use Rattle.fw_logic.specs.Blocks.{ColumnsLaw, HeadLaw, LampsLaw, LooksLaw};
 
@@ -7,24 +6,24 @@ ghost use Rattle.fw_logic.specs.Blocks.{ColumnsLaw, HeadLaw, LampsLaw, LooksLaw}
 /// goes on; the first column is selected, R0, R1 and R3 are set, and all else stays. Nothing is done when it is called;
 /// the law is its contract.
 pub fn heading()
-    ensures { HeadLaw }
+    ensures head { HeadLaw }
 {}
 
 /// The reading of the columns: 192 cycles from `READ` to `OFFER`, column c read in cycle 16 c of them. HELD follows
 /// the rows, CHANGED is what differs, and all else stays. Nothing is done when it is called; the law is its contract.
 pub fn reading_columns()
-    ensures { ColumnsLaw }
+    ensures columns { ColumnsLaw }
 {}
 
 /// The lights: six cycles from `LAMPS` to `TESTED`; port 2's latch is put in the fifth, from the cell of the lights,
 /// and all else stays. Nothing is done when it is called; the law is its contract.
 pub fn putting_lights()
-    ensures { LampsLaw }
+    ensures lights { LampsLaw }
 {}
 
 /// The looks: the clock in cycle 16 past `LOOKS`, data in cycle 18. With the clock low the run comes to `PULLED`, with
 /// data low to `GOT`, and else to `SEND`; both latches stay. Nothing is done when it is called; the law is its
 /// contract.
 pub fn looking_at_wires()
-    ensures { LooksLaw }
+    ensures looks { LooksLaw }
 {}

@@ -11,9 +11,9 @@ stands m = m.pc % 2048 == TICK && not (takes_timer m)
 
 pub returns-clause-tells : goal.returns-clause-tells
 returns-clause-tells c edges events w same =
-    c.stands_at_tick.ensures ∙ ap stands (c.mcu.ensures ∙ sym same) ∙ sym (at_tick_is edges events w)
+    c.stands_at_tick.ensures ∙ ap stands (c.mcu.ensures.processor ∙ sym same) ∙ sym (at_tick_is edges events w)
 
 pub returns-clause-executes : goal.returns-clause-executes
 returns-clause-executes c bytes has edges events w same said =
     at_tick_row bytes has edges events w
-    (at_tick_is edges events w ∙ ap stands (same ∙ sym c.mcu.ensures) ∙ sym c.stands_at_tick.ensures ∙ said)
+    (at_tick_is edges events w ∙ ap stands (same ∙ sym c.mcu.ensures.processor) ∙ sym c.stands_at_tick.ensures ∙ said)

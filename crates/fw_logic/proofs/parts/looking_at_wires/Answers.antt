@@ -3,4 +3,4 @@ use Rattle.fw_logic.proofs.BlockLaws.{looks_law}
 use Rattle.fw_logic.proofs.parts.looking_at_wires.Goals as goal
 
 pub returns : goal.returns
-returns c bytes has pins tick w at = looks_law (numbered pins tick) bytes has w at
+returns c = record { looks = λ bytes has pins tick w at. looks_law (numbered pins tick) bytes has w at }

@@ -4,6 +4,8 @@ use Rattle.fw_kernel.specs.declared.bytes.TheConstants.{KERNEL}
 use Rattle.fw_logic.proofs.steps.every_row.Goals as goal
 
 pub returns : goal.returns
-returns c bytes has pc first second =
-    ap (λ b. row_of b (slice_index bytes ((pc + 1) % 2048))) (has (pc % 2048) first)
-    ∙ ap (λ b. row_of (slice_index KERNEL (pc % 2048)) b) (has ((pc + 1) % 2048) second)
+returns c = record {
+  rows = λ bytes has pc first second.
+      ap (λ b. row_of b (slice_index bytes ((pc + 1) % 2048))) (has (pc % 2048) first)
+      ∙ ap (λ b. row_of (slice_index KERNEL (pc % 2048)) b) (has ((pc + 1) % 2048) second);
+}

@@ -1,0 +1,18 @@
+-- The bare kernel: it has its own bytes, and they are bytes.
+use Rattle.std.proofs.Common.{◌≡◌, true, All, nat_lt, refl, arith}
+use Rattle.std.proofs.lemmas.Bool.Decides.{nat_tests}
+use Rattle.std.proofs.lemmas.List.Elements.{All-weaker}
+use Rattle.std.proofs.lemmas.List.Sums.{AllPass-from_list_all}
+use Rattle.fw_kernel.specs.Places.{HasKernel}
+use Rattle.fw_kernel.specs.declared.bytes.TheConstants.{KERNEL}
+use Rattle.fw_logic.specs.Sizes.{IsByte}
+
+-- the kernel has its own bytes outside the tables
+pub itself : HasKernel KERNEL
+itself p out = refl
+
+-- each of them is a byte
+pub small_kernel : All IsByte KERNEL
+small_kernel =
+    All-weaker (λ b. nat_lt b 256 ≡ true) IsByte (λ b h. grind (arith, nat_tests, h)) KERNEL
+    (AllPass-from_list_all (λ b. nat_lt b 256) KERNEL refl)

@@ -1,0 +1,117 @@
+-- Ticks without a frame, from one tick start to the next.
+use Rattle.std.specs.Prelude.{◌≡◌, ◌≤◌, ◌<◌, ◌⊎◌, ℕ, ◌+◌, ◌-◌, ◌==◌, Bool, true, false, List}
+use Rattle.std.specs.Prelude.{All, drop, length, slice_index, bit_xor, None}
+use Rattle.mcs48_core.specs.declared.levels.Pins.{Pins}
+use Rattle.mcs48_core.specs.declared.processor.Count.TheVariants.{Timer}
+use Rattle.mcs48_core.specs.Cpu.{Cpu}
+use Rattle.fw_kernel.specs.declared.labels.TheConstants.{TICK, WAIT}
+use Rattle.fw_kernel.specs.Places.{HasKernel}
+use Rattle.joint_run.specs.Run.{Board, World}
+use Rattle.joint_run.specs.Starts.{Comes, Tick}
+use Rattle.fw_logic.specs.Sizes.{IsByte, IsFine}
+use Rattle.fw_logic.specs.Cadence.{numbered, power_on}
+use Rattle.fw_logic.specs.Scan.{levels_in, downs, in_tick, lights_cell}
+use Rattle.kbd_model.specs.declared.meeting.Meeting.{Meeting}
+use Rattle.kbd_model.specs.declared.meeting.Meeting.TheVariants.{Idle, Inhibited, Sent, Cut, Got}
+use Rattle.kbd_model.specs.Keyboard.{Keyboard, at_power_on, offer}
+use Rattle.kbd_model.specs.Tick.{ticked}
+use Rattle.fw_keys.specs.State.{keyboard_of, Inv}
+use Rattle.fw_keys.specs.Edges.{image_keys, tick_edges}
+
+-- the keyboard that 128 bytes of data memory show
+abbrev pub cells_in : List ℕ → ℕ → ℕ
+cells_in ram i = slice_index ram i
+
+abbrev pub shown_by : List ℕ → Keyboard
+shown_by ram = keyboard_of (cells_in ram) (drop 112 ram)
+
+-- a tick start: the timer's interrupt has just been entered, at most a cycle late, from the main program at WAIT with
+-- clear flags, and what data memory holds is a keyboard
+pub record IsStarted (m : Cpu) : Type 0 where
+  pub pc : m.pc ≡ TICK
+  pub bank : m.rb ≡ true
+  pub depth : m.sp ≡ 1
+  pub lower : m.mb ≡ false
+  pub external : m.ext_on ≡ false
+  pub enabled : m.tim_on ≡ true
+  pub serves : m.svc ≡ true
+  pub carry : m.c ≡ false
+  pub half : m.ac ≡ false
+  pub flag : m.f0 ≡ false
+  pub run : m.run ≡ Timer
+  pub t : m.t ≡ 0
+  pub early : 2 ≤ m.pre
+  pub late : m.pre ≤ 3
+  pub clear : m.rq ≡ false
+  pub back : slice_index m.ram 8 ≡ WAIT
+  pub status : slice_index m.ram 9 ≡ 16
+  pub fine : IsFine m
+  pub inv : Inv (cells_in m.ram)
+
+-- the keys that are down as each column is read, and those that differ from the tick before
+abbrev pub down_now : (d : Board) → World d.State → ℕ → ℕ
+down_now d w c = downs d (w.cycle + 16) w.cpu.p2 (in_tick d w 16) c
+
+abbrev pub changed_now : (d : Board) → World d.State → ℕ → ℕ
+changed_now d w c = bit_xor (slice_index w.cpu.ram (32 + c)) (down_now d w c)
+
+abbrev pub edges_now : (d : Board) → World d.State → List (ℕ × Bool)
+edges_now d w = tick_edges (changed_now d w) (down_now d w)
+
+-- what the looks see, at the clock at offset 256 and at data at 258
+abbrev pub latch_now : (d : Board) → World d.State → ℕ
+latch_now d w = 255 - slice_index w.cpu.ram lights_cell
+
+abbrev pub clock_now : (d : Board) → World d.State → Bool
+clock_now d w = (levels_in d (w.cycle + 232) 44 (latch_now d w) (in_tick d w 232) 24).t0
+
+abbrev pub data_now : (d : Board) → World d.State → Bool
+data_now d w = (levels_in d (w.cycle + 232) 44 (latch_now d w) (in_tick d w 232) 26).t1
+
+-- a tick without a frame: the power-on test runs, or both wires are high and nothing is offered; or the clock is held
+abbrev pub tests_in : (d : Board) → World d.State → Bool
+tests_in d w = (shown_by w.cpu.ram).test == 0
+
+abbrev pub IsQuiet : (d : Board) → World d.State → Meeting → Type 0
+IsQuiet d w Idle =
+    (tests_in d w ≡ false)
+    ⊎ ((tests_in d w ≡ true) × (clock_now d w ≡ true) × (data_now d w ≡ true) × (offer (shown_by w.cpu.ram) ≡ None))
+IsQuiet d w Inhibited = (tests_in d w ≡ true) × (clock_now d w ≡ false)
+IsQuiet d w Sent = ⊥
+IsQuiet d w Cut = ⊥
+IsQuiet d w (Got byte good) = ⊥
+
+-- such a tick: the next start is 2,048 cycles later, give or take the one cycle; the keyboard that data memory shows is
+-- a tick of the model later; and the latch of port 2 shows the lights and pulls no wire
+pub record GoesOn (d : Board) (bytes : List ℕ) (meeting : Meeting) (w v : World d.State) : Type 0 where
+  pub started : IsStarted v.cpu
+  pub time : v.cycle + w.cpu.pre ≡ w.cycle + 2048 + v.cpu.pre
+  pub keyboard : shown_by v.cpu.ram ≡ ticked (image_keys bytes) meeting (edges_now d w) (shown_by w.cpu.ram)
+  pub latch : v.cpu.p2 ≡ latch_now d w
+
+-- a program whose every quiet tick does so, whatever the pins show, where four edges are seen at most
+abbrev pub KeepsQuiet : List ℕ → Type 0
+KeepsQuiet bytes = (pins : ℕ → ℕ → ℕ → ℕ → Pins) (tick : ℕ → ℕ → ℕ → ℕ)
+    → ((p1 p2 c s : ℕ) → (pins p1 p2 c s).bus < 256)
+    → (w : World ℕ) → IsStarted w.cpu → length (edges_now (numbered pins tick) w) ≤ 4
+    → (meeting : Meeting) → IsQuiet (numbered pins tick) w meeting
+    → Tick (numbered pins tick) TICK bytes w (GoesOn (numbered pins tick) bytes meeting w)
+
+-- every image that has the kernel's bytes outside the layout's tables is one
+abbrev pub QuietLaw : Type 0
+QuietLaw = (bytes : List ℕ) → HasKernel bytes → All IsByte bytes → KeepsQuiet bytes
+
+-- a tick start at which data memory shows the keyboard at power-on; no wire is pulled, and no light is lit
+pub record FromPowerOn (bytes : List ℕ) (m : Cpu) : Type 0 where
+  pub started : IsStarted m
+  pub keyboard : shown_by m.ram ≡ at_power_on (slice_index bytes 864)
+  pub latch : m.p2 ≡ 255
+
+-- a program that comes there from power-on, whatever the pins show
+abbrev pub PowersOn : List ℕ → Type 0
+PowersOn bytes = (pins : ℕ → ℕ → ℕ → ℕ → Pins) (tick : ℕ → ℕ → ℕ → ℕ) (board : ℕ)
+    → ((p1 p2 c s : ℕ) → (pins p1 p2 c s).bus < 256)
+    → Comes (numbered pins tick) TICK bytes (power_on (numbered pins tick) board) (λ w. FromPowerOn bytes w.cpu)
+
+abbrev pub PowerOnLaw : Type 0
+PowerOnLaw = (bytes : List ℕ) → HasKernel bytes → All IsByte bytes → PowersOn bytes

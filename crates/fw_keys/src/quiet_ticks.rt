@@ -1,0 +1,30 @@
+//! Laws of power-on and of the ticks without a frame.
+
+ghost use Rattle.fw_keys.specs.Quiet.{KeepsQuiet, PowerOnLaw, PowersOn, QuietLaw};
+
+use fw_kernel::KERNEL;
+use mcs48_isa::Image;
+
+/// From power-on, whatever the pins show, the run comes to a tick start at which data memory shows the model's keyboard
+/// at power-on, with the image's rate byte. Nothing is done when it is called; the law is its contract.
+pub fn power_on()
+    ensures powers_on { PowerOnLaw }
+{}
+
+/// Every tick without a frame: from a tick start at which data memory shows a keyboard the run comes to the next tick
+/// start, 2,048 cycles later give or take one, at which it shows that keyboard a tick of the model later, by the edges
+/// that the columns showed. Without a frame are the ticks of the power-on test, those at whose looks the clock is low,
+/// and those at whose looks both wires are high while nothing is offered. Nothing is done when it is called; the law is
+/// its contract.
+pub fn every_quiet_tick()
+    ensures quiet { QuietLaw }
+{}
+
+/// The kernel with empty tables, as an image: it powers on as the model's keyboard, and keeps its quiet ticks.
+pub fn bare_kernel() -> Image
+    ensures powers_on { PowersOn result.bytes }
+    ensures quiet { KeepsQuiet result.bytes }
+{
+    let bytes = KERNEL;
+    Image { bytes }
+}

@@ -1,0 +1,60 @@
+-- The joint run's board under a frame's latch: the cycles at the wires, and what the looks see.
+use Rattle.std.proofs.Common.{◌≡◌, ◌≤◌, ◌<◌, ℕ, suc, zero, ◌+◌, List, [], ◌++◌, true, ◌&&◌, ◌==◌, refl, ap, sym, ◌∙◌, arith}
+use Rattle.std.proofs.lemmas.Bool.Decides.{nat_tests}
+use Rattle.std.proofs.lemmas.List.{append-nil}
+use Rattle.board_lines.specs.declared.event.Edge.{Edge}
+use Rattle.board_lines.specs.declared.event.HostEvent.{HostEvent}
+use Rattle.board_lines.specs.declared.lines.Lines.{Lines}
+use Rattle.ctl_wire.specs.Wire.{drive}
+use Rattle.fw_link.specs.Latch.{driven}
+use Rattle.host_turn.specs.Run.{lights_said}
+use Rattle.joint_run.specs.Joint.{Beside, latch_of, lights_of, joint_cycle, joint_pins, joint_board}
+use Rattle.pc_wires.specs.Wires.{board_cycle}
+use Rattle.wires_agree.specs.Cycles.{board_cycles}
+
+same_number : (a b : ℕ) → a ≡ b → (a == b) ≡ true
+same_number a b e = grind (arith, nat_tests, e)
+
+none_said : (now shown lights : ℕ) → lights ≡ shown → lights_said now shown lights ≡ []
+none_said now shown lights e = let s : (lights == shown) ≡ true = same_number lights shown e in rw s refl
+
+-- a cycle in which the lights stay as they are shown
+pub one_cycle : (events : List HostEvent) (p2 now : ℕ) (s : Beside) → lights_of p2 ≡ s.shown
+    → joint_cycle events p2 now s ≡ record { pc = board_cycle events now (latch_of p2) s.pc; shown = s.shown }
+unfolding joint_cycle
+one_cycle events p2 now s e =
+    let said : s.pc.side.log ++ lights_said now s.shown (lights_of p2) ≡ s.pc.side.log =
+    ap (λ l. s.pc.side.log ++ l) (none_said now s.shown (lights_of p2) e) ∙ append-nil s.pc.side.log in
+    ap (λ l. record { pc = board_cycle events now (latch_of p2) (record s.pc { side = record s.pc.side { log = l } }); shown = lights_of p2 }) said
+    ∙ ap (λ z. record { pc = board_cycle events now (latch_of p2) s.pc; shown = z }) e
+
+-- cycles over a latch that leaves the lights as they are
+pub at_wires : (edges : List Edge) (events : List HostEvent) (x : ℕ) (latch : ℕ → ℕ) (lines : ℕ → Lines) (n from : ℕ)
+    (s : Beside)
+    → ((o : ℕ) → from ≤ o → o < from + n → lights_of (latch o) ≡ s.shown)
+    → ((o : ℕ) → from ≤ o → o < from + n → lines (x + o) ≡ latch_of (latch o))
+    → driven (joint_board edges events) x latch n from s
+    ≡ record { pc = board_cycles events lines n (x + from) s.pc; shown = s.shown }
+at_wires edges events x latch lines zero from s lit is = refl
+at_wires edges events x latch lines (suc n) from s lit is =
+    let first : joint_cycle events (latch from) (x + from) s ≡ record { pc = board_cycle events (x + from) (lines (x + from)) s.pc; shown = s.shown } =
+    one_cycle events (latch from) (x + from) s (lit from (omega arith) (omega arith))
+    ∙ ap (λ q. record { pc = board_cycle events (x + from) q s.pc; shown = s.shown })
+    (sym (is from (omega arith) (omega arith))) in
+    let next : x + (from + 1) ≡ suc (x + from) = omega arith in
+    ap (λ t. driven (joint_board edges events) x latch n (from + 1) t) first
+    ∙ at_wires edges events x latch lines n (from + 1)
+    (record { pc = board_cycle events (x + from) (lines (x + from)) s.pc; shown = s.shown })
+    (λ o a b. lit o (omega (arith, a)) (omega (arith, b))) (λ o a b. is o (omega (arith, a)) (omega (arith, b)))
+    ∙ ap (λ c. record { pc = board_cycles events lines n c (board_cycle events (x + from) (lines (x + from)) s.pc); shown = s.shown }) next
+
+-- what a look sees is what both sides drive
+pub clock_is : (edges : List Edge) (events : List HostEvent) (p1 p2 cycle : ℕ) (s : Beside)
+    → ((joint_board edges events).pins p1 p2 cycle s).t0 ≡ ((latch_of p2).clk && (drive s.pc.side.port.link).clk)
+unfolding joint_pins
+clock_is edges events p1 p2 cycle s = refl
+
+pub data_is : (edges : List Edge) (events : List HostEvent) (p1 p2 cycle : ℕ) (s : Beside)
+    → ((joint_board edges events).pins p1 p2 cycle s).t1 ≡ ((latch_of p2).dat && (drive s.pc.side.port.link).dat)
+unfolding joint_pins
+data_is edges events p1 p2 cycle s = refl

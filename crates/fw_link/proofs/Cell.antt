@@ -1,0 +1,99 @@
+-- One cell of a sent frame, 32 cycles, with the number of cells left as a number; and the same cut.
+use Rattle.std.proofs.Common.{◌≡◌, ◌<◌, ℕ, suc, ◌+◌, ◌*◌, ◌/◌, ◌%◌, List, [], ◌∷◌, Bool, true, false, not, ◌==◌, if◌then◌else◌}
+use Rattle.std.proofs.Common.{bit_and, bit_or, refl, ap, ◌∙◌, arith}
+use Rattle.mcs48_core.specs.Cpu.{Cpu}
+use Rattle.mcs48_core.specs.Status.{bit, digit}
+use Rattle.fw_kernel.specs.Places.{HasKernel}
+use Rattle.fw_kernel.specs.declared.labels.TheConstants.{S_CELL, S_STOP, SCAN}
+use Rattle.fw_logic.proofs.Block.{memory, put, scratched, begin_at, At}
+use Rattle.fw_logic.proofs.Blocks.{straight}
+use Rattle.fw_logic.proofs.Clock.{IsFree}
+use Rattle.fw_logic.proofs.Kernel.{kernel_in}
+use Rattle.fw_logic.proofs.Leads.{Leads}
+use Rattle.fw_logic.proofs.Path.{Stage, Until, Go, Acc, Ram}
+use Rattle.fw_logic.proofs.Short.{has_rows}
+use Rattle.fw_logic.proofs.Sound.{sound}
+use Rattle.joint_run.specs.Run.{Board, ticks}
+
+-- R0, R3 and R6 behind a cell: R6 is turned through the carry
+abbrev pub turned : (ℕ → ℕ) → Bool → ℕ → ℕ → ℕ
+turned f c n = put (put (put f 30 (128 * digit c + f 30 / 2)) 24 0) 27 n
+
+-- the next bit at the data wire's place
+next_bit : (b c : Bool) (r2 v : ℕ) → c ≡ b → bit_or (2 * digit b) r2 ≡ v
+    → bit_or ((2 * ((0 + digit c) % 256) + digit (bit 7 ((0 + digit c) % 256))) % 256) r2 ≡ v
+next_bit true true r2 v e h = h
+next_bit false false r2 v e h = h
+next_bit true false r2 v e h = absurd cc
+next_bit false true r2 v e h = absurd cc
+
+module _ (d : Board) (bytes : List ℕ) (has : HasKernel bytes) (y : ℕ) (m : Cpu) (board : d.State) (f : ℕ → ℕ)
+    (ring : List ℕ) where
+  abbrev fallen : ℕ
+  fallen = bit_and m.p2 254
+
+  abbrev risen : ℕ
+  risen = bit_or (bit_and m.p2 254) 1
+
+  -- the board 20 cycles into the cell, and at its end
+  abbrev pub board_at_look : d.State
+  board_at_look = ticks 2 16 (λ o. d.tick risen (y + o)) (ticks 16 0 (λ o. d.tick fallen (y + o)) board)
+
+  abbrev pub board_at_put : d.State
+  board_at_put = ticks 4 16 (λ o. d.tick risen (y + o)) (ticks 16 0 (λ o. d.tick fallen (y + o)) board)
+
+  abbrev pub board_behind : ℕ → d.State
+  board_behind v = ticks 12 20 (λ o. d.tick v (y + o)) board_at_put
+
+  -- the clock wire at the cell's look
+  abbrev pub clock_seen : Bool
+  clock_seen = (d.pins m.p1 risen (y + 18) board_at_look).t0
+
+  abbrev pub Celled : ℕ → ℕ → ℕ → Stage d.State → Type 0
+  Celled v n place e =
+      (e.cpu ≡ scratched (record m { p2 = v }) place (memory (turned f m.c n) ring) e.cpu) × (e.cpu.c ≡ true)
+      × (e.off ≡ 32) × (e.board ≡ board_behind v)
+
+  -- where the clock is low at the look both wires are released: 24 cycles in all
+  abbrev pub board_cut : d.State
+  board_cut = ticks 4 20 (λ o. d.tick (bit_or risen 3) (y + o)) board_at_put
+
+  abbrev pub half_turned : ℕ → ℕ
+  half_turned = put (put f 30 (128 * digit m.c + f 30 / 2)) 24 0
+
+  pub cut : IsFree m → clock_seen ≡ false
+      → Leads d (kernel_in true bytes) y (begin_at d S_CELL f ring m board)
+      (At d (record m { p2 = bit_or risen 3 }) SCAN half_turned ring 24 board_cut)
+  cut free low =
+      straight d (kernel_in true bytes) (has_rows true bytes has)
+      (Until 118 ∷ Go true ∷ Until SCAN ∷ []) y m S_CELL SCAN 24 f half_turned
+      ring (record m { p2 = bit_or risen 3 }) board board_cut free (ap not low, (refl, refl, refl))
+
+  pub cell : (b : Bool) (v n : ℕ) → IsFree m → f 27 ≡ suc n → n < 255 → bit 0 (f 30) ≡ b
+      → bit_or (2 * digit b) (f 26) ≡ v → clock_seen ≡ true → (more : Bool) → not (n == 0) ≡ more
+      → Leads d (kernel_in true bytes) y (begin_at d S_CELL f ring m board)
+      (Celled v n (if more then S_CELL else S_STOP))
+  cell b v n free count few low value high more left = go more left
+    where
+      less : (f 27 + 255) % 256 ≡ n
+      less = omega (arith, count, few)
+
+      asks : (more : Bool) → not (n == 0) ≡ more → not ((f 27 + 255) % 256 == 0) ≡ more
+      asks more left = ap (λ k. not (k == 0)) less ∙ left
+
+      cells : memory (turned f m.c ((f 27 + 255) % 256)) ring ≡ memory (turned f m.c n) ring
+      cells = ap (λ k. memory (turned f m.c k) ring) less
+
+      go : (more : Bool) → not (n == 0) ≡ more
+          → Leads d (kernel_in true bytes) y (begin_at d S_CELL f ring m board)
+          (Celled v n (if more then S_CELL else S_STOP))
+      go true left =
+          sound d (kernel_in true bytes) (has_rows true bytes has) y
+          (Until 111 ∷ Acc v ∷ Until 118 ∷ Go false ∷ Until 125 ∷ Go true ∷ Ram (memory (turned f m.c n) ring) ∷ [])
+          (Celled v n S_CELL) (begin_at d S_CELL f ring m board)
+          (next_bit b (bit 0 (f 30)) (f 26) v low value, (ap not high, (asks true left, (cells, (refl, refl, refl, refl))))) free
+      go false left =
+          sound d (kernel_in true bytes) (has_rows true bytes has) y
+          (Until 111 ∷ Acc v ∷ Until 118 ∷ Go false ∷ Until 125 ∷ Go false ∷ Ram (memory (turned f m.c n) ring) ∷ [])
+          (Celled v n S_STOP) (begin_at d S_CELL f ring m board)
+          (next_bit b (bit 0 (f 30)) (f 26) v low value, (ap not high, (asks false left, (cells, (refl, refl, refl, refl))))) free

@@ -1,0 +1,87 @@
+-- The begin of a sent frame, its last cell, and the tick in which nothing is offered.
+use Rattle.std.proofs.Common.{◌≡◌, ◌<◌, ℕ, ◌+◌, ◌-◌, ◌*◌, ◌/◌, ◌%◌, List, [], ◌∷◌, Bool, true, false, ◌==◌}
+use Rattle.std.proofs.Common.{bit_and, bit_or, bit_xor, refl, ◌∙◌}
+use Rattle.mcs48_core.specs.Cpu.{Cpu}
+use Rattle.mcs48_core.specs.Status.{bit, digit}
+use Rattle.board_lines.specs.Frame.{parity_of}
+use Rattle.fw_kernel.specs.Places.{HasKernel}
+use Rattle.fw_kernel.specs.declared.labels.TheConstants.{SEND, S_CELL, S_STOP, SENT}
+use Rattle.fw_logic.proofs.Block.{memory, put, scratched, begin_at, At}
+use Rattle.fw_logic.proofs.Blocks.{straight}
+use Rattle.fw_logic.proofs.Bytes.{by_byte}
+use Rattle.fw_logic.proofs.Clock.{IsFree}
+use Rattle.fw_logic.proofs.Kernel.{kernel_in}
+use Rattle.fw_logic.proofs.Leads.{Leads}
+use Rattle.fw_logic.proofs.Path.{Stage, Run, Until, Go, Acc}
+use Rattle.fw_logic.proofs.Short.{has_rows}
+use Rattle.fw_logic.proofs.Sound.{sound, weaken}
+use Rattle.joint_run.specs.Run.{Board, ticks}
+
+-- a byte folded upon itself: its halves, then its quarters, then its eighths
+abbrev rotated : ℕ → ℕ
+rotated a = 128 * digit (bit 0 a) + a / 2
+
+abbrev in_halves : ℕ → ℕ
+in_halves b = bit_xor (b % 16 * 16 + b / 16) b
+
+abbrev pub in_quarters : ℕ → ℕ
+in_quarters b = bit_xor (rotated (rotated (in_halves b))) (in_halves b)
+
+abbrev pub in_eighths : ℕ → ℕ
+in_eighths b = bit_xor (rotated (in_quarters b)) (in_quarters b)
+
+pub parity_is : (b : ℕ) → b < 256 → 255 - in_eighths b ≡ 255 * digit (parity_of b)
+parity_is = by_byte (λ b. 255 - in_eighths b) (λ b. 255 * digit (parity_of b)) refl
+
+lowest : (b : Bool) → bit 0 (255 * digit b) ≡ b
+lowest true = refl
+lowest false = refl
+
+module _ (d : Board) (bytes : List ℕ) (has : HasKernel bytes) (y : ℕ) (m : Cpu) (board : d.State) (f : ℕ → ℕ)
+    (ring : List ℕ) where
+  -- the registers of a sent frame at its first cell
+  abbrev pub readied : ℕ → ℕ
+  readied = put (put (put (put f 25 (in_quarters (f 28))) 26 (bit_and (255 - f 77) 253)) 27 10) 30 (f 28)
+
+  abbrev pub lit_low : Cpu
+  lit_low = record m { p2 = bit_and (255 - f 77) 253 }
+
+  abbrev pub board_readied : d.State
+  board_readied =
+      ticks 18 10 (λ o. d.tick (bit_and (255 - f 77) 253) (y + o)) (ticks 10 0 (λ o. d.tick m.p2 (y + o)) board)
+
+  abbrev pub Readied : Stage d.State → Type 0
+  Readied e =
+      (e.cpu ≡ scratched lit_low S_CELL (memory readied ring) e.cpu) × (e.cpu.c ≡ parity_of (f 28)) × (e.off ≡ 28)
+      × (e.board ≡ board_readied)
+
+  abbrev ByBit : Stage d.State → Type 0
+  ByBit e =
+      (e.cpu ≡ scratched lit_low S_CELL (memory readied ring) e.cpu) ×
+      (e.cpu.c ≡ bit 0 (255 * digit (parity_of (f 28))))
+      × (e.off ≡ 28) × (e.board ≡ board_readied)
+
+  -- 28 cycles in which byte and parity are made ready; data falls in the tenth
+  pub readies : IsFree m → f 28 < 256 → (f 29 == 0) ≡ false
+      → Leads d (kernel_in true bytes) y (begin_at d SEND f ring m board) Readied
+  readies free small some =
+      weaken d (kernel_in true bytes) (has_rows true bytes has) y ByBit Readied (begin_at d SEND f ring m board)
+      (λ e h. (h.0, h.1 ∙ lowest (parity_of (f 28)), h.2, h.3))
+      (sound d (kernel_in true bytes) (has_rows true bytes has) y
+      (Run 1 ∷ Go false ∷ Until 98 ∷ Acc (255 * digit (parity_of (f 28))) ∷ Until S_CELL ∷ []) ByBit
+      (begin_at d SEND f ring m board)
+      (some, (parity_is (f 28) small, (refl, refl, refl, refl))) free)
+
+  -- the eleventh fall: 16 cycles with the clock low, and 4 more
+  abbrev pub board_stopped : d.State
+  board_stopped =
+      ticks 4 16 (λ o. d.tick (bit_or (bit_and m.p2 254) 1) (y + o))
+      (ticks 16 0 (λ o. d.tick (bit_and m.p2 254) (y + o)) board)
+
+  pub stops : IsFree m
+      → Leads d (kernel_in true bytes) y (begin_at d S_STOP f ring m board)
+      (At d (record m { p2 = bit_or (bit_and m.p2 254) 1 }) SENT (put f 24 0) ring 20 board_stopped)
+  stops free =
+      straight d (kernel_in true bytes) (has_rows true bytes has) (Until SENT ∷ []) y m S_STOP SENT 20 f
+      (put f 24 0) ring
+      (record m { p2 = bit_or (bit_and m.p2 254) 1 }) board board_stopped free (refl, refl, refl)

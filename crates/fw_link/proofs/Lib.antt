@@ -1,0 +1,17 @@
+pub mod Cell
+pub mod Ends
+pub mod Wired
+pub mod Sending
+pub mod Frame
+pub mod Cut
+pub mod Receive
+pub mod Taking
+pub mod Received
+pub mod Wires
+pub mod Board
+pub mod WiresGot
+pub mod Got
+pub mod Sent
+pub mod Outside
+pub mod Ticked
+pub mod FrameLaws

@@ -1,0 +1,129 @@
+-- Outside frames the latch of port 2 leaves both wires alone; and the lines of a whole tick.
+use Rattle.std.proofs.Common.{◌≡◌, ◌≤◌, ◌<◌, ℕ, suc, zero, ◌+◌, ◌-◌, List, Bool, true, false, nat_lt, refl, ap, sym, ◌∙◌, arith}
+use Rattle.std.proofs.lemmas.Bool.Decides.{nat_tests}
+use Rattle.board_lines.specs.declared.event.Edge.{Edge}
+use Rattle.board_lines.specs.declared.event.HostEvent.{HostEvent}
+use Rattle.board_lines.specs.declared.lines.Lines.{Lines}
+use Rattle.fw_link.specs.Latch.{frame_bit, sent_latch, cut_latch, received_latch, in_tick}
+use Rattle.fw_link.proofs.Board.{one_cycle}
+use Rattle.fw_link.proofs.Wired.{IsReleased}
+use Rattle.fw_link.proofs.Wires.{Drives, sent_is_frame, sent_before, sent_ends}
+use Rattle.fw_link.proofs.WiresGot.{received_is_frame, received_before, received_ends, received_bit}
+use Rattle.host_turn.specs.Run.{says_lights}
+use Rattle.joint_run.specs.Joint.{Beside, latch_of, lights_of, joint_cycle, joint_board}
+use Rattle.joint_run.specs.Run.{ticks}
+use Rattle.pc_wires.specs.Wires.{Pc, board_cycle}
+use Rattle.wires_agree.specs.Cells.{IsUp, IsFrame}
+use Rattle.wires_agree.specs.Cycles.{board_cycles}
+use Rattle.wires_agree.specs.Ticks.{EndsFrame}
+
+-- cycles in which the latch stays as it is, and its lights are shown already
+pub still_wires : (edges : List Edge) (events : List HostEvent) (lines : ℕ → Lines) (n y v : ℕ) (s : Beside)
+    → lights_of v ≡ s.shown → ((o : ℕ) → y ≤ o → o < y + n → lines o ≡ latch_of v)
+    → ticks n y ((joint_board edges events).tick v) s
+    ≡ record { pc = board_cycles events lines n y s.pc; shown = s.shown }
+still_wires edges events lines zero y v s lit is = refl
+still_wires edges events lines (suc n) y v s lit is =
+    let first : joint_cycle events v y s ≡ record { pc = board_cycle events y (lines y) s.pc; shown = s.shown } =
+    one_cycle events v y s lit ∙ ap (λ q. record { pc = board_cycle events y q s.pc; shown = s.shown }) (sym (is y (omega arith) (omega arith))) in
+    let next : y + 1 ≡ suc y = omega arith in
+    ap (λ t. ticks n (y + 1) (joint_cycle events v) t) first
+    ∙ still_wires edges events lines n (y + 1) v
+    (record { pc = board_cycle events y (lines y) s.pc; shown = s.shown }) lit
+    (λ o a b. is o (omega (arith, a)) (omega (arith, b)))
+    ∙ ap
+    (λ c. record { pc = board_cycles events lines n c (board_cycle events y (lines y) s.pc); shown = s.shown }) next
+
+-- a cycle in which the lights may change: they are said first
+pub lit_cycle : (events : List HostEvent) (p2 now : ℕ) (s : Beside)
+    → joint_cycle events p2 now s
+    ≡ record { pc = board_cycle events now (latch_of p2) (record s.pc { side = says_lights now s.shown (lights_of p2) s.pc.side }); shown = lights_of p2 }
+unfolding joint_cycle
+lit_cycle events p2 now s = refl
+
+-- the same for cycles in the first of which the lights may change
+pub lit_wires : (edges : List Edge) (events : List HostEvent) (lines : ℕ → Lines) (n y v : ℕ) (s : Beside)
+    → ((o : ℕ) → y ≤ o → o < y + suc n → lines o ≡ latch_of v)
+    → ticks (suc n) y ((joint_board edges events).tick v) s
+    ≡ record { pc = board_cycles events lines (suc n) y (record s.pc { side = says_lights y s.shown (lights_of v) s.pc.side }); shown = lights_of v }
+lit_wires edges events lines n y v s is =
+    let said : Pc = record s.pc { side = says_lights y s.shown (lights_of v) s.pc.side } in
+    let first : joint_cycle events v y s ≡ record { pc = board_cycle events y (lines y) said; shown = lights_of v } =
+    lit_cycle events v y s ∙ ap (λ q. record { pc = board_cycle events y q said; shown = lights_of v }) (sym (is y (omega arith) (omega arith))) in
+    let next : y + 1 ≡ suc y = omega arith in
+    ap (λ t. ticks n (y + 1) (joint_cycle events v) t) first
+    ∙ still_wires edges events lines n (y + 1) v
+    (record { pc = board_cycle events y (lines y) said; shown = lights_of v }) refl
+    (λ o a b. is o (omega (arith, a)) (omega (arith, b)))
+    ∙ ap
+    (λ c. record { pc = board_cycles events lines n c (board_cycle events y (lines y) said); shown = lights_of v }) next
+
+module _ (latch : ℕ → ℕ) (v start length : ℕ) where
+  -- before the frame, in it, and behind it
+  pub before_frame : (o : ℕ) → o < 260 + start → in_tick latch v start length o ≡ v
+  before_frame o l = let a : nat_lt o (260 + start) ≡ true = grind (arith, nat_tests, l) in rw a refl
+
+  pub in_frame : (o : ℕ) → o < length → in_tick latch v start length (260 + start + o) ≡ latch o
+  in_frame o l =
+      let a : nat_lt (260 + start + o) (260 + start) ≡ false = grind (arith, nat_tests) in
+      let b : nat_lt (260 + start + o) (260 + start + length) ≡ true = grind (arith, nat_tests, l) in
+      let i : 260 + start + o - (260 + start) ≡ o = omega arith in
+      rw (a, b, i) refl
+
+  pub behind_frame : (o : ℕ) → 260 + start + length ≤ o → in_tick latch v start length o ≡ v
+  behind_frame o l =
+      let a : nat_lt o (260 + start) ≡ false = grind (arith, nat_tests, l) in
+      let b : nat_lt o (260 + start + length) ≡ false = grind (arith, nat_tests, l) in
+      rw (a, b) refl
+
+module _ (v start : ℕ) (released : IsReleased v) where
+  -- the lines of a tick with a frame
+  abbrev pub lines_of : (ℕ → ℕ) → ℕ → ℕ → Lines
+  lines_of latch length o = latch_of (in_tick latch v start length o)
+
+  up_behind : (latch : ℕ → ℕ) (length to : ℕ) → IsUp (lines_of latch length) (260 + start + length) to
+  up_behind latch length to o a b = ap (λ q. (latch_of q).clk) (behind_frame latch v start length o a) ∙ released.clock
+
+  up_before : (latch : ℕ → ℕ) (length : ℕ) → IsUp (lines_of latch length) (260 + start) (288 + start)
+      → IsUp (lines_of latch length) (256 + start) (288 + start)
+  up_before latch length up o a b = by_case (nat_lt o (260 + start)) refl
+    where
+      by_case : (c : Bool) → nat_lt o (260 + start) ≡ c → (lines_of latch length o).clk ≡ true
+      by_case true e =
+          let l : o < 260 + start = grind (arith, nat_tests, e) in
+          ap (λ q. (latch_of q).clk) (before_frame latch v start length o l) ∙ released.clock
+      by_case false e = up o (grind (arith, nat_tests, e)) b
+
+  pub drives_frame : (latch : ℕ → ℕ) (length : ℕ) → Drives (lines_of latch length) (260 + start) latch length
+  drives_frame latch length o l = ap latch_of (in_frame latch v start length o l)
+
+  -- what the laws of a tick ask of the lines: a tick that sends
+  pub sent_lines : (byte rest : ℕ)
+      → IsUp (lines_of (sent_latch v byte) 368) (256 + start) (288 + start)
+      × IsFrame (lines_of (sent_latch v byte) 368) (288 + start) (frame_bit byte)
+      × EndsFrame (lines_of (sent_latch v byte) 368) start rest
+  sent_lines byte rest =
+      let lines = lines_of (sent_latch v byte) 368 in
+      let drives = drives_frame (sent_latch v byte) 368 in
+      let p : 628 + start ≡ 260 + start + 368 = omega arith in (
+        up_before (sent_latch v byte) 368 (sent_before lines start v released byte drives),
+        sent_is_frame lines start v released byte drives,
+        sent_ends lines start v released byte drives rest (λ o a b. up_behind (sent_latch v byte) 368 (609 + rest + start) o (omega (arith, a, p)) b),
+      )
+
+  -- one that receives
+  pub received_lines : (rest : ℕ)
+      → IsUp (lines_of (received_latch v) 366) (256 + start) (288 + start)
+      × IsFrame (lines_of (received_latch v) 366) (288 + start) received_bit
+      × EndsFrame (lines_of (received_latch v) 366) start rest
+  received_lines rest =
+      let lines = lines_of (received_latch v) 366 in
+      let drives = drives_frame (received_latch v) 366 in (
+        up_before (received_latch v) 366 (received_before lines start v released drives),
+        received_is_frame lines start v released drives,
+        received_ends lines start v released drives rest (λ o a b. up_behind (received_latch v) 366 (609 + rest + start) o (omega (arith, a)) b),
+      )
+
+  -- and one that is cut in its first cell
+  pub cut_lines : (byte rest : ℕ) → IsUp (lines_of (cut_latch v byte 0) 52) (320 + start) (609 + rest + start)
+  cut_lines byte rest o a b = up_behind (cut_latch v byte 0) 52 (609 + rest + start) o (omega (arith, a)) b

@@ -1,0 +1,146 @@
+-- Facts of the latch of port 2, and of boards that are driven by a latch that is a function of the offset.
+use Rattle.std.proofs.Common.{◌≡◌, ◌<◌, ℕ, suc, zero, ◌+◌, ◌-◌, ◌*◌, ◌/◌, ◌%◌, Bool, true, false, ◌==◌, nat_le, nat_lt}
+use Rattle.std.proofs.Common.{if◌then◌else◌, bit_and, bit_or, refl, ap, sym, ◌∙◌, arith}
+use Rattle.std.proofs.lemmas.Bool.Decides.{nat_tests}
+use Rattle.mcs48_core.specs.Status.{bit, digit}
+use Rattle.fw_logic.proofs.Blocks.{ticks_add}
+use Rattle.fw_logic.proofs.Bytes.{by_byte, tests_by}
+use Rattle.fw_link.specs.Latch.{wired, driven, frame_bit, sent_cell, sent_latch}
+use Rattle.joint_run.specs.Run.{Board, ticks}
+
+-- a latch that pulls neither wire
+pub record IsReleased (v : ℕ) : Type 0 where
+  pub byte : v < 256
+  pub clock : bit 0 v ≡ true
+  pub data_wire : bit 1 v ≡ true
+
+-- the lights stand above the wires' bits
+pub lights_leave : (l : ℕ) → l < 256 → l % 4 ≡ 0 → IsReleased (255 - l)
+lights_leave l small none =
+    let is : (l % 4 == 0) ≡ true = grind (arith, nat_tests, none) in
+    record {
+      byte = omega arith;
+      clock =
+          ap (λ c. if c then bit 0 (255 - l) else true) (sym is)
+          ∙ tests_by 256 (λ l. if l % 4 == 0 then bit 0 (255 - l) else true) (λ l. true) refl l small;
+      data_wire =
+          ap (λ c. if c then bit 1 (255 - l) else true) (sym is)
+          ∙ tests_by 256 (λ l. if l % 4 == 0 then bit 1 (255 - l) else true) (λ l. true) refl l small;
+    }
+
+pub both_high : (v : ℕ) → IsReleased v → wired v true true ≡ v
+both_high v h = by_byte (λ v. bit_and v 255) (λ v. v) refl v h.byte
+
+pub falls : (b : Bool) (v : ℕ) → v < 256 → bit_and (wired v true b) 254 ≡ wired v false b
+falls true v l = by_byte (λ v. bit_and (bit_and v 255) 254) (λ v. bit_and v 254) refl v l
+falls false v l = by_byte (λ v. bit_and (bit_and v 253) 254) (λ v. bit_and v 252) refl v l
+
+pub rises : (b : Bool) (v : ℕ) → IsReleased v → bit_or (wired v false b) 1 ≡ wired v true b
+rises true v h =
+    ap (λ c. if c then bit_or (bit_and v 254) 1 else 0) (sym h.clock)
+    ∙ by_byte (λ v. if bit 0 v then bit_or (bit_and v 254) 1 else 0)
+    (λ v. if bit 0 v then bit_and v 255 else 0) refl v h.byte
+    ∙ ap (λ c. if c then bit_and v 255 else 0) h.clock
+rises false v h =
+    ap (λ c. if c then bit_or (bit_and v 252) 1 else 0) (sym h.clock)
+    ∙ by_byte (λ v. if bit 0 v then bit_or (bit_and v 252) 1 else 0)
+    (λ v. if bit 0 v then bit_and v 253 else 0) refl v h.byte
+    ∙ ap (λ c. if c then bit_and v 253 else 0) h.clock
+
+pub puts : (b : Bool) (v : ℕ) → IsReleased v → bit_or (2 * digit b) (bit_and v 253) ≡ wired v true b
+puts true v h =
+    ap (λ c. if c then bit_or 2 (bit_and v 253) else 0) (sym h.data_wire)
+    ∙ by_byte (λ v. if bit 1 v then bit_or 2 (bit_and v 253) else 0)
+    (λ v. if bit 1 v then bit_and v 255 else 0) refl v h.byte
+    ∙ ap (λ c. if c then bit_and v 255 else 0) h.data_wire
+puts false v h = by_byte (λ v. bit_or 0 (bit_and v 253)) (λ v. bit_and v 253) refl v h.byte
+
+pub releases : (b : Bool) (v : ℕ) → IsReleased v → bit_or (wired v true b) 3 ≡ v
+releases true v h =
+    ap (λ c. if c then bit_or (bit_and v 255) 3 else 0) (sym h.clock)
+    ∙ ap (λ c. if bit 0 v then if c then bit_or (bit_and v 255) 3 else 0 else 0) (sym h.data_wire)
+    ∙ by_byte (λ v. if bit 0 v then if bit 1 v then bit_or (bit_and v 255) 3 else 0 else 0)
+    (λ v. if bit 0 v then if bit 1 v then v else 0 else 0) refl v h.byte
+    ∙ ap (λ c. if bit 0 v then if c then v else 0 else 0) h.data_wire
+    ∙ ap (λ c. if c then v else 0) h.clock
+releases false v h =
+    ap (λ c. if c then bit_or (bit_and v 253) 3 else 0) (sym h.clock)
+    ∙ ap (λ c. if bit 0 v then if c then bit_or (bit_and v 253) 3 else 0 else 0) (sym h.data_wire)
+    ∙ by_byte (λ v. if bit 0 v then if bit 1 v then bit_or (bit_and v 253) 3 else 0 else 0)
+    (λ v. if bit 0 v then if bit 1 v then v else 0 else 0) refl v h.byte
+    ∙ ap (λ c. if bit 0 v then if c then v else 0 else 0) h.data_wire
+    ∙ ap (λ c. if c then v else 0) h.clock
+
+pub restores : (v : ℕ) → IsReleased v → bit_or (bit_and v 252) 3 ≡ v
+restores v h =
+    ap (λ c. if c then bit_or (bit_and v 252) 3 else 0) (sym h.clock)
+    ∙ ap (λ c. if bit 0 v then if c then bit_or (bit_and v 252) 3 else 0 else 0) (sym h.data_wire)
+    ∙ by_byte (λ v. if bit 0 v then if bit 1 v then bit_or (bit_and v 252) 3 else 0 else 0)
+    (λ v. if bit 0 v then if bit 1 v then v else 0 else 0) refl v h.byte
+    ∙ ap (λ c. if bit 0 v then if c then v else 0 else 0) h.data_wire
+    ∙ ap (λ c. if c then v else 0) h.clock
+
+-- cycles by two functions that agree
+pub ticks_alike : {S : Type 0} (n a b : ℕ) (F G : ℕ → S → S) (s : S)
+    → ((i : ℕ) (t : S) → i < n → F (a + i) t ≡ G (b + i) t) → ticks n a F s ≡ ticks n b G s
+ticks_alike zero a b F G s h = refl
+ticks_alike (suc n) a b F G s h =
+    let first : F a s ≡ G b s =
+    (let l : 0 < suc n = omega arith in
+    let p : a ≡ a + 0 = omega arith in
+    let q : b + 0 ≡ b = omega arith in
+    ap (λ k. F k s) p ∙ h 0 s l ∙ ap (λ k. G k s) q) in
+    ap (λ t. ticks n (a + 1) F t) first
+    ∙ ticks_alike n (a + 1) (b + 1) F G (G b s)
+    (λ i t l.
+    let k : suc i < suc n = omega (arith, l) in
+    let p : a + 1 + i ≡ a + suc i = omega arith in
+    let q : b + suc i ≡ b + 1 + i = omega arith in
+    ap (λ c. F c t) p ∙ h (suc i) t k ∙ ap (λ c. G c t) q)
+
+module _ (d : Board) (x : ℕ) (latch : ℕ → ℕ) where
+  -- cycles with one latch go on with a run over the latch
+  pub spans : (n a y b w : ℕ) (s t : d.State) → y + b ≡ x + a
+      → ((i : ℕ) → i < n → latch (a + i) ≡ w) → s ≡ driven d x latch a 0 t
+      → ticks n b (λ o. d.tick w (y + o)) s ≡ driven d x latch (a + n) 0 t
+  spans n a y b w s t e h is =
+      ap (λ k. ticks n b (λ o. d.tick w (y + o)) k) is
+      ∙ ticks_alike n b a (λ o. d.tick w (y + o)) (λ o. d.tick (latch o) (x + o)) (driven d x latch a 0 t)
+      (λ i u l.
+      let p : y + (b + i) ≡ x + (a + i) = omega (arith, e) in
+      ap (λ k. d.tick k (y + (b + i)) u) (sym (h i l)) ∙ ap (λ c. d.tick (latch (a + i)) c u) p)
+      ∙ (let z : 0 + a ≡ a = omega arith in ap (λ c. ticks n c (λ o. d.tick (latch o) (x + o)) (driven d x latch a 0 t)) (sym z))
+      ∙ sym (ticks_add a n 0 (λ o. d.tick (latch o) (x + o)) t)
+
+-- the latch in cell k
+pub in_cell : (v byte k i : ℕ) → i < 32 → sent_latch v byte (28 + 32 * k + i) ≡ sent_cell v byte k i
+in_cell v byte k i l =
+    let a : nat_lt (28 + 32 * k + i) 10 ≡ false = grind (arith, nat_tests) in
+    let b : nat_lt (28 + 32 * k + i) 28 ≡ false = grind (arith, nat_tests) in
+    let q : (28 + 32 * k + i - 28) / 32 ≡ k = omega (arith, l) in
+    let r : (28 + 32 * k + i - 28) % 32 ≡ i = omega (arith, l) in
+    rw (a, b, q, r) refl
+
+pub cell_low : (v byte k i : ℕ) → i < 16 → sent_latch v byte (28 + 32 * k + i) ≡ wired v false (frame_bit byte k)
+cell_low v byte k i l =
+    let m : i < 32 = omega (arith, l) in
+    let a : nat_le 16 i ≡ false = grind (arith, nat_tests, l) in
+    let b : nat_lt i 20 ≡ true = grind (arith, nat_tests, l) in
+    in_cell v byte k i m ∙ rw (a, b) refl
+
+pub cell_high : (v byte k i : ℕ) → i < 4 → sent_latch v byte (28 + 32 * k + 16 + i) ≡ wired v true (frame_bit byte k)
+cell_high v byte k i l =
+    let m : 16 + i < 32 = omega (arith, l) in
+    let a : nat_le 16 (16 + i) ≡ true = grind (arith, nat_tests) in
+    let b : nat_lt (16 + i) 20 ≡ true = grind (arith, nat_tests, l) in
+    let p : 28 + 32 * k + 16 + i ≡ 28 + 32 * k + (16 + i) = omega arith in
+    ap (λ o. sent_latch v byte o) p ∙ in_cell v byte k (16 + i) m ∙ rw (a, b) refl
+
+pub cell_next : (v byte k i : ℕ) → i < 12
+    → sent_latch v byte (28 + 32 * k + 20 + i) ≡ wired v true (frame_bit byte (suc k))
+cell_next v byte k i l =
+    let m : 20 + i < 32 = omega (arith, l) in
+    let a : nat_le 16 (20 + i) ≡ true = grind (arith, nat_tests) in
+    let b : nat_lt (20 + i) 20 ≡ false = grind (arith, nat_tests) in
+    let p : 28 + 32 * k + 20 + i ≡ 28 + 32 * k + (20 + i) = omega arith in
+    ap (λ o. sent_latch v byte o) p ∙ in_cell v byte k (20 + i) m ∙ rw (a, b) refl

@@ -1,0 +1,100 @@
+-- The latch of a received frame, and that of a cut one, on the wires.
+use Rattle.std.proofs.Common.{◌≡◌, ◌≤◌, ◌<◌, ℕ, suc, ◌+◌, ◌-◌, ◌*◌, ◌/◌, ◌%◌, Bool, true, false, nat_le, nat_lt, if◌then◌else◌}
+use Rattle.std.proofs.Common.{refl, ap, ◌∙◌, arith}
+use Rattle.std.proofs.lemmas.Bool.Decides.{nat_tests}
+use Rattle.board_lines.specs.declared.lines.Lines.{Lines}
+use Rattle.fw_link.specs.Latch.{wired, sent_latch, cut_latch, frame_bit, received_cell, received_latch}
+use Rattle.fw_link.proofs.Taking.{in_cell, before_cells}
+use Rattle.fw_link.proofs.Wired.{IsReleased}
+use Rattle.fw_link.proofs.Wires.{clock_of_latch, data_of_latch, lights_of_latch, frame_by, Drives}
+use Rattle.joint_run.specs.Joint.{latch_of, lights_of}
+use Rattle.wires_agree.specs.Cells.{IsUp, IsFrame}
+use Rattle.wires_agree.specs.Ticks.{EndsFrame}
+
+-- the lights stay as they are
+pub received_lights : (v o : ℕ) → v < 256 → lights_of (received_latch v o) ≡ lights_of v
+received_lights v o l =
+    by_case (nat_lt o 28) (nat_le 16 ((o - 28) % 32))
+    (if nat_lt ((o - 28) / 32) 10 then true else nat_le 16 ((o - 28) % 32))
+  where
+    by_case : (c a b : Bool) → lights_of (if c then v else wired v a b) ≡ lights_of v
+    by_case true a b = refl
+    by_case false a b = lights_of_latch a b v l
+
+pub sent_lights : (v byte o : ℕ) → v < 256 → lights_of (sent_latch v byte o) ≡ lights_of v
+sent_lights v byte o l =
+    by_case (nat_lt o 10) (nat_lt o 28) (nat_le 16 ((o - 28) % 32))
+    (frame_bit byte (if nat_lt ((o - 28) % 32) 20 then (o - 28) / 32 else suc ((o - 28) / 32)))
+  where
+    by_case : (c e a b : Bool)
+        → lights_of (if c then v else if e then wired v true false else wired v a b) ≡ lights_of v
+    by_case true e a b = refl
+    by_case false true a b = lights_of_latch true false v l
+    by_case false false a b = lights_of_latch a b v l
+
+pub cut_lights : (v byte j o : ℕ) → v < 256 → lights_of (cut_latch v byte j o) ≡ lights_of v
+cut_lights v byte j o l = by_case (nat_lt o (28 + 32 * j + 20))
+  where
+    by_case : (c : Bool) → lights_of (if c then sent_latch v byte o else v) ≡ lights_of v
+    by_case true = sent_lights v byte o l
+    by_case false = refl
+
+-- the data wire is pulled in the eleventh cell alone
+abbrev pub received_bit : ℕ → Bool
+received_bit k = nat_lt k 10
+
+same_end : (c : Bool) → (if c then true else false) ≡ c
+same_end true = refl
+same_end false = refl
+
+module _ (lines : ℕ → Lines) (start v : ℕ) (released : IsReleased v) where
+  module _ (drives : Drives lines (260 + start) (received_latch v) 366) where
+    got_lines : (k i : ℕ) → i < 32 → 32 * k + i < 338
+        → lines (32 * k + (288 + start) + i) ≡ latch_of (received_cell v k i)
+    got_lines k i l few =
+        let p : 32 * k + (288 + start) + i ≡ 260 + start + (28 + 32 * k + i) = omega arith in
+        ap lines p ∙ drives (28 + 32 * k + i) (omega (arith, few)) ∙ ap latch_of (in_cell v k i l)
+
+    got_clock : (k i : ℕ) → i < 32 → 32 * k + i < 338 → (lines (32 * k + (288 + start) + i)).clk ≡ nat_le 16 i
+    got_clock k i l few =
+        ap (λ (z : Lines). z.clk) (got_lines k i l few) ∙ clock_of_latch (nat_le 16 i)
+        (if nat_lt k 10 then true else nat_le 16 i) v released
+
+    pub received_is_frame : IsFrame lines (288 + start) received_bit
+    received_is_frame =
+        frame_by lines (288 + start) received_bit (λ k i l few. got_clock k i l (omega (arith, few)))
+        (λ k l.
+        let z : 32 * k + (288 + start) ≡ 32 * k + (288 + start) + 0 = omega arith in
+        ap (λ o. (lines o).dat) z ∙ ap (λ (z : Lines). z.dat) (got_lines k 0 (omega arith) (omega (arith, l)))
+        ∙ data_of_latch false (if nat_lt k 10 then true else false) v released ∙ same_end (nat_lt k 10))
+
+    pub received_before : IsUp lines (260 + start) (288 + start)
+    received_before o a b =
+        let i = o - (260 + start) in
+        let p : o ≡ 260 + start + (0 + i) = omega (arith, a) in
+        let l : i < 28 = omega (arith, a, b) in
+        ap (λ q. (lines q).clk) p ∙ ap (λ (z : Lines). z.clk) (drives (0 + i) (omega (arith, l)))
+        ∙ ap (λ q. (latch_of q).clk) (before_cells v i l) ∙ released.clock
+
+    pub received_ends : (rest : ℕ) → IsUp lines (626 + start) (609 + rest + start) → EndsFrame lines start rest
+    received_ends rest up = record {
+      low = λ o a b.
+          let i = o - (608 + start) in
+          let p : o ≡ 32 * 10 + (288 + start) + i = omega (arith, a) in
+          let l : i < 16 = omega (arith, a, b) in
+          let c : nat_le 16 i ≡ false = grind (arith, nat_tests, l) in
+          ap (λ q. (lines q).clk) p ∙ got_clock 10 i (omega (arith, l)) (omega (arith, l)) ∙ c;
+      high = λ o a b. by_case o a b (nat_lt o (626 + start)) refl;
+    }
+      where
+        by_case : (o : ℕ) → 624 + start ≤ o → o < 609 + rest + start → (c : Bool) → nat_lt o (626 + start) ≡ c
+            → (lines o).clk ≡ true
+        by_case o a b true e =
+            let m : o < 626 + start = grind (arith, nat_tests, e) in
+            let i = o - (608 + start) in
+            let p : o ≡ 32 * 10 + (288 + start) + i = omega (arith, a) in
+            let l : i < 18 = omega (arith, a, m) in
+            let h : 16 ≤ i = omega (arith, a) in
+            let c : nat_le 16 i ≡ true = grind (arith, nat_tests, h) in
+            ap (λ q. (lines q).clk) p ∙ got_clock 10 i (omega (arith, l)) (omega (arith, l)) ∙ c
+        by_case o a b false e = let m : 626 + start ≤ o = grind (arith, nat_tests, e) in up o m b

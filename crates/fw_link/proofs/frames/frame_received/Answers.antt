@@ -1,0 +1,5 @@
+use Rattle.fw_link.proofs.FrameLaws.{got_law}
+use Rattle.fw_link.proofs.frames.frame_received.Goals as goal
+
+pub returns : goal.returns
+returns c = record { received = got_law }
