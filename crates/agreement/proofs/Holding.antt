@@ -1,0 +1,175 @@
+-- A tick's edges become the keys that are held, where each of the 96 places has its Boolean.
+use Rattle.std.proofs.Common.{◌≡◌, ◌≢◌, ◌<◌, ℕ, suc, zero, ◌%◌, ◌==◌, nat_le, nat_lt, not, Bool, true, false}
+use Rattle.std.proofs.Common.{if◌then◌else◌, List, [], ◌∷◌, length, replicate, slice_index_or, slice_set, Some, None}
+use Rattle.std.proofs.Common.{refl, ap, sym, ◌∙◌, arith}
+use Rattle.std.specs.declared.option.Option.{Option}
+use Rattle.std.proofs.lemmas.Bool.{eqb-true}
+use Rattle.std.proofs.lemmas.Bool.Decides.{nat_tests}
+use Rattle.std.proofs.lemmas.List.{get_or-set_same, get_or-set_other, length-set}
+use Rattle.board_lines.specs.Matrix.{turned}
+use Rattle.fw_keys.proofs.Edges.{each_turns}
+use Rattle.fw_keys.proofs.Fold.{turned_all}
+use Rattle.fw_keys.specs.Quiet.{shown_by}
+use Rattle.kbd_model.specs.declared.meeting.Meeting.{Meeting as KeyboardMeeting}
+use Rattle.kbd_model.specs.declared.meeting.Meeting.TheVariants.{Idle, Inhibited, Sent, Cut, Got}
+use Rattle.kbd_model.specs.declared.state.Mode.{Mode}
+use Rattle.kbd_model.specs.declared.state.Mode.TheVariants.{Ready, WantRate, WantLights}
+use Rattle.kbd_model.specs.declared.state.Reply.{Reply}
+use Rattle.kbd_model.specs.declared.state.Repeat.{Repeat}
+use Rattle.kbd_model.specs.Codes.{Keys, keys_of}
+use Rattle.kbd_model.specs.Commands.{obeyed_in, parameter, commanded, acknowledges, replies}
+use Rattle.kbd_model.specs.Keyboard.{Keyboard, is_held, offer}
+use Rattle.kbd_model.specs.Queue.{clear}
+use Rattle.kbd_model.specs.Tick.{met, sent_byte, without_offered, reset, tested_if, repeated, repeated_if}
+use Rattle.kbd_model.specs.Tick.{edges_if, is_scanning, is_inhibited, ticked}
+use Rattle.byte_time.specs.declared.meeting.Meeting.{Meeting}
+use Rattle.layout_reader.specs.Layouts.{KeyLayout}
+use Rattle.link_model.proofs.Seen.{last_change, held_is_now}
+use Rattle.link_model.specs.Machine.{keyboard, met_as}
+use Rattle.link_model.specs.TickEdges.{shown}
+
+-- each place has its Boolean
+abbrev pub HasPlaces : Keyboard → Type 0
+HasPlaces k = length k.held ≡ 96
+
+-- a choice of two keyboards that hold the same keys
+chosen : (b : Bool) (x y : Keyboard) (held : List Bool) → x.held ≡ held → y.held ≡ held
+    → (if b then x else y).held ≡ held
+chosen true x y held p q = p
+chosen false x y held p q = q
+
+-- a command says nothing of the held keys
+command_holds : (keys : Keys) (byte : ℕ) (k : Keyboard) → (commanded keys byte k).held ≡ k.held
+command_holds keys byte k =
+    by (byte == 0xFF) (byte == 0xFE) (byte == 0xF6) (byte == 0xF5) (byte == 0xF4) (byte == 0xF3) (byte == 0xED)
+    (byte == 0xEE) (nat_le 0xEF byte)
+  where
+    by : (b0 b1 b2 b3 b4 b5 b6 b7 b8 : Bool) → (
+        if b0 then record k { reply = Some (record { byte = 0xFA; resets = true }) }
+        else if b1 then replies k.last k
+        else if b2 then record (acknowledges k) { queue = clear k.queue; rate = keys.rate; repeats = None }
+        else if b3 then
+        record (acknowledges k) { queue = clear k.queue; rate = keys.rate; repeats = None; enabled = false }
+        else if b4 then record (acknowledges k) { queue = clear k.queue; repeats = None; enabled = true }
+        else if b5 then record (acknowledges k) { mode = WantRate }
+        else if b6 then record (acknowledges k) { mode = WantLights }
+        else if b7 then replies 0xEE k
+        else if b8 then acknowledges k
+        else replies 0xFE k).held ≡ k.held
+    by true b1 b2 b3 b4 b5 b6 b7 b8 = refl
+    by false true b2 b3 b4 b5 b6 b7 b8 = refl
+    by false false true b3 b4 b5 b6 b7 b8 = refl
+    by false false false true b4 b5 b6 b7 b8 = refl
+    by false false false false true b5 b6 b7 b8 = refl
+    by false false false false false true b6 b7 b8 = refl
+    by false false false false false false true b7 b8 = refl
+    by false false false false false false false true b8 = refl
+    by false false false false false false false false true = refl
+    by false false false false false false false false false = refl
+
+-- nor does a parameter
+parameter_holds : (keys : Keys) (byte : ℕ) (with_it k : Keyboard) → with_it.held ≡ k.held
+    → (parameter keys byte with_it k).held ≡ k.held
+parameter_holds keys byte with_it k same =
+    let ready : Keyboard = record k { mode = Ready } in
+    let other : Keyboard = if nat_lt byte 0xED then replies 0xFE k else commanded keys byte ready in
+    chosen (nat_lt byte 0x80) (record (acknowledges with_it) { mode = Ready }) other k.held same
+    (chosen (nat_lt byte 0xED) (replies 0xFE k) (commanded keys byte ready) k.held refl (command_holds keys byte ready))
+
+-- so no byte from the system does
+obeyed_holds : (keys : Keys) (mode : Mode) (byte : ℕ) (k : Keyboard) → (obeyed_in mode keys byte k).held ≡ k.held
+obeyed_holds keys Ready byte k = command_holds keys byte k
+obeyed_holds keys WantRate byte k = parameter_holds keys byte (record k { rate = byte }) k refl
+obeyed_holds keys WantLights byte k = parameter_holds keys byte (record k { lights = byte % 8 }) k refl
+
+-- nor what was offered and is sent
+without_holds : (keys : Keys) (reply : Option Reply) (k : Keyboard) → (without_offered reply keys k).held ≡ k.held
+without_holds keys None k = refl
+without_holds keys (Some reply) k = chosen reply.resets (reset keys k) (record k { reply = None }) k.held refl refl
+
+-- nor the byte that is sent
+sent_holds : (keys : Keys) (byte : Option ℕ) (k : Keyboard) → (sent_byte byte keys k).held ≡ k.held
+sent_holds keys None k = refl
+sent_holds keys (Some byte) k = without_holds keys k.reply (record k { last = if byte == 0xFE then k.last else byte })
+
+-- so a meeting leaves them
+met_holds : (keys : Keys) (meeting : KeyboardMeeting) (k : Keyboard) → (met meeting keys k).held ≡ k.held
+met_holds keys Sent k = sent_holds keys (offer k) k
+met_holds keys (Got byte good) k =
+    chosen good (obeyed_in k.mode keys byte k) (replies 0xFE k) k.held (obeyed_holds keys k.mode byte k) refl
+met_holds keys Inhibited k = refl
+met_holds keys Idle k = refl
+met_holds keys Cut k = refl
+
+-- so does the test
+tested_holds : (b : Bool) (k : Keyboard) → (tested_if b k).held ≡ k.held
+tested_holds true k = refl
+tested_holds false k = refl
+
+-- and so does the key that repeats
+repeat_holds : (keys : Keys) (r : Option Repeat) (inhibited : Bool) (k : Keyboard)
+    → (repeated r keys inhibited k).held ≡ k.held
+repeat_holds keys None inhibited k = refl
+repeat_holds keys (Some r) inhibited k = refl
+
+-- whether scanning is on or off
+repeats_hold : (keys : Keys) (on inhibited : Bool) (k : Keyboard) → (repeated_if on keys inhibited k).held ≡ k.held
+repeats_hold keys true inhibited k = repeat_holds keys k.repeats inhibited k
+repeats_hold keys false inhibited k = refl
+
+-- edges turn what is held
+edges_turn : (keys : Keys) (on : Bool) (edges : List (ℕ × Bool)) (k : Keyboard) (held : List Bool) → k.held ≡ held
+    → (edges_if on keys edges k).held ≡ turned_all edges held
+edges_turn keys on edges k held same =
+    ap (λ (x : Keyboard). x.held) (each_turns keys on edges k) ∙ ap (λ h. turned_all edges h) same
+
+-- the edges alone turn the keys of a tick
+pub ticked_holds : (keys : Keys) (meeting : KeyboardMeeting) (edges : List (ℕ × Bool)) (k : Keyboard)
+    → (ticked keys meeting edges k).held ≡ turned_all edges k.held
+ticked_holds keys meeting edges k =
+    let j : Keyboard = tested_if (not (k.test == 0)) (met meeting keys k) in
+    let i : Keyboard = repeated_if (is_scanning j) keys (is_inhibited meeting) j in
+    edges_turn keys (is_scanning j) edges i k.held
+    (repeats_hold keys (is_scanning j) (is_inhibited meeting) j ∙ tested_holds (not (k.test == 0)) (met meeting keys k)
+    ∙ met_holds keys meeting k)
+
+-- an edge turns the key at its own place
+turned_at : (held : List Bool) (at p : ℕ) (down : Bool) → p < length held → (b : Bool) → (at == p) ≡ b
+    → slice_index_or (turned at down held) p false ≡ (if at == p then down else slice_index_or held p false)
+turned_at held at p down l true h =
+    let same : at ≡ p = eqb-true at p h in
+    ap (λ k. slice_index_or (slice_set held k down) p false) same ∙ get_or-set_same held p down false l
+    ∙ ap (λ b. if b then down else slice_index_or held p false) (sym h)
+turned_at held at p down l false h =
+    let apart : p ≢ at = grind (arith, nat_tests, h) in
+    get_or-set_other held at p down false apart ∙ ap (λ b. if b then down else slice_index_or held p false) (sym h)
+
+-- the last edge of a place says whether its key is held
+pub turned_is : (edges : List (ℕ × Bool)) (held : List Bool) (p : ℕ) → length held ≡ 96 → p < 96
+    → slice_index_or (turned_all edges held) p false ≡ last_change edges p (slice_index_or held p false)
+turned_is [] held p long l = refl
+turned_is (e ∷ es) held p long l =
+    turned_is es (turned e.0 e.1 held) p (length-set held e.0 e.1 ∙ long) l
+    ∙ ap (λ b. last_change es p b) (turned_at held e.0 p e.1 (omega (arith, long, l)) (e.0 == p) refl)
+
+-- what the columns show is held behind the tick
+pub holds_now : (layout : KeyLayout) (meeting : Meeting) (k : Keyboard) (now : ℕ → Bool) (p : ℕ) → HasPlaces k → p < 96
+    → (keyboard layout).held ((keyboard layout).ticked meeting (shown ((keyboard layout).held k) now) k) p ≡ now p
+holds_now layout meeting k now p has l =
+    let edges : List (ℕ × Bool) = shown (is_held k) now in
+    ap (λ h. slice_index_or h p false) (ticked_holds (keys_of layout) (met_as meeting) edges k)
+    ∙ turned_is edges k.held p has l ∙ held_is_now (is_held k) now p l
+
+-- a list of keys that are up
+none_down : (n p : ℕ) → slice_index_or (replicate n false) p false ≡ false
+none_down zero p = refl
+none_down (suc n) zero = refl
+none_down (suc n) (suc p) = none_down n p
+
+-- no key is held at power-on
+pub none_held : (layout : KeyLayout) (p : ℕ) → (keyboard layout).held (keyboard layout).start p ≡ false
+none_held layout p = none_down 96 p
+
+-- each place has its Boolean in the keyboard that memory shows
+pub places_shown : (ram : List ℕ) → HasPlaces (shown_by ram)
+places_shown ram = refl

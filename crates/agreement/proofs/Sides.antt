@@ -1,0 +1,79 @@
+-- The PC's side of a tick: at the look at the clock, and at the tick's end, it is the model's.
+use Rattle.std.proofs.Common.{◌≡◌, ℕ, ◌+◌, List, false, ap, sym, ◌∙◌, arith}
+use Rattle.board_lines.specs.declared.event.Edge.{Edge}
+use Rattle.board_lines.specs.declared.event.HostEvent.{HostEvent}
+use Rattle.board_lines.specs.declared.lines.Lines.{Lines}
+use Rattle.byte_time.specs.ByteTime.{quietly, meeting_in}
+use Rattle.byte_time.specs.declared.UnderWay.{UnderWay}
+use Rattle.byte_time.specs.declared.meeting.Meeting.{Meeting}
+use Rattle.ctl_link.specs.Link.{is_busy}
+use Rattle.fw_link.proofs.Wired.{IsReleased}
+use Rattle.host_turn.specs.Run.{Side, says_lights}
+use Rattle.joint_run.specs.Joint.{Beside, latch_of, lights_of}
+use Rattle.joint_run.specs.Run.{World}
+use Rattle.link_model.specs.Expected.{Whole, to_look, to_meeting, from_meeting, meeting_from}
+use Rattle.link_model.specs.Machine.{Machine}
+use Rattle.pc_wires.specs.Wires.{Pc}
+use Rattle.wires_agree.proofs.Between.{between}
+use Rattle.wires_agree.specs.Cells.{IsUp}
+use Rattle.wires_agree.specs.Cycles.{board_cycles}
+use Rattle.wires_agree.specs.Ticks.{Ticked, at_meeting, from_look}
+use Rattle.wires_agree.specs.Without.{seen_in_bytes}
+use Rattle.agreement.proofs.Happened.{lit_latch, at_lights, at_look}
+
+module _ (edges : List Edge) (events : List HostEvent) (w : World Beside) (was : IsReleased w.cpu.p2)
+    (released : IsReleased (lit_latch edges events w)) (idle : is_busy w.board.pc.side.port.link ≡ false) where
+  abbrev lights : ℕ
+  lights = lights_of (lit_latch edges events w)
+
+  abbrev look : Pc
+  look = at_look edges events w
+
+  -- at the look it is the model's, and no byte is under way
+  pub looks_same : (seen_in_bytes look.side ≡ to_look events w.board.shown lights w.cycle (seen_in_bytes w.board.pc.side))
+      × (is_busy look.side.port.link ≡ false)
+  looks_same =
+      let first = between events (λ o. latch_of w.cpu.p2) 232 w.cycle w.board.pc (λ o l u. was.clock) idle in
+      let lit : Pc =
+      record
+      (at_lights events w) { side = says_lights (232 + w.cycle) w.board.shown lights (at_lights events w).side } in
+      let second = between events (λ o. latch_of (lit_latch edges events w)) 24 (232 + w.cycle) lit (λ o l u. released.clock) first.1 in (
+        second.0 ∙ ap (λ s. quietly events 24 (232 + w.cycle) (says_lights (232 + w.cycle) w.board.shown lights s)) first.0,
+        second.1,
+      )
+
+  module _ (S : Type 0) (kb : Machine S) (m : Whole S) (side : seen_in_bytes w.board.pc.side ≡ m.side)
+      (shown : w.board.shown ≡ m.shown) (lit : kb.lights m.keys ≡ lights) where
+    abbrev model_look : Side UnderWay
+    model_look = to_look events m.shown (kb.lights m.keys) w.cycle m.side
+
+    pub model_looks : seen_in_bytes look.side ≡ model_look
+    model_looks =
+        looks_same.0
+        ∙ ap (λ n. to_look events n lights w.cycle (seen_in_bytes w.board.pc.side)) shown
+        ∙ ap (λ n. to_look events m.shown n w.cycle (seen_in_bytes w.board.pc.side)) (sym lit)
+        ∙ ap (λ s. to_look events m.shown (kb.lights m.keys) w.cycle s) side
+
+    -- the meeting of the model's tick, by the links at the look and at the first edge
+    pub meeting_is : (lines : ℕ → Lines) → IsUp lines (256 + w.cycle) (288 + w.cycle)
+        → meeting_from kb events w.cycle m
+        ≡ meeting_in (kb.tested m.keys) (kb.offer m.keys) (seen_in_bytes look.side) (seen_in_bytes (at_meeting events lines w.cycle look).side)
+    meeting_is lines up =
+        let there = between events lines 32 (256 + w.cycle) look (λ o l u. up o l (omega (arith, u))) looks_same.1 in
+        ap (λ s. meeting_in (kb.tested m.keys) (kb.offer m.keys) s (to_meeting events w.cycle s)) (sym model_looks)
+        ∙ ap (λ s. meeting_in (kb.tested m.keys) (kb.offer m.keys) (seen_in_bytes look.side) s) (sym there.0)
+
+    -- where the link at the look decides it alone
+    pub meeting_by_look : (met : Meeting) → ((later : Side UnderWay) → meeting_in (kb.tested m.keys) (kb.offer m.keys) (seen_in_bytes look.side) later ≡ met)
+        → meeting_from kb events w.cycle m ≡ met
+    meeting_by_look met is =
+        ap (λ s. meeting_in (kb.tested m.keys) (kb.offer m.keys) s (to_meeting events w.cycle s)) (sym model_looks)
+        ∙ is (to_meeting events w.cycle (seen_in_bytes look.side))
+
+    -- over lines of which a law of the tick speaks, the tick's end is that of the model's tick
+    pub side_is : (lines : ℕ → Lines) (rest k : ℕ)
+        → Ticked events lines w.cycle rest look (kb.tested m.keys) (kb.offer m.keys) k
+        → seen_in_bytes (board_cycles events lines k (256 + w.cycle) look).side
+        ≡ from_meeting events w.cycle rest (meeting_from kb events w.cycle m) (to_meeting events w.cycle model_look)
+    side_is lines rest k law =
+        law.agrees ∙ ap (λ s. from_look events (kb.tested m.keys) (kb.offer m.keys) w.cycle rest s) model_looks
