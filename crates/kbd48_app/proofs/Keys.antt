@@ -6,7 +6,7 @@ use Rattle.ctl_core.specs.ScanCodes.{scan_codes, translated}
 use Rattle.ctl_core.specs.Translation.{translation}
 use Rattle.ctl_core.specs.declared.translation.Translated.{Translated}
 use Rattle.pc_tables.specs.Keys.{keys, code_at, scan_at}
-use Rattle.pc_tables.proofs.Every.{at_each}
+use Rattle.bits.proofs.Every.{at_each}
 
 abbrev is_code : Option ℕ → Bool → ℕ → Bool
 is_code None mark scan = false

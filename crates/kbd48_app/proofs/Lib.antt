@@ -17,6 +17,9 @@ pub mod Lines
 pub mod Puts
 pub mod Certs
 pub mod Runs
+pub mod Alike
+pub mod OneText
+pub mod PrintAlike
 pub mod Printed
 pub mod RunExits
 pub mod Caused

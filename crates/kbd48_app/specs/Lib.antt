@@ -9,6 +9,7 @@ pub mod TranslationLaw
 pub mod RunTexts
 pub mod Plans
 pub mod Answers
+pub mod PrintAlike
 pub mod Fetching
 pub mod Says
 pub mod Reached

@@ -5,6 +5,7 @@ use Rattle.key_file.specs.Histories.{KeyHistory}
 use Rattle.layout_reader.specs.Layouts.{KeyLayout}
 use Rattle.link_model.specs.Expected.{expected_log}
 use Rattle.mcs48_core.specs.StateText.{state_text_of}
+use Rattle.subsystem.specs.Agreement.{IsExpected}
 use Rattle.subsystem.specs.Running.{IsRun, story}
 use Rattle.subsystem.specs.Texts.{log_text}
 use Rattle.subsystem.specs.declared.outcome.Run.{Run}
@@ -34,7 +35,9 @@ abbrev pub text_of_run : RunCommand → KeyLayout → KeyHistory → Run → Lis
 text_of_run (Log ticks steps) layout history run = run_text ticks steps run
 text_of_run Expect layout history run = expected_text layout history run
 
--- the text is the one of the run of the layout's compiled image under this history
+-- the text is the one of the run of the layout's compiled image under this history, whose log is the one that the model
+-- expects at the run's own tick starts
 abbrev pub IsRunText : RunCommand → KeyLayout → KeyHistory → List ℕ → Type 0
 IsRunText command layout history text =
-    (run : Run) × IsRun (story (image_of layout) history) run × (text ≡ text_of_run command layout history run)
+    (run : Run) × IsRun (story (image_of layout) history) run × IsExpected layout history run
+    × (text ≡ text_of_run command layout history run)

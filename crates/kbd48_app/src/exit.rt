@@ -21,7 +21,7 @@ impl Exit {
 
     /// The exit status of the process.
     pub fn status(self) -> u8
-        ensures { result ≡ status_of self }
+        ensures status { result ≡ status_of self }
     {
         match self {
             Exit::Done => 0,

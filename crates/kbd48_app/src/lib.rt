@@ -22,6 +22,6 @@ mod top;
 mod words;
 
 pub use exit::Exit;
-pub use law::{each_key_gives_its_scan_code, list_and_asm_are_inverse};
+pub use law::{each_key_gives_its_scan_code, list_and_asm_are_inverse, run_and_expect_print_alike};
 pub use top::kbd48;
 pub use words::form;

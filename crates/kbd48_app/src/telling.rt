@@ -95,7 +95,7 @@ fn text_of_run(
     layout: &Layout,
     history: &History,
 ) -> Result<Vec<u8>, AllocError>
-    requires { IsAcceptedFor layout.now history.now }
+    requires accepted { IsAcceptedFor layout.now history.now }
     ensures { IfOk result (λ text. IsRunText command layout.now history.now text.items) }
 {
     let run = run(alloc, layout, history)?;
@@ -112,7 +112,7 @@ pub fn tell(
     layout: &Layout,
     history: &History,
 ) -> Result<Vec<u8>, Refusal>
-    requires { IsAcceptedFor layout.now history.now }
+    requires accepted { IsAcceptedFor layout.now history.now }
     ensures { MayAnswerRun command layout.now history.now (answer_of result) }
 {
     match text_of_run(alloc, command, layout, history) {

@@ -232,7 +232,7 @@ pub fn read_command(words: &[String]) -> Option<Command>
 
 /// Whether the words that follow the program's name have one of the accepted forms. It takes no memory.
 pub fn form(words: &[String]) -> bool
-    ensures { result ≡ is_form (map string_bytes words.now) }
+    ensures form { result ≡ is_form (map string_bytes words.now) }
 {
     read_command(words).is_some()
 }

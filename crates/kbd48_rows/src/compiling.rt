@@ -2,8 +2,11 @@
 
 use crate::rows::{Row, check};
 use fw_kernel::labels::{
-    DONE, EDGES, GOT, IDLE, INHIBITED, LAMPS, LOOKS, OFFER, PULLED, READ, SCAN, SEND, START,
-    TESTED, TICK, WAIT,
+    AGAIN, BEGIN, BEGINS, CLEAR, COLUMN, COMMAND, CUT, DEFAULT, DONE, DROP, EDGE, EDGES, ENDS,
+    ENTER, ENTER2, ENTERED, FIRE, FOOT, GOT, IDLE, INHIBITED, LAMPS, LOOKS, MORE, MOVED, O_DUE,
+    OFFER, PARAMETER, POWER, PRESS, PULLED, R_ACK, R_CELL, R_PARITY, R_STOP, READ, READY, RECEIVE,
+    RELEASE, REPEAT, RESET, REST, ROW, ROWS, S_CELL, S_STOP, SCAN, SEND, SENT, START, TESTED,
+    TESTING, TICK, WAIT, WAITING,
 };
 use fw_kernel::{KERNEL, SOURCE};
 use kbd48_app::Exit;
@@ -11,7 +14,7 @@ use mcs48_asm::assemble;
 use std::test::Fail;
 
 /// Layouts that are refused, each with its first fault.
-static ROWS: [Row; 14] = [
+static REFUSED: [Row; 14] = [
     Row {
         words: &["compile", "f"],
         file: "format = 1\n[[key]]\nkey = \"a\"\ncolumn = 0\nrow = 0\n[[key]]\nkey = \"s\"\ncolumn = 0\nrow = 0\n",
@@ -101,7 +104,7 @@ static ROWS: [Row; 14] = [
 
 #[test]
 fn rows_print_their_text(rt: HostRuntime) -> Result<(), Fail> {
-    check(&rt, rt.alloc(), &ROWS)?;
+    check(&rt, rt.alloc(), &REFUSED)?;
     Ok(())
 }
 
@@ -131,7 +134,7 @@ fn the_source_is_the_kernels(rt: HostRuntime) -> Result<(), Fail> {
 }
 
 /// The labels' names and places.
-static LABELS: [(&str, u16); 16] = [
+static LABELS: [(&str, u16); 55] = [
     ("tick", TICK),
     ("read", READ),
     ("offer", OFFER),
@@ -139,15 +142,54 @@ static LABELS: [(&str, u16); 16] = [
     ("tested", TESTED),
     ("looks", LOOKS),
     ("send", SEND),
+    ("s_cell", S_CELL),
+    ("s_stop", S_STOP),
+    ("cut", CUT),
     ("inhibited", INHIBITED),
     ("idle", IDLE),
     ("got", GOT),
+    ("o_due", O_DUE),
     ("pulled", PULLED),
+    ("testing", TESTING),
     ("start", START),
+    ("begin", BEGIN),
     ("wait", WAIT),
+    ("receive", RECEIVE),
+    ("r_cell", R_CELL),
+    ("r_parity", R_PARITY),
+    ("r_stop", R_STOP),
+    ("r_ack", R_ACK),
+    ("command", COMMAND),
+    ("parameter", PARAMETER),
+    ("waiting", WAITING),
+    ("ready", READY),
+    ("sent", SENT),
+    ("drop", DROP),
+    ("reset", RESET),
+    ("default", DEFAULT),
+    ("clear", CLEAR),
     ("scan", SCAN),
+    ("repeat", REPEAT),
+    ("fire", FIRE),
+    ("again", AGAIN),
+    ("rest", REST),
+    ("power", POWER),
     ("edges", EDGES),
+    ("column", COLUMN),
+    ("more", MORE),
     ("done", DONE),
+    ("moved", MOVED),
+    ("rows", ROWS),
+    ("row", ROW),
+    ("edge", EDGE),
+    ("press", PRESS),
+    ("begins", BEGINS),
+    ("enter", ENTER),
+    ("release", RELEASE),
+    ("ends", ENDS),
+    ("enter2", ENTER2),
+    ("entered", ENTERED),
+    ("foot", FOOT),
 ];
 
 /// A jump to each label, assembled behind the source, goes to the place that its constant gives.
@@ -156,18 +198,19 @@ fn each_label_has_its_place(rt: HostRuntime) -> Result<(), Fail> {
     let alloc = rt.alloc();
     let mut text = String::from_str(alloc, SOURCE)?;
     text.push_str("\n ORG 700H\n")?;
-    for (name, _) in LABELS {
+    for (name, _) in &LABELS {
         text.push_str(" JMP ")?;
         text.push_str(name)?;
         text.push_str("\n")?;
     }
     assert!(rt; text.len() < 32_768);
     let image = assemble(alloc, text.as_bytes())?;
-    for index in 0..LABELS.len() {
-        let (name, place) = LABELS[index];
-        let at = 0x700 + 2 * index;
-        assert_eq!(rt; image.bytes[at], (place / 256 * 32 + 4) as u8, "{name}");
-        assert_eq!(rt; image.bytes[at + 1], (place % 256) as u8, "{name}");
+    let mut bytes = image.bytes[0x700..].iter();
+    for (name, place) in &LABELS {
+        let first = bytes.next().map(|byte| u16::from(*byte));
+        let second = bytes.next().map(|byte| u16::from(*byte));
+        assert_eq!(rt; first, Some(*place / 256 * 32 + 4), "{}", name);
+        assert_eq!(rt; second, Some(*place % 256), "{}", name);
     }
     Ok(())
 }

@@ -33,10 +33,10 @@ fn tick_and_wait_are_labels_of_the_source(rt: HostRuntime) -> Result<(), Fail> {
     Ok(())
 }
 
-/// The n-th tick begins at cycle 4,096 + 2,048 n, or at most five cycles later. Both wires stay released, and all lights
-/// out.
+/// The n-th tick begins at cycle 4,096 + 2,048 n, or at most five cycles later. Until the power-on test has ended both
+/// wires stay released, and all lights out.
 #[test]
-fn ticks_keep_the_cadence_and_pull_no_wire(rt: HostRuntime) {
+fn ticks_keep_the_cadence_and_pull_no_wire_in_the_test(rt: HostRuntime) {
     let image = Image { bytes: KERNEL };
     let mut mcu = reset();
     let mut cycle: u64 = 0;
@@ -52,7 +52,9 @@ fn ticks_keep_the_cadence_and_pull_no_wire(rt: HostRuntime) {
         let cycles = mcu.step(&image, HIGH).unwrap_or(0);
         assert!(rt; cycles > 0, "no instruction at {}", mcu.pc);
         cycle = cycle.saturating_add(u64::from(cycles));
-        assert_eq!(rt; (mcu.p2, mcu.bus), (0xff, 0xff));
+        if ticks <= 64 {
+            assert_eq!(rt; (mcu.p2, mcu.bus), (0xff, 0xff));
+        }
     }
     assert!(rt; ticks >= 300, "only {ticks} ticks");
 }

@@ -95,6 +95,14 @@ impl Outcome {
             .split(|byte| *byte == b'\n')
             .any(|taken| taken.starts_with(start.as_bytes()))
     }
+
+    /// The sink took a line that ends so.
+    pub fn has_line_to(&self, end: &str) -> bool {
+        self.sink
+            .taken()
+            .split(|byte| *byte == b'\n')
+            .any(|taken| taken.ends_with(end.as_bytes()))
+    }
 }
 
 impl Row {

@@ -42,7 +42,7 @@ fn outcome_of(alloc: Global, words: &[&str], keys: &[u8]) -> Result<Outcome, All
     run(alloc, words, &mut shelf, 8192, &[])
 }
 
-/// Runs each key file, and compares what is printed with the log beside it.
+/// Runs each key file, or asks the model, and compares what is printed with the log beside it.
 fn check(
     rt: &impl Abort,
     alloc: Global,
@@ -57,16 +57,12 @@ fn check(
     Ok(())
 }
 
-/// Keys that go down and up, and the model's log.
-static TYPED: [(&str, &str); 7] = [
+/// Keys that go down and up, and the log.
+static TYPED: [(&str, &str); 4] = [
     ("400ms end", "64 port AA\n"),
     (
         "400ms press a\n500ms release a\n600ms end",
         "64 port AA\n80 port 1E\n80 word 1E61\n100 port 9E\n",
-    ),
-    (
-        "400ms press a\n1100ms release a\n1200ms end",
-        "64 port AA\n80 port 1E\n80 word 1E61\n178 port 1E\n178 word 1E61\n198 port 1E\n198 word 1E61\n217 port 9E\n",
     ),
     (
         "400ms press lshift\n400ms press a\n430ms end",
@@ -75,6 +71,14 @@ static TYPED: [(&str, &str); 7] = [
     (
         "400ms press q\n400ms press w\n400ms press e\n400ms press r\n600ms end",
         "64 port AA\n80 port 10\n80 word 1071\n81 port 11\n81 word 1177\n82 port 12\n82 word 1265\n83 port 13\n83 word 1372\n",
+    ),
+];
+
+/// A key that repeats, one that is down for the least time, and one that goes down in the power-on test.
+static HELD: [(&str, &str); 3] = [
+    (
+        "400ms press a\n1100ms release a\n1200ms end",
+        "64 port AA\n80 port 1E\n80 word 1E61\n178 port 1E\n178 word 1E61\n198 port 1E\n198 word 1E61\n217 port 9E\n",
     ),
     (
         "160000 press a\n162240 release a\n600ms end",
@@ -102,8 +106,8 @@ static MORE_TYPED: [(&str, &str); 3] = [
     ),
 ];
 
-/// The host's commands to the keyboard and to the controller.
-static COMMANDS: [(&str, &str); 7] = [
+/// The host's commands to the keyboard.
+static COMMANDS: [(&str, &str); 5] = [
     (
         "400ms press a\n164110 write60 ED\n430ms write60 02\n500ms release a\n600ms end",
         "64 port AA\n82 port FA\n83 port 1E\n83 word 1E61\n85 lights 2\n85 port FA\n100 port 9E\n",
@@ -121,6 +125,10 @@ static COMMANDS: [(&str, &str); 7] = [
         "401ms write60 FE\n450ms write60 FE\n600ms end",
         "64 port AA\n80 port AA\n89 port AA\n",
     ),
+];
+
+/// The host's commands to the controller.
+static CONTROLLED: [(&str, &str); 2] = [
     (
         "401ms mask\n401ms write64 20\n402ms status\n402ms read60\n410ms status\n450ms end",
         "64 port AA\n78 status 1D\n78 read 45\n80 status 1C\n",
@@ -131,15 +139,51 @@ static COMMANDS: [(&str, &str); 7] = [
     ),
 ];
 
+/// Key files about the controller alone, before the keyboard says anything.
+static EARLY: [(&str, &str); 4] = [
+    ("0 end", ""),
+    ("0 write64 AA\n10ms end", "0 port 55\n"),
+    ("0 write64 D1\n0 write60 CD\n10ms end", "0 output CD\n"),
+    (
+        "1 mask\n1 write64 20\n401 status\n402 read60\n403 status\n10ms end",
+        "0 status 1D\n0 read 45\n0 status 1C\n",
+    ),
+];
+
 #[test]
-fn the_model_tells_of_keys(rt: HostRuntime) -> Result<(), Fail> {
-    check(&rt, rt.alloc(), "expect", &TYPED)?;
+fn the_run_tells_of_keys(rt: HostRuntime) -> Result<(), Fail> {
+    check(&rt, rt.alloc(), "run", &TYPED)?;
     Ok(())
 }
 
 #[test]
-fn the_model_tells_of_more_keys(rt: HostRuntime) -> Result<(), Fail> {
-    check(&rt, rt.alloc(), "expect", &MORE_TYPED)?;
+fn the_run_tells_of_held_keys(rt: HostRuntime) -> Result<(), Fail> {
+    check(&rt, rt.alloc(), "run", &HELD)?;
+    Ok(())
+}
+
+#[test]
+fn the_run_tells_of_more_keys(rt: HostRuntime) -> Result<(), Fail> {
+    check(&rt, rt.alloc(), "run", &MORE_TYPED)?;
+    Ok(())
+}
+
+#[test]
+fn the_run_tells_of_commands(rt: HostRuntime) -> Result<(), Fail> {
+    check(&rt, rt.alloc(), "run", &COMMANDS)?;
+    Ok(())
+}
+
+#[test]
+fn the_run_tells_of_the_controller(rt: HostRuntime) -> Result<(), Fail> {
+    check(&rt, rt.alloc(), "run", &CONTROLLED)?;
+    check(&rt, rt.alloc(), "run", &EARLY)?;
+    Ok(())
+}
+
+#[test]
+fn the_model_tells_of_keys(rt: HostRuntime) -> Result<(), Fail> {
+    check(&rt, rt.alloc(), "expect", &TYPED)?;
     Ok(())
 }
 
@@ -169,27 +213,7 @@ fn the_sixteenth_word_beeps(rt: HostRuntime) -> Result<(), Fail> {
     }
     keys.push_str("492544 take\n501760 end")?;
     log.push_str("231 port 1E\n231 beep\n237 port 9E\n240 taken 1E61\n")?;
-    let outcome = outcome_of(alloc, &["expect", "us84", "keys"], keys.as_bytes())?;
-    assert_eq!(rt; outcome.exit, Exit::Done);
-    assert!(rt; outcome.printed(log.as_str()));
-    Ok(())
-}
-
-/// Key files, and the log of the real run. The kernel of now sends nothing, so they are about the controller alone.
-static RUNS: [(&str, &str); 4] = [
-    ("0 end", ""),
-    ("0 write64 AA\n10ms end", "0 port 55\n"),
-    ("0 write64 D1\n0 write60 CD\n10ms end", "0 output CD\n"),
-    (
-        "1 mask\n1 write64 20\n401 status\n402 read60\n403 status\n10ms end",
-        "0 status 1D\n0 read 45\n0 status 1C\n",
-    ),
-];
-
-#[test]
-fn the_run_tells_its_log(rt: HostRuntime) -> Result<(), Fail> {
-    check(&rt, rt.alloc(), "run", &RUNS)?;
-    check(&rt, rt.alloc(), "expect", &RUNS)?;
+    check(&rt, alloc, "run", &[(keys.as_str(), log.as_str())])?;
     Ok(())
 }
 
@@ -212,8 +236,22 @@ fn tick_starts_and_the_end_are_told(rt: HostRuntime) -> Result<(), Fail> {
         assert_eq!(rt; both.exit, Exit::Done);
         assert!(rt; both.begins_with(ticks.sink.taken()));
         assert!(rt; both.has_line_from("pc "));
+        assert!(rt; both.has_line_to(" run timer ext off tim on rq 0 svc 1"));
         assert!(rt; both.ends_with(format!(in alloc; " cycles {end}\n")?.as_bytes()));
     }
+    Ok(())
+}
+
+/// The log's second line is refused by the sink: what it took is the first line.
+#[test]
+fn a_sink_that_fails_keeps_whole_lines(rt: HostRuntime) -> Result<(), Fail> {
+    let alloc = rt.alloc();
+    let layout = sample_layout(alloc)?;
+    let keys = b"400ms press a\n500ms release a\n600ms end";
+    let mut shelf = shelf_for(alloc, layout.as_str(), keys, &[])?;
+    let outcome = run(alloc, &["run", "us84", "keys"], &mut shelf, 4096, &[2])?;
+    assert_eq!(rt; outcome.exit, Exit::Write);
+    assert!(rt; outcome.printed("64 port AA\n"));
     Ok(())
 }
 

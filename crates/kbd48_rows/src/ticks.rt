@@ -2,9 +2,11 @@
 
 use arrayvec::ArrayVec;
 use board_lines::{Edge, Place};
-use fw_logic::{at_tick, bare_kernel};
+use fw_kernel::KERNEL;
+use fw_logic::at_tick;
 use int09::Bios;
 use joint_run::{Due, Joint};
+use mcs48_isa::Image;
 use std::test::Fail;
 
 /// Steps to the next tick start, and drops the edges once they are made.
@@ -29,7 +31,7 @@ fn to_next_start(joint: &mut Joint, due: &mut Due) -> Result<(), Fail> {
 /// the changed ones show it, at start 2 the held ones alone. Both wires and all lights stay released.
 #[test]
 fn first_ticks_with_a_key(rt: HostRuntime) -> Result<(), Fail> {
-    let mut joint = Joint::power_on(&bare_kernel(), Bios::new(rt.alloc())?);
+    let mut joint = Joint::power_on(&Image { bytes: KERNEL }, Bios::new(rt.alloc())?);
     let mut due = Due {
         edges: ArrayVec::new(),
         host: ArrayVec::new(),

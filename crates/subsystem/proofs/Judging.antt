@@ -6,6 +6,7 @@ use Rattle.std.proofs.lemmas.List.{append-nil, get_or_append_left}
 use Rattle.std.proofs.Math.Seq.{get_or-append_seam}
 use Rattle.std.specs.declared.option.Option.{Option}
 use Rattle.board_lines.specs.Cadence.{listed}
+use Rattle.joint_run.specs.declared.due.Seen.{Seen}
 use Rattle.joint_run.specs.declared.machine.Machine.{Machine}
 use Rattle.joint_run.specs.Joint.{Beside, joint_board, joint_start, log_of}
 use Rattle.joint_run.specs.Run.{World, run_at}
@@ -99,16 +100,13 @@ pub early : (s : Story) (joint : Machine) (feed : Feed) (h : IsStanding s joint 
 early s joint feed h t true tells cycle e = let a = in_time s joint feed h t true tells refl in inr (omega (arith, a, e))
 early s joint feed h t false tells cycle e = inl refl
 
-abbrev parts : Machine → Feed → Account → Progress
-parts joint feed account = record { joint = joint; feed = feed; account = account }
+same_parts : (q : Progress) (joint : Machine) (feed : Feed) → q.joint ≡ joint → q.feed ≡ feed → record q { joint = joint; feed = feed } ≡ q
+same_parts q joint feed e h = ap (λ (v : Machine). record q { joint = v; feed = feed }) (sym e) ∙ ap (λ (v : Feed). record q { feed = v }) (sym h)
 
-same_parts : (a b : Machine) (f g : Feed) (x : Account) → a ≡ b → f ≡ g → parts b g x ≡ parts a f x
-same_parts a b f g x e h = ap (λ (v : Machine). parts v g x) (sym e) ∙ ap (λ (v : Feed). parts a v x) (sym h)
-
-judged_with : (s : Story) (p : Progress) (q : Account) → (h : IsSoFar s p) (b over : Bool) → b ≡ starts_tick s h.stands.world → (b ≡ true → 4096 ≤ p.joint.cycle)
+judged_with : (s : Story) (p : Progress) (q : Account) (seen : Seen) → (h : IsSoFar s p) (b over : Bool) → b ≡ starts_tick s h.stands.world → (b ≡ true → 4096 ≤ p.joint.cycle)
     → over ≡ (b && nat_le (4096 + s.stop) p.joint.cycle) → q.log ≡ p.account.log → q.starts.items ≡ with_start b p.joint.cycle p.account.starts.items
-    → IsJudged s over (record p { account = q })
-judged_with s p q h b over tells early e log starts = record {
+    → IsJudged s over (record p { account = q; seen = seen })
+judged_with s p q seen h b over tells early e log starts = record {
   stands = h.stands;
   told = told_by s p.joint p.feed h.stands p.account q h.told b tells early log starts;
   over_so = sym (e ∙ ap (λ c. c && nat_le (4096 + s.stop) p.joint.cycle) tells ∙ ap (λ (n : ℕ). starts_tick s h.stands.world && nat_le (4096 + s.stop) n) h.stands.in_run.cycle);
@@ -118,4 +116,4 @@ pub judged_so : (s : Story) (p q : Progress) (h : IsSoFar s p) (b over : Bool) �
     → over ≡ (b && nat_le (4096 + s.stop) p.joint.cycle) → q.joint ≡ p.joint → q.feed ≡ p.feed → q.account.log ≡ p.account.log
     → q.account.starts.items ≡ with_start b p.joint.cycle p.account.starts.items → IsJudged s over q
 judged_so s p q h b over tells early e joint feed log starts =
-    subst (λ (v : Progress). IsJudged s over v) (same_parts q.joint p.joint q.feed p.feed q.account joint feed) (judged_with s p q.account h b over tells early e log starts)
+    subst (λ (v : Progress). IsJudged s over v) (same_parts q p.joint p.feed joint feed) (judged_with s p q.account q.seen h b over tells early e log starts)

@@ -1,4 +1,6 @@
 pub mod Advancing
+pub mod Agreed
+pub mod Alike
 pub mod Beginning
 pub mod Counts
 pub mod Ending

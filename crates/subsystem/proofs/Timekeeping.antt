@@ -97,11 +97,11 @@ module _ (s : Story) (t : KeepsTime s.bytes s.edges s.events) where
       ] refl
 
   -- the starts that are told are the run's, by their numbers
-  abbrev Numbered : ℕ → Type 0
+  abbrev pub Numbered : ℕ → Type 0
   Numbered k = (length (starts_among s k) ≡ starts_before (joint_board s.edges s.events) TICK s.bytes joint_start k)
       × ((j : ℕ) → j < length (starts_among s k) → IsStart (joint_board s.edges s.events) TICK s.bytes joint_start j (listed (starts_among s k) j))
 
-  numbered : (k : ℕ) → Numbered k
+  pub numbered : (k : ℕ) → Numbered k
   numbered zero = (refl, λ j l. absurd (omega (arith, l)))
   numbered (suc k) =
       let d = joint_board s.edges s.events in

@@ -1,4 +1,5 @@
 pub mod Account
+pub mod Agreement
 pub mod Feed
 pub mod Progress
 pub mod Running

@@ -2,16 +2,19 @@
 //!
 //! This layer knows where a run begins and ends, which of its steps are tick starts, and how the log is written. It makes
 //! the one joint run: the history's events are handed to the joint machine as they come near, and what it says is kept
-//! with its tick. It knows no instruction, no wire and no rule of the keyboard. Source: our own.
+//! with its tick. That the log is the one which the model expects is a law of the layer below. It knows no instruction, no
+//! wire and no rule of the keyboard. Source: our own.
 #![tactic(auto)]
 
 mod account;
 mod feed;
+mod law;
 mod outcome;
 mod printing;
 mod progress;
 mod running;
 
+pub use law::{runs_are_alike, runs_are_expected};
 pub use link_model::LogLine;
 pub use outcome::Run;
 pub use printing::print_log;

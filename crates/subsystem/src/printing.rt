@@ -21,7 +21,7 @@ fn push_line(text: &mut Vec<u8>, line: LogLine) -> Result<(), AllocError>
 /// The text of a log: a line an item, `TICK ITEM`, in upper-case hexadecimal but for the tick, which is decimal. An error
 /// where memory runs out.
 pub fn print_log(alloc: Global, log: &[LogLine]) -> Result<Vec<u8>, AllocError>
-    ensures { IfOk result (λ text. text.items ≡ log_text log.now) }
+    ensures text { IfOk result (λ text. text.items ≡ log_text log.now) }
 {
     let mut text = Vec::new(alloc);
     for line in log {

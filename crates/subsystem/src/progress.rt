@@ -10,17 +10,18 @@ use crate::account::Account;
 use crate::feed::Feed;
 use fw_logic::at_tick;
 use int09::Bios;
-use joint_run::Joint;
+use joint_run::{Joint, Seen};
 use key_file::History;
 use mcs48_isa::Image;
 use std::alloc::{AllocError, Global};
 
-/// The joint machine, the events to come, and what is told so far.
+/// The joint machine, the events to come, what is told so far, and what the last step did.
 #[derive(Drop)]
 pub struct Progress {
     pub joint: Joint,
     pub feed: Feed,
     pub account: Account,
+    pub seen: Seen,
 }
 
 /// Whether a run with this end stamp is over at a cycle, at which a tick starts or not.
@@ -41,6 +42,7 @@ impl Progress {
             joint: Joint::power_on(image, bios),
             feed: Feed::new(history.edges(), history.host()),
             account: Account::new(alloc),
+            seen: Seen::nothing(),
         }
     }
 
@@ -84,12 +86,12 @@ impl Progress {
     {
         let edges = history.edges();
         let events = history.host();
-        match self.joint.step(&self.feed.due) {
+        match self.joint.step_into(&self.feed.due, &mut self.seen) {
             // The kernel never comes to a byte without an instruction.
             Err(_stuck) => unreachable!(),
-            Ok(seen) => {
-                self.feed.count(edges, events, &seen);
-                self.account.note(seen.items.as_slice())?;
+            Ok(()) => {
+                self.feed.count(edges, events, &self.seen);
+                self.account.note(self.seen.items.as_slice())?;
                 Ok(())
             }
         }

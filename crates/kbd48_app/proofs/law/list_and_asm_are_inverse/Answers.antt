@@ -8,9 +8,11 @@ use Rattle.kbd48_app.specs.Plans.{of_image, assembled}
 use Rattle.kbd48_app.proofs.law.list_and_asm_are_inverse.Goals as goal
 
 pub returns : goal.returns
-returns c memory is = (
-  ap (of_image (λ image. Ok (listing_of image))) (text_back memory is.0 is.1),
-  omega (arith, text_short memory),
-  ap assembled (round_trip memory is.0 is.1),
-  omega (arith, listing-within memory is.0),
-)
+returns c = record {
+  inverse = λ memory is. (
+    ap (of_image (λ image. Ok (listing_of image))) (text_back memory is.0 is.1),
+    omega (arith, text_short memory),
+    ap assembled (round_trip memory is.0 is.1),
+    omega (arith, listing-within memory is.0),
+  );
+}

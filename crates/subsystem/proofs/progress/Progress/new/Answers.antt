@@ -9,5 +9,5 @@ returns c =
     let h = c.args.history.now in
     let fed : IsFed h.edges h.host c.new.result =
     subst (λ v. IsFed h.edges v c.new.result) c.host.ensures.host (subst (λ v. IsFed v c.host.result.now c.new.result) c.edges.ensures.edges c.new.ensures.fed) in
-    begins (story c.args.image.now.bytes h) (record { joint = c.power_on.result; feed = c.new.result; account = c.new-2.result })
+    begins (story c.args.image.now.bytes h) (record { joint = c.power_on.result; feed = c.new.result; account = c.new-2.result; seen = c.nothing.result })
     c.power_on.ensures.parts c.power_on.ensures.run fed c.new.ensures.made c.new.ensures.done c.new-2.ensures.log c.new-2.ensures.starts

@@ -1,0 +1,18 @@
+use Rattle.fw_compile.specs.Image.{image_of}
+use Rattle.link_model.specs.Machine.{keyboard}
+use Rattle.subsystem.specs.Running.{story}
+use Rattle.subsystem.proofs.Agreed.{log_as_expected}
+use Rattle.subsystem.proofs.Timekeeping.{keeps_cadence}
+use Rattle.subsystem.proofs.law.runs_are_expected.Goals as goal
+
+pub returns : goal.returns
+returns c = record {
+  expected =
+      λ layout history run sound accepted is.
+      let law = c.run_and_model_agree.ensures.agreement layout history sound accepted in
+      let s = story (image_of layout) history in
+      record {
+        log = log_as_expected (keyboard layout) s law.0 law.1 run is;
+        cadence = keeps_cadence s law.0 run is;
+      };
+}

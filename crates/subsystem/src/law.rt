@@ -1,0 +1,37 @@
+//! Laws of every run, each the contract of a function that does nothing.
+
+ghost use Rattle.fw_compile.specs.Image.{image_of};
+ghost use Rattle.fw_logic.specs.JointRun.{KeepsTime};
+ghost use Rattle.key_file.specs.Accepted.{IsAccepted};
+ghost use Rattle.layout_reader.specs.Layouts.{IsKeyLayout};
+ghost use Rattle.subsystem.specs.Agreement.{RunsAreAlike, RunsAsExpected};
+
+use agreement::run_and_model_agree;
+use key_file::History;
+use layout_reader::Layout;
+
+/// Every run of a layout's compiled image under an accepted history gives the log that the model expects where its ticks
+/// start when the run's do, and these starts keep the cadence. Nothing is done when it is called; the law is its contract.
+pub fn runs_are_expected()
+    ensures expected { RunsAsExpected }
+{
+    run_and_model_agree();
+}
+
+/// A program, edges of keys, events of the host and an end stamp have one run: two runs of them tell the same. Nothing is
+/// done when it is called; the law is its contract.
+pub fn runs_are_alike()
+    ensures alike { RunsAreAlike }
+{}
+
+/// The image of a layout keeps its time under a history. Each layout and each history is one of which the laws speak.
+pub(crate) fn keeps_time(layout: &Layout, history: &History)
+    ensures layout { IsKeyLayout layout.now }
+    ensures history { IsAccepted history.now }
+    ensures time { KeepsTime (image_of layout.now) history.now.edges history.now.host }
+{
+    let _ = layout.rate();
+    let _ = layout.entries();
+    let _ = history.end();
+    run_and_model_agree();
+}
