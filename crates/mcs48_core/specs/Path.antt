@@ -27,14 +27,16 @@ abbrev pub program : List ℕ
 program =
     -- 00: MOV A,#1; ADD A,#1; CLR F0; CALL 30H; MOV R0,#20H; MOV A,R3; MOV @R0,A; ADD A,R4; MOV R2,A; RLC A; XRL A,#55H
     35 ∷ 1 ∷ 3 ∷ 1 ∷ 133 ∷ 20 ∷ 48 ∷ 184 ∷ 32 ∷ 251 ∷ 160 ∷ 108 ∷ 170 ∷ 247 ∷ 211 ∷ 85 ∷
-    -- 10: OUTL P1,A; ANL P2,#0FBH; INS A,BUS; XCH A,R5; STRT T; MOV A,T; EN I; DIS I; MOV A,#40H; MOVP A,@A; JMPP @A; a table at 1E
+    -- 10: OUTL P1,A; ANL P2,#0FBH; INS A,BUS; XCH A,R5; STRT T; MOV A,T; EN I; DIS I; MOV A,#40H; MOVP A,@A; JMPP @A;
+    -- a table at 1E
     57 ∷ 154 ∷ 251 ∷ 8 ∷ 45 ∷ 85 ∷ 66 ∷ 5 ∷ 21 ∷ 35 ∷ 64 ∷ 163 ∷ 179 ∷ 0 ∷ 32 ∷ 0 ∷
     -- 20: INC A; JB0 26H; at 26: JNZ 28H; CPL F0; JF0 2BH; STOP TCNT; NOP
     23 ∷ 18 ∷ 38 ∷ 0 ∷ 0 ∷ 0 ∷ 150 ∷ 40 ∷ 149 ∷ 182 ∷ 43 ∷ 101 ∷ 0 ∷ 0 ∷ 0 ∷ 0 ∷
     -- 30: SEL RB1; MOV R0,#3; DJNZ R0,33H; SEL RB0; RET; a table at 40
     213 ∷ 184 ∷ 3 ∷ 232 ∷ 51 ∷ 197 ∷ 131 ∷ 0 ∷ 0 ∷ 0 ∷ 0 ∷ 0 ∷ 0 ∷ 0 ∷ 0 ∷ 0 ∷ 30 ∷ []
 
--- a processor at the program's start, with an unknown memory; the accumulator, the flags, the timer and the latches are unknown too
+-- a processor at the program's start, with an unknown memory; the accumulator, the flags, the timer and the latches are
+-- unknown too
 abbrev pub at_start : (ℕ → ℕ) → Cpu → Cpu
 at_start f m = record m {
   pc = 0;

@@ -35,7 +35,8 @@ counter_line m =
 -- timer, prescaler, timer flag, and how the timer runs
 abbrev pub timer_fields : Cpu → List ℕ
 timer_fields m =
-    codes "t " ++ hex_byte m.t ++ codes " pre " ++ hex_byte m.pre ++ codes " tf " ++ flag m.tf ++ codes " run " ++ run_word m.run
+    codes "t " ++ hex_byte m.t ++ codes " pre " ++ hex_byte m.pre ++ codes " tf " ++ flag m.tf
+    ++ codes " run " ++ run_word m.run
 
 -- timer and interrupts
 abbrev pub timer_line : Cpu → List ℕ
@@ -45,7 +46,8 @@ timer_line m =
 
 -- the latches
 abbrev pub latch_line : Cpu → List ℕ
-latch_line m = codes "p1 " ++ hex_byte m.p1 ++ codes " p2 " ++ hex_byte m.p2 ++ codes " bus " ++ hex_byte m.bus ++ line_end
+latch_line m =
+    codes "p1 " ++ hex_byte m.p1 ++ codes " p2 " ++ hex_byte m.p2 ++ codes " bus " ++ hex_byte m.bus ++ line_end
 
 -- a register of the selected bank
 abbrev pub shown_register : ℕ → Cpu → List ℕ
@@ -63,4 +65,5 @@ count_line steps cycles = codes "steps " ++ decimal steps ++ codes " cycles " ++
 
 -- the whole text
 abbrev pub state_text_of : Cpu → ℕ → ℕ → List ℕ
-state_text_of m steps cycles = counter_line m ++ timer_line m ++ latch_line m ++ register_line m ++ count_line steps cycles
+state_text_of m steps cycles =
+    counter_line m ++ timer_line m ++ latch_line m ++ register_line m ++ count_line steps cycles

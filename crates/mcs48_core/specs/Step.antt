@@ -38,7 +38,10 @@ row_at bytes pc = row_of (slice_index bytes (pc % 2048)) (slice_index bytes ((pc
 -- the step of an instruction, if there is one
 abbrev pub executed : Option Decoded → List ℕ → Pins → Cpu → Option Stepped
 executed None bytes pins m = None
-executed (Some d) bytes pins m = Some (record { cpu = after_timer m.run d.cycles pins (effect d.op bytes pins (past m)); cycles = d.cycles })
+executed (Some d) bytes pins m = Some (record {
+  cpu = after_timer m.run d.cycles pins (effect d.op bytes pins (past m));
+  cycles = d.cycles;
+})
 
 -- the step of an interrupt's entry: two cycles, and no instruction
 abbrev pub entered : ℕ → Pins → Cpu → Stepped
@@ -66,4 +69,5 @@ stepped bytes pins m =
 -- what a call of `step` answers and leaves: without a step, the counter and the byte, and all unchanged
 abbrev pub IsStep : List ℕ → Cpu → Option Stepped → Result ℕ Stuck → Cpu → Type 0
 IsStep bytes old (Some next) result new = (result ≡ Ok next.cycles) × (new ≡ next.cpu)
-IsStep bytes old None result new = (result ≡ Err (record { pc = old.pc; byte = slice_index bytes (old.pc % 2048) })) × (new ≡ old)
+IsStep bytes old None result new =
+    (result ≡ Err (record { pc = old.pc; byte = slice_index bytes (old.pc % 2048) })) × (new ≡ old)

@@ -1,12 +1,12 @@
 //! The operations of the accumulator, the registers and the flags.
 
-ghost use Rattle.std.specs.Prelude.{◌≡◌, ◌+◌, ◌*◌, ◌/◌, ◌%◌};
+ghost use Rattle.std.specs.Prelude.{◌≡◌, ◌<◌, ◌+◌, ◌*◌, ◌/◌, ◌%◌};
 ghost use Rattle.mcs48_isa.specs.Operands.{IsAlu, IsUnary};
 ghost use Rattle.mcs48_core.specs.Status.{digit};
 ghost use Rattle.mcs48_core.specs.Arithmetic.{with_sum, added, added_with_carry, alu, adjusted, unary};
 
 use crate::processor::Mcu;
-use crate::registers::bit_of;
+use crate::registers::{bit_of, counted};
 use mcs48_isa::{AluOp, UnaryOp};
 
 impl Mcu {
@@ -35,43 +35,48 @@ impl Mcu {
         self.set_sum(sum, self.a % 16 + x % 16 + carry);
     }
 
-    /// Does an operation of A with an operand, with the counter behind its first byte.
-    pub(crate) fn operate(&mut self, op: AluOp)
-        requires { IsAlu op }
-        ensures { self.new ≡ alu op self.old }
+    /// Does an operation of A with an operand, with the counter `here`, behind its first byte. The answer is the next
+    /// counter.
+    #[inline(always)]
+    pub(crate) fn operate(&mut self, op: AluOp, here: u16) -> u16
+        requires operands { IsAlu op }
+        requires within { here < 4096 }
+        ensures state { record self.new { pc = result } ≡ alu op (record self.old { pc = here }) }
+        ensures counter { result < 4096 }
     {
         match op {
             AluOp::AddR(r) => self.add(self.register(r)),
             AluOp::AddI(i) => self.add(self.indirect(i)),
             AluOp::AddN(n) => {
-                self.advance();
                 self.add(n);
+                return counted(here);
             }
             AluOp::AddcR(r) => self.add_with_carry(self.register(r)),
             AluOp::AddcI(i) => self.add_with_carry(self.indirect(i)),
             AluOp::AddcN(n) => {
-                self.advance();
                 self.add_with_carry(n);
+                return counted(here);
             }
             AluOp::AnlR(r) => self.a &= self.register(r),
             AluOp::AnlI(i) => self.a &= self.indirect(i),
             AluOp::AnlN(n) => {
-                self.advance();
                 self.a &= n;
+                return counted(here);
             }
             AluOp::OrlR(r) => self.a |= self.register(r),
             AluOp::OrlI(i) => self.a |= self.indirect(i),
             AluOp::OrlN(n) => {
-                self.advance();
                 self.a |= n;
+                return counted(here);
             }
             AluOp::XrlR(r) => self.a ^= self.register(r),
             AluOp::XrlI(i) => self.a ^= self.indirect(i),
             AluOp::XrlN(n) => {
-                self.advance();
                 self.a ^= n;
+                return counted(here);
             }
         }
+        here
     }
 
     /// DA A: the decimal adjustment after an addition of two decimal numbers.
@@ -102,10 +107,13 @@ impl Mcu {
         self.a = self.a / 2 + if high { 128 } else { 0 };
     }
 
-    /// Does an operation on one value or flag.
-    pub(crate) fn change(&mut self, op: UnaryOp)
-        requires { IsUnary op }
-        ensures { self.new ≡ unary op self.old }
+    /// Does an operation on one value or flag, with the counter `here`, behind its byte. The answer is the next counter.
+    #[inline(always)]
+    pub(crate) fn change(&mut self, op: UnaryOp, here: u16) -> u16
+        requires operands { IsUnary op }
+        requires within { here < 4096 }
+        ensures state { record self.new { pc = result } ≡ unary op (record self.old { pc = here }) }
+        ensures counter { result < 4096 }
     {
         match op {
             UnaryOp::IncA => self.a = self.a.wrapping_add(1),
@@ -136,5 +144,6 @@ impl Mcu {
             UnaryOp::ClrF1 => self.f1 = false,
             UnaryOp::CplF1 => self.f1 = !self.f1,
         }
+        here
     }
 }

@@ -1,15 +1,18 @@
 //! Interrupts, banks, the timer's start and stop, and the clock output.
 
-ghost use Rattle.std.specs.Prelude.{◌≡◌};
+ghost use Rattle.std.specs.Prelude.{◌≡◌, ◌<◌};
 ghost use Rattle.mcs48_core.specs.Control.{control};
 
 use crate::processor::{Count, Mcu};
 use mcs48_isa::ControlOp;
 
 impl Mcu {
-    /// Does a control operation.
-    pub(crate) fn control(&mut self, op: ControlOp)
-        ensures { self.new ≡ control op self.old }
+    /// Does a control operation, with the counter `here`, behind its byte. The answer is the next counter.
+    #[inline(always)]
+    pub(crate) fn control(&mut self, op: ControlOp, here: u16) -> u16
+        requires within { here < 4096 }
+        ensures state { record self.new { pc = result } ≡ control op (record self.old { pc = here }) }
+        ensures counter { result < 4096 }
     {
         match op {
             ControlOp::Nop => {}
@@ -32,5 +35,6 @@ impl Mcu {
             ControlOp::StopTcnt => self.run = Count::Off,
             ControlOp::Ent0Clk => self.clk = true,
         }
+        here
     }
 }

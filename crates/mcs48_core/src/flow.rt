@@ -6,18 +6,21 @@ ghost use Rattle.mcs48_core.specs.Flow.{branch, bank_bit, pushed, popped_high, r
 
 use crate::levels::Pins;
 use crate::processor::Mcu;
-use crate::registers::bit_of;
+use crate::registers::{bit_of, counted, place_in_page};
 use mcs48_isa::{FlowOp, Image};
 
 impl Mcu {
-    /// Jumps in the page of the second byte where the condition holds, and goes on behind it otherwise.
-    fn jump_if(&mut self, holds: bool, to: u8)
-        ensures { self.new ≡ branch holds to self.old }
+    /// The next counter of a jump in the page of the second byte, which is taken where the condition holds.
+    #[inline(always)]
+    fn jump_if(&self, holds: bool, to: u8, here: u16) -> u16
+        requires { here < 4096 }
+        ensures next { record self.now { pc = result } ≡ branch holds to (record self.now { pc = here }) }
+        ensures counter { result < 4096 }
     {
         if holds {
-            self.pc = self.place_in_page(to);
+            place_in_page(here, to)
         } else {
-            self.advance();
+            counted(here)
         }
     }
 
@@ -29,13 +32,14 @@ impl Mcu {
         if self.mb && !self.svc { 1 } else { 0 }
     }
 
-    /// Pushes the counter and the high four bits of the status byte.
-    pub(crate) fn push(&mut self)
-        ensures { self.new ≡ pushed self.old }
+    /// Pushes a counter and the high four bits of the status byte.
+    pub(crate) fn push(&mut self, pc: u16)
+        requires { pc < 4096 }
+        ensures { self.new ≡ record (pushed (record self.old { pc = pc })) { pc = self.old.pc } }
     {
         let at = 8 + 2 * (self.psw % 8) as usize;
-        self.ram[at] = (self.pc % 256) as u8;
-        self.ram[at + 1] = self.psw / 16 * 16 + (self.pc / 256) as u8;
+        self.ram[at] = (pc % 256) as u8;
+        self.ram[at + 1] = self.psw / 16 * 16 + (pc / 256) as u8;
         self.psw = self.psw / 8 * 8 + (self.psw % 8 + 1) % 8;
     }
 
@@ -47,61 +51,66 @@ impl Mcu {
     }
 
     /// Pops the counter.
-    fn return_back(&mut self)
-        ensures { self.new ≡ returned self.old }
+    fn return_back(&mut self) -> u16
+        ensures state { record self.new { pc = result } ≡ returned self.old }
+        ensures kept { self.new.pc ≡ self.old.pc }
+        ensures counter { result < 4096 }
     {
         let sp = (self.psw % 8 + 7) % 8;
         let low = self.ram[8 + 2 * sp as usize];
         let high = self.ram[9 + 2 * sp as usize];
-        self.pc = (high % 16) as u16 * 256 + low as u16;
         self.psw = self.psw / 8 * 8 + sp;
+        (high % 16) as u16 * 256 + low as u16
     }
 
-    /// Makes a jump, a call or a return, with the counter behind its first byte.
-    pub(crate) fn redirect(&mut self, op: FlowOp, image: &Image, pins: &Pins)
-        requires { IsFlow op }
-        ensures { self.new ≡ flow op image.now.bytes pins.now self.old }
+    /// Makes a jump, a call or a return, with the counter `here`, behind its first byte. The answer is the next counter.
+    #[inline(always)]
+    pub(crate) fn redirect(&mut self, op: FlowOp, here: u16, image: &Image, pins: &Pins) -> u16
+        requires operands { IsFlow op }
+        requires within { here < 4096 }
+        ensures state { record self.new { pc = result } ≡ flow op image.now.bytes pins.now (record self.old { pc = here }) }
+        ensures counter { result < 4096 }
     {
         match op {
-            FlowOp::Jmp(to) => self.pc = 2048 * self.bank_bit() + to,
+            FlowOp::Jmp(to) => 2048 * self.bank_bit() + to,
             FlowOp::Call(to) => {
-                self.advance();
-                self.push();
-                self.pc = 2048 * self.bank_bit() + to;
+                self.push(counted(here));
+                2048 * self.bank_bit() + to
             }
             FlowOp::Ret => self.return_back(),
             FlowOp::Retr => {
                 let high = self.popped_high();
-                self.return_back();
+                let next = self.return_back();
                 self.set_high_status(high);
                 self.svc = false;
+                next
             }
             FlowOp::Jmpp => {
-                let at = (self.place_in_page(self.a) % 2048) as usize;
-                self.pc = self.place_in_page(image.bytes[at]);
+                let at = (place_in_page(here, self.a) % 2048) as usize;
+                place_in_page(here, image.bytes[at])
             }
             FlowOp::Djnz(r, to) => {
                 let left = self.register(r).wrapping_sub(1);
                 self.set_register(r, left);
-                self.jump_if(left != 0, to);
+                self.jump_if(left != 0, to, here)
             }
-            FlowOp::Jb(b, to) => self.jump_if(bit_of(self.a, b), to),
-            FlowOp::Jc(to) => self.jump_if(self.carry(), to),
-            FlowOp::Jnc(to) => self.jump_if(!self.carry(), to),
-            FlowOp::Jz(to) => self.jump_if(self.a == 0, to),
-            FlowOp::Jnz(to) => self.jump_if(self.a != 0, to),
-            FlowOp::Jt0(to) => self.jump_if(pins.t0, to),
-            FlowOp::Jnt0(to) => self.jump_if(!pins.t0, to),
-            FlowOp::Jt1(to) => self.jump_if(pins.t1, to),
-            FlowOp::Jnt1(to) => self.jump_if(!pins.t1, to),
-            FlowOp::Jf0(to) => self.jump_if(bit_of(self.psw, 5), to),
-            FlowOp::Jf1(to) => self.jump_if(self.f1, to),
+            FlowOp::Jb(b, to) => self.jump_if(bit_of(self.a, b), to, here),
+            FlowOp::Jc(to) => self.jump_if(self.carry(), to, here),
+            FlowOp::Jnc(to) => self.jump_if(!self.carry(), to, here),
+            FlowOp::Jz(to) => self.jump_if(self.a == 0, to, here),
+            FlowOp::Jnz(to) => self.jump_if(self.a != 0, to, here),
+            FlowOp::Jt0(to) => self.jump_if(pins.t0, to, here),
+            FlowOp::Jnt0(to) => self.jump_if(!pins.t0, to, here),
+            FlowOp::Jt1(to) => self.jump_if(pins.t1, to, here),
+            FlowOp::Jnt1(to) => self.jump_if(!pins.t1, to, here),
+            FlowOp::Jf0(to) => self.jump_if(bit_of(self.psw, 5), to, here),
+            FlowOp::Jf1(to) => self.jump_if(self.f1, to, here),
             FlowOp::Jtf(to) => {
                 let flag = self.tf;
                 self.tf = false;
-                self.jump_if(flag, to);
+                self.jump_if(flag, to, here)
             }
-            FlowOp::Jni(to) => self.jump_if(!pins.int_pin, to),
+            FlowOp::Jni(to) => self.jump_if(!pins.int_pin, to, here),
         }
     }
 }

@@ -1,12 +1,12 @@
 //! The data moves.
 
-ghost use Rattle.std.specs.Prelude.{◌≡◌, ◌%◌};
+ghost use Rattle.std.specs.Prelude.{◌≡◌, ◌<◌, ◌%◌};
 ghost use Rattle.mcs48_isa.specs.Operands.{IsMove};
 ghost use Rattle.mcs48_core.specs.Moves.{digits_of, move};
 ghost use Rattle.mcs48_core.specs.Status.{with_high_status};
 
 use crate::processor::Mcu;
-use crate::registers::status_of;
+use crate::registers::{counted, place_in_page, status_of};
 use mcs48_isa::{Image, MoveOp};
 
 /// The high digit of one byte with the low digit of another.
@@ -24,27 +24,30 @@ impl Mcu {
         self.psw = status_of(x, x % 8);
     }
 
-    /// Makes a data move, with the counter behind its first byte.
-    pub(crate) fn make_move(&mut self, op: MoveOp, image: &Image)
-        requires { IsMove op }
-        ensures { self.new ≡ move op image.now.bytes self.old }
+    /// Makes a data move, with the counter `here`, behind its first byte. The answer is the next counter.
+    #[inline(always)]
+    pub(crate) fn make_move(&mut self, op: MoveOp, here: u16, image: &Image) -> u16
+        requires operands { IsMove op }
+        requires within { here < 4096 }
+        ensures state { record self.new { pc = result } ≡ move op image.now.bytes (record self.old { pc = here }) }
+        ensures counter { result < 4096 }
     {
         match op {
             MoveOp::MovAN(n) => {
-                self.advance();
                 self.a = n;
+                return counted(here);
             }
             MoveOp::MovAR(r) => self.a = self.register(r),
             MoveOp::MovAI(i) => self.a = self.indirect(i),
             MoveOp::MovRA(r) => self.set_register(r, self.a),
             MoveOp::MovIA(i) => self.set_indirect(i, self.a),
             MoveOp::MovRN(r, n) => {
-                self.advance();
                 self.set_register(r, n);
+                return counted(here);
             }
             MoveOp::MovIN(i, n) => {
-                self.advance();
                 self.set_indirect(i, n);
+                return counted(here);
             }
             MoveOp::MovAPsw => self.a = self.status(),
             MoveOp::MovPswA => self.set_status(self.a),
@@ -66,12 +69,13 @@ impl Mcu {
                 self.a = digits_of(self.a, value);
             }
             MoveOp::Movp => {
-                let at = (self.place_in_page(self.a) % 2048) as usize;
+                let at = (place_in_page(here, self.a) % 2048) as usize;
                 self.a = image.bytes[at];
             }
             MoveOp::Movp3 => self.a = image.bytes[0x300 + self.a as usize],
             MoveOp::MovxAI(_) => self.a = 0xff,
             MoveOp::MovxIA(_) => {}
         }
+        here
     }
 }

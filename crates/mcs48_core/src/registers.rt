@@ -2,7 +2,7 @@
 
 ghost use Rattle.std.specs.Prelude.{◌≡◌, ◌<◌, ◌/◌, ◌%◌};
 ghost use Rattle.mcs48_core.specs.Status.{bit, psw_of, with_high_status};
-ghost use Rattle.mcs48_core.specs.Registers.{past, in_page, bank_start, register, with_register, indirect, with_indirect};
+ghost use Rattle.mcs48_core.specs.Registers.{counted, in_page, bank_start, register, with_register, indirect, with_indirect};
 
 use crate::processor::Mcu;
 
@@ -27,22 +27,25 @@ pub(crate) fn status_of(high: u8, sp: u8) -> u8
     high / 16 * 16 + 8 + sp
 }
 
+/// The counter one byte on; bit 11 stays.
+pub(crate) fn counted(pc: u16) -> u16
+    requires { pc < 4096 }
+    ensures count { result ≡ counted pc }
+    ensures within { result < 4096 }
+{
+    pc / 2048 * 2048 + (pc + 1) % 2048
+}
+
+/// The place n in the page that the counter is in.
+pub(crate) fn place_in_page(pc: u16, n: u8) -> u16
+    requires { pc < 4096 }
+    ensures place { result ≡ in_page pc n }
+    ensures within { result < 4096 }
+{
+    pc / 256 * 256 + n as u16
+}
+
 impl Mcu {
-    /// The counter goes on by one byte; bit 11 stays.
-    pub(crate) fn advance(&mut self)
-        ensures { self.new ≡ past self.old }
-    {
-        self.pc = self.pc / 2048 * 2048 + (self.pc + 1) % 2048;
-    }
-
-    /// The place n in the page that the counter is in.
-    pub(crate) fn place_in_page(&self, n: u8) -> u16
-        ensures place { result ≡ in_page self.now.pc n }
-        ensures within { result < 4096 }
-    {
-        self.pc / 256 * 256 + n as u16
-    }
-
     /// The status byte.
     pub(crate) fn status(&self) -> u8
         ensures { result ≡ psw_of self.now }

@@ -2,11 +2,12 @@
 
 ghost use Rattle.std.specs.Prelude.{◌≡◌, ◌<◌, IfOk, OnErr};
 ghost use Rattle.mcs48_isa.specs.Operands.{IsOp};
-ghost use Rattle.mcs48_core.specs.Step.{effect, entered, stepped, IsStep};
+ghost use Rattle.mcs48_core.specs.Step.{effect, entered, executed, row_at, stepped, IsStep};
 
 use crate::levels::Pins;
 use crate::processor::Mcu;
-use mcs48_isa::{Image, Op, decode};
+use crate::registers::counted;
+use mcs48_isa::{Image, Op, Row, row};
 
 /// The program counter, 12 bits, and the byte there, which begins no instruction.
 #[derive(Clone, Copy, Debug, PartialEq, Eq, Drop)]
@@ -22,33 +23,71 @@ const EXTERNAL_ENTRY: u16 = 3;
 const TIMER_ENTRY: u16 = 7;
 
 impl Mcu {
-    /// Executes an operation, with the counter behind its first byte.
-    fn execute(&mut self, op: Op, image: &Image, pins: &Pins)
-        requires { IsOp op }
-        ensures { self.new ≡ effect op image.now.bytes pins.now self.old }
+    /// Executes an operation, with the counter `here`, behind its first byte. The answer is the next counter.
+    #[inline(always)]
+    fn execute(&mut self, op: Op, here: u16, image: &Image, pins: &Pins) -> u16
+        requires operands { IsOp op }
+        requires within { here < 4096 }
+        ensures state { record self.new { pc = result } ≡ effect op image.now.bytes pins.now (record self.old { pc = here }) }
+        ensures counter { result < 4096 }
     {
         match op {
-            Op::Moves(op) => self.make_move(op, image),
-            Op::Alu(op) => self.operate(op),
-            Op::Unary(op) => self.change(op),
-            Op::Flow(op) => self.redirect(op, image, pins),
-            Op::PortIo(op) => self.transfer(op, pins),
-            Op::Control(op) => self.control(op),
+            Op::Moves(op) => self.make_move(op, here, image),
+            Op::Alu(op) => self.operate(op, here),
+            Op::Unary(op) => self.change(op, here),
+            Op::Flow(op) => self.redirect(op, here, image, pins),
+            Op::PortIo(op) => self.transfer(op, here, pins),
+            Op::Control(op) => self.control(op, here),
         }
     }
 
     /// Enters the service of an interrupt: a step of 2 cycles that executes no instruction.
+    #[cold]
+    #[inline(never)]
     fn enter(&mut self, at: u16, pins: &Pins) -> u8
         requires { at < 2048 }
         ensures entered { self.new ≡ (entered at pins.now self.old).cpu }
         ensures cycles { result ≡ 2 }
     {
         let before = self.run;
-        self.push();
+        self.push(self.pc);
         self.pc = at;
         self.svc = true;
         self.after_timer(before, 2, pins);
         2
+    }
+
+    /// Executes the instruction at the counter, and then the timer's part. The answer is as that of `step`.
+    #[inline(always)]
+    fn instruction<const SITE: u8>(&mut self, image: &Image, pins: &Pins) -> Result<u8, Stuck>
+        ensures step { IsStep image.now.bytes self.old (executed (row_at image.now.bytes self.old.pc) image.now.bytes pins.now self.old) result self.new }
+        ensures unchanged { OnErr result (self.new ≡ self.old) }
+        ensures some { IfOk result (λ cycles. 0 < cycles) }
+        ensures few { IfOk result (λ cycles. cycles < 3) }
+    {
+        let pc = self.pc;
+        let byte = image.bytes[(pc % 2048) as usize];
+        let second = image.bytes[((pc + 1) % 2048) as usize];
+        let before = self.run;
+        let here = counted(pc);
+        match row::<SITE>(byte, second) {
+            Row::Empty => Err(Stuck { pc, byte }),
+            Row::Short(op) => {
+                self.pc = self.execute(op, here, image, pins);
+                self.after_timer(before, 1, pins);
+                Ok(1)
+            }
+            Row::Slow(op) => {
+                self.pc = self.execute(op, here, image, pins);
+                self.after_timer(before, 2, pins);
+                Ok(2)
+            }
+            Row::Double(op) => {
+                self.pc = self.execute(op, here, image, pins);
+                self.after_timer(before, 2, pins);
+                Ok(2)
+            }
+        }
     }
 
     /// One step with these levels at the pins: the entry of an interrupt that is due, or else the instruction at the
@@ -64,6 +103,18 @@ impl Mcu {
         ensures some { IfOk result (λ cycles. 0 < cycles) }
         ensures few { IfOk result (λ cycles. cycles < 3) }
     {
+        self.step_inlined::<1>(image, pins)
+    }
+
+    /// The same step for a second place that makes many. `SITE`, from 2, is a number that no other place of the program
+    /// gives: so each place has a copy of the opcode table, and LLVM builds the whole step into it.
+    #[inline(always)]
+    pub fn step_inlined<const SITE: u8>(&mut self, image: &Image, pins: Pins) -> Result<u8, Stuck>
+        ensures step { IsStep image.now.bytes self.old (stepped image.now.bytes pins self.old) result self.new }
+        ensures unchanged { OnErr result (self.new ≡ self.old) }
+        ensures some { IfOk result (λ cycles. 0 < cycles) }
+        ensures few { IfOk result (λ cycles. cycles < 3) }
+    {
         if !self.svc && self.ext_on && !pins.int_pin {
             return Ok(self.enter(EXTERNAL_ENTRY, &pins));
         }
@@ -71,18 +122,6 @@ impl Mcu {
             self.rq = false;
             return Ok(self.enter(TIMER_ENTRY, &pins));
         }
-        let at = (self.pc % 2048) as usize;
-        let next = ((self.pc + 1) % 2048) as usize;
-        let byte = image.bytes[at];
-        match decode([byte, image.bytes[next]]) {
-            None => Err(Stuck { pc: self.pc, byte }),
-            Some(found) => {
-                let before = self.run;
-                self.advance();
-                self.execute(found.op, image, &pins);
-                self.after_timer(before, found.cycles, &pins);
-                Ok(found.cycles)
-            }
-        }
+        self.instruction::<SITE>(image, &pins)
     }
 }

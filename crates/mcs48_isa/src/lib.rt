@@ -14,9 +14,9 @@ mod operation;
 #[cfg(test)]
 mod tests;
 
-pub use decoding::decode;
+pub use decoding::{decode, row};
 pub use encoding::encode;
 pub use image::Image;
 pub use listing::list;
 pub use op_texts::op_text;
-pub use operation::{AluOp, Code, ControlOp, Decoded, FlowOp, MoveOp, Op, PortOp, UnaryOp};
+pub use operation::{AluOp, Code, ControlOp, Decoded, FlowOp, MoveOp, Op, PortOp, Row, UnaryOp};

@@ -155,6 +155,16 @@ pub struct Decoded {
     pub cycles: u8,
 }
 
+/// The same as an enum alone, of which LLVM follows each part: no instruction, an operation of one byte that takes one
+/// machine cycle or two, or an operation of two bytes, which takes two.
+#[derive(Clone, Copy, Debug, PartialEq, Eq, Drop)]
+pub enum Row {
+    Empty,
+    Short(Op),
+    Slow(Op),
+    Double(Op),
+}
+
 /// The bytes of an operation. `bytes[1]` is 00 where `len` is 1.
 #[derive(Clone, Copy, Debug, PartialEq, Eq, Drop)]
 pub struct Code {
