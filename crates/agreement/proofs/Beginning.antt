@@ -16,7 +16,7 @@ use Rattle.fw_link.proofs.Outside.{still_wires}
 use Rattle.fw_link.proofs.Wired.{IsReleased}
 use Rattle.fw_logic.proofs.Laws.{comes_as}
 use Rattle.fw_logic.proofs.Starting.{IsFirst}
-use Rattle.fw_logic.specs.Sizes.{IsByte}
+use Rattle.mcs48_ranges.specs.Sizes.{IsByte}
 use Rattle.host_turn.specs.Run.{side_at_start}
 use Rattle.joint_run.specs.Joint.{Beside, beside_at_start, joint_board, joint_start, latch_of, lights_of}
 use Rattle.joint_run.specs.Run.{World, ticks}

@@ -16,7 +16,7 @@ use Rattle.board_lines.proofs.Shown.{shown_from, edges_shown}
 use Rattle.fw_keys.specs.Edges.{row_edges, column_edges, tick_edges}
 use Rattle.fw_keys.specs.Quiet.{IsStarted, shown_by, down_now, edges_now}
 use Rattle.fw_keys.specs.State.{flags, down_at}
-use Rattle.fw_logic.proofs.Bytes.{every_below, at_each, same, same_is, pair_tests}
+use Rattle.bits.proofs.Every.{every_below, at_each, same, same_is, pair_tests}
 use Rattle.fw_logic.specs.Scan.{in_tick}
 use Rattle.joint_run.specs.Joint.{Beside, joint_board, joint_pins, keys_at}
 use Rattle.joint_run.specs.Run.{Board, World, ticks}

@@ -12,7 +12,7 @@ use Rattle.fw_keys.proofs.Bare.{small_kernel}
 use Rattle.fw_keys.proofs.Carried.{SameKeys}
 use Rattle.fw_keys.proofs.Kept.{NoPrefix}
 use Rattle.fw_keys.specs.Edges.{image_keys}
-use Rattle.fw_logic.specs.Sizes.{IsByte}
+use Rattle.mcs48_ranges.specs.Sizes.{IsByte}
 use Rattle.kbd_model.specs.Codes.{keys_of}
 use Rattle.layout_reader.specs.Entries.{IsEntry}
 use Rattle.layout_reader.specs.Layouts.{KeyLayout, IsKeyLayout, code_at}

@@ -21,10 +21,10 @@ use Rattle.fw_keys.proofs.Kept.{NoPrefix}
 use Rattle.fw_keys.specs.Edges.{image_keys}
 use Rattle.fw_keys.specs.Quiet.{shown_by, edges_now}
 use Rattle.fw_link.proofs.Outside.{lines_of, sent_lines}
-use Rattle.fw_link.proofs.Ticked.{cut_before, sent_ticked, got_ticked, cut_ticked, still_ticked}
+use Rattle.fw_link.proofs.Ticked.{cut_up, sent_ticked, got_ticked, cut_ticked, still_ticked}
 use Rattle.fw_link.proofs.Wired.{IsReleased}
 use Rattle.fw_link.specs.Latch.{sent_latch, cut_latch, received_latch}
-use Rattle.fw_logic.specs.Sizes.{IsByte}
+use Rattle.mcs48_ranges.specs.Sizes.{IsByte}
 use Rattle.host_turn.specs.Run.{Side}
 use Rattle.joint_run.specs.Joint.{Beside, joint_board, latch_of, lights_of}
 use Rattle.joint_run.specs.Run.{World}
@@ -182,7 +182,7 @@ module _ (edges : List Edge) (events : List HostEvent) (bytes : List ℕ) (hk : 
   cut byte ended some free cuts =
       let lines = cut_over byte in
       let up : IsUp lines (256 + w.cycle) (288 + w.cycle) =
-      cut_before events v w.cycle released 15 368 look refl byte in
+      cut_up v w.cycle byte released in
       let later : Pc = at_meeting events lines w.cycle look in
       let met_is : meeting_free (Some byte) (link_by without_bits later.side.port.link) ≡ met.Cut =
       ap (λ (s : Side UnderWay). meeting_free (Some byte) s.port.link) (later_is lines up) ∙ cuts byte in
@@ -215,15 +215,18 @@ module _ (edges : List Edge) (events : List HostEvent) (bytes : List ℕ) (hk : 
       ap (λ t. meeting_by t (offer m.keys) now.port.link later.port.link) ended
       ∙ ap (λ o. meeting_of now.port.link o later.port.link) none
       ∙ ap (λ l. meeting_of (link_by without_bits l) None later.port.link) free) tt
-      (idle edges events bytes hk small low w tie.started few tie.released tie.lit (shown_tests ∙ ended) free (shown_offers ∙ none))
+      (idle edges events bytes hk small low w tie.started few tie.released tie.lit (shown_tests ∙ ended) free
+      (shown_offers ∙ none))
   when_free (Some byte) ended some free = offers byte ended some free
 
   -- the controller pulls the clock at the look
   when_low : tests ≡ true → (drive look.side.port.link).clk ≡ false
-      → ((o : Option ℕ) (later : Link UnderWay) → meeting_of (link_by without_bits look.side.port.link) o later ≡ met.Inhibited) → Goes
+      → ((o : Option ℕ) (later : Link UnderWay) → meeting_of (link_by without_bits look.side.port.link) o later
+      ≡ met.Inhibited) → Goes
   when_low ended pulls is =
       still met.Inhibited
-      (λ later. ap (λ t. meeting_by t (offer m.keys) now.port.link later.port.link) ended ∙ is (offer m.keys) later.port.link) tt
+      (λ later. ap (λ t. meeting_by t (offer m.keys) now.port.link later.port.link) ended
+      ∙ is (offer m.keys) later.port.link) tt
       (inhibited edges events bytes hk small low w tie.started few tie.released tie.lit (shown_tests ∙ ended) pulls)
 
   -- the controller requests to send
@@ -239,7 +242,8 @@ module _ (edges : List Edge) (events : List HostEvent) (bytes : List ℕ) (hk : 
       (λ rest more k all long.
       at_model got_over rest k (offer m.keys) ended refl
       (got_ticked events v w.cycle released rest k look all byte more (offer m.keys) long request))
-      (gets edges events bytes hk small low w tie.started few tie.released tie.lit byte (asked byte request) (shown_tests ∙ ended) request)
+      (gets edges events bytes hk small low w tie.started few tie.released tie.lit byte (asked byte request)
+      (shown_tests ∙ ended) request)
 
   when_ended : (l : Link Wire) → look.side.port.link ≡ l → tests ≡ true → Goes
   when_ended Free e ended = when_free (offer m.keys) ended refl e

@@ -22,7 +22,7 @@ use Rattle.fw_link.proofs.Outside.{before_frame, lines_of, drives_frame, sent_li
 use Rattle.fw_link.proofs.Received.{got_cells}
 use Rattle.fw_link.proofs.Sending.{sending}
 use Rattle.fw_link.proofs.Sent.{sent_whole, sent_cut}
-use Rattle.fw_link.proofs.Ticked.{from_data, free_at_edge, request_at_edge, free_or_pulled}
+use Rattle.fw_link.proofs.Ticked.{cut_up, from_data, free_at_edge, request_at_edge, free_or_pulled}
 use Rattle.fw_link.proofs.Wired.{IsReleased}
 use Rattle.fw_logic.proofs.Block.{memory, scratched, begin_at, At}
 use Rattle.fw_logic.proofs.Clock.{IsFree}
@@ -31,7 +31,7 @@ use Rattle.fw_logic.proofs.Leads.{Leads}
 use Rattle.fw_logic.proofs.Path.{Stage}
 use Rattle.fw_logic.proofs.Short.{has_rows}
 use Rattle.fw_logic.proofs.Sound.{weaken}
-use Rattle.fw_logic.specs.Sizes.{IsByte, IsFine}
+use Rattle.mcs48_ranges.specs.Sizes.{IsByte, IsFine}
 use Rattle.joint_run.specs.Joint.{Beside, joint_board, latch_of, lights_of}
 use Rattle.joint_run.specs.Run.{Board, ticks}
 use Rattle.kbd_model.specs.Keyboard.{offer}
@@ -43,7 +43,7 @@ use Rattle.wires_agree.specs.Ticks.{at_meeting}
 use Rattle.agreement.proofs.Leaves.{Leaves, sent_leaves, got_leaves, is_offered}
 use Rattle.agreement.proofs.Lit.{behind_look}
 use Rattle.agreement.proofs.Looking.{looked_in, Looked, with_frame, to_send, to_got}
-use Rattle.agreement.proofs.Seen.{at_data, free_shows, request_shows, cut_up}
+use Rattle.agreement.proofs.Seen.{at_data, free_shows, request_shows}
 
 -- a frame of n cycles has passed: the latch is released, and the PC's side has gone on by the cycles at its wires
 pub record Behind (events : List HostEvent) (v start : ℕ) (b : Pc) (lines : ℕ → Lines) (n : ℕ) (e : Stage Beside)

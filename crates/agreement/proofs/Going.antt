@@ -71,7 +71,8 @@ module _ (edges : List Edge) (events : List HostEvent) (bytes : List ℕ) (layou
       let law = wires rest (rest - 15) k refl long in
       let low : low_edges es = subst (λ v. low_edges v) columns (edges_low (changed_now d w) (down_now d w)) in
       let meets : met_as (meeting_from (keyboard layout) events w.cycle m) ≡ meeting = ap met_as is ∙ kind in
-      let keys : shown_by e.cpu.ram ≡ ticked (keys_of layout) (met_as (meeting_from (keyboard layout) events w.cycle m)) es m.keys =
+      let keys : shown_by e.cpu.ram ≡ ticked (keys_of layout) (met_as (meeting_from (keyboard layout) events w.cycle m))
+      es m.keys =
       h.keyboard
       ∙ ap (λ k. ticked (image_keys bytes) meeting (edges_now d w) k) tie.keyboard
       ∙ ap (λ v. ticked (image_keys bytes) meeting v m.keys) columns
@@ -86,7 +87,8 @@ module _ (edges : List Edge) (events : List HostEvent) (bytes : List ℕ) (layou
               tick_sound (keys_of layout) codes
               (met_as (meeting_from (keyboard layout) events w.cycle m)) es m.keys low tie.sound;
           side = ap (λ (b : Rattle.pc_wires.specs.Wires.Pc). seen_in_bytes b.side) pc
-              ∙ side_is edges events w tie.released released tie.idle Keyboard (keyboard layout) m tie.side tie.shown lamps lines rest k law;
+              ∙ side_is edges events w tie.released released tie.idle Keyboard (keyboard layout) m tie.side tie.shown
+              lamps lines rest k law;
           idle =
               ap (λ (b : Rattle.pc_wires.specs.Wires.Pc). Rattle.ctl_link.specs.Link.is_busy b.side.port.link) pc
               ∙ law.idle_again;

@@ -18,7 +18,8 @@ use Rattle.wires_agree.specs.Cycles.{board_cycles}
 abbrev pub lit_latch : List Edge → List HostEvent → World Beside → ℕ
 lit_latch edges events w = latch_now (joint_board edges events) w
 
--- the PC's side when the lights are put, 232 cycles past the tick's start, and at the look at the clock, 24 cycles later
+-- the PC's side when the lights are put, 232 cycles past the tick's start, and at the look at the clock, 24 cycles
+-- later
 abbrev pub at_lights : List HostEvent → World Beside → Pc
 at_lights events w = board_cycles events (λ o. latch_of w.cpu.p2) 232 w.cycle w.board.pc
 

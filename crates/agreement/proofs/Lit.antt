@@ -1,18 +1,17 @@
 -- The board of a tick from the lights on: its first cycle may change the lights, and then they stay.
-use Rattle.std.proofs.Common.{◌≡◌, ◌≤◌, ◌<◌, ℕ, ◌+◌, List, Bool, All, length, drop, refl, ap, sym, ◌∙◌, arith}
+use Rattle.std.proofs.Common.{◌≡◌, ◌≤◌, ◌<◌, ℕ, ◌+◌, List, Bool, All, length, drop, refl, ap, ◌∙◌, arith}
 use Rattle.board_lines.specs.declared.event.Edge.{Edge}
 use Rattle.board_lines.specs.declared.event.HostEvent.{HostEvent}
 use Rattle.board_lines.specs.declared.lines.Lines.{Lines}
 use Rattle.fw_kernel.specs.Places.{HasKernel}
-use Rattle.fw_keys.proofs.QuietTick.{board3, H, k}
+use Rattle.fw_keys.proofs.QuietTick.{board3, H, k, shone_is}
 use Rattle.fw_keys.proofs.Tick.{shining}
 use Rattle.fw_keys.specs.Quiet.{cells_in, IsStarted, edges_now, latch_now}
 use Rattle.fw_link.proofs.Outside.{still_wires, lit_wires}
-use Rattle.fw_logic.proofs.Blocks.{ticks_add, absolute, joined}
-use Rattle.fw_logic.proofs.Chain.{ticks_from}
+use Rattle.fw_logic.proofs.Blocks.{ticks_add, joined}
 use Rattle.fw_logic.proofs.Service.{stacked}
 use Rattle.fw_logic.specs.Scan.{in_tick}
-use Rattle.fw_logic.specs.Sizes.{IsByte}
+use Rattle.mcs48_ranges.specs.Sizes.{IsByte}
 use Rattle.joint_run.specs.Joint.{Beside, joint_board, latch_of, lights_of}
 use Rattle.joint_run.specs.Run.{Board, World, ticks}
 use Rattle.pc_wires.specs.Wires.{Pc}
@@ -35,19 +34,12 @@ module _ (d : Board) (bytes : List ℕ) (hk : HasKernel bytes) (small : All IsBy
       shining d bytes hk small low (H d bytes hk small low w s few) (w.cycle + 3) (k d bytes hk small low w s few l)
       (board3 d bytes hk small low w s few) (stacked (cells_in w.cpu.ram)) (drop 112 w.cpu.ram)
 
-  shine_is : (l : Bool) → shine l ≡ ticks 2 (w.cycle + 232) new (in_tick d w 232)
-  shine_is l =
-      let x = w.cycle in
-      let a : x + 3 + 229 ≡ x + 232 = omega arith in
-      ap (λ b. ticks 2 229 (λ o. new (x + 3 + o)) b)
-      (absolute 229 (x + 3) old (board3 d bytes hk small low w s few) ∙ joined 3 229 x (x + 3) old w.board refl)
-      ∙ sym (ticks_from 2 229 (x + 3) new (in_tick d w 232)) ∙ ap (λ c. ticks 2 c new (in_tick d w 232)) a
-
   -- the board so many cycles later
   pub from_lights : (l : Bool) (n z : ℕ) → z ≡ w.cycle + 234
       → ticks n z new (shine l) ≡ ticks (2 + n) (w.cycle + 232) new (in_tick d w 232)
   from_lights l n z at =
-      ap (λ b. ticks n z new b) (shine_is l) ∙ joined 2 n (w.cycle + 232) z new (in_tick d w 232) (omega (arith, at))
+      ap (λ b. ticks n z new b) (shone_is d bytes hk small low w s few)
+      ∙ joined 2 n (w.cycle + 232) z new (in_tick d w 232) (omega (arith, at))
 
 -- a joint board that is known 22 cycles behind is known from there on, over lines that leave both wires to the latch
 pub behind_look : (edges : List Edge) (events : List HostEvent) (lines : ℕ → Lines) (v start y j : ℕ) (s : Beside)

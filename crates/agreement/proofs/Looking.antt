@@ -5,7 +5,7 @@ use Rattle.mcs48_core.specs.Cpu.{Cpu}
 use Rattle.fw_kernel.specs.Places.{HasKernel}
 use Rattle.fw_kernel.specs.declared.labels.TheConstants.{TESTED, SEND, GOT}
 use Rattle.fw_keys.proofs.Blocks.{fine_end}
-use Rattle.fw_logic.specs.Sizes.{IsByte, IsFine}
+use Rattle.mcs48_ranges.specs.Sizes.{IsByte, IsFine}
 use Rattle.fw_logic.proofs.Block.{memory, put, scratched, begin_at, At}
 use Rattle.fw_logic.proofs.Blocks.{straight, absolute, from_stage}
 use Rattle.fw_logic.proofs.Clock.{IsFree}

@@ -8,9 +8,9 @@ use Rattle.fw_keys.proofs.Blocks.{ring-get}
 use Rattle.fw_keys.specs.Quiet.{IsStarted, cells_in, shown_by}
 use Rattle.fw_keys.specs.State.{made}
 use Rattle.fw_link.proofs.Wired.{IsReleased, lights_leave}
-use Rattle.fw_logic.proofs.Bytes.{by_below}
+use Rattle.bits.proofs.Every.{by_below}
 use Rattle.fw_logic.proofs.Memory.{memory_is}
-use Rattle.fw_logic.specs.Sizes.{IsByte}
+use Rattle.mcs48_ranges.specs.Sizes.{IsByte}
 use Rattle.joint_run.specs.Joint.{Beside, lights_of}
 use Rattle.joint_run.specs.Run.{World}
 use Rattle.kbd_model.specs.Keyboard.{offer}

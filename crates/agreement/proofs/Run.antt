@@ -54,7 +54,8 @@ module _ (layout : KeyLayout) (history : KeyHistory) (fine : IsKeyLayout layout)
       (λ e. IsOnTime 0 e × Ties e (at_first (keyboard layout) events e.cycle))
       (λ e. IsOnTime 0 e × Tied e (at_first (keyboard layout) events e.cycle)) joint_start
       (λ e h. (h.0, record { ties = h.1; in_bytes = first_in_bytes events ok.written Keyboard (keyboard layout) e.cycle }))
-      (begins edges events bytes (has_kernel layout) (are_bytes layout fine) (bus_low edges events) layout (has_rate layout))
+      (begins edges events bytes (has_kernel layout) (are_bytes layout fine) (bus_low edges events) layout
+      (has_rate layout))
 
   module _ (n : ℕ) (w : World Beside) (m : Whole Keyboard) (time : IsOnTime n w) (tied : Tied w m)
       (four : length (shown (is_held m.keys) (columns_in edges w.cycle)) ≤ 4) where
@@ -75,7 +76,8 @@ module _ (layout : KeyLayout) (history : KeyHistory) (fine : IsKeyLayout layout)
     asked byte request =
         request_in_bytes (at_look edges events w).side byte
         (subst (λ s. IsInBytes s)
-        (sym (model_looks edges events w tie.released (lit_released edges events w tie.started) tie.idle Keyboard (keyboard layout) m tie.side tie.shown lamps))
+        (sym (model_looks edges events w tie.released (lit_released edges events w tie.started) tie.idle Keyboard
+        (keyboard layout) m tie.side tie.shown lamps))
         (look_in_bytes events ok.written m.shown m.keys.lights w.cycle m.side tied.in_bytes))
         request
 
@@ -93,14 +95,16 @@ module _ (layout : KeyLayout) (history : KeyHistory) (fine : IsKeyLayout layout)
           first = t.first;
           step = t.step;
           rest = comes_as (joint_board edges events) TICK bytes
-              (Goal edges events bytes layout (same_keys layout) (no_prefix layout fine) n w m time tie columns released lamps)
+              (Goal edges events bytes layout (same_keys layout) (no_prefix layout fine) n w m time tie columns released
+              lamps)
               (λ e. IsOnTime (suc n) e × Tied e (by_columns (keyboard layout) edges events w.cycle e.cycle m)) t.first
               (λ e h. (
                 h.0,
                 record {
                   ties = h.1;
                   in_bytes = tick_in_bytes events ok.written Keyboard (keyboard layout)
-                      (shown (is_held m.keys) (columns_in edges w.cycle)) w.cycle (e.cycle - w.cycle - 609) m tied.in_bytes;
+                      (shown (is_held m.keys) (columns_in edges w.cycle)) w.cycle (e.cycle - w.cycle - 609) m
+                      tied.in_bytes;
                 },
               ))
               t.rest;

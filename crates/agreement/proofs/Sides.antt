@@ -30,15 +30,18 @@ module _ (edges : List Edge) (events : List HostEvent) (w : World Beside) (was :
   look = at_look edges events w
 
   -- at the look it is the model's, and no byte is under way
-  pub looks_same : (seen_in_bytes look.side ≡ to_look events w.board.shown lights w.cycle (seen_in_bytes w.board.pc.side))
+  pub looks_same : (seen_in_bytes look.side ≡ to_look events w.board.shown lights w.cycle
+      (seen_in_bytes w.board.pc.side))
       × (is_busy look.side.port.link ≡ false)
   looks_same =
       let first = between events (λ o. latch_of w.cpu.p2) 232 w.cycle w.board.pc (λ o l u. was.clock) idle in
       let lit : Pc =
       record
       (at_lights events w) { side = says_lights (232 + w.cycle) w.board.shown lights (at_lights events w).side } in
-      let second = between events (λ o. latch_of (lit_latch edges events w)) 24 (232 + w.cycle) lit (λ o l u. released.clock) first.1 in (
-        second.0 ∙ ap (λ s. quietly events 24 (232 + w.cycle) (says_lights (232 + w.cycle) w.board.shown lights s)) first.0,
+      let second = between events (λ o. latch_of (lit_latch edges events w)) 24 (232 + w.cycle) lit
+      (λ o l u. released.clock) first.1 in (
+        second.0 ∙ ap (λ s. quietly events 24 (232 + w.cycle) (says_lights (232 + w.cycle) w.board.shown lights s))
+            first.0,
         second.1,
       )
 
@@ -57,14 +60,17 @@ module _ (edges : List Edge) (events : List HostEvent) (w : World Beside) (was :
     -- the meeting of the model's tick, by the links at the look and at the first edge
     pub meeting_is : (lines : ℕ → Lines) → IsUp lines (256 + w.cycle) (288 + w.cycle)
         → meeting_from kb events w.cycle m
-        ≡ meeting_in (kb.tested m.keys) (kb.offer m.keys) (seen_in_bytes look.side) (seen_in_bytes (at_meeting events lines w.cycle look).side)
+        ≡ meeting_in (kb.tested m.keys) (kb.offer m.keys) (seen_in_bytes look.side)
+        (seen_in_bytes (at_meeting events lines w.cycle look).side)
     meeting_is lines up =
         let there = between events lines 32 (256 + w.cycle) look (λ o l u. up o l (omega (arith, u))) looks_same.1 in
         ap (λ s. meeting_in (kb.tested m.keys) (kb.offer m.keys) s (to_meeting events w.cycle s)) (sym model_looks)
         ∙ ap (λ s. meeting_in (kb.tested m.keys) (kb.offer m.keys) (seen_in_bytes look.side) s) (sym there.0)
 
     -- where the link at the look decides it alone
-    pub meeting_by_look : (met : Meeting) → ((later : Side UnderWay) → meeting_in (kb.tested m.keys) (kb.offer m.keys) (seen_in_bytes look.side) later ≡ met)
+    pub meeting_by_look : (met : Meeting)
+        → ((later : Side UnderWay) → meeting_in (kb.tested m.keys) (kb.offer m.keys) (seen_in_bytes look.side) later
+        ≡ met)
         → meeting_from kb events w.cycle m ≡ met
     meeting_by_look met is =
         ap (λ s. meeting_in (kb.tested m.keys) (kb.offer m.keys) s (to_meeting events w.cycle s)) (sym model_looks)

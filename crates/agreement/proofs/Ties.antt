@@ -10,7 +10,8 @@ use Rattle.kbd_model.specs.Keyboard.{Keyboard}
 use Rattle.link_model.specs.Expected.{Whole}
 use Rattle.wires_agree.specs.Without.{seen_in_bytes}
 
--- memory shows the model's keyboard, the PC's side is the model's, no byte is under way, and the latch of port 2 pulls no
+-- memory shows the model's keyboard, the PC's side is the model's, no byte is under way, and the latch of port 2 pulls
+-- no
 -- wire and shows the lights that were shown last
 pub record Ties (w : World Beside) (m : Whole Keyboard) : Type 0 where
   pub started : IsStarted w.cpu

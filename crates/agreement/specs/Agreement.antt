@@ -13,8 +13,8 @@ use Rattle.layout_reader.specs.Layouts.{KeyLayout, IsKeyLayout}
 use Rattle.link_model.specs.Expected.{whole_at}
 use Rattle.link_model.specs.Machine.{Machine, keyboard}
 
--- at each tick start of the joint run what was said so far is what the model says up to there, where its ticks start when
--- the run's do
+-- at each tick start of the joint run what was said so far is what the model says up to there, where its ticks start
+-- when the run's do
 pub record Agrees {S : Type 0} (bytes : List ℕ) (kb : Machine S) (edges : List Edge)
     (events : List HostEvent) : Type 0 where
   pub starts : ℕ → ℕ

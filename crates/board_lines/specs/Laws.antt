@@ -21,5 +21,5 @@ EdgesShown = (edges : List Edge) → ArePlaces edges → Shows (turned_by edges 
 -- a matrix to which the edges up to a cycle were applied in order shows the keys that are down at it
 abbrev pub FirstEdgesShown : Type 0
 FirstEdgesShown =
-    (edges : List Edge) (cycle count place : ℕ) → AreInOrder edges → ArePlaces edges → AreFirst edges cycle count → place < 96
-    → slice_index_or (turned_by (take count edges) all_up) place false ≡ is_pressed edges cycle place
+    (edges : List Edge) (cycle count place : ℕ) → AreInOrder edges → ArePlaces edges → AreFirst edges cycle count
+    → place < 96 → slice_index_or (turned_by (take count edges) all_up) place false ≡ is_pressed edges cycle place

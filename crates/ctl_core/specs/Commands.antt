@@ -66,7 +66,10 @@ commanded Unlisted s = quietly s
 abbrev pub passed : Option Parameter → ℕ → ControllerState → Taken
 passed (Some CommandByte) byte s = quietly (record s { command_byte = byte })
 passed (Some OutputPort) byte s = record { did = Output byte; state = record s { output_port = byte } }
-passed None byte s = record { did = ToKeyboard byte; state = record s { command_byte = without_bit 0x10 s.command_byte } }
+passed None byte s = record {
+  did = ToKeyboard byte;
+  state = record s { command_byte = without_bit 0x10 s.command_byte };
+}
 
 -- a byte by its port; either way a wait for a parameter ends
 abbrev pub taken_by : Port → ℕ → ControllerState → Taken

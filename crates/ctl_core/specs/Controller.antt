@@ -6,8 +6,8 @@ use Rattle.ctl_core.specs.declared.port.Port.{Port}
 use Rattle.ctl_core.specs.declared.port.Port.TheVariants.{P60, P64}
 use Rattle.ctl_core.specs.declared.command.Parameter.{Parameter}
 
--- the input buffer's byte with its port, or none; whether the output buffer is full, and its last byte; the command byte;
--- the parameter that a command awaits, or none; the last byte for the output port; whether a break was begun; the
+-- the input buffer's byte with its port, or none; whether the output buffer is full, and its last byte; the command
+-- byte; the parameter that a command awaits, or none; the last byte for the output port; whether a break was begun; the
 -- status's parity bit; whether the last write was to 64h
 pub record ControllerState : Type 0 where
   pub input : Option Input

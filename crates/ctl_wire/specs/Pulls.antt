@@ -1,4 +1,5 @@
--- How long the controller pulls the clock: cycles of the controller, whatever is on the wires and whatever the host does.
+-- How long the controller pulls the clock: cycles of the controller, whatever is on the wires and whatever the host
+-- does.
 use Rattle.std.specs.Prelude.{◌≡◌, ◌<◌, ℕ, Bool, true, false, List, [], ◌∷◌, is_some, if◌then◌else◌}
 use Rattle.std.proofs.Common.{zero, suc}
 use Rattle.board_lines.specs.declared.lines.Lines.{Lines}

@@ -26,8 +26,8 @@ edge_at now dat (Ask byte since) p = p
 edge_at now dat (Request byte) p = record p { link = Busy (Send byte 1) }
 edge_at now dat (Busy wire) p = edge_in now dat wire p
 
--- what the controller drives while a byte is under way: after falling edge k of its own frame, bit k + 1 of it, where the
--- first edge is 0
+-- what the controller drives while a byte is under way: after falling edge k of its own frame, bit k + 1 of it, where
+-- the first edge is 0
 abbrev pub drive_in : Wire → Lines
 drive_in (Recv bits) = record { clk = true; dat = true }
 drive_in (Send byte edges) = record { clk = true; dat = slice_index_or (frame_bits byte) edges true }

@@ -18,7 +18,7 @@ use Rattle.fw_logic.proofs.Block.{begin_at, memory}
 use Rattle.fw_logic.proofs.Kernel.{kernel_in}
 use Rattle.fw_logic.proofs.Leads.{Leads}
 use Rattle.fw_logic.proofs.Short.{has_rows}
-use Rattle.fw_logic.specs.Sizes.{IsByte}
+use Rattle.mcs48_ranges.specs.Sizes.{IsByte}
 use Rattle.joint_run.specs.Run.{Board}
 use Rattle.kbd_model.specs.Keyboard.{Keyboard}
 use Rattle.kbd_model.specs.Tick.{is_scanning}
@@ -26,35 +26,50 @@ use Rattle.kbd_model.specs.Tick.{is_scanning}
 wide_helds : (f : ℕ → ℕ) (r0 r7 : ℕ) (p : Patch) (i : ℕ) → i < 12 → wide f r0 r7 p (32 + i) ≡ f (32 + i)
 wide_helds f r0 r7 p i l = grind (arith, nat_tests, l)
 
-module _ (d : Board) (bytes : List ℕ) (hk : HasKernel bytes) (small : All IsByte bytes) (low : (p1 p2 c : ℕ) (s : d.State) → (d.pins p1 p2 c s).bus < 256) (held : List Bool) where
+module _ (d : Board) (bytes : List ℕ) (hk : HasKernel bytes) (small : All IsByte bytes)
+    (low : (p1 p2 c : ℕ) (s : d.State) → (d.pins p1 p2 c s).bus < 256) (held : List Bool) where
   -- data memory at the end of a tick
-  pub record Over (inhibited : Bool) (ch hd : ℕ → ℕ) (step : Keyboard → Keyboard) (f : ℕ → ℕ) (ring : List ℕ) (acc : ℕ) (g : ℕ → ℕ) (last : List ℕ) : Type 0 where
+  pub record Over (inhibited : Bool) (ch hd : ℕ → ℕ) (step : Keyboard → Keyboard) (f : ℕ → ℕ) (ring : List ℕ) (acc : ℕ)
+      (g : ℕ → ℕ) (last : List ℕ) : Type 0 where
     pub kbd : kbd_of held g last ≡ keyed (image_keys bytes) inhibited ch hd (step (kbd_of held f ring))
     pub downs : (i : ℕ) → i < 12 → g (32 + i) ≡ hd i
     pub inv : Inv g
     pub stack : (g 8 ≡ f 8) × (g 9 ≡ f 9)
 
   -- a step of the model up to scan, then the rest of the tick
-  pub tail_law : (step : Keyboard → Keyboard) (ch hd : ℕ → ℕ) (from max x : ℕ) (m : Cpu) (board : d.State) (f : ℕ → ℕ) (ring : List ℕ) → Safe m from f ring → ((i : ℕ) → i < 12 → f (48 + i) ≡ ch i) → ((i : ℕ) → i < 12 → f (32 + i) ≡ hd i)
-      → Leads d (kernel_in true bytes) x (begin_at d from f ring m board) (Ends d x m board SCAN max (Keeps held step f ring))
-      → Leads d (kernel_in true bytes) x (begin_at d from f ring m board) (Ends d x (record m { f0 = is_scanning (step (kbd_of held f ring)) }) board DONE (max + (56 + (2 + edges_most ch))) (Over m.f1 ch hd step f ring))
+  pub tail_law : (step : Keyboard → Keyboard) (ch hd : ℕ → ℕ) (from max x : ℕ) (m : Cpu) (board : d.State) (f : ℕ → ℕ)
+      (ring : List ℕ) → Safe m from f ring → ((i : ℕ) → i < 12 → f (48 + i) ≡ ch i)
+      → ((i : ℕ) → i < 12 → f (32 + i) ≡ hd i)
+      → Leads d (kernel_in true bytes) x (begin_at d from f ring m board)
+      (Ends d x m board SCAN max (Keeps held step f ring))
+      → Leads d (kernel_in true bytes) x (begin_at d from f ring m board)
+      (Ends d x (record m { f0 = is_scanning (step (kbd_of held f ring)) }) board DONE
+      (max + (56 + (2 + edges_most ch))) (Over m.f1 ch hd step f ring))
   tail_law step ch hd from max x m board f ring safe changes helds way =
       let on : Bool = is_scanning (step (kbd_of held f ring)) in
-      seq_f0 d (kernel_in true bytes) (has_rows true bytes hk) small low on x m board SCAN max DONE (56 + (2 + edges_most ch)) (Keeps held step f ring) (Over m.f1 ch hd step f ring) (begin_at d from f ring m board) safe.1 way
+      seq_f0 d (kernel_in true bytes) (has_rows true bytes hk) small low on x m board SCAN max DONE
+      (56 + (2 + edges_most ch)) (Keeps held step f ring) (Over m.f1 ch hd step f ring) (begin_at d from f ring m board)
+      safe.1 way
       (λ x1 m1 board1 g r same1 q safe1.
       let flag : is_scanning (kbd_of held g r) ≡ on = ap is_scanning q.kbd in
       let inh : m1.f1 ≡ m.f1 = ap (λ k. k.f1) same1 in
-      subst (λ b. Leads d (kernel_in true bytes) x1 (begin_at d SCAN g r m1 board1) (Ends d x1 (record m1 { f0 = b }) board1 DONE (56 + (2 + edges_most ch)) (Over m.f1 ch hd step f ring))) flag
-      (recast d (kernel_in true bytes) (has_rows true bytes hk) small low x1 (record m1 { f0 = is_scanning (kbd_of held g r) }) board1 DONE (56 + (2 + edges_most ch)) (56 + (2 + edges_most ch)) (Scanned d bytes hk small low held m1.f1 ch hd g r) (Over m.f1 ch hd step f ring) (begin_at d SCAN g r m1 board1) (omega arith)
+      subst (λ b. Leads d (kernel_in true bytes) x1 (begin_at d SCAN g r m1 board1)
+      (Ends d x1 (record m1 { f0 = b }) board1 DONE (56 + (2 + edges_most ch)) (Over m.f1 ch hd step f ring))) flag
+      (recast d (kernel_in true bytes) (has_rows true bytes hk) small low x1
+      (record m1 { f0 = is_scanning (kbd_of held g r) }) board1 DONE (56 + (2 + edges_most ch))
+      (56 + (2 + edges_most ch)) (Scanned d bytes hk small low held m1.f1 ch hd g r) (Over m.f1 ch hd step f ring)
+      (begin_at d SCAN g r m1 board1) (omega arith)
       (λ a g2 rg s. record {
         cells = wide g s.r0 s.r7 s.p;
         same = ap (λ t. memory t rg) s.now;
         facts = record {
-          kbd = s.kbd ∙ ap (λ b. keyed (image_keys bytes) b ch hd (kbd_of held g r)) inh ∙ ap (λ k. keyed (image_keys bytes) m.f1 ch hd k) q.kbd;
+          kbd = s.kbd ∙ ap (λ b. keyed (image_keys bytes) b ch hd (kbd_of held g r)) inh
+              ∙ ap (λ k. keyed (image_keys bytes) m.f1 ch hd k) q.kbd;
           downs = λ i l. wide_helds g s.r0 s.r7 s.p i l ∙ q.cells (32 + i) (omega arith) (omega (arith, l)) ∙ helds i l;
           inv = record { most = s.most; started = q.inv.started; some = (let u : g 68 ≤ g 66 % 128 = q.inv.some in let v : g 66 % 128 ≤ s.p.count % 128 = s.more in omega (arith, u, v)); mode = q.inv.mode; lamps = q.inv.lamps };
           stack = q.stack;
         };
       })
       (scan_law d bytes hk small low held ch hd x1 m1 board1 g r q.inv.most safe1
-      (λ i l. q.cells (48 + i) (omega arith) (omega (arith, l)) ∙ changes i l) (λ i l. q.cells (32 + i) (omega arith) (omega (arith, l)) ∙ helds i l))))
+      (λ i l. q.cells (48 + i) (omega arith) (omega (arith, l)) ∙ changes i l)
+      (λ i l. q.cells (32 + i) (omega arith) (omega (arith, l)) ∙ helds i l))))

@@ -5,7 +5,7 @@ use Rattle.std.proofs.lemmas.List.Elements.{All-weaker}
 use Rattle.std.proofs.lemmas.List.Sums.{AllPass-from_list_all}
 use Rattle.fw_kernel.specs.Places.{HasKernel}
 use Rattle.fw_kernel.specs.declared.bytes.TheConstants.{KERNEL}
-use Rattle.fw_logic.specs.Sizes.{IsByte}
+use Rattle.mcs48_ranges.specs.Sizes.{IsByte}
 
 -- the kernel has its own bytes outside the tables
 pub itself : HasKernel KERNEL

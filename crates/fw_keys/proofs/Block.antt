@@ -3,12 +3,13 @@ use Rattle.std.specs.Prelude.{◌≡◌, ◌≤◌, ◌<◌, ℕ, List, length, 
 use Rattle.mcs48_core.specs.Cpu.{Cpu}
 use Rattle.joint_run.specs.Run.{Board, ticks}
 use Rattle.fw_logic.proofs.Clock.{IsFree}
-use Rattle.fw_logic.specs.Sizes.{IsFine}
+use Rattle.mcs48_ranges.specs.Sizes.{IsFine}
 use Rattle.fw_logic.proofs.Path.{Stage}
 use Rattle.fw_logic.proofs.Block.{memory, scratched, Shape}
 
 -- the block ends at a place in time, and A and memory are then of the set
-pub record Ends (d : Board) (x : ℕ) (m : Cpu) (board : d.State) (pc max : ℕ) (M : ℕ → (ℕ → ℕ) → List ℕ → Type 0) (e : Stage d.State) : Type 0 where
+pub record Ends (d : Board) (x : ℕ) (m : Cpu) (board : d.State) (pc max : ℕ) (M : ℕ → (ℕ → ℕ) → List ℕ → Type 0)
+    (e : Stage d.State) : Type 0 where
   pub now : ℕ → ℕ
   pub ring : List ℕ
   pub cpu : e.cpu ≡ scratched m pc (memory now ring) e.cpu

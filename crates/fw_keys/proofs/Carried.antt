@@ -61,7 +61,8 @@ module _ (a b : Keys) (same : SameKeys a b) where
   meets Idle k = refl
   meets Cut k = refl
 
-  repeats : (r : Option Repeat) (inhibited : Bool) (k : Keyboard) → low_repeat r → repeated r a inhibited k ≡ repeated r b inhibited k
+  repeats : (r : Option Repeat) (inhibited : Bool) (k : Keyboard) → low_repeat r
+      → repeated r a inhibited k ≡ repeated r b inhibited k
   repeats None inhibited k l = refl
   repeats (Some r) inhibited k l =
       ap (λ (c : ℕ). record k {
@@ -69,26 +70,35 @@ module _ (a b : Keys) (same : SameKeys a b) where
         queue = if (r.count == 1) && not inhibited then enter (make c) k.queue else k.queue;
       }) (same.code r.place l)
 
-  repeats_if : (on inhibited : Bool) (k : Keyboard) → low_repeat k.repeats → repeated_if on a inhibited k ≡ repeated_if on b inhibited k
+  repeats_if : (on inhibited : Bool) (k : Keyboard) → low_repeat k.repeats
+      → repeated_if on a inhibited k ≡ repeated_if on b inhibited k
   repeats_if true inhibited k l = repeats k.repeats inhibited k l
   repeats_if false inhibited k l = refl
 
-  one_edge : (on : Bool) (place : ℕ) (down : Bool) (k : Keyboard) → place < 96 → edge_if on a place down k ≡ edge_if on b place down k
-  one_edge true place true k l = ap (λ (c : ℕ). record k { held = turned place true k.held; queue = enter (make c) k.queue; repeats = Some (record { place = place; count = delay k.rate }) }) (same.code place l)
-  one_edge true place false k l = ap (λ (c : ℕ). record k { held = turned place false k.held; queue = enter (release c) k.queue; repeats = ended_at place k.repeats }) (same.code place l)
+  one_edge : (on : Bool) (place : ℕ) (down : Bool) (k : Keyboard) → place < 96
+      → edge_if on a place down k ≡ edge_if on b place down k
+  one_edge true place true k l =
+      ap (λ (c : ℕ).
+      record k { held = turned place true k.held; queue = enter (make c) k.queue; repeats = Some (record { place = place; count = delay k.rate }) }) (same.code place l)
+  one_edge true place false k l =
+      ap (λ (c : ℕ).
+      record k { held = turned place false k.held; queue = enter (release c) k.queue; repeats = ended_at place k.repeats }) (same.code place l)
   one_edge false place down k l = refl
 
   edges : (on : Bool) (es : List (ℕ × Bool)) (k : Keyboard) → low_edges es → edges_if on a es k ≡ edges_if on b es k
   edges on [] k l = refl
-  edges on (e ∷ es) k l = edges on es (edge_if on a e.0 e.1 k) l.1 ∙ ap (λ j. edges_if on b es j) (one_edge on e.0 e.1 k l.0)
+  edges on (e ∷ es) k l = edges on es (edge_if on a e.0 e.1 k) l.1
+      ∙ ap (λ j. edges_if on b es j) (one_edge on e.0 e.1 k l.0)
 
   -- steps 4 and 5, and a whole tick, where what repeats when they begin has a place below 96
-  pub scans_same : (inhibited : Bool) (es : List (ℕ × Bool)) (k : Keyboard) → low_repeat k.repeats → low_edges es → scanned a inhibited es k ≡ scanned b inhibited es k
+  pub scans_same : (inhibited : Bool) (es : List (ℕ × Bool)) (k : Keyboard) → low_repeat k.repeats → low_edges es
+      → scanned a inhibited es k ≡ scanned b inhibited es k
   scans_same inhibited es k l m =
       let on : Bool = is_scanning k in
       edges on es (repeated_if on a inhibited k) m ∙ ap (λ j. edges_if on b es j) (repeats_if on inhibited k l)
 
-  pub ticks_same : (meeting : Meeting) (es : List (ℕ × Bool)) (k : Keyboard) → low_repeat (tested_if (not (k.test == 0)) (met meeting b k)).repeats → low_edges es
+  pub ticks_same : (meeting : Meeting) (es : List (ℕ × Bool)) (k : Keyboard)
+      → low_repeat (tested_if (not (k.test == 0)) (met meeting b k)).repeats → low_edges es
       → ticked a meeting es k ≡ ticked b meeting es k
   ticks_same meeting es k l m =
       ap (λ j. scanned a (is_inhibited meeting) es (tested_if (not (k.test == 0)) j)) (meets meeting k)
@@ -99,18 +109,25 @@ more_low : (xs ys : List (ℕ × Bool)) → low_edges xs → low_edges ys → lo
 more_low [] ys l m = m
 more_low (x ∷ xs) ys l m = (l.0, more_low xs ys l.1 m)
 
-row_low : (place r n ch dn : ℕ) (b : Bool) → bit r ch ≡ b → place + r < 96 → low_edges (row_edges place (suc r) n ch dn) → low_edges (row_edges place r (suc n) ch dn)
-row_low place r n ch dn true e l rest = subst (λ b. low_edges (if b then (place + r, bit r dn) ∷ row_edges place (suc r) n ch dn else row_edges place (suc r) n ch dn)) (sym e) (l, rest)
-row_low place r n ch dn false e l rest = subst (λ b. low_edges (if b then (place + r, bit r dn) ∷ row_edges place (suc r) n ch dn else row_edges place (suc r) n ch dn)) (sym e) rest
+row_low : (place r n ch dn : ℕ) (b : Bool) → bit r ch ≡ b → place + r < 96 → low_edges (row_edges place (suc r) n ch dn)
+    → low_edges (row_edges place r (suc n) ch dn)
+row_low place r n ch dn true e l rest =
+    subst (λ b. low_edges (if b then (place + r, bit r dn) ∷ row_edges place (suc r) n ch dn else row_edges place
+    (suc r) n ch dn)) (sym e) (l, rest)
+row_low place r n ch dn false e l rest =
+    subst (λ b. low_edges (if b then (place + r, bit r dn) ∷ row_edges place (suc r) n ch dn else row_edges place
+    (suc r) n ch dn)) (sym e) rest
 
 rows_low : (place r n ch dn : ℕ) → place + (r + n) < 97 → low_edges (row_edges place r n ch dn)
 rows_low place r zero ch dn l = tt
-rows_low place r (suc n) ch dn l = row_low place r n ch dn (bit r ch) refl (omega (arith, l)) (rows_low place (suc r) n ch dn (omega (arith, l)))
+rows_low place r (suc n) ch dn l =
+    row_low place r n ch dn (bit r ch) refl (omega (arith, l)) (rows_low place (suc r) n ch dn (omega (arith, l)))
 
 columns_low : (c n : ℕ) (ch dn : ℕ → ℕ) → c + n ≡ 12 → low_edges (column_edges c n ch dn)
 columns_low c zero ch dn sum = tt
 columns_low c (suc n) ch dn sum =
-    more_low (row_edges (8 * c) 0 8 (ch c) (dn c)) (column_edges (suc c) n ch dn) (rows_low (8 * c) 0 8 (ch c) (dn c) (omega (arith, sum))) (columns_low (suc c) n ch dn (omega (arith, sum)))
+    more_low (row_edges (8 * c) 0 8 (ch c) (dn c)) (column_edges (suc c) n ch dn)
+    (rows_low (8 * c) 0 8 (ch c) (dn c) (omega (arith, sum))) (columns_low (suc c) n ch dn (omega (arith, sum)))
 
 pub edges_low : (ch dn : ℕ → ℕ) → low_edges (tick_edges ch dn)
 edges_low ch dn = columns_low 0 12 ch dn refl

@@ -17,7 +17,8 @@ abbrev pub each : (ℕ → Bool → Keyboard → Keyboard) → List (ℕ × Bool
 each e [] k = k
 each e (x ∷ xs) k = each e xs (e x.0 x.1 k)
 
-each_more : (e : ℕ → Bool → Keyboard → Keyboard) (xs ys : List (ℕ × Bool)) (k : Keyboard) → each e (xs ++ ys) k ≡ each e ys (each e xs k)
+each_more : (e : ℕ → Bool → Keyboard → Keyboard) (xs ys : List (ℕ × Bool)) (k : Keyboard)
+    → each e (xs ++ ys) k ≡ each e ys (each e xs k)
 each_more e [] ys k = refl
 each_more e (x ∷ xs) ys k = each_more e xs ys (e x.0 x.1 k)
 
@@ -25,17 +26,23 @@ row_by : (e : ℕ → Bool → Keyboard → Keyboard) (place r n changed down : 
     → ((j : Keyboard) → rows e place (suc r) n changed down j ≡ each e (row_edges place (suc r) n changed down) j)
     → rows e place r (suc n) changed down k ≡ each e (row_edges place r (suc n) changed down) k
 row_by e place r n changed down k true is rest =
-    ap (λ b. rows e place (suc r) n changed down (if b then e (place + r) (bit r down) k else k)) is ∙ rest (e (place + r) (bit r down) k)
-    ∙ sym (ap (λ b. each e (if b then (place + r, bit r down) ∷ row_edges place (suc r) n changed down else row_edges place (suc r) n changed down) k) is)
+    ap (λ b. rows e place (suc r) n changed down (if b then e (place + r) (bit r down) k else k)) is
+    ∙ rest (e (place + r) (bit r down) k)
+    ∙ sym (ap (λ b. each e (if b then (place + r, bit r down) ∷ row_edges place (suc r) n changed down else row_edges
+    place (suc r) n changed down) k) is)
 row_by e place r n changed down k false is rest =
     ap (λ b. rows e place (suc r) n changed down (if b then e (place + r) (bit r down) k else k)) is ∙ rest k
-    ∙ sym (ap (λ b. each e (if b then (place + r, bit r down) ∷ row_edges place (suc r) n changed down else row_edges place (suc r) n changed down) k) is)
+    ∙ sym (ap (λ b. each e (if b then (place + r, bit r down) ∷ row_edges place (suc r) n changed down else row_edges
+    place (suc r) n changed down) k) is)
 
-rows_are : (e : ℕ → Bool → Keyboard → Keyboard) (place r n changed down : ℕ) (k : Keyboard) → rows e place r n changed down k ≡ each e (row_edges place r n changed down) k
+rows_are : (e : ℕ → Bool → Keyboard → Keyboard) (place r n changed down : ℕ) (k : Keyboard)
+    → rows e place r n changed down k ≡ each e (row_edges place r n changed down) k
 rows_are e place r zero changed down k = refl
-rows_are e place r (suc n) changed down k = row_by e place r n changed down k (bit r changed) refl (rows_are e place (suc r) n changed down)
+rows_are e place r (suc n) changed down k =
+    row_by e place r n changed down k (bit r changed) refl (rows_are e place (suc r) n changed down)
 
-pub columns_are : (e : ℕ → Bool → Keyboard → Keyboard) (c n : ℕ) (changed down : ℕ → ℕ) (k : Keyboard) → columns e c n changed down k ≡ each e (column_edges c n changed down) k
+pub columns_are : (e : ℕ → Bool → Keyboard → Keyboard) (c n : ℕ) (changed down : ℕ → ℕ) (k : Keyboard)
+    → columns e c n changed down k ≡ each e (column_edges c n changed down) k
 columns_are e c zero changed down k = refl
 columns_are e c (suc n) changed down k =
     columns_are e (suc c) n changed down (rows e (8 * c) 0 8 (changed c) (down c) k)
@@ -62,7 +69,8 @@ each_apart : (keys : Keys) (on : Bool) (xs : List (ℕ × Bool)) (held : List Bo
     → each (edge keys on) xs (record k { held = held }) ≡ record (each (edge keys on) xs k) { held = held }
 each_apart keys on [] held k = refl
 each_apart keys on (x ∷ xs) held k =
-    ap (λ j. each (edge keys on) xs j) (apart keys on x.0 x.1 held k) ∙ each_apart keys on xs held (edge keys on x.0 x.1 k)
+    ap (λ j. each (edge keys on) xs j) (apart keys on x.0 x.1 held k)
+    ∙ each_apart keys on xs held (edge keys on x.0 x.1 k)
 
 pub each_turns : (keys : Keys) (on : Bool) (xs : List (ℕ × Bool)) (k : Keyboard)
     → edges_if on keys xs k ≡ record (each (edge keys on) xs k) { held = turned_all xs k.held }
@@ -80,17 +88,22 @@ each_held keys on (x ∷ xs) k = each_held keys on xs (edge keys on x.0 x.1 k)
 -- steps 4 and 5 with the held keys
 pub scanned_is : (keys : Keys) (inhibited : Bool) (changed down : ℕ → ℕ) (k : Keyboard)
     → scanned keys inhibited (tick_edges changed down) k
-    ≡ record (keyed keys inhibited changed down k) { held = turned_all (tick_edges changed down) (keyed keys inhibited changed down k).held }
+    ≡ record (keyed keys inhibited changed down
+    k) { held = turned_all (tick_edges changed down) (keyed keys inhibited changed down k).held }
 scanned_is keys inhibited changed down k =
     let on : Bool = is_scanning k in
     let j : Keyboard = repeating keys inhibited k in
     let xs : List (ℕ × Bool) = tick_edges changed down in
-    let same : columns (edge keys on) 0 12 changed down j ≡ each (edge keys on) xs j = columns_are (edge keys on) 0 12 changed down j in
-    each_turns keys on xs j ∙ ap (λ (h : List Bool). record (each (edge keys on) xs j) { held = turned_all xs h }) (sym (each_held keys on xs j))
+    let same : columns (edge keys on) 0 12 changed down j ≡ each (edge keys on) xs j =
+    columns_are (edge keys on) 0 12 changed down j in
+    each_turns keys on xs j ∙ ap (λ (h : List Bool). record (each (edge keys on) xs j) { held = turned_all xs h })
+    (sym (each_held keys on xs j))
     ∙ sym (ap (λ (i : Keyboard). record i { held = turned_all xs i.held }) same)
 
 -- a whole tick with them
 pub ticked_is : (keys : Keys) (meeting : Meeting) (changed down : ℕ → ℕ) (k : Keyboard)
     → ticked keys meeting (tick_edges changed down) k
-    ≡ record (keyed_tick keys meeting changed down k) { held = turned_all (tick_edges changed down) (keyed_tick keys meeting changed down k).held }
-ticked_is keys meeting changed down k = scanned_is keys (is_inhibited meeting) changed down (tested_if (not (k.test == 0)) (met meeting keys k))
+    ≡ record (keyed_tick keys meeting changed down
+    k) { held = turned_all (tick_edges changed down) (keyed_tick keys meeting changed down k).held }
+ticked_is keys meeting changed down k =
+    scanned_is keys (is_inhibited meeting) changed down (tested_if (not (k.test == 0)) (met meeting keys k))

@@ -4,7 +4,7 @@ use Rattle.mcs48_core.specs.Cpu.{Cpu}
 use Rattle.fw_kernel.specs.declared.labels.TheConstants.{DONE}
 use Rattle.fw_kernel.specs.Places.{HasKernel}
 use Rattle.joint_run.specs.Run.{Board, ticks}
-use Rattle.fw_logic.specs.Sizes.{IsByte}
+use Rattle.mcs48_ranges.specs.Sizes.{IsByte}
 use Rattle.fw_logic.proofs.Path.{Stage}
 use Rattle.fw_logic.proofs.Leads.{Leads}
 use Rattle.fw_logic.proofs.Block.{memory, scratched}
@@ -21,7 +21,8 @@ use Rattle.fw_keys.proofs.Block.{Safe}
 use Rattle.fw_keys.proofs.Scan.{edges_most, keyed}
 use Rattle.fw_keys.proofs.Tick.{keyed_tick, down, changed, begun, lit, shining, Ticked, TickLaw, idle_tick, inhibited_tick, test_tick, IsFreeAt, same_kbd}
 
-module _ (d : Board) (bytes : List ℕ) (hk : HasKernel bytes) (small : All IsByte bytes) (low : (p1 p2 c : ℕ) (s : d.State) → (d.pins p1 p2 c s).bus < 256) (held : List Bool)
+module _ (d : Board) (bytes : List ℕ) (hk : HasKernel bytes) (small : All IsByte bytes)
+    (low : (p1 p2 c : ℕ) (s : d.State) → (d.pins p1 p2 c s).bus < 256) (held : List Bool)
     (y : ℕ) (m : Cpu) (board : d.State) (f : ℕ → ℕ) (ring : List ℕ) where
   abbrev pub downs_now : ℕ → ℕ
   downs_now = down d bytes hk small low held y m board f ring
@@ -39,7 +40,8 @@ module _ (d : Board) (bytes : List ℕ) (hk : HasKernel bytes) (small : All IsBy
     pub last : List ℕ
     pub from : Stage d.State
     pub n : ℕ
-    pub cpu : e.cpu ≡ scratched (record lights_on { f0 = e.cpu.f0; f1 = e.cpu.f1; p2 = e.cpu.p2 }) DONE (memory now last) e.cpu
+    pub cpu : e.cpu ≡ scratched (record lights_on { f0 = e.cpu.f0; f1 = e.cpu.f1; p2 = e.cpu.p2 }) DONE
+        (memory now last) e.cpu
     pub short : e.off ≤ last_off
     pub kbd : kbd_of held now last ≡ keyed_tick (image_keys bytes) meeting changes_now downs_now (kbd_of held f ring)
     pub downs : (i : ℕ) → i < 12 → now (32 + i) ≡ downs_now i
@@ -57,14 +59,19 @@ module _ (d : Board) (bytes : List ℕ) (hk : HasKernel bytes) (small : All IsBy
     pub board_is : e.board ≡ shining d bytes hk small low held y m board f ring
 
   abbrev pub Works : Meeting → ℕ → (Stage d.State → Type 0) → Type 0
-  Works meeting last_off F = Leads d (kernel_in true bytes) y (begun d bytes hk small low held y m board f ring) (Ended meeting last_off F)
+  Works meeting last_off F = Leads d (kernel_in true bytes) y (begun d bytes hk small low held y m board f ring)
+      (Ended meeting last_off F)
 
-  silent : (meeting : Meeting) (inhibited : Bool) (max : ℕ) (step : Keyboard → Keyboard) → TickLaw d bytes hk small low held y m board f ring meeting inhibited max step
+  silent : (meeting : Meeting) (inhibited : Bool) (max : ℕ) (step : Keyboard → Keyboard)
+      → TickLaw d bytes hk small low held y m board f ring meeting inhibited max step
       → Works meeting (231 + (max + (56 + (2 + edges_most changes_now)))) AtHead
   silent meeting inhibited max step h =
       weaken d (kernel_in true bytes) (has_rows true bytes hk) y
-      (λ e. Ticked d bytes hk small low held y m board f ring inhibited max step e × (keyed (image_keys bytes) inhibited changes_now downs_now (step (kbd_of held f ring)) ≡ keyed_tick (image_keys bytes) meeting changes_now downs_now (kbd_of held f ring)))
-      (Ended meeting (231 + (max + (56 + (2 + edges_most changes_now)))) AtHead) (begun d bytes hk small low held y m board f ring)
+      (λ e. Ticked d bytes hk small low held y m board f ring inhibited max step e
+      × (keyed (image_keys bytes) inhibited changes_now downs_now (step (kbd_of held f ring))
+      ≡ keyed_tick (image_keys bytes) meeting changes_now downs_now (kbd_of held f ring)))
+      (Ended meeting (231 + (max + (56 + (2 + edges_most changes_now)))) AtHead)
+      (begun d bytes hk small low held y m board f ring)
       (λ e a.
       let t = a.0 in
       let off : e.off ≡ 231 + t.used = t.off in
@@ -74,7 +81,9 @@ module _ (d : Board) (bytes : List ℕ) (hk : HasKernel bytes) (small : All IsBy
         last = t.last;
         from = record { cpu = lights_on; board = shining d bytes hk small low held y m board f ring; off = 231 };
         n = t.used;
-        cpu = t.cpu ∙ sym (ap (λ (c : Cpu). scratched (record lights_on { f0 = c.f0; f1 = c.f1; p2 = c.p2 }) DONE (memory t.now t.last) e.cpu) t.cpu);
+        cpu = t.cpu
+            ∙ sym (ap (λ (c : Cpu). scratched (record lights_on { f0 = c.f0; f1 = c.f1; p2 = c.p2 }) DONE
+            (memory t.now t.last) e.cpu) t.cpu);
         short = omega (arith, off, short);
         kbd = t.kbd ∙ a.1;
         downs = t.downs;
@@ -87,16 +96,25 @@ module _ (d : Board) (bytes : List ℕ) (hk : HasKernel bytes) (small : All IsBy
       }) h
 
   -- nothing is offered, and both wires are high
-  pub idle_works : Inv f → (f 69 == 0) ≡ true → offer (kbd_of held f ring) ≡ None → IsFreeAt d bytes hk small low held y m board f ring → Safe m 10 f ring
+  pub idle_works : Inv f → (f 69 == 0) ≡ true → offer (kbd_of held f ring) ≡ None
+      → IsFreeAt d bytes hk small low held y m board f ring → Safe m 10 f ring
       → Works Idle (231 + (31 + (56 + (2 + edges_most changes_now)))) AtHead
-  idle_works inv no_test nothing wires safe = silent Idle false 31 (same_kbd d bytes hk small low held y m board f ring) (idle_tick d bytes hk small low held y m board f ring inv no_test nothing wires safe)
+  idle_works inv no_test nothing wires safe =
+      silent Idle false 31 (same_kbd d bytes hk small low held y m board f ring)
+      (idle_tick d bytes hk small low held y m board f ring inv no_test nothing wires safe)
 
   -- the clock is low
   pub inhibited_works : Inv f → (f 69 == 0) ≡ true
-      → (d.pins 44 (255 - f 77) (y + 231 + 22) (ticks 22 0 (λ o. d.tick (255 - f 77) (y + 231 + o)) (shining d bytes hk small low held y m board f ring))).t0 ≡ false → Safe m 10 f ring
+      → (d.pins 44 (255 - f 77) (y + 231 + 22)
+      (ticks 22 0 (λ o. d.tick (255 - f 77) (y + 231 + o)) (shining d bytes hk small low held y m board f ring))).t0
+      ≡ false → Safe m 10 f ring
       → Works Inhibited (231 + (31 + (56 + (2 + edges_most changes_now)))) AtHead
-  inhibited_works inv no_test clock safe = silent Inhibited true 31 (same_kbd d bytes hk small low held y m board f ring) (inhibited_tick d bytes hk small low held y m board f ring inv no_test clock safe)
+  inhibited_works inv no_test clock safe =
+      silent Inhibited true 31 (same_kbd d bytes hk small low held y m board f ring)
+      (inhibited_tick d bytes hk small low held y m board f ring inv no_test clock safe)
 
   -- the power-on test runs, whatever the wires show
-  pub test_works : Inv f → (f 69 == 0) ≡ false → Safe m 10 f ring → Works Idle (231 + (36 + (56 + (2 + edges_most changes_now)))) AtHead
-  test_works inv runs safe = silent Idle false 36 (tested_if true) (test_tick d bytes hk small low held y m board f ring inv runs safe)
+  pub test_works : Inv f → (f 69 == 0) ≡ false → Safe m 10 f ring
+      → Works Idle (231 + (36 + (56 + (2 + edges_most changes_now)))) AtHead
+  test_works inv runs safe = silent Idle false 36 (tested_if true)
+      (test_tick d bytes hk small low held y m board f ring inv runs safe)

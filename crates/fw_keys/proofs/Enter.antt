@@ -11,12 +11,12 @@ use Rattle.fw_keys.proofs.Block.{Ends, Safe}
 use Rattle.fw_keys.proofs.Ring.{appended, appended2, made-length, ring-set}
 use Rattle.fw_keys.specs.State.{queue_by, queue_of}
 use Rattle.fw_logic.proofs.Block.{begin_at, memory, put}
-use Rattle.fw_logic.proofs.Bytes.{by_byte, tests_by}
+use Rattle.bits.proofs.Every.{by_byte, tests_by}
 use Rattle.fw_logic.proofs.Kernel.{kernel_in}
 use Rattle.fw_logic.proofs.Leads.{Leads}
 use Rattle.fw_logic.proofs.Path.{Go, Ram, Run, Until}
 use Rattle.fw_logic.proofs.Short.{has_rows}
-use Rattle.fw_logic.specs.Sizes.{IsByte}
+use Rattle.mcs48_ranges.specs.Sizes.{IsByte}
 use Rattle.joint_run.specs.Run.{Board}
 use Rattle.kbd_model.specs.Queue.{enter}
 
@@ -35,6 +35,13 @@ ring_place = by_byte (λ z. bit_or z 112 % 128) (λ z. (112 + z % 16) % 128) ref
 pub next_place : (z : ℕ) → z < 256 → bit_or ((bit_or z 112 + 1) % 256) 112 % 128 ≡ (112 + (z + 1) % 16) % 128
 next_place = by_byte (λ z. bit_or ((bit_or z 112 + 1) % 256) 112 % 128) (λ z. (112 + (z + 1) % 16) % 128) refl
 
+-- a byte that is put at its place of the ring
+pub in_ring : (g : ℕ → ℕ) (ring : List ℕ) (z n b : ℕ) → z < 256 → z % 16 ≡ n % 16
+    → slice_set (memory g ring) (bit_or z 112 % 128) b ≡ memory g (slice_set ring (n % 16) b)
+in_ring g ring z n b l j =
+    ap (λ p. slice_set (memory g ring) p b) (ring_place z l ∙ ap (λ k. (112 + k) % 128) j)
+    ∙ ring-set g ring (n % 16) b (omega arith)
+
 pub marked : (c : ℕ) → c < 256 → bit 7 (bit_or c 128) ≡ true
 marked = tests_by 256 (λ c. bit 7 (bit_or c 128)) (λ c. true) refl
 
@@ -52,7 +59,8 @@ pub small_count : (c : ℕ) → c < 16 → bit 7 c ≡ false
 small_count = tests_by 16 (λ c. bit 7 c) (λ c. false) refl
 
 -- no room: the mark
-pub entered_over : (code : List ℕ) (f : ℕ → ℕ) (ring : List ℕ) (v : ℕ) → f 66 < 256 → f 66 % 128 ≤ 16 → (bit 7 (f 66) || nat_lt 16 (f 66 % 128 + length code)) ≡ true
+pub entered_over : (code : List ℕ) (f : ℕ → ℕ) (ring : List ℕ) (v : ℕ) → f 66 < 256 → f 66 % 128 ≤ 16
+    → (bit 7 (f 66) || nat_lt 16 (f 66 % 128 + length code)) ≡ true
     → Entered code f ring (put (put f 66 (bit_or (f 66) 128)) 25 v) ring
 entered_over code f ring v byte most over = record {
   pointer = v;
@@ -64,7 +72,8 @@ entered_over code f ring v byte most over = record {
 }
 
 -- room for one byte
-pub entered_one : (b : ℕ) (f : ℕ → ℕ) (ring : List ℕ) (v : ℕ) → length ring ≡ 16 → f 66 < 16 → Entered (b ∷ []) f ring (put (put f 66 ((f 66 + 1) % 256)) 25 v) (slice_set ring ((f 67 + f 66) % 16) b)
+pub entered_one : (b : ℕ) (f : ℕ → ℕ) (ring : List ℕ) (v : ℕ) → length ring ≡ 16 → f 66 < 16
+    → Entered (b ∷ []) f ring (put (put f 66 ((f 66 + 1) % 256)) 25 v) (slice_set ring ((f 67 + f 66) % 16) b)
 entered_one b f ring v size below =
     let n : (f 66 + 1) % 256 ≡ suc (f 66) = omega (arith, below) in
     let n2 : suc (f 66) % 128 ≡ suc (f 66) = omega (arith, below) in
@@ -86,7 +95,8 @@ entered_one b f ring v size below =
 
 -- room for two
 pub entered_two : (b : ℕ) (f : ℕ → ℕ) (ring : List ℕ) (v : ℕ) → length ring ≡ 16 → f 66 < 15
-    → Entered (240 ∷ b ∷ []) f ring (put (put f 66 (((f 66 + 1) % 256 + 1) % 256)) 25 v) (slice_set (slice_set ring ((f 67 + f 66) % 16) 240) ((f 67 + suc (f 66)) % 16) b)
+    → Entered (240 ∷ b ∷ []) f ring (put (put f 66 (((f 66 + 1) % 256 + 1) % 256)) 25 v)
+    (slice_set (slice_set ring ((f 67 + f 66) % 16) 240) ((f 67 + suc (f 66)) % 16) b)
 entered_two b f ring v size below =
     let n : ((f 66 + 1) % 256 + 1) % 256 ≡ suc (suc (f 66)) = omega (arith, below) in
     let n2 : suc (suc (f 66)) % 128 ≡ suc (suc (f 66)) = omega (arith, below) in
@@ -109,15 +119,20 @@ entered_two b f ring v size below =
 pub not_over : (c k : ℕ) → nat_le 256 (c + k) ≡ false → c + k < 256
 not_over c k h = grind (arith, nat_tests, h)
 
-module _ (d : Board) (bytes : List ℕ) (hk : HasKernel bytes) (small : All IsByte bytes) (low : (p1 p2 c : ℕ) (s : d.State) → (d.pins p1 p2 c s).bus < 256) (held : List Bool)
+module _ (d : Board) (bytes : List ℕ) (hk : HasKernel bytes) (small : All IsByte bytes)
+    (low : (p1 p2 c : ℕ) (s : d.State) → (d.pins p1 p2 c s).bus < 256) (held : List Bool)
     (x : ℕ) (m : Cpu) (board : d.State) (f : ℕ → ℕ) (ring : List ℕ) where
   -- one byte at ENTER, on to ENTERED
   enters_by : (over : Bool) → nat_le 256 (f 66 + 240) ≡ over → Safe m ENTER f ring → f 66 % 128 ≤ 16
-      → Leads d (kernel_in true bytes) x (begin_at d ENTER f ring m board) (Ends d x m board ENTERED 17 (λ a. Entered (f 26 ∷ []) f ring))
+      → Leads d (kernel_in true bytes) x (begin_at d ENTER f ring m board)
+      (Ends d x m board ENTERED 17 (λ a. Entered (f 26 ∷ []) f ring))
   enters_by true is safe most =
       let h = bytes_of m ENTER f ring safe in
-      leaf d (kernel_in true bytes) (has_rows true bytes hk) small low (λ a. Entered (f 26 ∷ []) f ring) (Until 1128 ∷ Go true ∷ Until ENTERED ∷ []) ENTER ENTERED 17 (put (put f 66 (bit_or (f 66) 128)) 25 66) ring x m m board f ring safe.0
-      (λ a. entered_over (f 26 ∷ []) f ring 66 (h.cell 66 (omega arith)) most (sym (over_one (f 66) (h.cell 66 (omega arith))) ∙ is))
+      leaf d (kernel_in true bytes) (has_rows true bytes hk) small low (λ a. Entered (f 26 ∷ []) f ring)
+      (Until 1128 ∷ Go true ∷ Until ENTERED ∷ []) ENTER ENTERED 17 (put (put f 66 (bit_or (f 66) 128)) 25 66) ring x m m
+      board f ring safe.0
+      (λ a. entered_over (f 26 ∷ []) f ring 66 (h.cell 66 (omega arith)) most
+      (sym (over_one (f 66) (h.cell 66 (omega arith))) ∙ is))
       (is, (refl, refl, refl))
   enters_by false is safe most =
       let h = bytes_of m ENTER f ring safe in
@@ -125,9 +140,13 @@ module _ (d : Board) (bytes : List ℕ) (hk : HasKernel bytes) (small : All IsBy
       let z : ℕ = ((f 66 + 240) % 256 + f 67) % 256 in
       let j : z % 16 ≡ (f 67 + f 66) % 16 = omega arith in
       let g : ℕ → ℕ = put (put f 66 ((f 66 + 1) % 256)) 25 (bit_or z 112) in
-      leaf d (kernel_in true bytes) (has_rows true bytes hk) small low (λ a. Entered (f 26 ∷ []) f ring) (Until 1128 ∷ Go false ∷ Until 1137 ∷ Run 1 ∷ Ram (memory g (slice_set ring ((f 67 + f 66) % 16) (f 26))) ∷ Until ENTERED ∷ []) ENTER ENTERED 17 g (slice_set ring ((f 67 + f 66) % 16) (f 26)) x m m board f ring safe.0
+      leaf d (kernel_in true bytes) (has_rows true bytes hk) small low (λ a. Entered (f 26 ∷ []) f ring)
+      (Until 1128 ∷ Go false ∷ Until 1137 ∷ Run 1 ∷ Ram (memory g (slice_set ring ((f 67 + f 66) % 16) (f 26))) ∷ Until
+      ENTERED ∷ []) ENTER ENTERED 17 g (slice_set ring ((f 67 + f 66) % 16) (f 26)) x m m board f ring safe.0
       (λ a. entered_one (f 26) f ring (bit_or z 112) h.size below)
-      (is, (ap (λ p. slice_set (memory g ring) p (f 26)) (ring_place z (omega arith) ∙ ap (λ k. (112 + k) % 128) j) ∙ ring-set g ring ((f 67 + f 66) % 16) (f 26) (omega arith), (refl, refl, refl)))
+      (is, (in_ring g ring z (f 67 + f 66) (f 26) (omega arith) j, (refl, refl, refl)))
 
-  pub enters : Safe m ENTER f ring → f 66 % 128 ≤ 16 → Leads d (kernel_in true bytes) x (begin_at d ENTER f ring m board) (Ends d x m board ENTERED 17 (λ a. Entered (f 26 ∷ []) f ring))
+  pub enters : Safe m ENTER f ring → f 66 % 128 ≤ 16
+      → Leads d (kernel_in true bytes) x (begin_at d ENTER f ring m board)
+      (Ends d x m board ENTERED 17 (λ a. Entered (f 26 ∷ []) f ring))
   enters = enters_by (nat_le 256 (f 66 + 240)) refl

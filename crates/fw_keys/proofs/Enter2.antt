@@ -2,7 +2,7 @@
 use Rattle.std.proofs.Common.{◌≡◌, ◌≤◌, ◌<◌, ℕ, suc, ◌+◌, ◌%◌, List, [], ◌∷◌, All, Bool, true, false, nat_le, bit_or, refl, ap, sym, ◌∙◌, arith, slice_set}
 use Rattle.mcs48_core.specs.Cpu.{Cpu}
 use Rattle.fw_keys.proofs.Blocks.{leaf, bytes_of}
-use Rattle.fw_keys.proofs.Enter.{Entered, ring_place, next_place, over_one, over_two, entered_over, entered_one, entered_two, not_over}
+use Rattle.fw_keys.proofs.Enter.{Entered, in_ring, next_place, over_one, over_two, entered_over, entered_one, entered_two, not_over}
 use Rattle.fw_kernel.specs.Places.{HasKernel}
 use Rattle.fw_kernel.specs.declared.labels.TheConstants.{AGAIN, EDGES, ENTER2, ENTERED}
 use Rattle.fw_keys.proofs.Block.{Ends, Safe}
@@ -12,18 +12,23 @@ use Rattle.fw_logic.proofs.Kernel.{kernel_in}
 use Rattle.fw_logic.proofs.Leads.{Leads}
 use Rattle.fw_logic.proofs.Path.{Go, Ram, Run, Until}
 use Rattle.fw_logic.proofs.Short.{has_rows}
-use Rattle.fw_logic.specs.Sizes.{IsByte}
+use Rattle.mcs48_ranges.specs.Sizes.{IsByte}
 use Rattle.joint_run.specs.Run.{Board}
 
-module _ (d : Board) (bytes : List ℕ) (hk : HasKernel bytes) (small : All IsByte bytes) (low : (p1 p2 c : ℕ) (s : d.State) → (d.pins p1 p2 c s).bus < 256) (held : List Bool)
+module _ (d : Board) (bytes : List ℕ) (hk : HasKernel bytes) (small : All IsByte bytes)
+    (low : (p1 p2 c : ℕ) (s : d.State) → (d.pins p1 p2 c s).bus < 256) (held : List Bool)
     (x : ℕ) (m : Cpu) (board : d.State) (f : ℕ → ℕ) (ring : List ℕ) where
   -- two bytes at ENTER2, on to ENTERED
   enters_two_by : (over : Bool) → nat_le 256 (f 66 + 241) ≡ over → Safe m ENTER2 f ring → f 66 % 128 ≤ 16
-      → Leads d (kernel_in true bytes) x (begin_at d ENTER2 f ring m board) (Ends d x m board ENTERED 23 (λ a. Entered (240 ∷ f 26 ∷ []) f ring))
+      → Leads d (kernel_in true bytes) x (begin_at d ENTER2 f ring m board)
+      (Ends d x m board ENTERED 23 (λ a. Entered (240 ∷ f 26 ∷ []) f ring))
   enters_two_by true is safe most =
       let h = bytes_of m ENTER2 f ring safe in
-      leaf d (kernel_in true bytes) (has_rows true bytes hk) small low (λ a. Entered (240 ∷ f 26 ∷ []) f ring) (Until 1201 ∷ Go true ∷ Until ENTERED ∷ []) ENTER2 ENTERED 23 (put (put f 66 (bit_or (f 66) 128)) 25 66) ring x m m board f ring safe.0
-      (λ a. entered_over (240 ∷ f 26 ∷ []) f ring 66 (h.cell 66 (omega arith)) most (sym (over_two (f 66) (h.cell 66 (omega arith))) ∙ is))
+      leaf d (kernel_in true bytes) (has_rows true bytes hk) small low (λ a. Entered (240 ∷ f 26 ∷ []) f ring)
+      (Until 1201 ∷ Go true ∷ Until ENTERED ∷ []) ENTER2 ENTERED 23 (put (put f 66 (bit_or (f 66) 128)) 25 66) ring x m
+      m board f ring safe.0
+      (λ a. entered_over (240 ∷ f 26 ∷ []) f ring 66 (h.cell 66 (omega arith)) most
+      (sym (over_two (f 66) (h.cell 66 (omega arith))) ∙ is))
       (is, (refl, refl, refl))
   enters_two_by false is safe most =
       let h = bytes_of m ENTER2 f ring safe in
@@ -37,25 +42,33 @@ module _ (d : Board) (bytes : List ℕ) (hk : HasKernel bytes) (small : All IsBy
       let whole : List ℕ = slice_set half ((f 67 + suc (f 66)) % 16) (f 26) in
       let g1 : ℕ → ℕ = put (put f 66 n) 25 (bit_or z 112) in
       let g2 : ℕ → ℕ = put (put f 66 n) 25 p in
-      leaf d (kernel_in true bytes) (has_rows true bytes hk) small low (λ a. Entered (240 ∷ f 26 ∷ []) f ring) (Until 1201 ∷ Go false ∷ Until 1211 ∷ Run 1 ∷ Ram (memory g1 half) ∷ Until 1218 ∷ Run 1 ∷ Ram (memory g2 whole) ∷ Until ENTERED ∷ []) ENTER2 ENTERED 23 g2 whole x m m board f ring safe.0
+      leaf d (kernel_in true bytes) (has_rows true bytes hk) small low (λ a. Entered (240 ∷ f 26 ∷ []) f ring)
+      (Until 1201 ∷ Go false ∷ Until 1211 ∷ Run 1 ∷ Ram (memory g1 half) ∷ Until 1218 ∷ Run 1 ∷ Ram
+      (memory g2 whole) ∷ Until ENTERED ∷ []) ENTER2 ENTERED 23 g2 whole x m m board f ring safe.0
       (λ a. entered_two (f 26) f ring p h.size below) (
         is,
         (
-          ap (λ p. slice_set (memory g1 ring) p 240) (ring_place z (omega arith) ∙ ap (λ k. (112 + k) % 128) j) ∙ ring-set g1 ring ((f 67 + f 66) % 16) 240 (omega arith),
+          in_ring g1 ring z (f 67 + f 66) 240 (omega arith) j,
           (ap (λ p. slice_set (memory g2 half) p (f 26)) (next_place z (omega arith) ∙ ap (λ k. (112 + k) % 128) j2) ∙ ring-set g2 half ((f 67 + suc (f 66)) % 16) (f 26) (omega arith), (refl, refl, refl)),
         ),
       )
 
-  pub enters_two : Safe m ENTER2 f ring → f 66 % 128 ≤ 16 → Leads d (kernel_in true bytes) x (begin_at d ENTER2 f ring m board) (Ends d x m board ENTERED 23 (λ a. Entered (240 ∷ f 26 ∷ []) f ring))
+  pub enters_two : Safe m ENTER2 f ring → f 66 % 128 ≤ 16
+      → Leads d (kernel_in true bytes) x (begin_at d ENTER2 f ring m board)
+      (Ends d x m board ENTERED 23 (λ a. Entered (240 ∷ f 26 ∷ []) f ring))
   enters_two = enters_two_by (nat_le 256 (f 66 + 241)) refl
 
   -- the byte of a key that repeats, at AGAIN, on to EDGES
   again_by : (over : Bool) → nat_le 256 (f 66 + 240) ≡ over → Safe m AGAIN f ring → f 66 % 128 ≤ 16
-      → Leads d (kernel_in true bytes) x (begin_at d AGAIN f ring m board) (Ends d x m board EDGES 17 (λ a. Entered (f 26 ∷ []) f ring))
+      → Leads d (kernel_in true bytes) x (begin_at d AGAIN f ring m board)
+      (Ends d x m board EDGES 17 (λ a. Entered (f 26 ∷ []) f ring))
   again_by true is safe most =
       let h = bytes_of m AGAIN f ring safe in
-      leaf d (kernel_in true bytes) (has_rows true bytes hk) small low (λ a. Entered (f 26 ∷ []) f ring) (Until 648 ∷ Go true ∷ Until EDGES ∷ []) AGAIN EDGES 17 (put (put f 66 (bit_or (f 66) 128)) 25 66) ring x m m board f ring safe.0
-      (λ a. entered_over (f 26 ∷ []) f ring 66 (h.cell 66 (omega arith)) most (sym (over_one (f 66) (h.cell 66 (omega arith))) ∙ is))
+      leaf d (kernel_in true bytes) (has_rows true bytes hk) small low (λ a. Entered (f 26 ∷ []) f ring)
+      (Until 648 ∷ Go true ∷ Until EDGES ∷ []) AGAIN EDGES 17 (put (put f 66 (bit_or (f 66) 128)) 25 66) ring x m m
+      board f ring safe.0
+      (λ a. entered_over (f 26 ∷ []) f ring 66 (h.cell 66 (omega arith)) most
+      (sym (over_one (f 66) (h.cell 66 (omega arith))) ∙ is))
       (is, (refl, refl, refl))
   again_by false is safe most =
       let h = bytes_of m AGAIN f ring safe in
@@ -63,9 +76,12 @@ module _ (d : Board) (bytes : List ℕ) (hk : HasKernel bytes) (small : All IsBy
       let z : ℕ = ((f 66 + 240) % 256 + f 67) % 256 in
       let j : z % 16 ≡ (f 67 + f 66) % 16 = omega arith in
       let g : ℕ → ℕ = put (put f 66 ((f 66 + 1) % 256)) 25 (bit_or z 112) in
-      leaf d (kernel_in true bytes) (has_rows true bytes hk) small low (λ a. Entered (f 26 ∷ []) f ring) (Until 648 ∷ Go false ∷ Until 657 ∷ Run 1 ∷ Ram (memory g (slice_set ring ((f 67 + f 66) % 16) (f 26))) ∷ Until EDGES ∷ []) AGAIN EDGES 17 g (slice_set ring ((f 67 + f 66) % 16) (f 26)) x m m board f ring safe.0
+      leaf d (kernel_in true bytes) (has_rows true bytes hk) small low (λ a. Entered (f 26 ∷ []) f ring)
+      (Until 648 ∷ Go false ∷ Until 657 ∷ Run 1 ∷ Ram (memory g (slice_set ring ((f 67 + f 66) % 16) (f 26))) ∷ Until
+      EDGES ∷ []) AGAIN EDGES 17 g (slice_set ring ((f 67 + f 66) % 16) (f 26)) x m m board f ring safe.0
       (λ a. entered_one (f 26) f ring (bit_or z 112) h.size below)
-      (is, (ap (λ p. slice_set (memory g ring) p (f 26)) (ring_place z (omega arith) ∙ ap (λ k. (112 + k) % 128) j) ∙ ring-set g ring ((f 67 + f 66) % 16) (f 26) (omega arith), (refl, refl, refl)))
+      (is, (in_ring g ring z (f 67 + f 66) (f 26) (omega arith) j, (refl, refl, refl)))
 
-  pub again : Safe m AGAIN f ring → f 66 % 128 ≤ 16 → Leads d (kernel_in true bytes) x (begin_at d AGAIN f ring m board) (Ends d x m board EDGES 17 (λ a. Entered (f 26 ∷ []) f ring))
+  pub again : Safe m AGAIN f ring → f 66 % 128 ≤ 16 → Leads d (kernel_in true bytes) x (begin_at d AGAIN f ring m board)
+      (Ends d x m board EDGES 17 (λ a. Entered (f 26 ∷ []) f ring))
   again = again_by (nat_le 256 (f 66 + 240)) refl

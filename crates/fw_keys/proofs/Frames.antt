@@ -6,7 +6,7 @@ use Rattle.mcs48_core.specs.Cpu.{Cpu}
 use Rattle.fw_kernel.specs.declared.labels.TheConstants.{DONE, SCAN, TESTED, SENT, COMMAND}
 use Rattle.fw_kernel.specs.Places.{HasKernel}
 use Rattle.joint_run.specs.Run.{Board, ticks}
-use Rattle.fw_logic.specs.Sizes.{IsByte, IsFine}
+use Rattle.mcs48_ranges.specs.Sizes.{IsByte, IsFine}
 use Rattle.fw_logic.proofs.Clock.{IsFree}
 use Rattle.fw_logic.proofs.Path.{Stage}
 use Rattle.fw_logic.proofs.Leads.{Leads}
@@ -34,7 +34,8 @@ use Rattle.fw_keys.proofs.Offered.{offered_byte, first_of_law, code_law}
 use Rattle.fw_keys.proofs.Ended.{downs_now, changes_now, lights_on, Ended, Works}
 
 -- the keyboard is a matter of the cells 64 to 77
-pub same_cells : (held : List Bool) (g f : ℕ → ℕ) (ring : List ℕ) → ((i : ℕ) → 64 ≤ i → i < 78 → g i ≡ f i) → kbd_of held g ring ≡ kbd_of held f ring
+pub same_cells : (held : List Bool) (g f : ℕ → ℕ) (ring : List ℕ) → ((i : ℕ) → 64 ≤ i → i < 78 → g i ≡ f i)
+    → kbd_of held g ring ≡ kbd_of held f ring
 same_cells held g f ring e =
     let a : g 64 ≡ f 64 = e 64 (omega arith) (omega arith) in
     let b : g 65 ≡ f 65 = e 65 (omega arith) (omega arith) in
@@ -73,7 +74,8 @@ head_keeps look f r4 r5 i l =
     let p5 : (i == 29) ≡ false = (let u : 29 < i = omega (arith, l) in grind (arith, nat_tests, u)) in
     rw (a, b, c, h, p5, p4, r3, r1, r0) refl
 
-module _ (d : Board) (bytes : List ℕ) (hk : HasKernel bytes) (small : All IsByte bytes) (low : (p1 p2 c : ℕ) (s : d.State) → (d.pins p1 p2 c s).bus < 256) (held : List Bool)
+module _ (d : Board) (bytes : List ℕ) (hk : HasKernel bytes) (small : All IsByte bytes)
+    (low : (p1 p2 c : ℕ) (s : d.State) → (d.pins p1 p2 c s).bus < 256) (held : List Bool)
     (y : ℕ) (m : Cpu) (board : d.State) (f : ℕ → ℕ) (ring : List ℕ) where
   abbrev lights : Cpu
   lights = lights_on d bytes hk small low held y m board f ring
@@ -86,9 +88,11 @@ module _ (d : Board) (bytes : List ℕ) (hk : HasKernel bytes) (small : All IsBy
   behind e = record { cpu = e.cpu; board = e.board; off = 231 + e.off }
 
   -- what a tick needs of a frame: it ends at a place in time, with the keyboard's cells, what the columns showed, the
-  -- way back and the ring as they were, F1 clear, and port 1 as it was; R says of the cells what the registers have, and
+  -- way back and the ring as they were, F1 clear, and port 1 as it was; R says of the cells what the registers have,
+  -- and
   -- F is what is known of the port, the board and the time
-  pub record Framed (to max : ℕ) (F : Stage d.State → Type 0) (R : (ℕ → ℕ) → Type 0) (g : ℕ → ℕ) (e : Stage d.State) : Type 0 where
+  pub record Framed (to max : ℕ) (F : Stage d.State → Type 0) (R : (ℕ → ℕ) → Type 0) (g : ℕ → ℕ)
+      (e : Stage d.State) : Type 0 where
     pub now : ℕ → ℕ
     pub cpu : e.cpu ≡ scratched (record lights { f1 = false; p2 = e.cpu.p2 }) to (memory now ring) e.cpu
     pub kept : (i : ℕ) → 32 ≤ i → i < 78 → now i ≡ g i
@@ -100,14 +104,19 @@ module _ (d : Board) (bytes : List ℕ) (hk : HasKernel bytes) (small : All IsBy
   -- a frame, from the head's end: what is offered is in R4, or R5 is 0
   abbrev pub FrameLaw : ℕ → ℕ → (Stage d.State → Type 0) → (ℕ → ℕ → (ℕ → ℕ) → Type 0) → Type 0
   FrameLaw to max F R =
-      (m' : Cpu) (board' : d.State) (r4 r5 : ℕ) → m' ≡ scratched lights TESTED (memory (cells r4 r5) ring) m' → board' ≡ shining d bytes hk small low held y m board f ring → offered_in r4 r5 ≡ offer (kbd_of held f ring) → Safe m' TESTED (cells r4 r5) ring
-      → Leads d (kernel_in true bytes) (y + 231) (begin_at d TESTED (cells r4 r5) ring m' board') (Framed to max F (R r4 r5) (cells r4 r5))
+      (m' : Cpu) (board' : d.State) (r4 r5 : ℕ) → m' ≡ scratched lights TESTED (memory (cells r4 r5) ring) m'
+      → board' ≡ shining d bytes hk small low held y m board f ring → offered_in r4 r5 ≡ offer (kbd_of held f ring)
+      → Safe m' TESTED (cells r4 r5) ring
+      → Leads d (kernel_in true bytes) (y + 231) (begin_at d TESTED (cells r4 r5) ring m' board')
+      (Framed to max F (R r4 r5) (cells r4 r5))
 
   -- what follows the frame, up to SCAN
   abbrev pub StepLaw : ℕ → ℕ → (ℕ → ℕ → (ℕ → ℕ) → Type 0) → ((ℕ → ℕ) → Keyboard → Keyboard) → Type 0
   StepLaw to most R step =
-      (r4 r5 x : ℕ) (m1 : Cpu) (board1 : d.State) (g : ℕ → ℕ) → offered_in r4 r5 ≡ offer (kbd_of held f ring) → R r4 r5 g → ((i : ℕ) → 64 ≤ i → i < 78 → g i ≡ f i) → Inv g → Safe m1 to g ring
-      → Leads d (kernel_in true bytes) x (begin_at d to g ring m1 board1) (Ends d x m1 board1 SCAN most (Keeps held (step g) g ring))
+      (r4 r5 x : ℕ) (m1 : Cpu) (board1 : d.State) (g : ℕ → ℕ) → offered_in r4 r5 ≡ offer (kbd_of held f ring)
+      → R r4 r5 g → ((i : ℕ) → 64 ≤ i → i < 78 → g i ≡ f i) → Inv g → Safe m1 to g ring
+      → Leads d (kernel_in true bytes) x (begin_at d to g ring m1 board1)
+      (Ends d x m1 board1 SCAN most (Keeps held (step g) g ring))
 
   -- and that it is what the model does at the meeting
   abbrev pub ModelLaw : Meeting → (ℕ → ℕ → (ℕ → ℕ) → Type 0) → ((ℕ → ℕ) → Keyboard → Keyboard) → Type 0
@@ -115,24 +124,33 @@ module _ (d : Board) (bytes : List ℕ) (hk : HasKernel bytes) (small : All IsBy
       (r4 r5 : ℕ) (g : ℕ → ℕ) → offered_in r4 r5 ≡ offer (kbd_of held f ring) → R r4 r5 g
       → step g (kbd_of held f ring) ≡ tested_if (not (f 69 == 0)) (met meeting (image_keys bytes) (kbd_of held f ring))
 
-  module _ (meeting : Meeting) (to max most : ℕ) (F : Stage d.State → Type 0) (R : ℕ → ℕ → (ℕ → ℕ) → Type 0) (step : (ℕ → ℕ) → Keyboard → Keyboard)
-      (quiet : is_inhibited meeting ≡ false) (frame : FrameLaw to max F R) (law : StepLaw to most R step) (model : ModelLaw meeting R step) (inv : Inv f) where
+  module _ (meeting : Meeting) (to max most : ℕ) (F : Stage d.State → Type 0) (R : ℕ → ℕ → (ℕ → ℕ) → Type 0)
+      (step : (ℕ → ℕ) → Keyboard → Keyboard)
+      (quiet : is_inhibited meeting ≡ false) (frame : FrameLaw to max F R) (law : StepLaw to most R step)
+      (model : ModelLaw meeting R step) (inv : Inv f) where
     abbrev last_off : ℕ
     last_off = 231 + (max + (most + (56 + (2 + edges_most (changes_now d bytes hk small low held y m board f ring)))))
 
     abbrev Goal : Stage d.State → Type 0
     Goal = Ended d bytes hk small low held y m board f ring meeting last_off F
 
-    changes : (r4 r5 : ℕ) (now : ℕ → ℕ) → ((i : ℕ) → 32 ≤ i → i < 78 → now i ≡ cells r4 r5 i) → (i : ℕ) → i < 12 → now (48 + i) ≡ changes_now d bytes hk small low held y m board f ring i
-    changes r4 r5 now kept i l = kept (48 + i) (omega arith) (omega (arith, l)) ∙ head_changes (downs_now d bytes hk small low held y m board f ring) f r4 r5 i l
+    changes : (r4 r5 : ℕ) (now : ℕ → ℕ) → ((i : ℕ) → 32 ≤ i → i < 78 → now i ≡ cells r4 r5 i) → (i : ℕ) → i < 12
+        → now (48 + i) ≡ changes_now d bytes hk small low held y m board f ring i
+    changes r4 r5 now kept i l = kept (48 + i) (omega arith) (omega (arith, l))
+        ∙ head_changes (downs_now d bytes hk small low held y m board f ring) f r4 r5 i l
 
-    helds : (r4 r5 : ℕ) (now : ℕ → ℕ) → ((i : ℕ) → 32 ≤ i → i < 78 → now i ≡ cells r4 r5 i) → (i : ℕ) → i < 12 → now (32 + i) ≡ downs_now d bytes hk small low held y m board f ring i
-    helds r4 r5 now kept i l = kept (32 + i) (omega arith) (omega (arith, l)) ∙ head_helds (downs_now d bytes hk small low held y m board f ring) f r4 r5 i l
+    helds : (r4 r5 : ℕ) (now : ℕ → ℕ) → ((i : ℕ) → 32 ≤ i → i < 78 → now i ≡ cells r4 r5 i) → (i : ℕ) → i < 12
+        → now (32 + i) ≡ downs_now d bytes hk small low held y m board f ring i
+    helds r4 r5 now kept i l = kept (32 + i) (omega arith) (omega (arith, l))
+        ∙ head_helds (downs_now d bytes hk small low held y m board f ring) f r4 r5 i l
 
-    same : (r4 r5 : ℕ) (now : ℕ → ℕ) → ((i : ℕ) → 32 ≤ i → i < 78 → now i ≡ cells r4 r5 i) → (i : ℕ) → 64 ≤ i → i < 78 → now i ≡ f i
-    same r4 r5 now kept i l u = kept i (omega (arith, l)) u ∙ head_keeps (downs_now d bytes hk small low held y m board f ring) f r4 r5 i (omega (arith, l))
+    same : (r4 r5 : ℕ) (now : ℕ → ℕ) → ((i : ℕ) → 32 ≤ i → i < 78 → now i ≡ cells r4 r5 i) → (i : ℕ) → 64 ≤ i → i < 78
+        → now i ≡ f i
+    same r4 r5 now kept i l u = kept i (omega (arith, l)) u
+        ∙ head_keeps (downs_now d bytes hk small low held y m board f ring) f r4 r5 i (omega (arith, l))
 
-    from_frame : (r4 r5 : ℕ) → offered_in r4 r5 ≡ offer (kbd_of held f ring) → (e : Stage d.State) → Framed to max F (R r4 r5) (cells r4 r5) e → IsFree e.cpu → IsFine e.cpu
+    from_frame : (r4 r5 : ℕ) → offered_in r4 r5 ≡ offer (kbd_of held f ring) → (e : Stage d.State)
+        → Framed to max F (R r4 r5) (cells r4 r5) e → IsFree e.cpu → IsFine e.cpu
         → Leads d (kernel_in true bytes) (y + 231) e (λ e2. Goal (behind e2))
     from_frame r4 r5 offers e a free fine =
         let ch = changes_now d bytes hk small low held y m board f ring in
@@ -142,16 +160,20 @@ module _ (d : Board) (bytes : List ℕ) (hk : HasKernel bytes) (small : All IsBy
         let keys = image_keys bytes in
         let now : ℕ → ℕ = a.now in
         let alike = same r4 r5 now a.kept in
-        let safe : Safe e.cpu to now ring = safe_at d (kernel_in true bytes) (has_rows true bytes hk) small low to n now ring e.cpu a.cpu free fine in
+        let safe : Safe e.cpu to now ring =
+        safe_at d (kernel_in true bytes) (has_rows true bytes hk) small low to n now ring e.cpu a.cpu free fine in
         let on : Bool = is_scanning (step now (kbd_of held now ring)) in
         let x : ℕ = y + 231 + e.off in
-        let tail = tail_law d bytes hk small low held (step now) ch hd to most x e.cpu e.board now ring safe (changes r4 r5 now a.kept) (helds r4 r5 now a.kept)
+        let tail = tail_law d bytes hk small low held (step now) ch hd to most x e.cpu e.board now ring safe
+        (changes r4 r5 now a.kept) (helds r4 r5 now a.kept)
         (law r4 r5 x e.cpu e.board now offers a.registers alike (same_inv now f alike inv) safe) in
         from_stage d (kernel_in true bytes) (has_rows true bytes hk) small low (y + 231) to n now ring e
-        (Ends d x (record e.cpu { f0 = on }) e.board DONE (most + (56 + (2 + edges_most ch))) (Over d bytes hk small low held e.cpu.f1 ch hd (step now) now ring))
+        (Ends d x (record e.cpu { f0 = on }) e.board DONE (most + (56 + (2 + edges_most ch)))
+        (Over d bytes hk small low held e.cpu.f1 ch hd (step now) now ring))
         (λ e2. Goal (behind e2)) a.cpu
         (λ e2 b.
-        let is : e2.cpu ≡ scratched (record lights { f0 = on; f1 = false; p2 = e.cpu.p2 }) DONE (memory b.now b.ring) e2.cpu =
+        let is : e2.cpu ≡ scratched (record lights { f0 = on; f1 = false; p2 = e.cpu.p2 }) DONE (memory b.now b.ring)
+        e2.cpu =
         b.cpu ∙ ap (λ (c : Cpu). scratched (record c { f0 = on }) DONE (memory b.now b.ring) e2.cpu) a.cpu in
         let first : e.off ≤ max = a.short in
         let second : e2.off ≤ most + (56 + (2 + edges_most ch)) = b.short in
@@ -161,10 +183,13 @@ module _ (d : Board) (bytes : List ℕ) (hk : HasKernel bytes) (small : All IsBy
           last = b.ring;
           from = behind e;
           n = e2.off;
-          cpu = is ∙ sym (ap (λ (c : Cpu). scratched (record lights { f0 = c.f0; f1 = c.f1; p2 = c.p2 }) DONE (memory b.now b.ring) e2.cpu) is);
+          cpu = is
+              ∙ sym (ap (λ (c : Cpu). scratched (record lights { f0 = c.f0; f1 = c.f1; p2 = c.p2 }) DONE
+              (memory b.now b.ring) e2.cpu) is);
           short = omega (arith, first, second);
           kbd =
-              b.facts.kbd ∙ ap (λ v. keyed keys v ch hd (step now (kbd_of held now ring))) (ap (λ (c : Cpu). c.f1) a.cpu ∙ sym quiet)
+              b.facts.kbd ∙ ap (λ v. keyed keys v ch hd (step now (kbd_of held now ring))) (ap (λ (c : Cpu). c.f1) a.cpu
+              ∙ sym quiet)
               ∙ ap (λ j. keyed keys (is_inhibited meeting) ch hd (step now j)) (same_cells held now f ring alike)
               ∙ ap (λ j. keyed keys (is_inhibited meeting) ch hd j) (model r4 r5 now offers a.registers);
           downs = b.facts.downs;
@@ -182,19 +207,24 @@ module _ (d : Board) (bytes : List ℕ) (hk : HasKernel bytes) (small : All IsBy
         let H = Headed d bytes hk small low held y m board f ring in
         let start = begun d bytes hk small low held y m board f ring in
         chain d (kernel_in true bytes) (has_rows true bytes hk) y (λ e. H e × IsFine e.cpu) Goal start
-        (fine_end d (kernel_in true bytes) (has_rows true bytes hk) small low y start H safe.1 (head_law d bytes hk small low held y m board f ring h safe.0))
+        (fine_end d (kernel_in true bytes) (has_rows true bytes hk) small low y start H safe.1
+        (head_law d bytes hk small low held y m board f ring h safe.0))
         (λ e af free.
         let a = af.0 in
         let g0 : ℕ → ℕ = cells a.r4 a.r5 in
         let at : y + 231 ≡ y + e.off = ap (λ o. y + o) (sym a.off) in
         let begin = begin_at d TESTED g0 ring e.cpu e.board in
-        let safe' = safe_at d (kernel_in true bytes) (has_rows true bytes hk) small low TESTED lights g0 ring e.cpu a.cpu free af.1 in
+        let safe' = safe_at d (kernel_in true bytes) (has_rows true bytes hk) small low TESTED lights g0 ring e.cpu
+        a.cpu free af.1 in
         let R' = Framed to max F (R a.r4 a.r5) g0 in
-        from_stage d (kernel_in true bytes) (has_rows true bytes hk) small low y TESTED lights g0 ring e (λ e2. Goal (behind e2)) Goal a.cpu
+        from_stage d (kernel_in true bytes) (has_rows true bytes hk) small low y TESTED lights g0 ring e
+        (λ e2. Goal (behind e2)) Goal a.cpu
         (λ e2 b. subst (λ o. Goal (record { cpu = e2.cpu; board = e2.board; off = o + e2.off })) (sym a.off) b)
         (subst (λ z. Leads d (kernel_in true bytes) z begin (λ e2. Goal (behind e2))) at
-        (chain d (kernel_in true bytes) (has_rows true bytes hk) (y + 231) (λ e2. R' e2 × IsFine e2.cpu) (λ e2. Goal (behind e2)) begin
-        (fine_end d (kernel_in true bytes) (has_rows true bytes hk) small low (y + 231) begin R' safe'.1 (frame e.cpu e.board a.r4 a.r5 a.cpu a.board_now a.offers safe'))
+        (chain d (kernel_in true bytes) (has_rows true bytes hk) (y + 231) (λ e2. R' e2 × IsFine e2.cpu)
+        (λ e2. Goal (behind e2)) begin
+        (fine_end d (kernel_in true bytes) (has_rows true bytes hk) small low (y + 231) begin R' safe'.1
+        (frame e.cpu e.board a.r4 a.r5 a.cpu a.board_now a.offers safe'))
         (λ e2 bf free2. from_frame a.r4 a.r5 a.offers e2 bf.0 free2 bf.1))))
 
   -- what the registers hold behind a sent frame, a received one, a cut one
@@ -212,43 +242,57 @@ module _ (d : Board) (bytes : List ℕ) (hk : HasKernel bytes) (small : All IsBy
 
   sends : IsWhole (queue_of f ring) → StepLaw SENT (9 + 48) IsSent sent_step
   sends codes r4 r5 x m1 board1 g offers is alike inv safe =
-      let b : offer (kbd_of held f ring) ≡ Some (g 28) = offered_byte r4 r5 (offer (kbd_of held f ring)) offers is.1 ∙ ap (λ v. Some v) (sym is.0) in
+      let b : offer (kbd_of held f ring) ≡ Some (g 28) = offered_byte r4 r5 (offer (kbd_of held f ring)) offers is.1
+      ∙ ap (λ v. Some v) (sym is.0) in
       let a : g 64 ≡ f 64 = alike 64 (omega arith) (omega arith) in
       let e : g 65 ≡ f 65 = alike 65 (omega arith) (omega arith) in
       let c : g 66 ≡ f 66 = alike 66 (omega arith) (omega arith) in
       let h : g 67 ≡ f 67 = alike 67 (omega arith) (omega arith) in
       let i : g 68 ≡ f 68 = alike 68 (omega arith) (omega arith) in
-      let whole : IsWhole (queue_of g ring) = subst (λ k. IsWhole k.queue) (sym (same_cells held g f ring alike)) codes in
+      let whole : IsWhole (queue_of g ring) =
+      subst (λ k. IsWhole k.queue) (sym (same_cells held g f ring alike)) codes in
       let now : offer (kbd_of held g ring) ≡ Some (g 28) = ap offer (same_cells held g f ring alike) ∙ b in
-      sent_law d bytes hk small low held x m1 board1 g ring inv safe (first_of_law held g ring (g 28) now) (code_law held g ring (g 28) now whole)
+      sent_law d bytes hk small low held x m1 board1 g ring inv safe (first_of_law held g ring (g 28) now)
+      (code_law held g ring (g 28) now whole)
 
   -- the byte that was offered was sent
-  pub sent_works : (max : ℕ) (F : Stage d.State → Type 0) → Inv f → (f 69 == 0) ≡ true → IsWhole (queue_of f ring) → FrameLaw SENT max F IsSent → Safe m 10 f ring
-      → Works d bytes hk small low held y m board f ring Sent (231 + (max + (9 + 48 + (56 + (2 + edges_most (changes_now d bytes hk small low held y m board f ring)))))) F
+  pub sent_works : (max : ℕ) (F : Stage d.State → Type 0) → Inv f → (f 69 == 0) ≡ true → IsWhole (queue_of f ring)
+      → FrameLaw SENT max F IsSent → Safe m 10 f ring
+      → Works d bytes hk small low held y m board f ring Sent
+      (231 + (max + (9 + 48 + (56 + (2 + edges_most (changes_now d bytes hk small low held y m board f ring)))))) F
   sent_works max F inv no_test codes frame safe =
       framed Sent SENT max (9 + 48) F IsSent sent_step refl frame (sends codes)
       (λ r4 r5 g offers is.
       let k : Keyboard = kbd_of held f ring in
       let b : offer k ≡ Some (g 28) = offered_byte r4 r5 (offer k) offers is.1 ∙ ap (λ v. Some v) (sym is.0) in
-      sym (ap (λ t. tested_if (not t) (met Sent (image_keys bytes) k)) no_test ∙ ap (λ o. sent_byte o (image_keys bytes) k) b)) inv safe
+      sym (ap (λ t. tested_if (not t) (met Sent (image_keys bytes) k)) no_test
+      ∙ ap (λ o. sent_byte o (image_keys bytes) k) b)) inv safe
 
   -- a byte was received
-  pub got_works : (byte : ℕ) (good : Bool) (max : ℕ) (F : Stage d.State → Type 0) → Inv f → (f 69 == 0) ≡ true → FrameLaw COMMAND max F (IsGot byte good) → Safe m 10 f ring
-      → Works d bytes hk small low held y m board f ring (Got byte good) (231 + (max + (68 + (56 + (2 + edges_most (changes_now d bytes hk small low held y m board f ring)))))) F
+  pub got_works : (byte : ℕ) (good : Bool) (max : ℕ) (F : Stage d.State → Type 0) → Inv f → (f 69 == 0) ≡ true
+      → FrameLaw COMMAND max F (IsGot byte good) → Safe m 10 f ring
+      → Works d bytes hk small low held y m board f ring (Got byte good)
+      (231 + (max + (68 + (56 + (2 + edges_most (changes_now d bytes hk small low held y m board f ring)))))) F
   got_works byte good max F inv no_test frame safe =
-      framed (Got byte good) COMMAND max 68 F (IsGot byte good) (λ g. obeyed (image_keys bytes) (g 28) (not (g 29 == 0))) refl frame
-      (λ r4 r5 x m1 board1 g offers is alike inv1 safe1. command_law d bytes hk small low held x m1 board1 g ring inv1 safe1)
+      framed (Got byte good) COMMAND max 68 F (IsGot byte good)
+      (λ g. obeyed (image_keys bytes) (g 28) (not (g 29 == 0))) refl frame
+      (λ r4 r5 x m1 board1 g offers is alike inv1 safe1. command_law d bytes hk small low held x m1 board1 g ring inv1
+      safe1)
       (λ r4 r5 g offers is.
       let k : Keyboard = kbd_of held f ring in
       ap (λ b. obeyed (image_keys bytes) b (not (g 29 == 0)) k) is.0 ∙ ap (λ v. obeyed (image_keys bytes) byte v k) is.1
       ∙ sym (ap (λ t. tested_if (not t) (met (Got byte good) (image_keys bytes) k)) no_test)) inv safe
 
   -- the controller cut the frame off
-  pub cut_works : (max : ℕ) (F : Stage d.State → Type 0) → Inv f → (f 69 == 0) ≡ true → FrameLaw SCAN max F IsCut → Safe m 10 f ring
-      → Works d bytes hk small low held y m board f ring Cut (231 + (max + (0 + (56 + (2 + edges_most (changes_now d bytes hk small low held y m board f ring)))))) F
+  pub cut_works : (max : ℕ) (F : Stage d.State → Type 0) → Inv f → (f 69 == 0) ≡ true → FrameLaw SCAN max F IsCut
+      → Safe m 10 f ring
+      → Works d bytes hk small low held y m board f ring Cut
+      (231 + (max + (0 + (56 + (2 + edges_most (changes_now d bytes hk small low held y m board f ring)))))) F
   cut_works max F inv no_test frame safe =
       framed Cut SCAN max 0 F IsCut (λ g k. k) refl frame
       (λ r4 r5 x m1 board1 g offers is alike inv1 safe1.
-      here d (kernel_in true bytes) (has_rows true bytes hk) small low (Keeps held (λ k. k) g ring) x SCAN m1 board1 g ring safe1.0
+      here d (kernel_in true bytes) (has_rows true bytes hk) small low (Keeps held (λ k. k) g ring) x SCAN m1 board1 g
+      ring safe1.0
       (record { kbd = refl; inv = inv1; cells = λ i l u. refl; stack = (refl, refl) }))
-      (λ r4 r5 g offers is. sym (ap (λ t. tested_if (not t) (met Cut (image_keys bytes) (kbd_of held f ring))) no_test)) inv safe
+      (λ r4 r5 g offers is. sym (ap (λ t. tested_if (not t) (met Cut (image_keys bytes) (kbd_of held f ring))) no_test))
+      inv safe

@@ -26,10 +26,14 @@ both_more i q false e = grind (arith, nat_tests, e)
 flags_set : (g : ℕ → Bool) (n q : ℕ) (v : Bool) → slice_set (flags g n) q v ≡ flags (set_at g q v) n
 flags_set g zero q v = refl
 flags_set g (suc n) zero v =
-    ap (λ t. v ∷ t) (flags_same (λ i. g (suc i)) (λ i. set_at g 0 v (suc i)) n (λ i l. sym (ap (λ b. if b then v else g (suc i)) (not_zero i))))
+    ap (λ t. v ∷ t) (flags_same (λ i. g (suc i)) (λ i. set_at g 0 v (suc i)) n
+    (λ i l. sym (ap (λ b. if b then v else g (suc i)) (not_zero i))))
 flags_set g (suc n) (suc q) v =
-    let first : set_at g (suc q) v 0 ≡ g 0 = (let e : (0 == suc q) ≡ false = grind (arith, nat_tests) in ap (λ b. if b then v else g 0) e) in
-    ap (λ t. g 0 ∷ t) (flags_set (λ i. g (suc i)) n q v ∙ flags_same (set_at (λ i. g (suc i)) q v) (λ i. set_at g (suc q) v (suc i)) n (λ i l. sym (ap (λ b. if b then v else g (suc i)) (both_more i q (i == q) refl))))
+    let first : set_at g (suc q) v 0 ≡ g 0 =
+    (let e : (0 == suc q) ≡ false = grind (arith, nat_tests) in ap (λ b. if b then v else g 0) e) in
+    ap (λ t. g 0 ∷ t) (flags_set (λ i. g (suc i)) n q v
+    ∙ flags_same (set_at (λ i. g (suc i)) q v) (λ i. set_at g (suc q) v (suc i)) n
+    (λ i l. sym (ap (λ b. if b then v else g (suc i)) (both_more i q (i == q) refl))))
     ∙ ap (λ t. t ∷ flags (λ i. set_at g (suc q) v (suc i)) n) (sym first)
 
 -- bits of an exclusive or
@@ -44,7 +48,8 @@ rest_bit (suc (suc a)) b l m h = absurd (omega (arith, l))
 
 same_bit : (r old new : ℕ) → bit r (bit_xor old new) ≡ false → bit r new ≡ bit r old
 same_bit r old new h =
-    let k : ((old / 2 ^ r % 2 + new / 2 ^ r % 2) % 2 == 1) ≡ false = ap (λ v. v == 1) (sym (bit_at_xor old new r)) ∙ h in
+    let k : ((old / 2 ^ r % 2 + new / 2 ^ r % 2) % 2 == 1) ≡ false = ap (λ v. v == 1) (sym (bit_at_xor old new r))
+    ∙ h in
     sym (rest_bit (old / 2 ^ r % 2) (new / 2 ^ r % 2) (omega arith) (omega arith) k)
 
 module _ (old new : ℕ → ℕ) where
@@ -58,7 +63,8 @@ module _ (old new : ℕ → ℕ) where
       let b : (8 * c + r) / 8 ≡ c = omega (arith, l) in
       rw (a, b) refl
 
-  goes_on : (q i : ℕ) → (v : Bool) → v ≡ down_at new q → (b : Bool) → (i == q) ≡ b → (c : Bool) → nat_lt i q ≡ c → set_at (part q) q v i ≡ part (suc q) i
+  goes_on : (q i : ℕ) → (v : Bool) → v ≡ down_at new q → (b : Bool) → (i == q) ≡ b → (c : Bool) → nat_lt i q ≡ c
+      → set_at (part q) q v i ≡ part (suc q) i
   goes_on q i v is true e c f =
       let same : i ≡ q = grind (arith, nat_tests, e) in
       let below : nat_lt i (suc q) ≡ true = (let l : i < suc q = omega (arith, same) in grind (arith, nat_tests, l)) in
@@ -71,7 +77,8 @@ module _ (old new : ℕ → ℕ) where
       let above : nat_lt i (suc q) ≡ false = grind (arith, nat_tests, e, f) in
       rw (e, f, above) refl
 
-  stays : (q i : ℕ) → down_at old q ≡ down_at new q → (b : Bool) → (i == q) ≡ b → (c : Bool) → nat_lt i q ≡ c → part q i ≡ part (suc q) i
+  stays : (q i : ℕ) → down_at old q ≡ down_at new q → (b : Bool) → (i == q) ≡ b → (c : Bool) → nat_lt i q ≡ c
+      → part q i ≡ part (suc q) i
   stays q i is true e c f =
       let same : i ≡ q = grind (arith, nat_tests, e) in
       let below : nat_lt i (suc q) ≡ true = (let l : i < suc q = omega (arith, same) in grind (arith, nat_tests, l)) in
@@ -95,12 +102,16 @@ module _ (old new : ℕ → ℕ) where
         let q : ℕ = 8 * c + r in
         let v : bit r (new c) ≡ down_at new q = sym (at_place c r l new) in
         ap (λ b. turned_all (if b then (q, bit r (new c)) ∷ rest else rest) (flags (part q) 96)) e
-        ∙ ap (λ h. turned_all rest h) (flags_set (part q) 96 q (bit r (new c)) ∙ flags_same (set_at (part q) q (bit r (new c))) (part (suc q)) 96 (λ i m. goes_on q i (bit r (new c)) v (i == q) refl (nat_lt i q) refl))
+        ∙ ap (λ h. turned_all rest h) (flags_set (part q) 96 q (bit r (new c))
+        ∙ flags_same (set_at (part q) q (bit r (new c))) (part (suc q)) 96
+        (λ i m. goes_on q i (bit r (new c)) v (i == q) refl (nat_lt i q) refl))
     one c r l is false e rest =
         let q : ℕ = 8 * c + r in
-        let same : down_at old q ≡ down_at new q = at_place c r l old ∙ sym (same_bit r (old c) (new c) (ap (λ v. bit r v) is ∙ e)) ∙ sym (at_place c r l new) in
+        let same : down_at old q ≡ down_at new q =
+        at_place c r l old ∙ sym (same_bit r (old c) (new c) (ap (λ v. bit r v) is ∙ e)) ∙ sym (at_place c r l new) in
         ap (λ b. turned_all (if b then (q, bit r (new c)) ∷ rest else rest) (flags (part q) 96)) e
-        ∙ ap (λ h. turned_all rest h) (flags_same (part q) (part (suc q)) 96 (λ i m. stays q i same (i == q) refl (nat_lt i q) refl))
+        ∙ ap (λ h. turned_all rest h)
+        (flags_same (part q) (part (suc q)) 96 (λ i m. stays q i same (i == q) refl (nat_lt i q) refl))
 
     all_more : (xs ys : List (ℕ × Bool)) (h : List Bool) → turned_all (xs ++ ys) h ≡ turned_all ys (turned_all xs h)
     all_more [] ys h = refl
@@ -123,15 +134,19 @@ module _ (old new : ℕ → ℕ) where
         let e : 8 * c + 8 ≡ 8 * suc c = omega arith in
         all_more (row_edges (8 * c) 0 8 (ch c) (new c)) (column_edges (suc c) n ch new) (flags (part (8 * c)) 96)
         ∙ ap (λ h. turned_all (column_edges (suc c) n ch new) h)
-        (ap (λ q. turned_all (row_edges (8 * c) 0 8 (ch c) (new c)) (flags (part q) 96)) z ∙ rows_turn c 0 8 refl (is c (omega (arith, sum))))
-        ∙ ap (λ q. turned_all (column_edges (suc c) n ch new) (flags (part q) 96)) e ∙ columns_turn (suc c) n (omega (arith, sum)) is
+        (ap (λ q. turned_all (row_edges (8 * c) 0 8 (ch c) (new c)) (flags (part q) 96)) z
+        ∙ rows_turn c 0 8 refl (is c (omega (arith, sum))))
+        ∙ ap (λ q. turned_all (column_edges (suc c) n ch new) (flags (part q) 96)) e
+        ∙ columns_turn (suc c) n (omega (arith, sum)) is
 
     all_new : (i : ℕ) → i < 96 → part 96 i ≡ down_at new i
     all_new i l = let e : nat_lt i 96 ≡ true = grind (arith, nat_tests, l) in rw e refl
 
-    pub held_turns : ((i : ℕ) → i < 12 → bit_xor (old i) (new i) ≡ ch i) → turned_all (tick_edges ch new) (held_by old) ≡ held_by new
+    pub held_turns : ((i : ℕ) → i < 12 → bit_xor (old i) (new i) ≡ ch i) → turned_all (tick_edges ch new) (held_by old)
+        ≡ held_by new
     held_turns is = columns_turn 0 12 refl is ∙ flags_same (part 96) (down_at new) 96 all_new
 
 -- twelve bytes say what is held
 pub held_same : (g h : ℕ → ℕ) → ((c : ℕ) → c < 12 → g c ≡ h c) → held_by g ≡ held_by h
-held_same g h e = flags_same (down_at g) (down_at h) 96 (λ p l. let c : p / 8 < 12 = omega (arith, l) in ap (λ b. bit (p % 8) b) (e (p / 8) c))
+held_same g h e = flags_same (down_at g) (down_at h) 96 (λ p l. let c : p / 8 < 12 = omega (arith, l) in
+    ap (λ b. bit (p % 8) b) (e (p / 8) c))

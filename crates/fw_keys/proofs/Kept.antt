@@ -32,18 +32,21 @@ module _ (keys : Keys) (codes : NoPrefix keys) where
   goes None k s = record { codes = dropped_if k.aa_due k.queue s.codes; place = s.place }
   goes (Some r) k s = goes_by r.resets
     where
-      goes_by : (b : Bool) → Sound (if b then record { test = 64; enabled = true; mode = Ready; reply = None; aa_due = false; last = 0xAA; queue = clear k.queue; repeats = None; rate = keys.rate; lights = 0; held = k.held } else record k { reply = None })
+      goes_by : (b : Bool) → Sound
+          (if b then record { test = 64; enabled = true; mode = Ready; reply = None; aa_due = false; last = 0xAA; queue = clear k.queue; repeats = None; rate = keys.rate; lights = 0; held = k.held } else record k { reply = None })
       goes_by true = record { codes = cleared_whole k.queue s.codes; place = tt }
       goes_by false = record { codes = s.codes; place = s.place }
 
   sends : (o : Option ℕ) (k : Keyboard) → Sound k → Sound (sent_byte o keys k)
   sends None k s = s
-  sends (Some byte) k s = goes k.reply (record k { last = if byte == 0xFE then k.last else byte }) (record { codes = s.codes; place = s.place })
+  sends (Some byte) k s = goes k.reply (record k { last = if byte == 0xFE then k.last else byte })
+      (record { codes = s.codes; place = s.place })
 
   commands : (byte : ℕ) (k : Keyboard) → Sound k → Sound (commanded keys byte k)
   commands byte k s =
       let c : IsWhole (clear k.queue) = cleared_whole k.queue s.codes in
-      by (byte == 0xFF) (byte == 0xFE) (byte == 0xF6) (byte == 0xF5) (byte == 0xF4) (byte == 0xF3) (byte == 0xED) (byte == 0xEE) (nat_le 0xEF byte) c
+      by (byte == 0xFF) (byte == 0xFE) (byte == 0xF6) (byte == 0xF5) (byte == 0xF4) (byte == 0xF3) (byte == 0xED)
+      (byte == 0xEE) (nat_le 0xEF byte) c
     where
       by : (b0 b1 b2 b3 b4 b5 b6 b7 b8 : Bool) → IsWhole (clear k.queue) → Sound (
           if b0 then record k { reply = Some (record { byte = 0xFA; resets = true }) }
@@ -68,7 +71,9 @@ module _ (keys : Keys) (codes : NoPrefix keys) where
       by false false false false false false false false false c = record { codes = s.codes; place = s.place }
 
   parameters : (byte : ℕ) (with_it k : Keyboard) → Sound with_it → Sound k → Sound (parameter keys byte with_it k)
-  parameters byte with_it k w s = by (nat_lt byte 0x80) (nat_lt byte 0xED) (commands byte (record k { mode = Ready }) (record { codes = s.codes; place = s.place }))
+  parameters byte with_it k w s =
+      by (nat_lt byte 0x80) (nat_lt byte 0xED)
+      (commands byte (record k { mode = Ready }) (record { codes = s.codes; place = s.place }))
     where
       by : (b0 b1 : Bool) → Sound (commanded keys byte (record k { mode = Ready })) → Sound (
           if b0 then record with_it { reply = Some (record { byte = 0xFA; resets = false }); mode = Ready }
@@ -80,8 +85,10 @@ module _ (keys : Keys) (codes : NoPrefix keys) where
 
   obeys_in : (mode : Mode) (byte : ℕ) (k : Keyboard) → Sound k → Sound (obeyed_in mode keys byte k)
   obeys_in Ready byte k s = commands byte k s
-  obeys_in WantRate byte k s = parameters byte (record k { rate = byte }) k (record { codes = s.codes; place = s.place }) s
-  obeys_in WantLights byte k s = parameters byte (record k { lights = byte % 8 }) k (record { codes = s.codes; place = s.place }) s
+  obeys_in WantRate byte k s =
+      parameters byte (record k { rate = byte }) k (record { codes = s.codes; place = s.place }) s
+  obeys_in WantLights byte k s =
+      parameters byte (record k { lights = byte % 8 }) k (record { codes = s.codes; place = s.place }) s
 
   obeys : (byte : ℕ) (good : Bool) (k : Keyboard) → Sound k → Sound (obeyed keys byte good k)
   obeys byte true k s = obeys_in k.mode byte k s
@@ -98,14 +105,18 @@ module _ (keys : Keys) (codes : NoPrefix keys) where
   tested_sound true k s = record { codes = s.codes; place = s.place }
   tested_sound false k s = s
 
-  entered_if : (b : Bool) (code : List ℕ) (q : KeyQueue) → IsWhole (enter code q) → IsWhole q → IsWhole (if b then enter code q else q)
+  entered_if : (b : Bool) (code : List ℕ) (q : KeyQueue) → IsWhole (enter code q) → IsWhole q
+      → IsWhole (if b then enter code q else q)
   entered_if true code q h g = h
   entered_if false code q h g = g
 
-  repeats : (r : Option Repeat) (inhibited : Bool) (k : Keyboard) → low_repeat r → Sound k → Sound (repeated r keys inhibited k)
+  repeats : (r : Option Repeat) (inhibited : Bool) (k : Keyboard) → low_repeat r → Sound k
+      → Sound (repeated r keys inhibited k)
   repeats None inhibited k l s = s
   repeats (Some r) inhibited k l s = record {
-    codes = entered_if ((r.count == 1) && not inhibited) (make (keys.code r.place)) k.queue (entered_whole (make (keys.code r.place)) k.queue (make_whole (keys.code r.place) (codes r.place l)) s.codes) s.codes;
+    codes = entered_if ((r.count == 1) && not inhibited) (make (keys.code r.place)) k.queue
+        (entered_whole (make (keys.code r.place)) k.queue (make_whole (keys.code r.place) (codes r.place l)) s.codes)
+        s.codes;
     place = l;
   }
 
@@ -121,9 +132,12 @@ module _ (keys : Keys) (codes : NoPrefix keys) where
       by true = tt
       by false = l
 
-  one_edge : (on : Bool) (place : ℕ) (down : Bool) (k : Keyboard) → place < 96 → Sound k → Sound (edge_if on keys place down k)
-  one_edge true place true k l s = record { codes = entered_whole (make (keys.code place)) k.queue (make_whole (keys.code place) (codes place l)) s.codes; place = l }
-  one_edge true place false k l s = record { codes = entered_whole (release (keys.code place)) k.queue (release_whole (keys.code place) (codes place l)) s.codes; place = ended place k.repeats s.place }
+  one_edge : (on : Bool) (place : ℕ) (down : Bool) (k : Keyboard) → place < 96 → Sound k
+      → Sound (edge_if on keys place down k)
+  one_edge true place true k l s =
+      record { codes = entered_whole (make (keys.code place)) k.queue (make_whole (keys.code place) (codes place l)) s.codes; place = l }
+  one_edge true place false k l s =
+      record { codes = entered_whole (release (keys.code place)) k.queue (release_whole (keys.code place) (codes place l)) s.codes; place = ended place k.repeats s.place }
   one_edge false place down k l s = record { codes = s.codes; place = s.place }
 
   edges : (on : Bool) (es : List (ℕ × Bool)) (k : Keyboard) → low_edges es → Sound k → Sound (edges_if on keys es k)
@@ -131,8 +145,10 @@ module _ (keys : Keys) (codes : NoPrefix keys) where
   edges on (e ∷ es) k l s = edges on es (edge_if on keys e.0 e.1 k) l.1 (one_edge on e.0 e.1 k l.0 s)
 
   -- a tick keeps both
-  pub tick_sound : (meeting : Meeting) (es : List (ℕ × Bool)) (k : Keyboard) → low_edges es → Sound k → Sound (ticked keys meeting es k)
+  pub tick_sound : (meeting : Meeting) (es : List (ℕ × Bool)) (k : Keyboard) → low_edges es → Sound k
+      → Sound (ticked keys meeting es k)
   tick_sound meeting es k l s =
       let j : Keyboard = tested_if (not (k.test == 0)) (met meeting keys k) in
       let t : Sound j = tested_sound (not (k.test == 0)) (met meeting keys k) (met_sound meeting k s) in
-      edges (is_scanning j) es (repeated_if (is_scanning j) keys (is_inhibited meeting) j) l (repeats_if (is_scanning j) (is_inhibited meeting) j t)
+      edges (is_scanning j) es (repeated_if (is_scanning j) keys (is_inhibited meeting) j) l
+      (repeats_if (is_scanning j) (is_inhibited meeting) j t)

@@ -11,10 +11,13 @@ use Rattle.fw_keys.proofs.Tick.{keyed_tick}
 use Rattle.fw_keys.proofs.Edges.{ticked_is}
 use Rattle.fw_keys.proofs.Held.{held_turns, held_same}
 
-pub keyboard_goes : (keys : Keys) (meeting : Meeting) (s : ℕ → ℕ) (ring : List ℕ) (now : ℕ → ℕ) (last : List ℕ) (down : ℕ → ℕ)
+pub keyboard_goes : (keys : Keys) (meeting : Meeting) (s : ℕ → ℕ) (ring : List ℕ) (now : ℕ → ℕ) (last : List ℕ)
+    (down : ℕ → ℕ)
     → ((i : ℕ) → i < 12 → now (32 + i) ≡ down i)
-    → kbd_of (held_by (λ c. s (32 + c))) now last ≡ keyed_tick keys meeting (λ i. bit_xor (s (32 + i)) (down i)) down (keyboard_of s ring)
-    → keyboard_of now last ≡ ticked keys meeting (tick_edges (λ i. bit_xor (s (32 + i)) (down i)) down) (keyboard_of s ring)
+    → kbd_of (held_by (λ c. s (32 + c))) now last ≡ keyed_tick keys meeting (λ i. bit_xor (s (32 + i)) (down i)) down
+    (keyboard_of s ring)
+    → keyboard_of now last ≡ ticked keys meeting (tick_edges (λ i. bit_xor (s (32 + i)) (down i)) down)
+    (keyboard_of s ring)
 keyboard_goes keys meeting s ring now last down downs is =
     let changed : ℕ → ℕ = λ i. bit_xor (s (32 + i)) (down i) in
     let es : List (ℕ × Bool) = tick_edges changed down in

@@ -16,17 +16,20 @@ pub record Patch : Type 0 where
   pub left : ℕ
 
 abbrev pub over : (ℕ → ℕ) → Patch → ℕ → ℕ
-over f p = put (put (put (put (put (put (put (put f 25 p.r1) 26 p.r2) 27 p.r3) 28 p.r4) 30 p.r6) 66 p.count) 72 p.place) 74 p.left
+over f p = put (put (put (put (put (put (put (put f 25 p.r1) 26 p.r2) 27 p.r3) 28 p.r4) 30 p.r6) 66 p.count) 72 p.place)
+    74 p.left
 
 -- after some of them: what the model says, and the queue has not become shorter
-pub record Stepped (held : List Bool) (step : Keyboard → Keyboard) (f : ℕ → ℕ) (ring : List ℕ) (p : Patch) (g : ℕ → ℕ) (r : List ℕ) : Type 0 where
+pub record Stepped (held : List Bool) (step : Keyboard → Keyboard) (f : ℕ → ℕ) (ring : List ℕ) (p : Patch) (g : ℕ → ℕ)
+    (r : List ℕ) : Type 0 where
   pub now : g ≡ over f p
   pub kbd : kbd_of held (over f p) r ≡ step (kbd_of held f ring)
   pub most : p.count % 128 ≤ 16
   pub more : f 66 % 128 ≤ p.count % 128
 
 -- after a row's edge R3, R6 stand and R4 has the turned changes
-pub record AfterEdge (held : List Bool) (step : Keyboard → Keyboard) (a : ℕ) (f : ℕ → ℕ) (ring : List ℕ) (g : ℕ → ℕ) (r : List ℕ) : Type 0 where
+pub record AfterEdge (held : List Bool) (step : Keyboard → Keyboard) (a : ℕ) (f : ℕ → ℕ) (ring : List ℕ) (g : ℕ → ℕ)
+    (r : List ℕ) : Type 0 where
   pub p : Patch
   pub is : Stepped held step f ring p g r
   pub r3 : p.r3 ≡ f 27

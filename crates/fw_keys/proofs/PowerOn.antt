@@ -7,8 +7,8 @@ use Rattle.fw_kernel.specs.declared.labels.TheConstants.{TICK}
 use Rattle.fw_kernel.specs.Places.{HasKernel}
 use Rattle.joint_run.specs.Run.{Board, World}
 use Rattle.joint_run.specs.Starts.{Comes}
-use Rattle.fw_logic.specs.Sizes.{IsByte, IsFine}
-use Rattle.fw_logic.specs.Cadence.{power_on}
+use Rattle.mcs48_ranges.specs.Sizes.{IsByte, IsFine}
+use Rattle.fw_logic.specs.Boards.{power_on}
 use Rattle.fw_logic.proofs.Fine.{calm_fine}
 use Rattle.fw_logic.proofs.Service.{begun}
 use Rattle.fw_logic.proofs.Laws.{comes_as}
@@ -16,16 +16,19 @@ use Rattle.fw_logic.proofs.Starting.{IsFirst, first_start, powered, empty_ring}
 use Rattle.fw_keys.specs.Quiet.{IsStarted, FromPowerOn, shown_by}
 use Rattle.fw_keys.proofs.QuietTick.{started_is}
 
-module _ (d : Board) (bytes : List ℕ) (hk : HasKernel bytes) (small : All IsByte bytes) (low : (p1 p2 c : ℕ) (s : d.State) → (d.pins p1 p2 c s).bus < 256) (board : d.State) where
+module _ (d : Board) (bytes : List ℕ) (hk : HasKernel bytes) (small : All IsByte bytes)
+    (low : (p1 p2 c : ℕ) (s : d.State) → (d.pins p1 p2 c s).bus < 256) (board : d.State) where
   reset_fine : IsFine reset_cpu
-  reset_fine = record { pc = omega arith; a = omega arith; ram = All-replicate IsByte 128 0 (omega arith); long = refl; t = omega arith; pre = omega arith; p1 = omega arith; p2 = omega arith; bus = omega arith; sp = omega arith }
+  reset_fine =
+      record { pc = omega arith; a = omega arith; ram = All-replicate IsByte 128 0 (omega arith); long = refl; t = omega arith; pre = omega arith; p1 = omega arith; p2 = omega arith; bus = omega arith; sp = omega arith }
 
   -- the first tick start, with what stands beside the processor there
   pub first_started : Comes d TICK bytes (power_on d board) (λ w. IsFirst d bytes board w × FromPowerOn bytes w.cpu)
   first_started =
       let h = first_start d bytes hk board in
       let a = h.goal in
-      let fine : IsFine h.end.cpu = calm_fine d TICK bytes small low h.steps (power_on d board) h.end reset_fine h.run in
+      let fine : IsFine h.end.cpu =
+      calm_fine d TICK bytes small low h.steps (power_on d board) h.end reset_fine h.run in
       let B : Cpu = begun a.late a.tf a.last (powered bytes) empty_ring (record reset_cpu { a = 130 }) in
       let cpu : h.end.cpu ≡ B = ap (λ (u : World d.State). u.cpu) a.is in
       record {
@@ -35,7 +38,9 @@ module _ (d : Board) (bytes : List ℕ) (hk : HasKernel bytes) (small : All IsBy
         goal = (
           a,
           record {
-            started = subst (λ c. IsStarted c) (sym cpu) (started_is a.late a.most a.tf a.last (powered bytes) empty_ring (record reset_cpu { a = 130 }) (subst (λ c. IsFine c) cpu fine)
+            started = subst (λ c. IsStarted c) (sym cpu)
+                (started_is a.late a.most a.tf a.last (powered bytes) empty_ring (record reset_cpu { a = 130 })
+                (subst (λ c. IsFine c) cpu fine)
                 (record { most = omega arith; started = omega arith; some = omega arith; mode = omega arith; lamps = omega arith }));
             keyboard = ap (λ (c : Cpu). shown_by c.ram) cpu;
             latch = ap (λ (c : Cpu). c.p2) cpu;

@@ -7,7 +7,7 @@ use Rattle.fw_kernel.specs.declared.labels.TheConstants.{TICK, WAIT, DONE}
 use Rattle.fw_kernel.specs.Places.{HasKernel}
 use Rattle.joint_run.specs.Run.{Board, World, ticks}
 use Rattle.joint_run.specs.Starts.{Tick}
-use Rattle.fw_logic.specs.Sizes.{IsByte, IsFine}
+use Rattle.mcs48_ranges.specs.Sizes.{IsByte, IsFine}
 use Rattle.fw_logic.specs.Scan.{in_tick, levels_in}
 use Rattle.fw_logic.proofs.Path.{Stage}
 use Rattle.fw_logic.proofs.Block.{memory, put}
@@ -32,21 +32,28 @@ use Rattle.std.proofs.lemmas.List.Elements.{All-get_or}
 use Rattle.fw_keys.proofs.Serve.{kept_on, down, changed, held, first, first_board, fit, Goes, Work, tick, four_edges}
 
 -- edges by the twelve columns' bytes
-columns_same : (ch ch' dn dn' : ℕ → ℕ) (c n : ℕ) → c + n ≡ 12 → ((i : ℕ) → i < 12 → ch i ≡ ch' i) → ((i : ℕ) → i < 12 → dn i ≡ dn' i) → column_edges c n ch dn ≡ column_edges c n ch' dn'
+columns_same : (ch ch' dn dn' : ℕ → ℕ) (c n : ℕ) → c + n ≡ 12 → ((i : ℕ) → i < 12 → ch i ≡ ch' i)
+    → ((i : ℕ) → i < 12 → dn i ≡ dn' i) → column_edges c n ch dn ≡ column_edges c n ch' dn'
 columns_same ch ch' dn dn' c zero sum a b = refl
 columns_same ch ch' dn dn' c (suc n) sum a b =
     let l : c < 12 = omega (arith, sum) in
     ap (λ v. row_edges (8 * c) 0 8 v (dn c) ++ column_edges (suc c) n ch dn) (a c l)
     ∙ ap (λ v. row_edges (8 * c) 0 8 (ch' c) v ++ column_edges (suc c) n ch dn) (b c l)
-    ∙ ap (λ t. row_edges (8 * c) 0 8 (ch' c) (dn' c) ++ t) (columns_same ch ch' dn dn' (suc c) n (omega (arith, sum)) a b)
+    ∙ ap (λ t. row_edges (8 * c) 0 8 (ch' c) (dn' c) ++ t)
+    (columns_same ch ch' dn dn' (suc c) n (omega (arith, sum)) a b)
 
-row_count : (place r n c dn : ℕ) → (b : Bool) → bit r c ≡ b → length (row_edges place (suc r) n c dn) ≡ marks (suc r) n c → length (row_edges place r (suc n) c dn) ≡ marks r (suc n) c
+row_count : (place r n c dn : ℕ) → (b : Bool) → bit r c ≡ b → length (row_edges place (suc r) n c dn)
+    ≡ marks (suc r) n c → length (row_edges place r (suc n) c dn) ≡ marks r (suc n) c
 row_count place r n c dn true e ih =
-    ap (λ b. length (if b then (place + r, bit r dn) ∷ row_edges place (suc r) n c dn else row_edges place (suc r) n c dn)) e ∙ ap suc ih
-    ∙ (let one : suc (marks (suc r) n c) ≡ 1 + marks (suc r) n c = omega arith in one) ∙ sym (ap (λ b. digit b + marks (suc r) n c) e)
+    ap (λ b. length (if b then (place + r, bit r dn) ∷ row_edges place (suc r) n c dn else row_edges place (suc r) n c
+    dn)) e ∙ ap suc ih
+    ∙ (let one : suc (marks (suc r) n c) ≡ 1 + marks (suc r) n c = omega arith in one)
+    ∙ sym (ap (λ b. digit b + marks (suc r) n c) e)
 row_count place r n c dn false e ih =
-    ap (λ b. length (if b then (place + r, bit r dn) ∷ row_edges place (suc r) n c dn else row_edges place (suc r) n c dn)) e ∙ ih
-    ∙ (let none : marks (suc r) n c ≡ 0 + marks (suc r) n c = omega arith in none) ∙ sym (ap (λ b. digit b + marks (suc r) n c) e)
+    ap (λ b. length (if b then (place + r, bit r dn) ∷ row_edges place (suc r) n c dn else row_edges place (suc r) n c
+    dn)) e ∙ ih
+    ∙ (let none : marks (suc r) n c ≡ 0 + marks (suc r) n c = omega arith in none)
+    ∙ sym (ap (λ b. digit b + marks (suc r) n c) e)
 
 rows_count : (place r n c dn : ℕ) → length (row_edges place r n c dn) ≡ marks r n c
 rows_count place r zero c dn = refl
@@ -60,7 +67,8 @@ columns_count : (ch dn : ℕ → ℕ) (c n : ℕ) → length (column_edges c n c
 columns_count ch dn c zero = refl
 columns_count ch dn c (suc n) =
     both_long (row_edges (8 * c) 0 8 (ch c) (dn c)) (column_edges (suc c) n ch dn)
-    ∙ ap (λ k. k + length (column_edges (suc c) n ch dn)) (rows_count (8 * c) 0 8 (ch c) (dn c)) ∙ ap (λ k. marks 0 8 (ch c) + k) (columns_count ch dn (suc c) n)
+    ∙ ap (λ k. k + length (column_edges (suc c) n ch dn)) (rows_count (8 * c) 0 8 (ch c) (dn c))
+    ∙ ap (λ k. marks 0 8 (ch c) + k) (columns_count ch dn (suc c) n)
 
 -- memory with the way back on the stack
 pub way_back : (f : ℕ → ℕ) (ring : List ℕ) → f 8 ≡ WAIT → f 9 ≡ 16 → memory f ring ≡ memory (stacked f) ring
@@ -70,7 +78,8 @@ way_back f ring low high = ap (λ u. memory (put f 8 u) ring) low ∙ ap (λ u. 
 pub begun_is : (m : Cpu) → IsStarted m → m ≡ begun (m.pre - 2) m.tf m.last_t1 (cells_in m.ram) (drop 112 m.ram) m
 begun_is m s =
     let pre : m.pre ≡ m.pre - 2 + 2 = (let l : 2 ≤ m.pre = s.early in omega (arith, l)) in
-    let ram : m.ram ≡ memory (stacked (cells_in m.ram)) (drop 112 m.ram) = memory_is m.ram s.fine.long ∙ way_back (cells_in m.ram) (drop 112 m.ram) s.back s.status in
+    let ram : m.ram ≡ memory (stacked (cells_in m.ram)) (drop 112 m.ram) =
+    memory_is m.ram s.fine.long ∙ way_back (cells_in m.ram) (drop 112 m.ram) s.back s.status in
     ap (λ v. record m { pc = v }) s.pc
     ∙ ap (λ v. record m { pc = TICK; rb = v }) s.bank
     ∙ ap (λ v. record m { pc = TICK; rb = true; sp = v }) s.depth
@@ -81,14 +90,20 @@ begun_is m s =
     ∙ ap (λ v. record m { pc = TICK; rb = true; sp = 1; mb = false; ext_on = false; tim_on = true; svc = true; ram = v }) ram
     ∙ ap (λ v. record (serving TICK (stacked (cells_in m.ram)) (drop 112 m.ram) m) { c = v }) s.carry
     ∙ ap (λ v. record (serving TICK (stacked (cells_in m.ram)) (drop 112 m.ram) m) { c = false; ac = v }) s.half
-    ∙ ap (λ v. record (serving TICK (stacked (cells_in m.ram)) (drop 112 m.ram) m) { c = false; ac = false; f0 = v }) s.flag
-    ∙ ap (λ v. record (serving TICK (stacked (cells_in m.ram)) (drop 112 m.ram) m) { c = false; ac = false; f0 = false; run = v }) s.run
-    ∙ ap (λ v. record (serving TICK (stacked (cells_in m.ram)) (drop 112 m.ram) m) { c = false; ac = false; f0 = false; run = Timer; t = v }) s.t
-    ∙ ap (λ v. record (serving TICK (stacked (cells_in m.ram)) (drop 112 m.ram) m) { c = false; ac = false; f0 = false; run = Timer; t = 0; pre = v }) pre
-    ∙ ap (λ v. record (serving TICK (stacked (cells_in m.ram)) (drop 112 m.ram) m) { c = false; ac = false; f0 = false; run = Timer; t = 0; pre = m.pre - 2 + 2; rq = v }) s.clear
+    ∙ ap (λ v. record (serving TICK (stacked (cells_in m.ram)) (drop 112 m.ram) m) { c = false; ac = false; f0 = v })
+    s.flag
+    ∙ ap (λ v. record (serving TICK (stacked (cells_in m.ram)) (drop 112 m.ram)
+    m) { c = false; ac = false; f0 = false; run = v }) s.run
+    ∙ ap (λ v. record (serving TICK (stacked (cells_in m.ram)) (drop 112 m.ram)
+    m) { c = false; ac = false; f0 = false; run = Timer; t = v }) s.t
+    ∙ ap (λ v. record (serving TICK (stacked (cells_in m.ram)) (drop 112 m.ram)
+    m) { c = false; ac = false; f0 = false; run = Timer; t = 0; pre = v }) pre
+    ∙ ap (λ v. record (serving TICK (stacked (cells_in m.ram)) (drop 112 m.ram)
+    m) { c = false; ac = false; f0 = false; run = Timer; t = 0; pre = m.pre - 2 + 2; rq = v }) s.clear
 
 -- and the other way round
-pub started_is : (late : ℕ) → late ≤ 1 → (tf last : Bool) (now : ℕ → ℕ) (ring : List ℕ) (m : Cpu) → IsFine (begun late tf last now ring m) → Inv now → IsStarted (begun late tf last now ring m)
+pub started_is : (late : ℕ) → late ≤ 1 → (tf last : Bool) (now : ℕ → ℕ) (ring : List ℕ) (m : Cpu)
+    → IsFine (begun late tf last now ring m) → Inv now → IsStarted (begun late tf last now ring m)
 started_is late few tf last now ring m fine inv = record {
   pc = refl;
   bank = refl;
@@ -114,7 +129,8 @@ started_is late few tf last now ring m fine inv = record {
 xor_small : (a b : ℕ) → a < 256 → b < 256 → bit_xor a b < 256
 xor_small a b l m = xor_of_8 a b l m
 
-module _ (d : Board) (bytes : List ℕ) (hk : HasKernel bytes) (small : All IsByte bytes) (low : (p1 p2 c : ℕ) (s : d.State) → (d.pins p1 p2 c s).bus < 256)
+module _ (d : Board) (bytes : List ℕ) (hk : HasKernel bytes) (small : All IsByte bytes)
+    (low : (p1 p2 c : ℕ) (s : d.State) → (d.pins p1 p2 c s).bus < 256)
     (w : World d.State) (s : IsStarted w.cpu) (few : length (edges_now d w) ≤ 4) where
   abbrev pub m : Cpu
   m = w.cpu
@@ -148,7 +164,8 @@ module _ (d : Board) (bytes : List ℕ) (hk : HasKernel bytes) (small : All IsBy
       let x = w.cycle in
       let a : x + 3 + (13 + 16 * c) ≡ x + 16 + 16 * c = omega arith in
       let n : 3 + (13 + 16 * c) ≡ 16 + 16 * c = omega arith in
-      let state : ticks (13 + 16 * c) 0 (λ o. old (x + 3 + o)) (ticks 3 x old w.board) ≡ ticks (16 * c) (x + 16) old (in_tick d w 16) =
+      let state : ticks (13 + 16 * c) 0 (λ o. old (x + 3 + o)) (ticks 3 x old w.board)
+      ≡ ticks (16 * c) (x + 16) old (in_tick d w 16) =
       absolute (13 + 16 * c) (x + 3) old (ticks 3 x old w.board) ∙ joined 3 (13 + 16 * c) x (x + 3) old w.board refl
       ∙ ap (λ k. ticks k x old w.board) n ∙ sym (joined 16 (16 * c) x (x + 16) old w.board refl) in
       ap (λ b. 255 - (d.pins (32 + c) m.p2 (x + 3 + (13 + 16 * c)) b).bus) state
@@ -166,7 +183,8 @@ module _ (d : Board) (bytes : List ℕ) (hk : HasKernel bytes) (small : All IsBy
       let count : all_edges C 0 12 ≡ length (edges_now d w) = sym (columns_count C D 0 12) ∙ ap length edges_is in
       let most : length (edges_now d w) ≤ 4 = few in
       four_edges C (λ i l.
-      let cell : f (32 + i) < 256 = All-get_or IsByte m.ram (32 + i) 0 (let n : length m.ram ≡ 128 = s.fine.long in omega (arith, n, l)) s.fine.ram in
+      let cell : f (32 + i) < 256 =
+      All-get_or IsByte m.ram (32 + i) 0 (let n : length m.ram ≡ 128 = s.fine.long in omega (arith, n, l)) s.fine.ram in
       let byte : D i < 256 = omega arith in
       subst (λ v. v < 256) (sym (ap (λ v. bit_xor v (D i)) (kept_on f i))) (xor_small (f (32 + i)) (D i) cell byte))
       (omega (arith, count, most))
@@ -195,30 +213,40 @@ module _ (d : Board) (bytes : List ℕ) (hk : HasKernel bytes) (small : All IsBy
   abbrev shone : d.State
   shone = ticks 2 229 (λ o. new (w.cycle + 3 + o)) (ticks 229 0 (λ o. old (w.cycle + 3 + o)) board3)
 
-  shone_is : shone ≡ ticks 2 (w.cycle + 232) new (in_tick d w 232)
+  pub shone_is : shone ≡ ticks 2 (w.cycle + 232) new (in_tick d w 232)
   shone_is =
       let x = w.cycle in
       let a : x + 3 + 229 ≡ x + 232 = omega arith in
-      ap (λ b. ticks 2 229 (λ o. new (x + 3 + o)) b) (absolute 229 (x + 3) old board3 ∙ joined 3 229 x (x + 3) old w.board refl)
+      ap (λ b. ticks 2 229 (λ o. new (x + 3 + o)) b) (absolute 229 (x + 3) old board3
+      ∙ joined 3 229 x (x + 3) old w.board refl)
       ∙ sym (ticks_from 2 229 (x + 3) new (in_tick d w 232)) ∙ ap (λ c. ticks 2 c new (in_tick d w 232)) a
 
-  look_is : (n : ℕ) → d.pins 44 (latch_now d w) (w.cycle + 3 + 231 + n) (ticks n 0 (λ o. new (w.cycle + 3 + 231 + o)) shone) ≡ levels_in d (w.cycle + 232) 44 (latch_now d w) (in_tick d w 232) (2 + n)
+  look_is : (n : ℕ) → d.pins 44 (latch_now d w) (w.cycle + 3 + 231 + n)
+      (ticks n 0 (λ o. new (w.cycle + 3 + 231 + o)) shone) ≡ levels_in d (w.cycle + 232) 44 (latch_now d w)
+      (in_tick d w 232) (2 + n)
   look_is n =
       let x = w.cycle in
       let a : x + 3 + 231 + n ≡ x + 232 + (2 + n) = omega arith in
       ap (λ b. d.pins 44 (latch_now d w) (x + 3 + 231 + n) b)
-      (absolute n (x + 3 + 231) new shone ∙ ap (λ b. ticks n (x + 3 + 231) new b) shone_is ∙ joined 2 n (x + 232) (x + 3 + 231) new (in_tick d w 232) (omega arith))
+      (absolute n (x + 3 + 231) new shone ∙ ap (λ b. ticks n (x + 3 + 231) new b) shone_is
+      ∙ joined 2 n (x + 232) (x + 3 + 231) new (in_tick d w 232) (omega arith))
       ∙ ap (λ c. d.pins 44 (latch_now d w) c (ticks (2 + n) (x + 232) new (in_tick d w 232))) a
 
-  works : (meeting : Meeting) → IsQuiet d w meeting → (max : ℕ) × (max ≤ 36) × ((l : Bool) → Work d bytes hk small low w.cycle late soon m.tf m.last_t1 f ring m w.board l meeting (231 + (max + (56 + (2 + edges_most C)))) (F l))
-  works Idle (inl runs) = (36, omega arith, λ l. test_works d bytes hk small low H (w.cycle + 3) (k l) board3 (stacked f) ring inv runs (fit d bytes hk small low w.cycle late soon m.tf m.last_t1 f ring m w.board l fine))
-  works Idle (inr q) = (31, omega arith, λ l. idle_works d bytes hk small low H (w.cycle + 3) (k l) board3 (stacked f) ring inv q.0 q.3 (ap (λ p. p.t0) (look_is 22) ∙ q.1, ap (λ p. p.t1) (look_is 24) ∙ q.2) (fit d bytes hk small low w.cycle late soon m.tf m.last_t1 f ring m w.board l fine))
-  works Inhibited q = (31, omega arith, λ l. inhibited_works d bytes hk small low H (w.cycle + 3) (k l) board3 (stacked f) ring inv q.0 (ap (λ p. p.t0) (look_is 22) ∙ q.1) (fit d bytes hk small low w.cycle late soon m.tf m.last_t1 f ring m w.board l fine))
+  works : (meeting : Meeting) → IsQuiet d w meeting
+      → (max : ℕ) × (max ≤ 36) × ((l : Bool) → Work d bytes hk small low w.cycle late soon m.tf m.last_t1 f ring m
+      w.board l meeting (231 + (max + (56 + (2 + edges_most C)))) (F l))
+  works Idle (inl runs) =
+      (36, omega arith, λ l. test_works d bytes hk small low H (w.cycle + 3) (k l) board3 (stacked f) ring inv runs (fit d bytes hk small low w.cycle late soon m.tf m.last_t1 f ring m w.board l fine))
+  works Idle (inr q) =
+      (31, omega arith, λ l. idle_works d bytes hk small low H (w.cycle + 3) (k l) board3 (stacked f) ring inv q.0 q.3 (ap (λ p. p.t0) (look_is 22) ∙ q.1, ap (λ p. p.t1) (look_is 24) ∙ q.2) (fit d bytes hk small low w.cycle late soon m.tf m.last_t1 f ring m w.board l fine))
+  works Inhibited q =
+      (31, omega arith, λ l. inhibited_works d bytes hk small low H (w.cycle + 3) (k l) board3 (stacked f) ring inv q.0 (ap (λ p. p.t0) (look_is 22) ∙ q.1) (fit d bytes hk small low w.cycle late soon m.tf m.last_t1 f ring m w.board l fine))
   works (Got byte good) q = elim q [ ]
   works Sent q = elim q [ ]
   works Cut q = elim q [ ]
 
-  -- a tick of any kind, by its work: the next start, the keyboard a tick later, and the board and the port since a stage
+  -- a tick of any kind, by its work: the next start, the keyboard a tick later, and the board and the port since a
+  -- stage
   -- of which G is known
   pub record Came (meeting : Meeting) (G : Bool → Stage d.State → Type 0) (v : World d.State) : Type 0 where
     pub started : IsStarted v.cpu
@@ -232,7 +260,9 @@ module _ (d : Board) (bytes : List ℕ) (hk : HasKernel bytes) (small : All IsBy
     pub p2 : v.cpu.p2 ≡ from.cpu.p2
     pub board_now : v.board ≡ ticks n (w.cycle + (3 + from.off)) (d.tick from.cpu.p2) from.board
 
-  comes_to : (meeting : Meeting) (G : Bool → Stage d.State → Type 0) (v : World d.State) → Next d w.cycle late (Goes d bytes hk small low w.cycle late soon m.tf m.last_t1 f ring m w.board meeting G) v → Came meeting G v
+  comes_to : (meeting : Meeting) (G : Bool → Stage d.State → Type 0) (v : World d.State)
+      → Next d w.cycle late (Goes d bytes hk small low w.cycle late soon m.tf m.last_t1 f ring m w.board meeting G) v
+      → Came meeting G v
   comes_to meeting G v n =
       let g = n.does in
       let e = n.end in
@@ -263,7 +293,9 @@ module _ (d : Board) (bytes : List ℕ) (hk : HasKernel bytes) (small : All IsBy
       let at : x + 3 + g.from.off ≡ x + (3 + g.from.off) = omega arith in
       let step : ℕ → d.State → d.State = d.tick g.from.cpu.p2 in
       record {
-        started = subst (λ c. IsStarted c) (sym vcpu) (started_is n.late' n.most n.tf n.last n.now n.ring e.cpu fineB (record { most = g.inv.most; started = g.inv.started; some = g.inv.some; mode = g.inv.mode; lamps = g.inv.lamps }));
+        started = subst (λ c. IsStarted c) (sym vcpu)
+            (started_is n.late' n.most n.tf n.last n.now n.ring e.cpu fineB
+            (record { most = g.inv.most; started = g.inv.started; some = g.inv.some; mode = g.inv.mode; lamps = g.inv.lamps }));
         time = omega (arith, cycle, time, pre, early);
         keyboard =
             ap (λ (c : Cpu). shown_by c.ram) vcpu ∙ g.kbd
@@ -275,23 +307,31 @@ module _ (d : Board) (bytes : List ℕ) (hk : HasKernel bytes) (small : All IsBy
         cycle = omega (arith, cycle, off);
         p2 = ap (λ (c : Cpu). c.p2) vcpu ∙ g.p2;
         board_now =
-            ap (λ (u : World d.State). u.board) n.is ∙ ap (λ b. ticks n.waited (x + e.off) (d.tick e.cpu.p2) b) g.board_now
+            ap (λ (u : World d.State). u.board) n.is
+            ∙ ap (λ b. ticks n.waited (x + e.off) (d.tick e.cpu.p2) b) g.board_now
             ∙ ap (λ p. ticks n.waited (x + e.off) (d.tick p) (ticks g.n (x + 3 + g.from.off) step g.from.board)) g.p2
             ∙ joined g.n n.waited (x + 3 + g.from.off) (x + e.off) step g.from.board here
             ∙ ap (λ c. ticks (g.n + n.waited) c step g.from.board) at;
       }
 
   pub any_tick : (meeting : Meeting) (last_off : ℕ) → 3 + last_off ≤ 2040 → (G : Bool → Stage d.State → Type 0)
-      → ((l : Bool) → Work d bytes hk small low w.cycle late soon m.tf m.last_t1 f ring m w.board l meeting last_off (G l))
+      → ((l : Bool) → Work d bytes hk small low w.cycle late soon m.tf m.last_t1 f ring m w.board l meeting last_off
+      (G l))
       → Tick d TICK bytes w (Came meeting G)
   any_tick meeting last_off room G work =
-      let t = tick d bytes hk small low w.cycle late soon m.tf m.last_t1 f ring m w.board fine meeting last_off room G work in
-      let same : record { cpu = begun late m.tf m.last_t1 f ring m; board = w.board; cycle = w.cycle } ≡ w = ap (λ c. record { cpu = c; board = w.board; cycle = w.cycle }) (sym is) in
-      let done : Tick d TICK bytes (record { cpu = begun late m.tf m.last_t1 f ring m; board = w.board; cycle = w.cycle }) (Came meeting G) = record {
+      let t = tick d bytes hk small low w.cycle late soon m.tf m.last_t1 f ring m w.board fine meeting last_off room G
+      work in
+      let same : record { cpu = begun late m.tf m.last_t1 f ring m; board = w.board; cycle = w.cycle } ≡ w =
+      ap (λ c. record { cpu = c; board = w.board; cycle = w.cycle }) (sym is) in
+      let done : Tick d TICK bytes
+      (record { cpu = begun late m.tf m.last_t1 f ring m; board = w.board; cycle = w.cycle }) (Came meeting G) =
+      record {
         at = t.at;
         first = t.first;
         step = t.step;
-        rest = comes_as d TICK bytes (Next d w.cycle late (Goes d bytes hk small low w.cycle late soon m.tf m.last_t1 f ring m w.board meeting G)) (Came meeting G) t.first (λ v n. comes_to meeting G v n) t.rest;
+        rest = comes_as d TICK bytes
+            (Next d w.cycle late (Goes d bytes hk small low w.cycle late soon m.tf m.last_t1 f ring m w.board meeting
+            G)) (Came meeting G) t.first (λ v n. comes_to meeting G v n) t.rest;
       } in
       subst (λ u. Tick d TICK bytes u (Came meeting G)) same done
 
@@ -306,5 +346,6 @@ module _ (d : Board) (bytes : List ℕ) (hk : HasKernel bytes) (small : All IsBy
         first = t.first;
         step = t.step;
         rest = comes_as d TICK bytes (Came meeting F) (GoesOn d bytes meeting w) t.first
-            (λ v c. record { started = c.started; time = c.time; keyboard = c.keyboard; latch = c.p2 ∙ c.facts.p2 }) t.rest;
+            (λ v c. record { started = c.started; time = c.time; keyboard = c.keyboard; latch = c.p2 ∙ c.facts.p2 })
+            t.rest;
       }

@@ -6,13 +6,13 @@ use Rattle.fw_kernel.specs.declared.labels.TheConstants.{TICK, DONE, WAIT}
 use Rattle.fw_kernel.specs.Places.{HasKernel}
 use Rattle.joint_run.specs.Run.{Board, World, ticks}
 use Rattle.joint_run.specs.Starts.{Tick}
-use Rattle.fw_logic.specs.Sizes.{IsByte, IsFine}
+use Rattle.mcs48_ranges.specs.Sizes.{IsByte, IsFine}
 use Rattle.fw_logic.proofs.Path.{Stage}
 use Rattle.fw_logic.proofs.Kernel.{kernel_in}
 use Rattle.fw_logic.proofs.Blocks.{from_stage}
 use Rattle.fw_logic.proofs.Short.{has_rows}
 use Rattle.fw_logic.proofs.Cells.{put_other}
-use Rattle.fw_logic.proofs.Bytes.{tests_by}
+use Rattle.bits.proofs.Every.{tests_by}
 use Rattle.fw_logic.proofs.Block.{put, begin_at}
 use Rattle.fw_keys.proofs.Blocks.{fine_end}
 use Rattle.fw_logic.proofs.Service.{serving, stacked, begun}
@@ -36,7 +36,9 @@ some_bit v l some = by_marks (marks 0 8 v) refl
   where
     by_marks : (n : ℕ) → marks 0 8 v ≡ n → 1 ≤ n
     by_marks (suc n) e = omega arith
-    by_marks zero e = absurd (let same : (v == 0) ≡ true = sym (tests_by 256 (λ v. marks 0 8 v == 0) (λ v. v == 0) refl v l) ∙ ap (λ n. n == 0) e in let bad : true ≡ false = sym same ∙ some in cc)
+    by_marks zero e = absurd (let same : (v == 0)
+        ≡ true = sym (tests_by 256 (λ v. marks 0 8 v == 0) (λ v. v == 0) refl v l) ∙ ap (λ n. n == 0) e in
+        let bad : true ≡ false = sym same ∙ some in cc)
 
 one_column : (v : ℕ) → v < 256 → (b : Bool) → (v == 0) ≡ b → (if v == 0 then 0 else 1) ≤ marks 0 8 v
 one_column v l true e = rw e (omega arith)
@@ -45,10 +47,12 @@ one_column v l false e = rw e (some_bit v l e)
 plus : (a b u v : ℕ) → a ≤ u → b ≤ v → a + b ≤ u + v
 plus a b u v h g = omega (arith, h, g)
 
-columns_most : (ch : ℕ → ℕ) (c n : ℕ) → c + n ≡ 12 → ((i : ℕ) → i < 12 → ch i < 256) → changed_columns ch c n ≤ all_edges ch c n
+columns_most : (ch : ℕ → ℕ) (c n : ℕ) → c + n ≡ 12 → ((i : ℕ) → i < 12 → ch i < 256)
+    → changed_columns ch c n ≤ all_edges ch c n
 columns_most ch c zero sum l = omega arith
 columns_most ch c (suc n) sum l =
-    plus (if ch c == 0 then 0 else 1) (changed_columns ch (suc c) n) (marks 0 8 (ch c)) (all_edges ch (suc c) n) (one_column (ch c) (l c (omega (arith, sum))) (ch c == 0) refl)
+    plus (if ch c == 0 then 0 else 1) (changed_columns ch (suc c) n) (marks 0 8 (ch c)) (all_edges ch (suc c) n)
+    (one_column (ch c) (l c (omega (arith, sum))) (ch c == 0) refl)
     (columns_most ch (suc c) n (omega (arith, sum)) l)
 
 pub four_edges : (ch : ℕ → ℕ) → ((i : ℕ) → i < 12 → ch i < 256) → all_edges ch 0 12 ≤ 4 → edges_most ch ≤ 592
@@ -63,7 +67,8 @@ kept_on f c =
     let b : (32 + c == 8) ≡ false = grind (arith, nat_tests) in
     put_other (put f 8 252) 9 16 (32 + c) a ∙ put_other f 8 252 (32 + c) b
 
-module _ (d : Board) (bytes : List ℕ) (hk : HasKernel bytes) (small : All IsByte bytes) (low : (p1 p2 c : ℕ) (s : d.State) → (d.pins p1 p2 c s).bus < 256)
+module _ (d : Board) (bytes : List ℕ) (hk : HasKernel bytes) (small : All IsByte bytes)
+    (low : (p1 p2 c : ℕ) (s : d.State) → (d.pins p1 p2 c s).bus < 256)
     (x late : ℕ) (few : late ≤ 1) (tf last : Bool) (f : ℕ → ℕ) (ring : List ℕ) (m : Cpu) (board : d.State) where
   abbrev pub start : World d.State
   start = record { cpu = begun late tf last f ring m; board = board; cycle = x }
@@ -87,14 +92,17 @@ module _ (d : Board) (bytes : List ℕ) (hk : HasKernel bytes) (small : All IsBy
 
   -- the work of this tick
   abbrev pub Work : Bool → Meeting → ℕ → (Stage d.State → Type 0) → Type 0
-  Work l meeting last_off F = Works d bytes hk small low held (x + 3) (first l) first_board (stacked f) ring meeting last_off F
+  Work l meeting last_off F = Works d bytes hk small low held (x + 3) (first l) first_board (stacked f) ring meeting
+      last_off F
 
   -- at its end data memory shows the model's keyboard a tick later, as the next tick finds it
-  pub record Goes (meeting : Meeting) (F : Bool → Stage d.State → Type 0) (now : ℕ → ℕ) (ring' : List ℕ) (e : Stage d.State) : Type 0 where
+  pub record Goes (meeting : Meeting) (F : Bool → Stage d.State → Type 0) (now : ℕ → ℕ) (ring' : List ℕ)
+      (e : Stage d.State) : Type 0 where
     pub l : Bool
     pub from : Stage d.State
     pub n : ℕ
-    pub kbd : keyboard_of (stacked now) ring' ≡ ticked (image_keys bytes) meeting (tick_edges changed down) (keyboard_of (stacked f) ring)
+    pub kbd : keyboard_of (stacked now) ring' ≡ ticked (image_keys bytes) meeting (tick_edges changed down)
+        (keyboard_of (stacked f) ring)
     pub downs : (i : ℕ) → i < 12 → now (32 + i) ≡ down i
     pub inv : Inv (stacked now)
     pub stack : (now 8 ≡ WAIT) × (now 9 ≡ 16)
@@ -106,16 +114,20 @@ module _ (d : Board) (bytes : List ℕ) (hk : HasKernel bytes) (small : All IsBy
 
   -- the processor is fit for the work where it is at the tick's start
   pub fit : (l : Bool) → IsFine (begun late tf last f ring m) → Safe (first l) 10 (stacked f) ring
-  fit l fine = (inl refl, record { pc = omega arith; a = omega arith; ram = fine.ram; long = fine.long; t = omega arith; pre = omega (arith, few); p1 = fine.p1; p2 = fine.p2; bus = fine.bus; sp = fine.sp })
+  fit l fine =
+      (inl refl, record { pc = omega arith; a = omega arith; ram = fine.ram; long = fine.long; t = omega arith; pre = omega (arith, few); p1 = fine.p1; p2 = fine.p2; bus = fine.bus; sp = fine.sp })
 
-  pub tick : IsFine (begun late tf last f ring m) → (meeting : Meeting) (last_off : ℕ) → 3 + last_off ≤ 2040 → (F : Bool → Stage d.State → Type 0) → ((l : Bool) → Work l meeting last_off (F l))
+  pub tick : IsFine (begun late tf last f ring m) → (meeting : Meeting) (last_off : ℕ) → 3 + last_off ≤ 2040
+      → (F : Bool → Stage d.State → Type 0) → ((l : Bool) → Work l meeting last_off (F l))
       → Tick d TICK bytes start (Next d x late (Goes meeting F))
   tick fine meeting last_off room F work =
       serves d bytes hk x late few tf last f ring m board (3 + last_off) room (Goes meeting F)
       (λ l.
       let k : Cpu = first l in
-      from_stage d (kernel_in true bytes) (has_rows true bytes hk) x 10 k (stacked f) ring (work_at d x late tf l f ring m board)
-      (λ e. Ended d bytes hk small low held (x + 3) k first_board (stacked f) ring meeting last_off (F l) e × IsFine e.cpu) (IsOver d (3 + last_off) (Goes meeting F)) refl
+      from_stage d (kernel_in true bytes) (has_rows true bytes hk) x 10 k (stacked f) ring
+      (work_at d x late tf l f ring m board)
+      (λ e. Ended d bytes hk small low held (x + 3) k first_board (stacked f) ring meeting last_off (F l) e
+      × IsFine e.cpu) (IsOver d (3 + last_off) (Goes meeting F)) refl
       (λ e bf.
       let b = bf.0 in
       let short : e.off ≤ last_off = b.short in
@@ -131,7 +143,8 @@ module _ (d : Board) (bytes : List ℕ) (hk : HasKernel bytes) (small : All IsBy
           from = b.from;
           n = b.n;
           kbd =
-              ap (λ h. kbd_of h b.now b.last) (held_same (λ c. stacked b.now (32 + c)) (λ c. b.now (32 + c)) (λ c l. kept_on b.now c))
+              ap (λ h. kbd_of h b.now b.last)
+              (held_same (λ c. stacked b.now (32 + c)) (λ c. b.now (32 + c)) (λ c l. kept_on b.now c))
               ∙ keyboard_goes (image_keys bytes) meeting (stacked f) ring b.now b.last down b.downs b.kbd;
           downs = b.downs;
           inv = record { most = b.inv.most; started = b.inv.started; some = b.inv.some; mode = b.inv.mode; lamps = b.inv.lamps };
@@ -143,4 +156,7 @@ module _ (d : Board) (bytes : List ℕ) (hk : HasKernel bytes) (small : All IsBy
           board_now = b.board_now;
         };
       })
-      (fine_end d (kernel_in true bytes) (has_rows true bytes hk) small low (x + 3) (begin_at d 10 (stacked f) ring k first_board) (Ended d bytes hk small low held (x + 3) k first_board (stacked f) ring meeting last_off (F l)) (fit l fine).1 (work l)))
+      (fine_end d (kernel_in true bytes) (has_rows true bytes hk) small low (x + 3)
+      (begin_at d 10 (stacked f) ring k first_board)
+      (Ended d bytes hk small low held (x + 3) k first_board (stacked f) ring meeting last_off (F l)) (fit l fine).1
+      (work l)))

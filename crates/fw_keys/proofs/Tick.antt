@@ -29,7 +29,7 @@ use Rattle.fw_logic.proofs.Kernel.{kernel_in}
 use Rattle.fw_logic.proofs.Leads.{Leads}
 use Rattle.fw_logic.proofs.Path.{Go, Stage, Until}
 use Rattle.fw_logic.proofs.Short.{has_rows}
-use Rattle.fw_logic.specs.Sizes.{IsByte, IsFine}
+use Rattle.mcs48_ranges.specs.Sizes.{IsByte, IsFine}
 use Rattle.joint_run.specs.Run.{Board, ticks}
 use Rattle.kbd_model.specs.Keyboard.{Keyboard, offer}
 use Rattle.kbd_model.specs.Tick.{is_scanning, tested_if}
@@ -51,7 +51,8 @@ wide_helds f r0 r7 p i l = grind (arith, nat_tests, l)
 below_cells : (f : ℕ → ℕ) (u v i : ℕ) → 32 ≤ i → put (put f 25 u) 24 v i ≡ f i
 below_cells f u v i l = grind (arith, nat_tests, l)
 
-module _ (d : Board) (bytes : List ℕ) (hk : HasKernel bytes) (small : All IsByte bytes) (low : (p1 p2 c : ℕ) (s : d.State) → (d.pins p1 p2 c s).bus < 256) (held : List Bool) where
+module _ (d : Board) (bytes : List ℕ) (hk : HasKernel bytes) (small : All IsByte bytes)
+    (low : (p1 p2 c : ℕ) (s : d.State) → (d.pins p1 p2 c s).bus < 256) (held : List Bool) where
   module _ (y : ℕ) (m : Cpu) (board : d.State) (f : ℕ → ℕ) (ring : List ℕ) where
     abbrev pub down : ℕ → ℕ
     down = look d bytes hk small low held y m board f ring
@@ -76,7 +77,8 @@ module _ (d : Board) (bytes : List ℕ) (hk : HasKernel bytes) (small : All IsBy
       pub now : ℕ → ℕ
       pub last : List ℕ
       pub used : ℕ
-      pub cpu : e.cpu ≡ scratched (record lit { f0 = is_scanning (step (kbd_of held f ring)); f1 = inhibited }) DONE (memory now last) e.cpu
+      pub cpu : e.cpu ≡ scratched (record lit { f0 = is_scanning (step (kbd_of held f ring)); f1 = inhibited }) DONE
+          (memory now last) e.cpu
       pub off : e.off ≡ 231 + used
       pub short : used ≤ max + (56 + (2 + edges_most changed))
       pub board_now : e.board ≡ ticks used (y + 231) (d.tick (255 - f 77)) shining
@@ -88,28 +90,44 @@ module _ (d : Board) (bytes : List ℕ) (hk : HasKernel bytes) (small : All IsBy
     -- what a meeting without a frame does between the head and step 4
     abbrev pub Way : Bool → ℕ → (Keyboard → Keyboard) → Type 0
     Way inhibited max step =
-        (m' : Cpu) (board' : d.State) (r4 r5 : ℕ) → m' ≡ scratched lit TESTED (memory (headed_by r4 r5) ring) m' → board' ≡ shining → offered_in r4 r5 ≡ offer (kbd_of held f ring) → Safe m' TESTED (headed_by r4 r5) ring
-        → Leads d (kernel_in true bytes) (y + 231) (begin_at d TESTED (headed_by r4 r5) ring m' board') (Ends d (y + 231) (record m' { f1 = inhibited }) board' SCAN max (Keeps held step (headed_by r4 r5) ring))
-
-    rest : (inhibited : Bool) (max : ℕ) (step : Keyboard → Keyboard) → Way inhibited max step → (m' : Cpu) (board' : d.State) (r4 r5 : ℕ) → m' ≡ scratched lit TESTED (memory (headed_by r4 r5) ring) m' → board' ≡ shining → offered_in r4 r5 ≡ offer (kbd_of held f ring) → Safe m' TESTED (headed_by r4 r5) ring
+        (m' : Cpu) (board' : d.State) (r4 r5 : ℕ) → m' ≡ scratched lit TESTED (memory (headed_by r4 r5) ring) m'
+        → board' ≡ shining → offered_in r4 r5 ≡ offer (kbd_of held f ring) → Safe m' TESTED (headed_by r4 r5) ring
         → Leads d (kernel_in true bytes) (y + 231) (begin_at d TESTED (headed_by r4 r5) ring m' board')
-        (Ends d (y + 231) (record m' { f0 = is_scanning (step (kbd_of held f ring)); f1 = inhibited }) board' DONE (max + (56 + (2 + edges_most changed)))
-        (λ a g r. (kbd_of held g r ≡ keyed (image_keys bytes) inhibited changed down (step (kbd_of held f ring))) × ((i : ℕ) → i < 12 → g (32 + i) ≡ down i) × Inv g × (g 8 ≡ f 8) × (g 9 ≡ f 9)))
+        (Ends d (y + 231) (record m' { f1 = inhibited }) board' SCAN max (Keeps held step (headed_by r4 r5) ring))
+
+    rest : (inhibited : Bool) (max : ℕ) (step : Keyboard → Keyboard) → Way inhibited max step
+        → (m' : Cpu) (board' : d.State) (r4 r5 : ℕ) → m' ≡ scratched lit TESTED (memory (headed_by r4 r5) ring) m'
+        → board' ≡ shining → offered_in r4 r5 ≡ offer (kbd_of held f ring) → Safe m' TESTED (headed_by r4 r5) ring
+        → Leads d (kernel_in true bytes) (y + 231) (begin_at d TESTED (headed_by r4 r5) ring m' board')
+        (Ends d (y + 231) (record m' { f0 = is_scanning (step (kbd_of held f ring)); f1 = inhibited }) board' DONE
+        (max + (56 + (2 + edges_most changed)))
+        (λ a g r. (kbd_of held g r ≡ keyed (image_keys bytes) inhibited changed down (step (kbd_of held f ring)))
+        × ((i : ℕ) → i < 12 → g (32 + i) ≡ down i) × Inv g × (g 8 ≡ f 8) × (g 9 ≡ f 9)))
     rest inhibited max step way m' board' r4 r5 is where_board offers safe =
         let g0 : ℕ → ℕ = headed_by r4 r5 in
-        let N : ℕ → (ℕ → ℕ) → List ℕ → Type 0 = λ a g r. (kbd_of held g r ≡ keyed (image_keys bytes) inhibited changed down (step (kbd_of held f ring))) × ((i : ℕ) → i < 12 → g (32 + i) ≡ down i) × Inv g × (g 8 ≡ f 8) × (g 9 ≡ f 9) in
+        let N : ℕ → (ℕ → ℕ) → List ℕ → Type 0 =
+        λ a g r. (kbd_of held g r ≡ keyed (image_keys bytes) inhibited changed down (step (kbd_of held f ring)))
+        × ((i : ℕ) → i < 12 → g (32 + i) ≡ down i) × Inv g × (g 8 ≡ f 8) × (g 9 ≡ f 9) in
         let on : Bool = is_scanning (step (kbd_of held f ring)) in
-        seq_f0 d (kernel_in true bytes) (has_rows true bytes hk) small low on (y + 231) (record m' { f1 = inhibited }) board' SCAN max DONE (56 + (2 + edges_most changed)) (Keeps held step g0 ring) N (begin_at d TESTED g0 ring m' board') safe.1
+        seq_f0 d (kernel_in true bytes) (has_rows true bytes hk) small low on (y + 231) (record m' { f1 = inhibited })
+        board' SCAN max DONE (56 + (2 + edges_most changed)) (Keeps held step g0 ring) N
+        (begin_at d TESTED g0 ring m' board') safe.1
         (way m' board' r4 r5 is where_board offers safe)
         (λ x1 m1 board1 g r same1 q safe1.
         let flag : is_scanning (kbd_of held g r) ≡ on = ap is_scanning q.kbd in
         let inh : m1.f1 ≡ inhibited = ap (λ k. k.f1) same1 in
-        let h : Leads d (kernel_in true bytes) x1 (begin_at d SCAN g r m1 board1) (Ends d x1 (record m1 { f0 = is_scanning (kbd_of held g r) }) board1 DONE (56 + (2 + edges_most changed)) (Scanned d bytes hk small low held m1.f1 changed down g r)) =
+        let h : Leads d (kernel_in true bytes) x1 (begin_at d SCAN g r m1 board1)
+        (Ends d x1 (record m1 { f0 = is_scanning (kbd_of held g r) }) board1 DONE (56 + (2 + edges_most changed))
+        (Scanned d bytes hk small low held m1.f1 changed down g r)) =
         scan_law d bytes hk small low held changed down x1 m1 board1 g r q.inv.most safe1
         (λ i l. q.cells (48 + i) (omega arith) (omega (arith, l)) ∙ head_changes down f r4 r5 i l)
         (λ i l. q.cells (32 + i) (omega arith) (omega (arith, l)) ∙ head_helds down f r4 r5 i l) in
-        subst (λ b. Leads d (kernel_in true bytes) x1 (begin_at d SCAN g r m1 board1) (Ends d x1 (record m1 { f0 = b }) board1 DONE (56 + (2 + edges_most changed)) N)) flag
-        (recast d (kernel_in true bytes) (has_rows true bytes hk) small low x1 (record m1 { f0 = is_scanning (kbd_of held g r) }) board1 DONE (56 + (2 + edges_most changed)) (56 + (2 + edges_most changed)) (Scanned d bytes hk small low held m1.f1 changed down g r) N (begin_at d SCAN g r m1 board1) (omega arith)
+        subst (λ b. Leads d (kernel_in true bytes) x1 (begin_at d SCAN g r m1 board1)
+        (Ends d x1 (record m1 { f0 = b }) board1 DONE (56 + (2 + edges_most changed)) N)) flag
+        (recast d (kernel_in true bytes) (has_rows true bytes hk) small low x1
+        (record m1 { f0 = is_scanning (kbd_of held g r) }) board1 DONE (56 + (2 + edges_most changed))
+        (56 + (2 + edges_most changed)) (Scanned d bytes hk small low held m1.f1 changed down g r) N
+        (begin_at d SCAN g r m1 board1) (omega arith)
         (λ a g2 rg s. record {
           cells = wide g s.r0 s.r7 s.p;
           same = ap (λ t. memory t rg) s.now;
@@ -117,94 +135,140 @@ module _ (d : Board) (bytes : List ℕ) (hk : HasKernel bytes) (small : All IsBy
         })
         h))
 
-    pub tick_by : (inhibited : Bool) (max : ℕ) (step : Keyboard → Keyboard) → Way inhibited max step → Safe m 10 f ring → Leads d (kernel_in true bytes) y begun (Ticked inhibited max step)
+    pub tick_by : (inhibited : Bool) (max : ℕ) (step : Keyboard → Keyboard) → Way inhibited max step → Safe m 10 f ring
+        → Leads d (kernel_in true bytes) y begun (Ticked inhibited max step)
     tick_by inhibited max step way safe =
         let h = bytes_of m 10 f ring safe in
         let H = Headed d bytes hk small low held y m board f ring in
-        chain d (kernel_in true bytes) (has_rows true bytes hk) y (λ e. H e × IsFine e.cpu) (Ticked inhibited max step) begun
-        (fine_end d (kernel_in true bytes) (has_rows true bytes hk) small low y begun H safe.1 (head_law d bytes hk small low held y m board f ring h safe.0))
+        chain d (kernel_in true bytes) (has_rows true bytes hk) y (λ e. H e × IsFine e.cpu) (Ticked inhibited max step)
+        begun
+        (fine_end d (kernel_in true bytes) (has_rows true bytes hk) small low y begun H safe.1
+        (head_law d bytes hk small low held y m board f ring h safe.0))
         (λ e af free.
         let a = af.0 in
         let g0 : ℕ → ℕ = headed_by a.r4 a.r5 in
-        let N : ℕ → (ℕ → ℕ) → List ℕ → Type 0 = λ a g r. (kbd_of held g r ≡ keyed (image_keys bytes) inhibited changed down (step (kbd_of held f ring))) × ((i : ℕ) → i < 12 → g (32 + i) ≡ down i) × Inv g × (g 8 ≡ f 8) × (g 9 ≡ f 9) in
-        let T : ℕ → Stage d.State → Type 0 = λ y. Ends d y (record e.cpu { f0 = is_scanning (step (kbd_of held f ring)); f1 = inhibited }) e.board DONE (max + (56 + (2 + edges_most changed))) N in
+        let N : ℕ → (ℕ → ℕ) → List ℕ → Type 0 =
+        λ a g r. (kbd_of held g r ≡ keyed (image_keys bytes) inhibited changed down (step (kbd_of held f ring)))
+        × ((i : ℕ) → i < 12 → g (32 + i) ≡ down i) × Inv g × (g 8 ≡ f 8) × (g 9 ≡ f 9) in
+        let T : ℕ → Stage d.State → Type 0 =
+        λ y. Ends d y (record e.cpu { f0 = is_scanning (step (kbd_of held f ring)); f1 = inhibited }) e.board DONE
+        (max + (56 + (2 + edges_most changed))) N in
         let at : y + 231 ≡ y + e.off = ap (λ o. y + o) (sym a.off) in
-        from_stage d (kernel_in true bytes) (has_rows true bytes hk) small low y TESTED lit g0 ring e (T (y + 231)) (Ticked inhibited max step) a.cpu
+        from_stage d (kernel_in true bytes) (has_rows true bytes hk) small low y TESTED lit g0 ring e (T (y + 231))
+        (Ticked inhibited max step) a.cpu
         (λ e2 b. record {
           now = b.now;
           last = b.ring;
           used = e2.off;
-          cpu = b.cpu ∙ ap (λ k. scratched (record k { f0 = is_scanning (step (kbd_of held f ring)); f1 = inhibited }) DONE (memory b.now b.ring) e2.cpu) a.cpu;
+          cpu = b.cpu
+              ∙ ap (λ k. scratched (record k { f0 = is_scanning (step (kbd_of held f ring)); f1 = inhibited }) DONE
+              (memory b.now b.ring) e2.cpu) a.cpu;
           off = ap (λ o. o + e2.off) a.off;
           short = b.short;
-          board_now = b.board_now ∙ ap (λ k. ticks e2.off (y + 231) (d.tick k.p2) e.board) a.cpu ∙ ap (λ q. ticks e2.off (y + 231) (d.tick (255 - f 77)) q) a.board_now;
+          board_now = b.board_now ∙ ap (λ k. ticks e2.off (y + 231) (d.tick k.p2) e.board) a.cpu
+              ∙ ap (λ q. ticks e2.off (y + 231) (d.tick (255 - f 77)) q) a.board_now;
           kbd = b.facts.0;
           downs = b.facts.1;
           inv = b.facts.2;
           stack = (b.facts.3, b.facts.4);
         })
         (subst (λ z. Leads d (kernel_in true bytes) z (begin_at d TESTED g0 ring e.cpu e.board) (T (y + 231))) at
-        (rest inhibited max step way e.cpu e.board a.r4 a.r5 a.cpu a.board_now a.offers (safe_at d (kernel_in true bytes) (has_rows true bytes hk) small low TESTED lit g0 ring e.cpu a.cpu free af.1))))
+        (rest inhibited max step way e.cpu e.board a.r4 a.r5 a.cpu a.board_now a.offers
+        (safe_at d (kernel_in true bytes) (has_rows true bytes hk) small low TESTED lit g0 ring e.cpu a.cpu free
+        af.1))))
 
     -- nothing is offered, and both wires are high at the looks
     abbrev pub IsFreeAt : Type 0
     IsFreeAt =
-        ((d.pins 44 (255 - f 77) (y + 231 + 22) (ticks 22 0 (λ o. d.tick (255 - f 77) (y + 231 + o)) shining)).t0 ≡ true)
-        × ((d.pins 44 (255 - f 77) (y + 231 + 24) (ticks 24 0 (λ o. d.tick (255 - f 77) (y + 231 + o)) shining)).t1 ≡ true)
+        ((d.pins 44 (255 - f 77) (y + 231 + 22) (ticks 22 0 (λ o. d.tick (255 - f 77) (y + 231 + o)) shining)).t0
+        ≡ true)
+        × ((d.pins 44 (255 - f 77) (y + 231 + 24) (ticks 24 0 (λ o. d.tick (255 - f 77) (y + 231 + o)) shining)).t1
+        ≡ true)
 
     unoffered : (r4 r5 : ℕ) (b : Bool) → (r5 == 0) ≡ b → offered_in r4 r5 ≡ None → (r5 == 0) ≡ true
     unoffered r4 r5 true e h = e
-    unoffered r4 r5 false e h = let s : offered_in r4 r5 ≡ Some r4 = rw e refl in absurd (let q : Some r4 ≡ None = sym s ∙ h in cc)
+    unoffered r4 r5 false e h = let s : offered_in r4 r5 ≡ Some r4 = rw e refl in
+        absurd (let q : Some r4 ≡ None = sym s ∙ h in cc)
 
-    look_at : (m' : Cpu) (board' : d.State) (r4 r5 k : ℕ) (test : Pins → Bool) → m' ≡ scratched lit TESTED (memory (headed_by r4 r5) ring) m' → board' ≡ shining
-        → test (d.pins m'.p1 m'.p2 (y + 231 + k) (ticks k 0 (λ o. d.tick m'.p2 (y + 231 + o)) board')) ≡ test (d.pins 44 (255 - f 77) (y + 231 + k) (ticks k 0 (λ o. d.tick (255 - f 77) (y + 231 + o)) shining))
+    look_at : (m' : Cpu) (board' : d.State) (r4 r5 k : ℕ) (test : Pins → Bool)
+        → m' ≡ scratched lit TESTED (memory (headed_by r4 r5) ring) m' → board' ≡ shining
+        → test (d.pins m'.p1 m'.p2 (y + 231 + k) (ticks k 0 (λ o. d.tick m'.p2 (y + 231 + o)) board'))
+        ≡ test (d.pins 44 (255 - f 77) (y + 231 + k) (ticks k 0 (λ o. d.tick (255 - f 77) (y + 231 + o)) shining))
     look_at m' board' r4 r5 k test is where_board =
         ap (λ c. test (d.pins c.p1 c.p2 (y + 231 + k) (ticks k 0 (λ o. d.tick c.p2 (y + 231 + o)) board'))) is
-        ∙ ap (λ b. test (d.pins 44 (255 - f 77) (y + 231 + k) (ticks k 0 (λ o. d.tick (255 - f 77) (y + 231 + o)) b))) where_board
+        ∙ ap (λ b. test (d.pins 44 (255 - f 77) (y + 231 + k) (ticks k 0 (λ o. d.tick (255 - f 77) (y + 231 + o)) b)))
+        where_board
 
     abbrev pub same_kbd : Keyboard → Keyboard
     same_kbd k = k
 
     idle_way : Inv f → (f 69 == 0) ≡ true → offer (kbd_of held f ring) ≡ None
-        → (d.pins 44 (255 - f 77) (y + 231 + 22) (ticks 22 0 (λ o. d.tick (255 - f 77) (y + 231 + o)) shining)).t0 ≡ true
-        → (d.pins 44 (255 - f 77) (y + 231 + 24) (ticks 24 0 (λ o. d.tick (255 - f 77) (y + 231 + o)) shining)).t1 ≡ true
+        → (d.pins 44 (255 - f 77) (y + 231 + 22) (ticks 22 0 (λ o. d.tick (255 - f 77) (y + 231 + o)) shining)).t0
+        ≡ true
+        → (d.pins 44 (255 - f 77) (y + 231 + 24) (ticks 24 0 (λ o. d.tick (255 - f 77) (y + 231 + o)) shining)).t1
+        ≡ true
         → Way false 31 same_kbd
     idle_way inv no_test nothing clock high m' board' r4 r5 is where_board offers safe =
-        leaf d (kernel_in true bytes) (has_rows true bytes hk) small low (Keeps held same_kbd (headed_by r4 r5) ring) (Until 65 ∷ Go false ∷ Until 71 ∷ Go false ∷ Go false ∷ Until 76 ∷ Go true ∷ Until SCAN ∷ []) TESTED SCAN 31
-        (put (put (headed_by r4 r5) 25 69) 24 0) ring (y + 231) m' (record m' { f1 = false }) board' (headed_by r4 r5) ring safe.0
+        leaf d (kernel_in true bytes) (has_rows true bytes hk) small low (Keeps held same_kbd (headed_by r4 r5) ring)
+        (Until 65 ∷ Go false ∷ Until 71 ∷ Go false ∷ Go false ∷ Until 76 ∷ Go true ∷ Until SCAN ∷ []) TESTED SCAN 31
+        (put (put (headed_by r4 r5) 25 69) 24 0) ring (y + 231) m' (record m' { f1 = false }) board' (headed_by r4 r5)
+        ring safe.0
         (λ a. record { kbd = refl; inv = record { most = inv.most; started = inv.started; some = inv.some; mode = inv.mode; lamps = inv.lamps }; cells = λ i l u. below_cells (headed_by r4 r5) 69 0 i l; stack = (refl, refl) })
         (ap not no_test, (look_at m' board' r4 r5 22 (λ p. not p.t0) is where_board ∙ ap not clock, (look_at m' board' r4 r5 24 (λ p. not p.t1) is where_board ∙ ap not high, (unoffered r4 r5 (r5 == 0) refl (offers ∙ nothing), (refl, refl, refl)))))
 
     inhibited_way : Inv f → (f 69 == 0) ≡ true
-        → (d.pins 44 (255 - f 77) (y + 231 + 22) (ticks 22 0 (λ o. d.tick (255 - f 77) (y + 231 + o)) shining)).t0 ≡ false
+        → (d.pins 44 (255 - f 77) (y + 231 + 22) (ticks 22 0 (λ o. d.tick (255 - f 77) (y + 231 + o)) shining)).t0
+        ≡ false
         → Way true 31 same_kbd
     inhibited_way inv no_test clock m' board' r4 r5 is where_board offers safe =
-        leaf d (kernel_in true bytes) (has_rows true bytes hk) small low (Keeps held same_kbd (headed_by r4 r5) ring) (Until 65 ∷ Go false ∷ Until 71 ∷ Go true ∷ Fork 186 (passed 186) ∷ Until SCAN ∷ []) TESTED SCAN 31
-        (put (put (headed_by r4 r5) 25 69) 24 0) ring (y + 231) m' (record m' { f1 = true }) board' (headed_by r4 r5) ring safe.0
+        leaf d (kernel_in true bytes) (has_rows true bytes hk) small low (Keeps held same_kbd (headed_by r4 r5) ring)
+        (Until 65 ∷ Go false ∷ Until 71 ∷ Go true ∷ Fork 186 (passed 186) ∷ Until SCAN ∷ []) TESTED SCAN 31
+        (put (put (headed_by r4 r5) 25 69) 24 0) ring (y + 231) m' (record m' { f1 = true }) board' (headed_by r4 r5)
+        ring safe.0
         (λ a. record { kbd = refl; inv = record { most = inv.most; started = inv.started; some = inv.some; mode = inv.mode; lamps = inv.lamps }; cells = λ i l u. below_cells (headed_by r4 r5) 69 0 i l; stack = (refl, refl) })
         (ap not no_test, (look_at m' board' r4 r5 22 (λ p. not p.t0) is where_board ∙ ap not clock, (refl, (refl, refl, refl, λ e0. (refl, refl, refl)))))
 
     test_way : Inv f → (f 69 == 0) ≡ false → Way false 36 (tested_if true)
     test_way inv runs m' board' r4 r5 is where_board offers safe =
-        testing_law d bytes hk small low held (y + 231) m' board' (headed_by r4 r5) ring (record { most = inv.most; started = inv.started; some = inv.some; mode = inv.mode; lamps = inv.lamps }) runs safe
+        testing_law d bytes hk small low held (y + 231) m' board' (headed_by r4 r5) ring
+        (record { most = inv.most; started = inv.started; some = inv.some; mode = inv.mode; lamps = inv.lamps }) runs
+        safe
 
     -- whole ticks: the state goes on as the model's tick
     abbrev pub TickLaw : Meeting → Bool → ℕ → (Keyboard → Keyboard) → Type 0
-    TickLaw meeting inhibited max step = Leads d (kernel_in true bytes) y begun (λ e. Ticked inhibited max step e × (keyed (image_keys bytes) inhibited changed down (step (kbd_of held f ring)) ≡ keyed_tick (image_keys bytes) meeting changed down (kbd_of held f ring)))
+    TickLaw meeting inhibited max step =
+        Leads d (kernel_in true bytes) y begun
+        (λ e. Ticked inhibited max step e
+        × (keyed (image_keys bytes) inhibited changed down (step (kbd_of held f ring)) ≡ keyed_tick (image_keys bytes)
+        meeting changed down (kbd_of held f ring)))
 
-    with_model : (meeting : Meeting) (inhibited : Bool) (max : ℕ) (step : Keyboard → Keyboard) → keyed (image_keys bytes) inhibited changed down (step (kbd_of held f ring)) ≡ keyed_tick (image_keys bytes) meeting changed down (kbd_of held f ring) → Leads d (kernel_in true bytes) y begun (Ticked inhibited max step) → TickLaw meeting inhibited max step
+    with_model : (meeting : Meeting) (inhibited : Bool) (max : ℕ) (step : Keyboard → Keyboard)
+        → keyed (image_keys bytes) inhibited changed down (step (kbd_of held f ring)) ≡ keyed_tick (image_keys bytes)
+        meeting changed down (kbd_of held f ring) → Leads d (kernel_in true bytes) y begun (Ticked inhibited max step)
+        → TickLaw meeting inhibited max step
     with_model meeting inhibited max step same h =
-        weaken d (kernel_in true bytes) (has_rows true bytes hk) y (Ticked inhibited max step) (λ e. Ticked inhibited max step e × (keyed (image_keys bytes) inhibited changed down (step (kbd_of held f ring)) ≡ keyed_tick (image_keys bytes) meeting changed down (kbd_of held f ring))) begun (λ e a. (a, same)) h
+        weaken d (kernel_in true bytes) (has_rows true bytes hk) y (Ticked inhibited max step)
+        (λ e. Ticked inhibited max step e
+        × (keyed (image_keys bytes) inhibited changed down (step (kbd_of held f ring)) ≡ keyed_tick (image_keys bytes)
+        meeting changed down (kbd_of held f ring))) begun (λ e a. (a, same)) h
 
-    pub idle_tick : Inv f → (f 69 == 0) ≡ true → offer (kbd_of held f ring) ≡ None → IsFreeAt → Safe m 10 f ring → TickLaw Idle false 31 same_kbd
+    pub idle_tick : Inv f → (f 69 == 0) ≡ true → offer (kbd_of held f ring) ≡ None → IsFreeAt → Safe m 10 f ring
+        → TickLaw Idle false 31 same_kbd
     idle_tick inv no_test nothing wires safe =
-        with_model Idle false 31 same_kbd (sym (ap (λ b. keyed (image_keys bytes) false changed down (tested_if (not b) (kbd_of held f ring))) no_test)) (tick_by false 31 same_kbd (idle_way inv no_test nothing wires.0 wires.1) safe)
+        with_model Idle false 31 same_kbd
+        (sym (ap (λ b. keyed (image_keys bytes) false changed down (tested_if (not b) (kbd_of held f ring))) no_test))
+        (tick_by false 31 same_kbd (idle_way inv no_test nothing wires.0 wires.1) safe)
 
     pub inhibited_tick : Inv f → (f 69 == 0) ≡ true
-        → (d.pins 44 (255 - f 77) (y + 231 + 22) (ticks 22 0 (λ o. d.tick (255 - f 77) (y + 231 + o)) shining)).t0 ≡ false → Safe m 10 f ring → TickLaw Inhibited true 31 same_kbd
+        → (d.pins 44 (255 - f 77) (y + 231 + 22) (ticks 22 0 (λ o. d.tick (255 - f 77) (y + 231 + o)) shining)).t0
+        ≡ false → Safe m 10 f ring → TickLaw Inhibited true 31 same_kbd
     inhibited_tick inv no_test low_clock safe =
-        with_model Inhibited true 31 same_kbd (sym (ap (λ b. keyed (image_keys bytes) true changed down (tested_if (not b) (kbd_of held f ring))) no_test)) (tick_by true 31 same_kbd (inhibited_way inv no_test low_clock) safe)
+        with_model Inhibited true 31 same_kbd
+        (sym (ap (λ b. keyed (image_keys bytes) true changed down (tested_if (not b) (kbd_of held f ring))) no_test))
+        (tick_by true 31 same_kbd (inhibited_way inv no_test low_clock) safe)
 
     pub test_tick : Inv f → (f 69 == 0) ≡ false → Safe m 10 f ring → TickLaw Idle false 36 (tested_if true)
     test_tick inv runs safe =
-        with_model Idle false 36 (tested_if true) (sym (ap (λ b. keyed (image_keys bytes) false changed down (tested_if (not b) (kbd_of held f ring))) runs)) (tick_by false 36 (tested_if true) (test_way inv runs) safe)
+        with_model Idle false 36 (tested_if true)
+        (sym (ap (λ b. keyed (image_keys bytes) false changed down (tested_if (not b) (kbd_of held f ring))) runs))
+        (tick_by false 36 (tested_if true) (test_way inv runs) safe)

@@ -8,8 +8,8 @@ use Rattle.fw_kernel.specs.declared.labels.TheConstants.{TICK, WAIT}
 use Rattle.fw_kernel.specs.Places.{HasKernel}
 use Rattle.joint_run.specs.Run.{Board, World}
 use Rattle.joint_run.specs.Starts.{Comes, Tick}
-use Rattle.fw_logic.specs.Sizes.{IsByte, IsFine}
-use Rattle.fw_logic.specs.Cadence.{numbered, power_on}
+use Rattle.mcs48_ranges.specs.Sizes.{IsByte, IsFine}
+use Rattle.fw_logic.specs.Boards.{numbered, power_on}
 use Rattle.fw_logic.specs.Scan.{levels_in, downs, in_tick, lights_cell}
 use Rattle.kbd_model.specs.declared.meeting.Meeting.{Meeting}
 use Rattle.kbd_model.specs.declared.meeting.Meeting.TheVariants.{Idle, Inhibited, Sent, Cut, Got}

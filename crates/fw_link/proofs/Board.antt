@@ -37,7 +37,8 @@ pub at_wires : (edges : List Edge) (events : List HostEvent) (x : ℕ) (latch : 
     ≡ record { pc = board_cycles events lines n (x + from) s.pc; shown = s.shown }
 at_wires edges events x latch lines zero from s lit is = refl
 at_wires edges events x latch lines (suc n) from s lit is =
-    let first : joint_cycle events (latch from) (x + from) s ≡ record { pc = board_cycle events (x + from) (lines (x + from)) s.pc; shown = s.shown } =
+    let first : joint_cycle events (latch from) (x + from) s
+    ≡ record { pc = board_cycle events (x + from) (lines (x + from)) s.pc; shown = s.shown } =
     one_cycle events (latch from) (x + from) s (lit from (omega arith) (omega arith))
     ∙ ap (λ q. record { pc = board_cycle events (x + from) q s.pc; shown = s.shown })
     (sym (is from (omega arith) (omega arith))) in

@@ -27,27 +27,37 @@ next_bit false false r2 v e h = h
 next_bit true false r2 v e h = absurd cc
 next_bit false true r2 v e h = absurd cc
 
+-- the latch with the clock low, and with the clock high again
+abbrev pub fallen : Cpu → ℕ
+fallen m = bit_and m.p2 254
+
+abbrev pub risen : Cpu → ℕ
+risen m = bit_or (bit_and m.p2 254) 1
+
+-- the board at a cell's look, 18 cycles into it
+abbrev pub board_at_look : (d : Board) → ℕ → Cpu → d.State → d.State
+board_at_look d y m board = ticks 2 16 (λ o. d.tick (risen m) (y + o))
+    (ticks 16 0 (λ o. d.tick (fallen m) (y + o)) board)
+
+-- the number of cells left goes down by one, and is tested
+pub one_less : (c n : ℕ) → c ≡ suc n → n < 255 → (c + 255) % 256 ≡ n
+one_less c n count few = omega (arith, count, few)
+
+pub asks : (c n : ℕ) → (c + 255) % 256 ≡ n → (more : Bool) → not (n == 0) ≡ more → not ((c + 255) % 256 == 0) ≡ more
+asks c n less more left = ap (λ k. not (k == 0)) less ∙ left
+
 module _ (d : Board) (bytes : List ℕ) (has : HasKernel bytes) (y : ℕ) (m : Cpu) (board : d.State) (f : ℕ → ℕ)
     (ring : List ℕ) where
-  abbrev fallen : ℕ
-  fallen = bit_and m.p2 254
-
-  abbrev risen : ℕ
-  risen = bit_or (bit_and m.p2 254) 1
-
   -- the board 20 cycles into the cell, and at its end
-  abbrev pub board_at_look : d.State
-  board_at_look = ticks 2 16 (λ o. d.tick risen (y + o)) (ticks 16 0 (λ o. d.tick fallen (y + o)) board)
-
   abbrev pub board_at_put : d.State
-  board_at_put = ticks 4 16 (λ o. d.tick risen (y + o)) (ticks 16 0 (λ o. d.tick fallen (y + o)) board)
+  board_at_put = ticks 4 16 (λ o. d.tick (risen m) (y + o)) (ticks 16 0 (λ o. d.tick (fallen m) (y + o)) board)
 
   abbrev pub board_behind : ℕ → d.State
   board_behind v = ticks 12 20 (λ o. d.tick v (y + o)) board_at_put
 
   -- the clock wire at the cell's look
   abbrev pub clock_seen : Bool
-  clock_seen = (d.pins m.p1 risen (y + 18) board_at_look).t0
+  clock_seen = (d.pins m.p1 (risen m) (y + 18) (board_at_look d y m board)).t0
 
   abbrev pub Celled : ℕ → ℕ → ℕ → Stage d.State → Type 0
   Celled v n place e =
@@ -56,18 +66,18 @@ module _ (d : Board) (bytes : List ℕ) (has : HasKernel bytes) (y : ℕ) (m : C
 
   -- where the clock is low at the look both wires are released: 24 cycles in all
   abbrev pub board_cut : d.State
-  board_cut = ticks 4 20 (λ o. d.tick (bit_or risen 3) (y + o)) board_at_put
+  board_cut = ticks 4 20 (λ o. d.tick (bit_or (risen m) 3) (y + o)) board_at_put
 
   abbrev pub half_turned : ℕ → ℕ
   half_turned = put (put f 30 (128 * digit m.c + f 30 / 2)) 24 0
 
   pub cut : IsFree m → clock_seen ≡ false
       → Leads d (kernel_in true bytes) y (begin_at d S_CELL f ring m board)
-      (At d (record m { p2 = bit_or risen 3 }) SCAN half_turned ring 24 board_cut)
+      (At d (record m { p2 = bit_or (risen m) 3 }) SCAN half_turned ring 24 board_cut)
   cut free low =
       straight d (kernel_in true bytes) (has_rows true bytes has)
       (Until 118 ∷ Go true ∷ Until SCAN ∷ []) y m S_CELL SCAN 24 f half_turned
-      ring (record m { p2 = bit_or risen 3 }) board board_cut free (ap not low, (refl, refl, refl))
+      ring (record m { p2 = bit_or (risen m) 3 }) board board_cut free (ap not low, (refl, refl, refl))
 
   pub cell : (b : Bool) (v n : ℕ) → IsFree m → f 27 ≡ suc n → n < 255 → bit 0 (f 30) ≡ b
       → bit_or (2 * digit b) (f 26) ≡ v → clock_seen ≡ true → (more : Bool) → not (n == 0) ≡ more
@@ -76,10 +86,7 @@ module _ (d : Board) (bytes : List ℕ) (has : HasKernel bytes) (y : ℕ) (m : C
   cell b v n free count few low value high more left = go more left
     where
       less : (f 27 + 255) % 256 ≡ n
-      less = omega (arith, count, few)
-
-      asks : (more : Bool) → not (n == 0) ≡ more → not ((f 27 + 255) % 256 == 0) ≡ more
-      asks more left = ap (λ k. not (k == 0)) less ∙ left
+      less = one_less (f 27) n count few
 
       cells : memory (turned f m.c ((f 27 + 255) % 256)) ring ≡ memory (turned f m.c n) ring
       cells = ap (λ k. memory (turned f m.c k) ring) less
@@ -91,9 +98,9 @@ module _ (d : Board) (bytes : List ℕ) (has : HasKernel bytes) (y : ℕ) (m : C
           sound d (kernel_in true bytes) (has_rows true bytes has) y
           (Until 111 ∷ Acc v ∷ Until 118 ∷ Go false ∷ Until 125 ∷ Go true ∷ Ram (memory (turned f m.c n) ring) ∷ [])
           (Celled v n S_CELL) (begin_at d S_CELL f ring m board)
-          (next_bit b (bit 0 (f 30)) (f 26) v low value, (ap not high, (asks true left, (cells, (refl, refl, refl, refl))))) free
+          (next_bit b (bit 0 (f 30)) (f 26) v low value, (ap not high, (asks (f 27) n less true left, (cells, (refl, refl, refl, refl))))) free
       go false left =
           sound d (kernel_in true bytes) (has_rows true bytes has) y
           (Until 111 ∷ Acc v ∷ Until 118 ∷ Go false ∷ Until 125 ∷ Go false ∷ Ram (memory (turned f m.c n) ring) ∷ [])
           (Celled v n S_STOP) (begin_at d S_CELL f ring m board)
-          (next_bit b (bit 0 (f 30)) (f 26) v low value, (ap not high, (asks false left, (cells, (refl, refl, refl, refl))))) free
+          (next_bit b (bit 0 (f 30)) (f 26) v low value, (ap not high, (asks (f 27) n less false left, (cells, (refl, refl, refl, refl))))) free

@@ -26,7 +26,8 @@ pub as_sent : (v byte j o : ℕ) → o < 28 + 32 * j + 20 → cut_latch v byte j
 as_sent v byte j o l = let a : nat_lt o (28 + 32 * j + 20) ≡ true = grind (arith, nat_tests, l) in rw a refl
 
 pub as_cut : (v byte j i : ℕ) → cut_latch v byte j (28 + 32 * j + 20 + i) ≡ v
-as_cut v byte j i = let a : nat_lt (28 + 32 * j + 20 + i) (28 + 32 * j + 20) ≡ false = grind (arith, nat_tests) in rw a refl
+as_cut v byte j i = let a : nat_lt (28 + 32 * j + 20 + i) (28 + 32 * j + 20) ≡ false = grind (arith, nat_tests) in
+    rw a refl
 
 module _ (d : Board) (bytes : List ℕ) (has : HasKernel bytes) (x : ℕ) (m : Cpu) (board : d.State) (f : ℕ → ℕ)
     (ring : List ℕ) (v byte : ℕ) (released : IsReleased v) (small : byte < 256) where
@@ -42,7 +43,8 @@ module _ (d : Board) (bytes : List ℕ) (has : HasKernel bytes) (x : ℕ) (m : C
   up_to_cut : (j n : ℕ) → n ≤ 28 + 32 * j + 20 → driven d x (sent_latch v byte) n 0 board ≡ cut_board j n
   up_to_cut j n l =
       ticks_alike n 0 0 (λ o. d.tick (sent_latch v byte o) (x + o)) (λ o. d.tick (cut_latch v byte j o) (x + o)) board
-      (λ i t u. let k : 0 + i < 28 + 32 * j + 20 = omega (arith, l, u) in ap (λ w. d.tick w (x + (0 + i)) t) (sym (as_sent v byte j (0 + i) k)))
+      (λ i t u. let k : 0 + i < 28 + 32 * j + 20 = omega (arith, l, u) in
+      ap (λ w. d.tick w (x + (0 + i)) t) (sym (as_sent v byte j (0 + i) k)))
 
   abbrev Cut : ℕ → ℕ → Stage d.State → Type 0
   Cut j n e =
@@ -59,7 +61,9 @@ module _ (d : Board) (bytes : List ℕ) (has : HasKernel bytes) (x : ℕ) (m : C
       let more : not (suc n == 0) ≡ true = grind (arith, nat_tests) in
       let g = sending f v byte q.k (suc n) q.r0 in
       let is : t.cpu ≡ scratched (record m { p2 = wired v true (frame_bit byte q.k) }) S_CELL (memory g ring) t.cpu =
-      q.cpu ∙ ap (λ b. scratched (record m { p2 = wired v true (frame_bit byte q.k) }) (if b then S_CELL else S_STOP) (memory g ring) t.cpu) more in
+      q.cpu
+      ∙ ap (λ b. scratched (record m { p2 = wired v true (frame_bit byte q.k) }) (if b then S_CELL else S_STOP)
+      (memory g ring) t.cpu) more in
       let w : t.cpu.p2 ≡ wired v true (frame_bit byte q.k) = ap (λ (z : Cpu). z.p2) q.cpu in
       let one : t.cpu.p1 ≡ m.p1 = ap (λ (z : Cpu). z.p1) q.cpu in
       let y : x + t.off ≡ x + (28 + 32 * q.k) = ap (λ i. x + i) o in
@@ -71,13 +75,18 @@ module _ (d : Board) (bytes : List ℕ) (has : HasKernel bytes) (x : ℕ) (m : C
       let place : 28 + 32 * q.k + 16 + 4 ≡ 28 + 32 * j + 20 = omega (arith, k) in
       let last : 28 + 32 * j + 20 + 4 ≡ 28 + 32 * j + 24 = omega arith in
       let low_again : is_high q.k ≡ false = ap is_high k ∙ low in
-      from_stage d (kernel_in true bytes) (has_rows true bytes has) x S_CELL (record m { p2 = wired v true (frame_bit byte q.k) }) g ring t
-      (At d (record t.cpu { p2 = u }) SCAN (half_turned d bytes has (x + t.off) t.cpu t.board g ring) ring 24 (board_cut d bytes has (x + t.off) t.cpu t.board g ring))
+      from_stage d (kernel_in true bytes) (has_rows true bytes has) x S_CELL
+      (record m { p2 = wired v true (frame_bit byte q.k) }) g ring t
+      (At d (record t.cpu { p2 = u }) SCAN (half_turned d bytes has (x + t.off) t.cpu t.board g ring) ring 24
+      (board_cut d bytes has (x + t.off) t.cpu t.board g ring))
       (Cut j n) is
       (λ e a. record {
         cpu =
-            a.cpu ∙ ap (λ (z : Cpu). scratched (record z { p2 = u }) SCAN (memory (half_turned d bytes has (x + t.off) t.cpu t.board g ring) ring) e.cpu) q.cpu
-            ∙ ap (λ z. scratched (record m { p2 = u }) SCAN (memory (put (put g 30 (128 * digit z + left_at byte q.k / 2)) 24 0) ring) e.cpu) q.carry
+            a.cpu
+            ∙ ap (λ (z : Cpu). scratched (record z { p2 = u }) SCAN
+            (memory (half_turned d bytes has (x + t.off) t.cpu t.board g ring) ring) e.cpu) q.cpu
+            ∙ ap (λ z. scratched (record m { p2 = u }) SCAN
+            (memory (put (put g 30 (128 * digit z + left_at byte q.k / 2)) 24 0) ring) e.cpu) q.carry
             ∙ ap (λ z. scratched (record m { p2 = z }) SCAN (memory (sending f v byte (suc q.k) (suc n) 0) ring) e.cpu)
             (free_again ∙ sym out)
             ∙ ap (λ i. scratched m SCAN (memory (sending f v byte (suc i) (suc n) 0) ring) e.cpu) k;
@@ -85,13 +94,17 @@ module _ (d : Board) (bytes : List ℕ) (has : HasKernel bytes) (x : ℕ) (m : C
         now =
             a.now
             ∙ spans d x (cut_latch v byte j) 4 (28 + 32 * j + 20) (x + t.off) 20 u
-            (ticks 4 16 (λ o. d.tick (bit_or (bit_and t.cpu.p2 254) 1) (x + t.off + o)) (ticks 16 0 (λ o. d.tick (bit_and t.cpu.p2 254) (x + t.off + o)) t.board))
+            (ticks 4 16 (λ o. d.tick (bit_or (bit_and t.cpu.p2 254) 1) (x + t.off + o))
+            (ticks 16 0 (λ o. d.tick (bit_and t.cpu.p2 254) (x + t.off + o)) t.board))
             board (omega (arith, o, k)) (λ i l. as_cut v byte j i ∙ sym free_again)
-            (high_span d bytes has x m board f ring v byte released small 4 q.k (x + t.off) t.cpu.p2 t.board few y w q.board_now
+            (high_span d bytes has x m board f ring v byte released small 4 q.k (x + t.off) t.cpu.p2 t.board few y w
+            q.board_now
             ∙ ap (λ i. driven d x (sent_latch v byte) i 0 board) place ∙ up_to_cut j (28 + 32 * j + 20) (omega arith))
             ∙ ap (cut_board j) last;
       })
-      (cut d bytes has (x + t.off) t.cpu t.board g ring free (look_is d bytes has x m board f ring v byte released small q.k (x + t.off) t.cpu.p2 t.cpu.p1 t.board one y w q.board_now ∙ low_again))
+      (cut d bytes has (x + t.off) t.cpu t.board g ring free
+      (look_is d bytes has x m board f ring v byte released small q.k (x + t.off) t.cpu.p2 t.cpu.p1 t.board one y w
+      q.board_now ∙ low_again))
 
   -- the looks of the cells before j show the clock high, that of cell j shows it low
   pub cut_frame : IsFree m → m.p2 ≡ v → 255 - f 77 ≡ v → f 28 ≡ byte → (f 29 == 0) ≡ false
@@ -104,5 +117,6 @@ module _ (d : Board) (bytes : List ℕ) (has : HasKernel bytes) (x : ℕ) (m : C
       let ten : 10 ≡ j + suc n = sym count in
       let none : 0 + suc n ≡ suc n = omega arith in
       chain d (kernel_in true bytes) (has_rows true bytes has) x (In (0 + suc n)) (Cut j n) s
-      (cells_pass d bytes has x m board f ring v byte released small (suc n) (λ k l. high k (omega (arith, l, count))) j s (subst (λ i. In i s) ten h) free)
+      (cells_pass d bytes has x m board f ring v byte released small (suc n) (λ k l. high k (omega (arith, l, count))) j
+      s (subst (λ i. In i s) ten h) free)
       (λ t q free. cut_here j n count out low t (subst (λ i. In i t) none q) free))

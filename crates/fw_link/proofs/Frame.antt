@@ -58,7 +58,8 @@ module _ (d : Board) (bytes : List ℕ) (has : HasKernel bytes) (x : ℕ) (m : C
       let data_low : bit_and (255 - f 77) 253 ≡ wired v true false = ap (λ w. bit_and w 253) lit in
       let here : ticks 10 0 (λ o. d.tick m.p2 (x + o)) board ≡ at_offset 10 =
       spans d x (sent_latch v byte) 10 0 x 0 m.p2 board board refl (λ i l. before_start v byte i l ∙ sym out) refl in
-      let there : ticks 18 10 (λ o. d.tick (bit_and (255 - f 77) 253) (x + o)) (ticks 10 0 (λ o. d.tick m.p2 (x + o)) board) ≡ at_offset 28 =
+      let there : ticks 18 10 (λ o. d.tick (bit_and (255 - f 77) 253) (x + o))
+      (ticks 10 0 (λ o. d.tick m.p2 (x + o)) board) ≡ at_offset 28 =
       spans d x (sent_latch v byte) 18 10 x 10 (bit_and (255 - f 77) 253)
       (ticks 10 0 (λ o. d.tick m.p2 (x + o)) board) board refl
       (λ i l. start_put v byte i l ∙ sym data_low) here in
@@ -69,8 +70,10 @@ module _ (d : Board) (bytes : List ℕ) (has : HasKernel bytes) (x : ℕ) (m : C
         count = refl;
         r0 = f 24;
         cpu =
-            h.0 ∙ ap (λ w. scratched (record m { p2 = w }) S_CELL (memory (readied d bytes has x m board f ring) ring) e.cpu) data_low
-            ∙ ap (λ r. scratched (record m { p2 = wired v true false }) S_CELL r e.cpu) (first_cells f ring v byte lit is);
+            h.0 ∙ ap (λ w. scratched (record m { p2 = w }) S_CELL (memory (readied d bytes has x m board f ring) ring)
+            e.cpu) data_low
+            ∙ ap (λ r. scratched (record m { p2 = wired v true false }) S_CELL r e.cpu)
+            (first_cells f ring v byte lit is);
         carry = h.1 ∙ ap parity_of is;
         off = h.2;
         board_now = h.3 ∙ there;
@@ -114,12 +117,16 @@ module _ (d : Board) (bytes : List ℕ) (has : HasKernel bytes) (x : ℕ) (m : C
       let free_again : bit_or (bit_and t.cpu.p2 254) 1 ≡ m.p2 =
       risen_is d bytes has x m board f ring v byte released small q.k t.cpu.p2 w
       ∙ ap (λ j. wired v true (frame_bit byte j)) k ∙ both_high v released ∙ sym out in
-      from_stage d (kernel_in true bytes) (has_rows true bytes has) x S_STOP (record m { p2 = wired v true (frame_bit byte q.k) }) g ring t
-      (At d (record t.cpu { p2 = bit_or (bit_and t.cpu.p2 254) 1 }) SENT (put g 24 0) ring 20 (board_stopped d bytes has (x + t.off) t.cpu t.board g ring))
+      from_stage d (kernel_in true bytes) (has_rows true bytes has) x S_STOP
+      (record m { p2 = wired v true (frame_bit byte q.k) }) g ring t
+      (At d (record t.cpu { p2 = bit_or (bit_and t.cpu.p2 254) 1 }) SENT (put g 24 0) ring 20
+      (board_stopped d bytes has (x + t.off) t.cpu t.board g ring))
       (At d m SENT (sending f v byte 10 0 0) ring 368 (at_offset 368)) q.cpu
       (λ e a. record {
         cpu =
-            a.cpu ∙ ap (λ (z : Cpu). scratched (record z { p2 = bit_or (bit_and t.cpu.p2 254) 1 }) SENT (memory (put g 24 0) ring) e.cpu) q.cpu
+            a.cpu
+            ∙ ap (λ (z : Cpu). scratched (record z { p2 = bit_or (bit_and t.cpu.p2 254) 1 }) SENT
+            (memory (put g 24 0) ring) e.cpu) q.cpu
             ∙ ap (λ w. scratched (record m { p2 = w }) SENT (memory (put g 24 0) ring) e.cpu) free_again
             ∙ ap (λ j. scratched m SENT (memory (sending f v byte j 0 0) ring) e.cpu) k;
         off = (let c : e.off ≡ 20 = a.off in omega (arith, c, o, k));

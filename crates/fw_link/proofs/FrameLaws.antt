@@ -26,30 +26,26 @@ use Rattle.joint_run.specs.Run.{World}
 use Rattle.wires_agree.proofs.Spans.{IsAt}
 use Rattle.wires_agree.specs.Cycles.{board_cycles}
 
+-- where none of five tests holds, each fails
+none_of_five : (a b c p q : Bool) → (a || b || c || p || q) ≡ false
+    → (a ≡ false) × (b ≡ false) × (c ≡ false) × (p ≡ false) × (q ≡ false)
+none_of_five false false false false false h = (refl, refl, refl, refl, refl)
+none_of_five true b c p q h = absurd cc
+none_of_five false true c p q h = absurd cc
+none_of_five false false true p q h = absurd cc
+none_of_five false false false true q h = absurd cc
+none_of_five false false false false true h = absurd cc
+
 -- cells that a frame leaves alone
 sent_others : (f : ℕ → ℕ) (v byte k n r0 i : ℕ) → is_sending i ≡ false → sending f v byte k n r0 i ≡ f i
-sent_others f v byte k n r0 i out = by (i == 24) (i == 25) (i == 26) (i == 27) (i == 30) refl refl refl refl refl out
-  where
-    by : (a b c p q : Bool) → (i == 24) ≡ a → (i == 25) ≡ b → (i == 26) ≡ c → (i == 27) ≡ p → (i == 30) ≡ q
-        → (a || b || c || p || q) ≡ false → sending f v byte k n r0 i ≡ f i
-    by false false false false false ea eb ec ep eq h = rw (ea, eb, ec, ep, eq) refl
-    by true b c p q ea eb ec ep eq h = absurd cc
-    by false true c p q ea eb ec ep eq h = absurd cc
-    by false false true p q ea eb ec ep eq h = absurd cc
-    by false false false true q ea eb ec ep eq h = absurd cc
-    by false false false false true ea eb ec ep eq h = absurd cc
+sent_others f v byte k n r0 i out =
+    let h = none_of_five (i == 24) (i == 25) (i == 26) (i == 27) (i == 30) out in
+    rw (h.0, h.1, h.2, h.3, h.4) refl
 
 got_others : (f : ℕ → ℕ) (byte i : ℕ) → is_receiving i ≡ false → got_cells f byte true i ≡ f i
-got_others f byte i out = by (i == 24) (i == 25) (i == 27) (i == 28) (i == 29) refl refl refl refl refl out
-  where
-    by : (a b c p q : Bool) → (i == 24) ≡ a → (i == 25) ≡ b → (i == 27) ≡ c → (i == 28) ≡ p → (i == 29) ≡ q
-        → (a || b || c || p || q) ≡ false → got_cells f byte true i ≡ f i
-    by false false false false false ea eb ec ep eq h = rw (ea, eb, ec, ep, eq) refl
-    by true b c p q ea eb ec ep eq h = absurd cc
-    by false true c p q ea eb ec ep eq h = absurd cc
-    by false false true p q ea eb ec ep eq h = absurd cc
-    by false false false true q ea eb ec ep eq h = absurd cc
-    by false false false false true ea eb ec ep eq h = absurd cc
+got_others f byte i out =
+    let h = none_of_five (i == 24) (i == 25) (i == 27) (i == 28) (i == 29) out in
+    rw (h.0, h.1, h.2, h.3, h.4) refl
 
 module _ (bytes : List ℕ) (has : HasKernel bytes) (edges : List Edge) (events : List HostEvent) (start byte : ℕ)
     (w : World Beside) (lines : ℕ → Lines) where
@@ -87,10 +83,14 @@ sent_law bytes has edges events start byte w h lines drives link clock =
     let ring = drop 112 m.ram in
     let g = sending f m.p2 byte 10 0 0 in
     let edge : IsAt (board_cycles events lines 28 (260 + start) w.board.pc) Free true =
-    subst (λ c. IsAt (board_cycles events lines 28 c w.board.pc) Free true) h.cycle (record { link_is = link; clock_is = clock }) in
-    let law : Leads d (kernel_in true bytes) w.cycle (begin_at d SEND f ring m w.board) (At d m SENT g ring 368 (end_board bytes has edges events start byte w lines 368 w.cycle)) =
-    subst (λ c. Leads d (kernel_in true bytes) c (begin_at d SEND f ring m w.board) (At d m SENT g ring 368 (end_board bytes has edges events start byte w lines 368 c))) (sym h.cycle)
-    (sent_whole edges events bytes has start m w.board f ring m.p2 byte (released_of start byte w h) h.small lines h.shown refl h.lights h.offered h.some drives edge h.at.free) in
+    subst (λ c. IsAt (board_cycles events lines 28 c w.board.pc) Free true) h.cycle
+    (record { link_is = link; clock_is = clock }) in
+    let law : Leads d (kernel_in true bytes) w.cycle (begin_at d SEND f ring m w.board)
+    (At d m SENT g ring 368 (end_board bytes has edges events start byte w lines 368 w.cycle)) =
+    subst (λ c. Leads d (kernel_in true bytes) c (begin_at d SEND f ring m w.board)
+    (At d m SENT g ring 368 (end_board bytes has edges events start byte w lines 368 c))) (sym h.cycle)
+    (sent_whole edges events bytes has start m w.board f ring m.p2 byte (released_of start byte w h) h.small lines
+    h.shown refl h.lights h.offered h.some drives edge h.at.free) in
     from_world d bytes has w SEND h.at f (memory_is m.ram h.at.memory) m SENT 368 g
     (end_board bytes has edges events start byte w lines 368 w.cycle) (Passed events lines is_sending SENT 368 w) law
     (λ e cpu free cycle board.
@@ -104,9 +104,12 @@ cut_law bytes has edges events start byte w h lines drives since from pulls =
     let f = cells_of m.ram in
     let ring = drop 112 m.ram in
     let g = sending f m.p2 byte 1 10 0 in
-    let law : Leads d (kernel_in true bytes) w.cycle (begin_at d SEND f ring m w.board) (At d m SCAN g ring 52 (end_board bytes has edges events start byte w lines 52 w.cycle)) =
-    subst (λ c. Leads d (kernel_in true bytes) c (begin_at d SEND f ring m w.board) (At d m SCAN g ring 52 (end_board bytes has edges events start byte w lines 52 c))) (sym h.cycle)
-    (sent_cut edges events bytes has start m w.board f ring m.p2 byte (released_of start byte w h) h.small lines h.shown refl h.lights h.offered h.some drives since from
+    let law : Leads d (kernel_in true bytes) w.cycle (begin_at d SEND f ring m w.board)
+    (At d m SCAN g ring 52 (end_board bytes has edges events start byte w lines 52 w.cycle)) =
+    subst (λ c. Leads d (kernel_in true bytes) c (begin_at d SEND f ring m w.board)
+    (At d m SCAN g ring 52 (end_board bytes has edges events start byte w lines 52 c))) (sym h.cycle)
+    (sent_cut edges events bytes has start m w.board f ring m.p2 byte (released_of start byte w h) h.small lines h.shown
+    refl h.lights h.offered h.some drives since from
     (ap (λ c. pulled (board_cycles events lines 28 c w.board.pc).side.port.link) (sym h.cycle) ∙ pulls) h.at.free) in
     from_world d bytes has w SEND h.at f (memory_is m.ram h.at.memory) m SCAN 52 g
     (end_board bytes has edges events start byte w lines 52 w.cycle) (Passed events lines is_sending SCAN 52 w) law
@@ -121,9 +124,12 @@ got_law bytes has edges events start byte w h small lines drives link clock =
     let f = cells_of m.ram in
     let ring = drop 112 m.ram in
     let g = got_cells f byte true in
-    let law : Leads d (kernel_in true bytes) w.cycle (begin_at d GOT f ring m w.board) (At d m COMMAND g ring 366 (end_board bytes has edges events start byte w lines 366 w.cycle)) =
-    subst (λ c. Leads d (kernel_in true bytes) c (begin_at d GOT f ring m w.board) (At d m COMMAND g ring 366 (end_board bytes has edges events start byte w lines 366 c))) (sym h.cycle)
-    (got_frame edges events bytes has start m w.board f ring (record { byte = h.latch; clock = h.clock; data_wire = h.data_wire }) h.acc lines byte small h.shown drives
+    let law : Leads d (kernel_in true bytes) w.cycle (begin_at d GOT f ring m w.board)
+    (At d m COMMAND g ring 366 (end_board bytes has edges events start byte w lines 366 w.cycle)) =
+    subst (λ c. Leads d (kernel_in true bytes) c (begin_at d GOT f ring m w.board)
+    (At d m COMMAND g ring 366 (end_board bytes has edges events start byte w lines 366 c))) (sym h.cycle)
+    (got_frame edges events bytes has start m w.board f ring
+    (record { byte = h.latch; clock = h.clock; data_wire = h.data_wire }) h.acc lines byte small h.shown drives
     (ap (λ c. (board_cycles events lines 28 c w.board.pc).side.port.link) (sym h.cycle) ∙ link)
     (ap (λ c. (board_cycles events lines 28 c w.board.pc).clock) (sym h.cycle) ∙ clock) h.at.free) in
     from_world d bytes has w GOT h.at f (memory_is m.ram h.at.memory) m COMMAND 366 g

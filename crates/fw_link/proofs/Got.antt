@@ -1,4 +1,5 @@
--- A received frame in the joint run: the byte that the controller sends is the byte that is read, and its parity is right.
+-- A received frame in the joint run: the byte that the controller sends is the byte that is read, and its parity is
+-- right.
 use Rattle.std.proofs.Common.{◌≡◌, ◌≤◌, ◌<◌, ℕ, ◌+◌, ◌*◌, List, Bool, true, ◌&&◌, refl, ap, ◌∙◌, arith}
 use Rattle.mcs48_core.specs.Cpu.{Cpu}
 use Rattle.board_lines.specs.Bits.{value}
@@ -10,7 +11,7 @@ use Rattle.ctl_wire.specs.Wire.{drive}
 use Rattle.fw_kernel.specs.Places.{HasKernel}
 use Rattle.fw_kernel.specs.declared.labels.TheConstants.{GOT, COMMAND}
 use Rattle.fw_logic.proofs.Block.{memory, scratched, begin_at, At}
-use Rattle.fw_logic.proofs.Bytes.{by_byte, tests_by}
+use Rattle.bits.proofs.Every.{by_byte, tests_by}
 use Rattle.fw_logic.proofs.Clock.{IsFree}
 use Rattle.fw_logic.proofs.Kernel.{kernel_in}
 use Rattle.fw_logic.proofs.Leads.{Leads}
@@ -61,7 +62,8 @@ module _ (edges : List Edge) (events : List HostEvent) (bytes : List ℕ) (has :
   abbrev pub pc_in : ℕ → Pc
   pc_in n = board_cycles events lines n (260 + start) s.pc
 
-  at_offset : (n : ℕ) → n ≤ 366 → driven board (260 + start) (received_latch m.p2) n 0 s ≡ record { pc = pc_in n; shown = s.shown }
+  at_offset : (n : ℕ) → n ≤ 366 → driven board (260 + start) (received_latch m.p2) n 0 s
+      ≡ record { pc = pc_in n; shown = s.shown }
   at_offset n l =
       let z : 260 + start + 0 ≡ 260 + start = omega arith in
       at_wires edges events (260 + start) (received_latch m.p2) lines n 0 s
@@ -83,7 +85,8 @@ module _ (edges : List Edge) (events : List HostEvent) (bytes : List ℕ) (has :
         cycles_more events lines 28 (32 * k + 18) o (260 + start) s.pc e
         ∙ ap (λ c. board_cycles events lines (32 * k + 18) c (pc_in 28)) p in
         data_is edges events m.p1 m.p2 (260 + start + o) (driven board (260 + start) (received_latch m.p2) o 0 s)
-        ∙ ap (λ c. c && (drive (driven board (260 + start) (received_latch m.p2) o 0 s).pc.side.port.link).dat) released.data_wire
+        ∙ ap (λ c. c && (drive (driven board (260 + start) (received_latch m.p2) o 0 s).pc.side.port.link).dat)
+        released.data_wire
         ∙ ap (λ (t : Beside). (drive t.pc.side.port.link).dat) (at_offset o near)
         ∙ ap (λ (b : Pc). (drive b.side.port.link).dat) there
         ∙ frame_shown events lines (288 + start) byte received_bit (pc_in 28)
@@ -97,18 +100,24 @@ module _ (edges : List Edge) (events : List HostEvent) (bytes : List ℕ) (has :
         ap (λ b. is_parity (wire 8) b) byte_is ∙ ap (λ b. is_parity b byte) (wire_is 8 (omega arith))
         ∙ frame_parity byte few
 
-    -- R4 is the controller's byte, R5 says that its parity was right; the PC's side has gone on by the cycles at its wires
+    -- R4 is the controller's byte, R5 says that its parity was right; the PC's side has gone on by the cycles at its
+    -- wires
     pub got_frame : IsFree m
         → Leads board (kernel_in true bytes) (260 + start) (begin_at board GOT f ring m s)
         (At board m COMMAND (got_cells f byte true) ring 366 (record { pc = pc_in 366; shown = s.shown }))
     got_frame free =
         weaken board (kernel_in true bytes) (has_rows true bytes has) (260 + start)
-        (At board m COMMAND (got_cells f (byte_read board bytes has (260 + start) m s f ring released small) (right_read board bytes has (260 + start) m s f ring released small)) ring 366 (driven board (260 + start) (received_latch m.p2) 366 0 s))
+        (At board m COMMAND (got_cells f (byte_read board bytes has (260 + start) m s f ring released small)
+        (right_read board bytes has (260 + start) m s f ring released small)) ring 366
+        (driven board (260 + start) (received_latch m.p2) 366 0 s))
         (At board m COMMAND (got_cells f byte true) ring 366 (record { pc = pc_in 366; shown = s.shown }))
         (begin_at board GOT f ring m s)
         (λ e a. record {
           cpu =
-              a.cpu ∙ ap (λ b. scratched m COMMAND (memory (got_cells f b (right_read board bytes has (260 + start) m s f ring released small)) ring) e.cpu) byte_is
+              a.cpu
+              ∙ ap (λ b. scratched m COMMAND
+              (memory (got_cells f b (right_read board bytes has (260 + start) m s f ring released small)) ring) e.cpu)
+              byte_is
               ∙ ap (λ r. scratched m COMMAND (memory (got_cells f byte r) ring) e.cpu) right_is;
           off = a.off;
           now = a.now ∙ at_offset 366 (omega arith);

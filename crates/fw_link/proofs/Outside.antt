@@ -25,7 +25,8 @@ pub still_wires : (edges : List Edge) (events : List HostEvent) (lines : ℕ →
 still_wires edges events lines zero y v s lit is = refl
 still_wires edges events lines (suc n) y v s lit is =
     let first : joint_cycle events v y s ≡ record { pc = board_cycle events y (lines y) s.pc; shown = s.shown } =
-    one_cycle events v y s lit ∙ ap (λ q. record { pc = board_cycle events y q s.pc; shown = s.shown }) (sym (is y (omega arith) (omega arith))) in
+    one_cycle events v y s lit ∙ ap (λ q. record { pc = board_cycle events y q s.pc; shown = s.shown })
+    (sym (is y (omega arith) (omega arith))) in
     let next : y + 1 ≡ suc y = omega arith in
     ap (λ t. ticks n (y + 1) (joint_cycle events v) t) first
     ∙ still_wires edges events lines n (y + 1) v
@@ -49,7 +50,8 @@ pub lit_wires : (edges : List Edge) (events : List HostEvent) (lines : ℕ → L
 lit_wires edges events lines n y v s is =
     let said : Pc = record s.pc { side = says_lights y s.shown (lights_of v) s.pc.side } in
     let first : joint_cycle events v y s ≡ record { pc = board_cycle events y (lines y) said; shown = lights_of v } =
-    lit_cycle events v y s ∙ ap (λ q. record { pc = board_cycle events y q said; shown = lights_of v }) (sym (is y (omega arith) (omega arith))) in
+    lit_cycle events v y s ∙ ap (λ q. record { pc = board_cycle events y q said; shown = lights_of v })
+    (sym (is y (omega arith) (omega arith))) in
     let next : y + 1 ≡ suc y = omega arith in
     ap (λ t. ticks n (y + 1) (joint_cycle events v) t) first
     ∙ still_wires edges events lines n (y + 1) v
@@ -108,7 +110,8 @@ module _ (v start : ℕ) (released : IsReleased v) where
       let p : 628 + start ≡ 260 + start + 368 = omega arith in (
         up_before (sent_latch v byte) 368 (sent_before lines start v released byte drives),
         sent_is_frame lines start v released byte drives,
-        sent_ends lines start v released byte drives rest (λ o a b. up_behind (sent_latch v byte) 368 (609 + rest + start) o (omega (arith, a, p)) b),
+        sent_ends lines start v released byte drives rest
+            (λ o a b. up_behind (sent_latch v byte) 368 (609 + rest + start) o (omega (arith, a, p)) b),
       )
 
   -- one that receives
@@ -121,7 +124,8 @@ module _ (v start : ℕ) (released : IsReleased v) where
       let drives = drives_frame (received_latch v) 366 in (
         up_before (received_latch v) 366 (received_before lines start v released drives),
         received_is_frame lines start v released drives,
-        received_ends lines start v released drives rest (λ o a b. up_behind (received_latch v) 366 (609 + rest + start) o (omega (arith, a)) b),
+        received_ends lines start v released drives rest
+            (λ o a b. up_behind (received_latch v) 366 (609 + rest + start) o (omega (arith, a)) b),
       )
 
   -- and one that is cut in its first cell

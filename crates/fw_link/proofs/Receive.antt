@@ -1,6 +1,6 @@
 -- The cells of a received frame, one by one: a data bit, the parity bit, the stop bit, and the fall that ends it.
 use Rattle.std.proofs.Common.{◌≡◌, ◌<◌, ℕ, suc, ◌+◌, ◌-◌, ◌*◌, ◌/◌, ◌%◌, List, [], ◌∷◌, Bool, true, false, not, ◌==◌, if◌then◌else◌}
-use Rattle.std.proofs.Common.{bit_and, bit_or, refl, ap, ◌∙◌, arith}
+use Rattle.std.proofs.Common.{bit_and, bit_or, refl, ap}
 use Rattle.mcs48_core.specs.Cpu.{Cpu}
 use Rattle.mcs48_core.specs.Status.{bit, digit}
 use Rattle.board_lines.specs.Frame.{parity_of}
@@ -8,13 +8,14 @@ use Rattle.fw_kernel.specs.Places.{HasKernel}
 use Rattle.fw_kernel.specs.declared.labels.TheConstants.{GOT, R_CELL, R_PARITY, R_STOP, R_ACK, COMMAND}
 use Rattle.fw_logic.proofs.Block.{memory, put, scratched, begin_at, At}
 use Rattle.fw_logic.proofs.Blocks.{straight}
-use Rattle.fw_logic.proofs.Bytes.{by_byte}
+use Rattle.bits.proofs.Every.{by_byte}
 use Rattle.fw_logic.proofs.Clock.{IsFree}
 use Rattle.fw_logic.proofs.Kernel.{kernel_in}
 use Rattle.fw_logic.proofs.Leads.{Leads}
 use Rattle.fw_logic.proofs.Path.{Stage, Until, Go, Acc, Ram, Fork}
 use Rattle.fw_logic.proofs.Short.{has_rows}
 use Rattle.fw_logic.proofs.Sound.{sound}
+use Rattle.fw_link.proofs.Cell.{fallen, risen, board_at_look, one_less, asks}
 use Rattle.fw_link.proofs.Ends.{in_quarters, in_eighths}
 use Rattle.joint_run.specs.Run.{Board, ticks}
 
@@ -47,21 +48,12 @@ weighed false false = refl
 
 module _ (d : Board) (bytes : List ℕ) (has : HasKernel bytes) (y : ℕ) (m : Cpu) (board : d.State) (f : ℕ → ℕ)
     (ring : List ℕ) where
-  abbrev fallen : ℕ
-  fallen = bit_and m.p2 254
-
-  abbrev risen : ℕ
-  risen = bit_or (bit_and m.p2 254) 1
-
-  abbrev pub board_at_bit : d.State
-  board_at_bit = ticks 2 16 (λ o. d.tick risen (y + o)) (ticks 16 0 (λ o. d.tick fallen (y + o)) board)
-
   abbrev pub board_behind_bit : d.State
-  board_behind_bit = ticks 16 16 (λ o. d.tick risen (y + o)) (ticks 16 0 (λ o. d.tick fallen (y + o)) board)
+  board_behind_bit = ticks 16 16 (λ o. d.tick (risen m) (y + o)) (ticks 16 0 (λ o. d.tick (fallen m) (y + o)) board)
 
   -- the data wire at the cell's look
   abbrev pub bit_seen : Bool
-  bit_seen = (d.pins m.p1 risen (y + 18) board_at_bit).t1
+  bit_seen = (d.pins m.p1 (risen m) (y + 18) (board_at_look d y m board)).t1
 
   -- from the looks to the first cell: 28 cycles
   abbrev pub Awaits : Stage d.State → Type 0
@@ -78,7 +70,7 @@ module _ (d : Board) (bytes : List ℕ) (has : HasKernel bytes) (y : ℕ) (m : C
   -- a data bit
   abbrev pub TakesBit : ℕ → ℕ → Stage d.State → Type 0
   TakesBit n place e =
-      (e.cpu ≡ scratched (record m { p2 = risen }) place (memory (put (put f 24 0) 27 n) ring) e.cpu)
+      (e.cpu ≡ scratched (record m { p2 = (risen m) }) place (memory (put (put f 24 0) 27 n) ring) e.cpu)
       × (e.cpu.a ≡ m.a / 2 + 128 * digit bit_seen) × (e.off ≡ 32) × (e.board ≡ board_behind_bit)
 
   pub takes_bit : (n : ℕ) → IsFree m → m.a < 256 → f 27 ≡ suc n → n < 255 → (more : Bool) → not (n == 0) ≡ more
@@ -87,10 +79,7 @@ module _ (d : Board) (bytes : List ℕ) (has : HasKernel bytes) (y : ℕ) (m : C
   takes_bit n free small count few more left = go more left
     where
       less : (f 27 + 255) % 256 ≡ n
-      less = omega (arith, count, few)
-
-      asks : (more : Bool) → not (n == 0) ≡ more → not ((f 27 + 255) % 256 == 0) ≡ more
-      asks more left = ap (λ k. not (k == 0)) less ∙ left
+      less = one_less (f 27) n count few
 
       cells : memory (put (put f 24 0) 27 ((f 27 + 255) % 256)) ring ≡ memory (put (put f 24 0) 27 n) ring
       cells = ap (λ k. memory (put (put f 24 0) 27 k) ring) less
@@ -100,14 +89,16 @@ module _ (d : Board) (bytes : List ℕ) (has : HasKernel bytes) (y : ℕ) (m : C
           (TakesBit n (if more then R_CELL else R_PARITY))
       go true left =
           sound d (kernel_in true bytes) (has_rows true bytes has) y
-          (Until 267 ∷ Acc (m.a / 2) ∷ Until 274 ∷ Fork 280 (looked 280 (λ a b. if b then bit_or a 128 else a)) ∷ Acc (m.a / 2 + 128 * digit bit_seen) ∷ Until 284 ∷ Go true ∷ Ram (memory (put (put f 24 0) 27 n) ring) ∷ [])
+          (Until 267 ∷ Acc (m.a / 2) ∷ Until 274 ∷ Fork 280 (looked 280 (λ a b. if b then bit_or a 128 else a)) ∷ Acc
+          (m.a / 2 + 128 * digit bit_seen) ∷ Until 284 ∷ Go true ∷ Ram (memory (put (put f 24 0) 27 n) ring) ∷ [])
           (TakesBit n R_CELL) (begin_at d R_CELL f ring m board)
-          (turned_down m.a small, (refl, (refl, refl, refl, λ e. (bit_in m.a bit_seen small, (asks true left, (cells, (refl, refl, refl, refl))))))) free
+          (turned_down m.a small, (refl, (refl, refl, refl, λ e. (bit_in m.a bit_seen small, (asks (f 27) n less true left, (cells, (refl, refl, refl, refl))))))) free
       go false left =
           sound d (kernel_in true bytes) (has_rows true bytes has) y
-          (Until 267 ∷ Acc (m.a / 2) ∷ Until 274 ∷ Fork 280 (looked 280 (λ a b. if b then bit_or a 128 else a)) ∷ Acc (m.a / 2 + 128 * digit bit_seen) ∷ Until 284 ∷ Go false ∷ Ram (memory (put (put f 24 0) 27 n) ring) ∷ [])
+          (Until 267 ∷ Acc (m.a / 2) ∷ Until 274 ∷ Fork 280 (looked 280 (λ a b. if b then bit_or a 128 else a)) ∷ Acc
+          (m.a / 2 + 128 * digit bit_seen) ∷ Until 284 ∷ Go false ∷ Ram (memory (put (put f 24 0) 27 n) ring) ∷ [])
           (TakesBit n R_PARITY) (begin_at d R_CELL f ring m board)
-          (turned_down m.a small, (refl, (refl, refl, refl, λ e. (bit_in m.a bit_seen small, (asks false left, (cells, (refl, refl, refl, refl))))))) free
+          (turned_down m.a small, (refl, (refl, refl, refl, λ e. (bit_in m.a bit_seen small, (asks (f 27) n less false left, (cells, (refl, refl, refl, refl))))))) free
 
   -- the parity bit: R4 is the byte, R5 is 255 where the bit is right and else 0
   abbrev pub with_parity : ℕ → ℕ
@@ -115,21 +106,22 @@ module _ (d : Board) (bytes : List ℕ) (has : HasKernel bytes) (y : ℕ) (m : C
 
   pub takes_parity : IsFree m → m.a < 256
       → Leads d (kernel_in true bytes) y (begin_at d R_PARITY f ring m board)
-      (At d (record m { p2 = risen }) R_STOP with_parity ring 32 board_behind_bit)
+      (At d (record m { p2 = (risen m) }) R_STOP with_parity ring 32 board_behind_bit)
   takes_parity free small =
       straight d (kernel_in true bytes) (has_rows true bytes has)
-      (Until 298 ∷ Acc (255 * digit (not (parity_of m.a))) ∷ Until 304 ∷ Fork 310 (looked 310 (λ a b. if b then 255 - a else a)) ∷ Acc (255 * digit (is_parity bit_seen m.a)) ∷ Until R_STOP ∷ [])
-      y m R_PARITY R_STOP 32 f with_parity ring (record m { p2 = risen }) board board_behind_bit free
+      (Until 298 ∷ Acc (255 * digit (not (parity_of m.a))) ∷ Until 304 ∷ Fork 310
+      (looked 310 (λ a b. if b then 255 - a else a)) ∷ Acc (255 * digit (is_parity bit_seen m.a)) ∷ Until R_STOP ∷ [])
+      y m R_PARITY R_STOP 32 f with_parity ring (record m { p2 = (risen m) }) board board_behind_bit free
       (odd_is m.a small, (refl, (refl, refl, refl, λ e. (weighed bit_seen (parity_of m.a), (refl, refl, refl)))))
 
   -- the stop bit: read, without an effect
   pub takes_stop : IsFree m
       → Leads d (kernel_in true bytes) y (begin_at d R_STOP f ring m board)
-      (At d (record m { p2 = risen }) R_ACK (put f 24 0) ring 32 board_behind_bit)
+      (At d (record m { p2 = (risen m) }) R_ACK (put f 24 0) ring 32 board_behind_bit)
   takes_stop free =
       straight d (kernel_in true bytes) (has_rows true bytes has)
       (Until 324 ∷ Fork 326 (looked 326 (λ a b. a)) ∷ Until R_ACK ∷ [])
-      y m R_STOP R_ACK 32 f (put f 24 0) ring (record m { p2 = risen }) board board_behind_bit free
+      y m R_STOP R_ACK 32 f (put f 24 0) ring (record m { p2 = (risen m) }) board board_behind_bit free
       (refl, (refl, refl, refl, λ e. (refl, refl, refl)))
 
   -- the eleventh fall: both wires are low for 16 cycles

@@ -95,15 +95,23 @@ module _ (d : Board) (bytes : List ℕ) (has : HasKernel bytes) (x : ℕ) (m : C
       look_is d bytes has x m board f ring released small q.k
       (x + t.off) t.cpu.p2 t.cpu.p1 t.board few one y w q.board_now ∙ ap wire k in
       from_stage d (kernel_in true bytes) (has_rows true bytes has) x R_PARITY m g ring t
-      (At d (record t.cpu { p2 = u }) R_STOP (with_parity d bytes has (x + t.off) t.cpu t.board g ring) ring 32 (board_behind_bit d bytes has (x + t.off) t.cpu t.board g ring))
+      (At d (record t.cpu { p2 = u }) R_STOP (with_parity d bytes has (x + t.off) t.cpu t.board g ring) ring 32
+      (board_behind_bit d bytes has (x + t.off) t.cpu t.board g ring))
       (At d m R_STOP got ring (28 + 32 * 9) (at_offset (28 + 32 * 9))) q.cpu
       (λ e a. record {
         cpu =
-            a.cpu ∙ ap (λ (z : Cpu). scratched (record z { p2 = u }) R_STOP (memory (with_parity d bytes has (x + t.off) t.cpu t.board g ring) ring) e.cpu) q.cpu
-            ∙ ap (λ z. scratched (record m { p2 = z }) R_STOP (memory (with_parity d bytes has (x + t.off) t.cpu t.board g ring) ring) e.cpu)
+            a.cpu
+            ∙ ap (λ (z : Cpu). scratched (record z { p2 = u }) R_STOP
+            (memory (with_parity d bytes has (x + t.off) t.cpu t.board g ring) ring) e.cpu) q.cpu
+            ∙ ap (λ z. scratched (record m { p2 = z }) R_STOP
+            (memory (with_parity d bytes has (x + t.off) t.cpu t.board g ring) ring) e.cpu)
             (risen_is d bytes has x m board f ring released small t.cpu.p2 w)
-            ∙ ap (λ b. scratched m R_STOP (memory (put (put (put (put g 28 t.cpu.a) 25 (in_quarters t.cpu.a)) 24 0) 29 (255 * digit (is_parity b t.cpu.a))) ring) e.cpu) seen
-            ∙ ap (λ v. scratched m R_STOP (memory (put (put (put (put g 28 v) 25 (in_quarters v)) 24 0) 29 (255 * digit (is_parity (wire 8) v))) ring) e.cpu) byte;
+            ∙ ap (λ b. scratched m R_STOP
+            (memory (put (put (put (put g 28 t.cpu.a) 25 (in_quarters t.cpu.a)) 24 0) 29
+            (255 * digit (is_parity b t.cpu.a))) ring) e.cpu) seen
+            ∙ ap (λ v. scratched m R_STOP
+            (memory (put (put (put (put g 28 v) 25 (in_quarters v)) 24 0) 29 (255 * digit (is_parity (wire 8) v))) ring)
+            e.cpu) byte;
         off = (let c : e.off ≡ 32 = a.off in omega (arith, c, o, k));
         now =
             a.now ∙ cell_span d bytes has x m board f ring released small q.k
@@ -121,7 +129,8 @@ module _ (d : Board) (bytes : List ℕ) (has : HasKernel bytes) (x : ℕ) (m : C
       let w : t.cpu.p2 ≡ m.p2 = ap (λ (z : Cpu). z.p2) q.cpu in
       let u = bit_or (bit_and t.cpu.p2 254) 1 in
       from_stage d (kernel_in true bytes) (has_rows true bytes has) x R_STOP m got ring t
-      (At d (record t.cpu { p2 = u }) R_ACK (put got 24 0) ring 32 (board_behind_bit d bytes has (x + t.off) t.cpu t.board got ring))
+      (At d (record t.cpu { p2 = u }) R_ACK (put got 24 0) ring 32
+      (board_behind_bit d bytes has (x + t.off) t.cpu t.board got ring))
       (At d m R_ACK got ring (28 + 32 * 10) (at_offset (28 + 32 * 10))) q.cpu
       (λ e a. record {
         cpu =
@@ -141,12 +150,14 @@ module _ (d : Board) (bytes : List ℕ) (has : HasKernel bytes) (x : ℕ) (m : C
       let w : t.cpu.p2 ≡ m.p2 = ap (λ (z : Cpu). z.p2) q.cpu in
       let u = bit_or (bit_and t.cpu.p2 252) 3 in
       let free_again : u ≡ m.p2 = ap (λ z. bit_or (bit_and z 252) 3) w ∙ restores m.p2 released in
-      let first : ticks 16 0 (λ o. d.tick (bit_and t.cpu.p2 252) (x + t.off + o)) t.board ≡ at_offset (28 + 32 * 10 + 16) =
+      let first : ticks 16 0 (λ o. d.tick (bit_and t.cpu.p2 252) (x + t.off + o)) t.board
+      ≡ at_offset (28 + 32 * 10 + 16) =
       spans d x (received_latch m.p2) 16 (28 + 32 * 10) (x + t.off) 0 (bit_and t.cpu.p2 252) t.board board
       (omega (arith, o))
       (λ i l. last_low m.p2 i l ∙ sym (ap (λ z. bit_and z 252) w)) q.now in
       from_stage d (kernel_in true bytes) (has_rows true bytes has) x R_ACK m got ring t
-      (At d (record t.cpu { p2 = u }) COMMAND (put got 24 0) ring 18 (board_acked d bytes has (x + t.off) t.cpu t.board got ring))
+      (At d (record t.cpu { p2 = u }) COMMAND (put got 24 0) ring 18
+      (board_acked d bytes has (x + t.off) t.cpu t.board got ring))
       (At d m COMMAND got ring 366 (at_offset 366)) q.cpu
       (λ e a. record {
         cpu =
@@ -171,7 +182,9 @@ module _ (d : Board) (bytes : List ℕ) (has : HasKernel bytes) (x : ℕ) (m : C
       let End : Stage d.State → Type 0 = At d m COMMAND got ring 366 (at_offset 366) in
       chain d K has' x (In 8) End (begin_at d GOT f ring m board) (begins free)
       (λ s h free.
-      chain d K has' x (In 0) End s (counts_down d K has' x In (λ n t q free. one_bit d bytes has x m board f ring released small n t q free) 8 s h free)
+      chain d K has' x (In 0) End s
+      (counts_down d K has' x In (λ n t q free. one_bit d bytes has x m board f ring released small n t q free) 8 s h
+      free)
       (λ t q free.
       chain d K has' x (At d m R_STOP got ring (28 + 32 * 9) (at_offset (28 + 32 * 9))) End t (parity_cell t q free)
       (λ t q free.

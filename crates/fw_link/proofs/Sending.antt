@@ -9,7 +9,7 @@ use Rattle.fw_kernel.specs.Places.{HasKernel}
 use Rattle.fw_kernel.specs.declared.labels.TheConstants.{S_CELL, S_STOP}
 use Rattle.fw_logic.proofs.Block.{memory, put, scratched}
 use Rattle.fw_logic.proofs.Blocks.{from_stage}
-use Rattle.fw_logic.proofs.Bytes.{pair_tests}
+use Rattle.bits.proofs.Every.{pair_tests}
 use Rattle.fw_logic.proofs.Clock.{IsFree}
 use Rattle.fw_logic.proofs.Kernel.{kernel_in}
 use Rattle.fw_logic.proofs.Leads.{Leads}
@@ -57,7 +57,8 @@ module _ (d : Board) (bytes : List ℕ) (has : HasKernel bytes) (x : ℕ) (m : C
     pub k : ℕ
     pub count : k + n ≡ 10
     pub r0 : ℕ
-    pub cpu : s.cpu ≡ scratched (record m { p2 = wired v true (frame_bit byte k) }) (if not (n == 0) then S_CELL else S_STOP) (memory (sending f v byte k n r0) ring) s.cpu
+    pub cpu : s.cpu ≡ scratched (record m { p2 = wired v true (frame_bit byte k) })
+        (if not (n == 0) then S_CELL else S_STOP) (memory (sending f v byte k n r0) ring) s.cpu
     pub carry : s.cpu.c ≡ carry_at byte k
     pub off : s.off ≡ 28 + 32 * k
     pub board_now : s.board ≡ board_in (28 + 32 * k)
@@ -68,7 +69,8 @@ module _ (d : Board) (bytes : List ℕ) (has : HasKernel bytes) (x : ℕ) (m : C
       → ticks 16 0 (λ o. d.tick (bit_and w 254) (y + o)) s ≡ board_in (28 + 32 * k + 16)
   low_span k y w s e is b =
       spans d x latch 16 (28 + 32 * k) y 0 (bit_and w 254) s board (omega (arith, e))
-      (λ i l. cell_low v byte k i l ∙ sym (falls (frame_bit byte k) v released.byte) ∙ ap (λ q. bit_and q 254) (sym is)) b
+      (λ i l. cell_low v byte k i l ∙ sym (falls (frame_bit byte k) v released.byte) ∙ ap (λ q. bit_and q 254) (sym is))
+      b
 
   pub risen_is : (k w : ℕ) → w ≡ wired v true (frame_bit byte k)
       → bit_or (bit_and w 254) 1 ≡ wired v true (frame_bit byte k)
@@ -97,19 +99,23 @@ module _ (d : Board) (bytes : List ℕ) (has : HasKernel bytes) (x : ℕ) (m : C
       let p : 28 + 32 * k + 16 + 4 ≡ 28 + 32 * k + 20 = omega arith in
       let q : 28 + 32 * k + 20 + 12 ≡ 28 + 32 * suc k = omega arith in
       spans d x latch 12 (28 + 32 * k + 20) y 20 u
-      (ticks 4 16 (λ o. d.tick (bit_or (bit_and w 254) 1) (y + o)) (ticks 16 0 (λ o. d.tick (bit_and w 254) (y + o)) s)) board (omega (arith, e))
+      (ticks 4 16 (λ o. d.tick (bit_or (bit_and w 254) 1) (y + o)) (ticks 16 0 (λ o. d.tick (bit_and w 254) (y + o)) s))
+      board (omega (arith, e))
       (λ i l. cell_next v byte k i l ∙ sym next) (high_span 4 k y w s few e is b ∙ ap board_in p)
       ∙ ap board_in q
 
   -- the look in a cell of the law is that of the frame
   pub look_is : (k y w p1 : ℕ) (s : d.State) → p1 ≡ m.p1 → y ≡ x + (28 + 32 * k) → w ≡ wired v true (frame_bit byte k)
       → s ≡ board_in (28 + 32 * k)
-      → (d.pins p1 (bit_or (bit_and w 254) 1) (y + 18) (ticks 2 16 (λ o. d.tick (bit_or (bit_and w 254) 1) (y + o)) (ticks 16 0 (λ o. d.tick (bit_and w 254) (y + o)) s))).t0 ≡ look k
+      → (d.pins p1 (bit_or (bit_and w 254) 1) (y + 18)
+      (ticks 2 16 (λ o. d.tick (bit_or (bit_and w 254) 1) (y + o))
+      (ticks 16 0 (λ o. d.tick (bit_and w 254) (y + o)) s))).t0 ≡ look k
   look_is k y w p1 s one e is b =
       let few : 2 ≤ 4 = omega arith in
       let p : 28 + 32 * k + 16 + 2 ≡ 28 + 32 * k + 18 = omega arith in
       let c : y + 18 ≡ x + (28 + 32 * k + 18) = omega (arith, e) in
-      let at : ticks 2 16 (λ o. d.tick (bit_or (bit_and w 254) 1) (y + o)) (ticks 16 0 (λ o. d.tick (bit_and w 254) (y + o)) s) ≡ board_in (28 + 32 * k + 18) =
+      let at : ticks 2 16 (λ o. d.tick (bit_or (bit_and w 254) 1) (y + o))
+      (ticks 16 0 (λ o. d.tick (bit_and w 254) (y + o)) s) ≡ board_in (28 + 32 * k + 18) =
       high_span 2 k y w s few e is b ∙ ap board_in p in
       ap (λ t. (d.pins p1 (bit_or (bit_and w 254) 1) (y + 18) t).t0) at
       ∙ ap (λ q. (d.pins q (bit_or (bit_and w 254) 1) (y + 18) (board_in (28 + 32 * k + 18))).t0) one
@@ -128,24 +134,30 @@ module _ (d : Board) (bytes : List ℕ) (has : HasKernel bytes) (x : ℕ) (m : C
       let more : not (suc n == 0) ≡ true = grind (arith, nat_tests) in
       let g = sending f v byte k (suc n) h.r0 in
       let is : s.cpu ≡ scratched (record m { p2 = wired v true (frame_bit byte k) }) S_CELL (memory g ring) s.cpu =
-      h.cpu ∙ ap (λ b. scratched (record m { p2 = wired v true (frame_bit byte k) }) (if b then S_CELL else S_STOP) (memory g ring) s.cpu) more in
+      h.cpu
+      ∙ ap (λ b. scratched (record m { p2 = wired v true (frame_bit byte k) }) (if b then S_CELL else S_STOP)
+      (memory g ring) s.cpu) more in
       let w : s.cpu.p2 ≡ wired v true (frame_bit byte k) = ap (λ (q : Cpu). q.p2) h.cpu in
       let one : s.cpu.p1 ≡ m.p1 = ap (λ (q : Cpu). q.p1) h.cpu in
       let u = wired v true (frame_bit byte (suc k)) in
       let bit_now : bit 0 (left_at byte k) ≡ frame_bit byte (suc k) = next_is k byte few small in
-      from_stage d (kernel_in true bytes) (has_rows true bytes has) x S_CELL (record m { p2 = wired v true (frame_bit byte k) }) g ring s
+      from_stage d (kernel_in true bytes) (has_rows true bytes has) x S_CELL
+      (record m { p2 = wired v true (frame_bit byte k) }) g ring s
       (Celled d bytes has (x + s.off) s.cpu s.board g ring u n (if not (n == 0) then S_CELL else S_STOP)) (InFrame n) is
       (λ e q. record {
         k = suc k;
         count = omega (arith, c);
         r0 = 0;
         cpu =
-            q.0 ∙ ap (λ (z : Cpu). scratched (record z { p2 = u }) (if not (n == 0) then S_CELL else S_STOP) (memory (turned g s.cpu.c n) ring) e.cpu) h.cpu
-            ∙ ap (λ z. scratched (record m { p2 = u }) (if not (n == 0) then S_CELL else S_STOP) (memory (turned g z n) ring) e.cpu) h.carry;
+            q.0 ∙ ap (λ (z : Cpu). scratched (record z { p2 = u }) (if not (n == 0) then S_CELL else S_STOP)
+            (memory (turned g s.cpu.c n) ring) e.cpu) h.cpu
+            ∙ ap (λ z. scratched (record m { p2 = u }) (if not (n == 0) then S_CELL else S_STOP)
+            (memory (turned g z n) ring) e.cpu) h.carry;
         carry = q.1;
         off = (let t : e.off ≡ 32 = q.2 in omega (arith, t, o));
         board_now = q.3 ∙ behind_span k (x + s.off) s.cpu.p2 u s.board y w refl h.board_now;
       })
-      (cell d bytes has (x + s.off) s.cpu s.board g ring (frame_bit byte (suc k)) u n free refl (omega (arith, c)) bit_now
+      (cell d bytes has (x + s.off) s.cpu s.board g ring (frame_bit byte (suc k)) u n free refl (omega (arith, c))
+      bit_now
       (puts (frame_bit byte (suc k)) v released)
       (look_is k (x + s.off) s.cpu.p2 s.cpu.p1 s.board one y w h.board_now ∙ high) (not (n == 0)) refl)

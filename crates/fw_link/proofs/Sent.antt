@@ -70,7 +70,8 @@ module _ (edges : List Edge) (events : List HostEvent) (bytes : List ℕ) (has :
       ∙ ap (λ (z : Beside). (drive z.pc.side.port.link).clk) is
 
   module _ (drives : Drives lines (260 + start) (sent_latch v byte) 368) (at : IsAt (pc_in 28) Free true) where
-    at_offset : (n : ℕ) → n ≤ 368 → driven board (260 + start) (sent_latch v byte) n 0 s ≡ record { pc = pc_in n; shown = s.shown }
+    at_offset : (n : ℕ) → n ≤ 368 → driven board (260 + start) (sent_latch v byte) n 0 s
+        ≡ record { pc = pc_in n; shown = s.shown }
     at_offset n l =
         let z : 260 + start + 0 ≡ 260 + start = omega arith in
         at_wires edges events (260 + start) (sent_latch v byte) lines n 0 s
@@ -87,7 +88,8 @@ module _ (edges : List Edge) (events : List HostEvent) (bytes : List ℕ) (has :
         cycles_more events lines 28 (32 * k + 18) o (260 + start) s.pc e
         ∙ ap (λ c. board_cycles events lines (32 * k + 18) c (pc_in 28)) p in
         let bits : ℕ → Bool = frame_bit byte in
-        let busy : (board_cycles events lines (32 * k + 18) (288 + start) (pc_in 28)).side.port.link ≡ Busy (Recv (bits_to bits (suc k))) =
+        let busy : (board_cycles events lines (32 * k + 18) (288 + start) (pc_in 28)).side.port.link
+        ≡ Busy (Recv (bits_to bits (suc k))) =
         (into events lines (288 + start) bits (sent_is_frame lines start v released byte drives) (pc_in 28)
         (record (pc_in 28).side.port { link = Busy (Recv (bits_to bits 1)) }) Free
         (λ k. Recv (bits_to bits (suc k))) true at (sent_way bits (pc_in 28).side.port)
@@ -110,7 +112,8 @@ module _ (edges : List Edge) (events : List HostEvent) (bytes : List ℕ) (has :
   -- the controller has pulled the clock by offset 288, and not before offset 256: the frame is cut in its first cell
   module _ (drives : Drives lines (260 + start) (cut_latch v byte 0) 52) (since : ℕ) (from : 256 + start ≤ since)
       (pulls : pulled (pc_in 28).side.port.link ≡ Some since) where
-    at_cut : (n : ℕ) → n ≤ 52 → driven board (260 + start) (cut_latch v byte 0) n 0 s ≡ record { pc = pc_in n; shown = s.shown }
+    at_cut : (n : ℕ) → n ≤ 52 → driven board (260 + start) (cut_latch v byte 0) n 0 s
+        ≡ record { pc = pc_in n; shown = s.shown }
     at_cut n l =
         let z : 260 + start + 0 ≡ 260 + start = omega arith in
         at_wires edges events (260 + start) (cut_latch v byte 0) lines n 0 s
@@ -126,10 +129,12 @@ module _ (edges : List Edge) (events : List HostEvent) (bytes : List ℕ) (has :
         ∙ ap (λ c. board_cycles events lines 18 c (pc_in 28)) p in
         let on : pulled (board_cycles events lines 18 (288 + start) (pc_in 28)).side.port.link ≡ Some since =
         (pulled_span events lines 18 (288 + start) (pc_in 28) since pulls (omega (arith, from))).1 in
-        let same : driven board (260 + start) (sent_latch v byte) 46 0 s ≡ driven board (260 + start) (cut_latch v byte 0) 46 0 s =
+        let same : driven board (260 + start) (sent_latch v byte) 46 0 s
+        ≡ driven board (260 + start) (cut_latch v byte 0) 46 0 s =
         ticks_alike 46 0 0 (λ o. board.tick (sent_latch v byte o) (260 + start + o))
         (λ o. board.tick (cut_latch v byte 0 o) (260 + start + o)) s
-        (λ i t u. let k : 0 + i < 28 + 32 * 0 + 20 = omega (arith, u) in ap (λ w. board.tick w (260 + start + (0 + i)) t) (sym (as_sent v byte 0 (0 + i) k))) in
+        (λ i t u. let k : 0 + i < 28 + 32 * 0 + 20 = omega (arith, u) in
+        ap (λ w. board.tick w (260 + start + (0 + i)) t) (sym (as_sent v byte 0 (0 + i) k))) in
         look_sees 0 (record { pc = pc_in 46; shown = s.shown }) (same ∙ at_cut 46 (omega arith))
         ∙ ap (λ (b : Pc). (drive b.side.port.link).clk) there
         ∙ pulls_low (board_cycles events lines 18 (288 + start) (pc_in 28)).side.port.link since on
@@ -143,4 +148,5 @@ module _ (edges : List Edge) (events : List HostEvent) (bytes : List ℕ) (has :
         (At board m SCAN (sending f v byte 1 10 0) ring 52 (record { pc = pc_in 52; shown = s.shown }))
         (begin_at board SEND f ring m s)
         (λ e a. record { cpu = a.cpu; off = a.off; now = a.now ∙ at_cut 52 (omega arith) })
-        (cut_frame board bytes has (260 + start) m s f ring v byte released small free out lit offered some 0 9 refl (λ k l. absurd (omega (arith, l))) look_low)
+        (cut_frame board bytes has (260 + start) m s f ring v byte released small free out lit offered some 0 9 refl
+        (λ k l. absurd (omega (arith, l))) look_low)

@@ -130,7 +130,8 @@ module _ (d : Board) (bytes : List ℕ) (has : HasKernel bytes) (x : ℕ) (m : C
       spans d x (received_latch m.p2) n (28 + 32 * k + 16) y 16 (bit_or (bit_and w 254) 1)
       (ticks 16 0 (λ o. d.tick (bit_and w 254) (y + o)) s) board
       (omega (arith, e))
-      (λ i l. let q : i < 16 = omega (arith, l, short) in cell_high m.p2 k i q ∙ both_high m.p2 released ∙ sym (risen_is w is)) (low_span k y w s few e is b)
+      (λ i l. let q : i < 16 = omega (arith, l, short) in cell_high m.p2 k i q ∙ both_high m.p2 released
+      ∙ sym (risen_is w is)) (low_span k y w s few e is b)
 
   pub cell_span : (k y w : ℕ) (s : d.State) → k < 10 → y ≡ x + (28 + 32 * k) → w ≡ m.p2 → s ≡ board_in (28 + 32 * k)
       → ticks 16 16 (λ o. d.tick (bit_or (bit_and w 254) 1) (y + o))
@@ -143,11 +144,14 @@ module _ (d : Board) (bytes : List ℕ) (has : HasKernel bytes) (x : ℕ) (m : C
   -- the look in a cell of the law is that of the frame
   pub look_is : (k y w p1 : ℕ) (s : d.State) → k < 10 → p1 ≡ m.p1 → y ≡ x + (28 + 32 * k) → w ≡ m.p2
       → s ≡ board_in (28 + 32 * k)
-      → (d.pins p1 (bit_or (bit_and w 254) 1) (y + 18) (ticks 2 16 (λ o. d.tick (bit_or (bit_and w 254) 1) (y + o)) (ticks 16 0 (λ o. d.tick (bit_and w 254) (y + o)) s))).t1 ≡ bit_read k
+      → (d.pins p1 (bit_or (bit_and w 254) 1) (y + 18)
+      (ticks 2 16 (λ o. d.tick (bit_or (bit_and w 254) 1) (y + o))
+      (ticks 16 0 (λ o. d.tick (bit_and w 254) (y + o)) s))).t1 ≡ bit_read k
   look_is k y w p1 s few one e is b =
       let p : 28 + 32 * k + 16 + 2 ≡ 28 + 32 * k + 18 = omega arith in
       let c : y + 18 ≡ x + (28 + 32 * k + 18) = omega (arith, e) in
-      let at : ticks 2 16 (λ o. d.tick (bit_or (bit_and w 254) 1) (y + o)) (ticks 16 0 (λ o. d.tick (bit_and w 254) (y + o)) s) ≡ board_in (28 + 32 * k + 18) =
+      let at : ticks 2 16 (λ o. d.tick (bit_or (bit_and w 254) 1) (y + o))
+      (ticks 16 0 (λ o. d.tick (bit_and w 254) (y + o)) s) ≡ board_in (28 + 32 * k + 18) =
       high_span 2 k y w s (omega arith) few e is b ∙ ap board_in p in
       ap (λ t. (d.pins p1 (bit_or (bit_and w 254) 1) (y + 18) t).t1) at
       ∙ ap (λ q. (d.pins q (bit_or (bit_and w 254) 1) (y + 18) (board_in (28 + 32 * k + 18))).t1) one
@@ -159,7 +163,8 @@ module _ (d : Board) (bytes : List ℕ) (has : HasKernel bytes) (x : ℕ) (m : C
     pub k : ℕ
     pub count : k + n ≡ 8
     pub r0 : ℕ
-    pub cpu : s.cpu ≡ scratched m (if not (n == 0) then R_CELL else R_PARITY) (memory (put (put f 24 r0) 27 n) ring) s.cpu
+    pub cpu : s.cpu ≡ scratched m (if not (n == 0) then R_CELL else R_PARITY) (memory (put (put f 24 r0) 27 n) ring)
+        s.cpu
     pub acc : s.cpu.a ≡ taken bit_read m.a k
     pub off : s.off ≡ 28 + 32 * k
     pub board_now : s.board ≡ board_in (28 + 32 * k)
@@ -192,7 +197,8 @@ module _ (d : Board) (bytes : List ℕ) (has : HasKernel bytes) (x : ℕ) (m : C
         cpu =
             q.0 ∙ ap
             (λ (z : Cpu). scratched (record z { p2 = u }) place (memory (put (put g 24 0) 27 n) ring) e.cpu) h.cpu
-            ∙ ap (λ z. scratched (record m { p2 = z }) place (memory (put (put g 24 0) 27 n) ring) e.cpu) (risen_is s.cpu.p2 w);
+            ∙ ap (λ z. scratched (record m { p2 = z }) place (memory (put (put g 24 0) 27 n) ring) e.cpu)
+            (risen_is s.cpu.p2 w);
         acc = q.1 ∙ ap (λ b. s.cpu.a / 2 + 128 * digit b) seen ∙ ap (λ a. a / 2 + 128 * digit (bit_read k)) h.acc;
         off = (let t : e.off ≡ 32 = q.2 in omega (arith, t, o));
         board_now = q.3 ∙ cell_span k (x + s.off) s.cpu.p2 s.board few y w h.board_now;

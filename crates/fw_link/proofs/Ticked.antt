@@ -1,5 +1,5 @@
 -- Over the lines of a tick with a frame, board and byte time do the same; and what the first edge meets.
-use Rattle.std.proofs.Common.{◌≡◌, ◌≤◌, ◌<◌, ◌⊎◌, ℕ, ◌+◌, ◌-◌, ◌*◌, ◌/◌, ◌%◌, List, Bool, true, false, nat_lt, if◌then◌else◌, Some, refl, ap, ◌∙◌, subst, arith}
+use Rattle.std.proofs.Common.{◌≡◌, ◌≤◌, ◌<◌, ◌⊎◌, ℕ, ◌+◌, ◌-◌, ◌*◌, List, Bool, true, false, nat_lt, Some, refl, ap, sym, ◌∙◌, subst, arith}
 use Rattle.std.specs.declared.option.Option.{Option}
 use Rattle.std.proofs.lemmas.Bool.Decides.{nat_tests}
 use Rattle.board_lines.specs.declared.event.HostEvent.{HostEvent}
@@ -8,11 +8,10 @@ use Rattle.byte_time.specs.ByteTime.{meeting_in}
 use Rattle.byte_time.specs.declared.meeting.Meeting.{Meeting}
 use Rattle.ctl_link.specs.Link.{is_busy}
 use Rattle.ctl_link.specs.declared.link.Link.TheVariants.{Free, Request}
-use Rattle.fw_link.specs.Latch.{wired, frame_bit, sent_cell, sent_latch, cut_latch, received_latch}
+use Rattle.fw_link.specs.Latch.{frame_bit, sent_latch, cut_latch, received_latch}
 use Rattle.fw_link.proofs.Cut.{as_sent}
 use Rattle.fw_link.proofs.Outside.{before_frame, in_frame, lines_of, sent_lines, received_lines, cut_lines}
 use Rattle.fw_link.proofs.Wired.{IsReleased}
-use Rattle.fw_link.proofs.Wires.{clock_of_latch}
 use Rattle.fw_link.proofs.WiresGot.{received_bit}
 use Rattle.joint_run.specs.Joint.{latch_of}
 use Rattle.pc_wires.specs.Wires.{Pc}
@@ -26,15 +25,35 @@ use Rattle.wires_agree.specs.Cycles.{board_cycles}
 use Rattle.wires_agree.specs.Ticks.{Ticked, IsNone, at_meeting}
 use Rattle.wires_agree.specs.Without.{seen_in_bytes}
 
--- up to the first edge the clock is left alone
-sent_up : (v byte i : ℕ) → IsReleased v → i < 28 → (latch_of (sent_latch v byte i)).clk ≡ true
-sent_up v byte i released l = by_case (nat_lt i 10) (nat_lt i 28) (grind (arith, nat_tests, l))
-  where
-    by_case : (c e : Bool) → e ≡ true
-        → (latch_of (if c then v else if e then wired v true false else sent_cell v byte ((i - 28) / 32) ((i - 28) % 32))).clk ≡ true
-    by_case true e h = released.clock
-    by_case false true h = clock_of_latch true false v released
-    by_case false false h = absurd cc
+module _ (v start byte : ℕ) (released : IsReleased v) where
+  abbrev sent : ℕ → Lines
+  sent = lines_of v start released (sent_latch v byte) 368
+
+  abbrev cut : ℕ → Lines
+  cut = lines_of v start released (cut_latch v byte 0) 52
+
+  -- up to the first edge a frame that will be cut drives what one that is sent does
+  cut_is_sent : (o : ℕ) → o < 288 + start → cut o ≡ sent o
+  cut_is_sent o u = by_case (nat_lt o (260 + start)) refl
+    where
+      by_case : (c : Bool) → nat_lt o (260 + start) ≡ c → cut o ≡ sent o
+      by_case true e =
+          let l : o < 260 + start = grind (arith, nat_tests, e) in
+          ap latch_of (before_frame (cut_latch v byte 0) v start 52 o l)
+          ∙ ap latch_of (sym (before_frame (sent_latch v byte) v start 368 o l))
+      by_case false e =
+          let m : 260 + start ≤ o = grind (arith, nat_tests, e) in
+          let i = o - (260 + start) in
+          let p : o ≡ 260 + start + i = omega (arith, m) in
+          let k : i < 52 = omega (arith, m, u) in
+          let n : i < 368 = omega (arith, k) in
+          let j : i < 28 + 32 * 0 + 20 = omega (arith, m, u) in
+          ap cut p ∙ ap latch_of (in_frame (cut_latch v byte 0) v start 52 i k ∙ as_sent v byte 0 i j)
+          ∙ ap latch_of (sym (in_frame (sent_latch v byte) v start 368 i n)) ∙ ap sent (sym p)
+
+  -- it leaves the clock alone
+  pub cut_up : IsUp cut (256 + start) (288 + start)
+  cut_up o a u = ap (λ (z : Lines). z.clk) (cut_is_sent o u) ∙ (sent_lines v start released byte 0).0 o a u
 
 -- the state at offset 288, counted from offset 260
 pub from_data : (events : List HostEvent) (lines : ℕ → Lines) (start : ℕ) (b : Pc)
@@ -90,26 +109,8 @@ module _ (events : List HostEvent) (v start : ℕ) (released : IsReleased v) (re
       → Ticked events (lines_of v start released (received_latch v) 366) start rest b true offer k
   got_ticked byte more offer long here =
       let h = received_lines v start released rest in
-      all_got events (lines_of v start released (received_latch v) 366) start rest more byte k offer received_bit b h.0 here h.1 h.2 long all
-
-  pub cut_before : (byte : ℕ) → IsUp (lines_of v start released (cut_latch v byte 0) 52) (256 + start) (288 + start)
-  cut_before byte o a u = by_case (nat_lt o (260 + start)) refl
-    where
-      by_case : (c : Bool) → nat_lt o (260 + start) ≡ c
-          → (lines_of v start released (cut_latch v byte 0) 52 o).clk ≡ true
-      by_case true e =
-          let l : o < 260 + start = grind (arith, nat_tests, e) in
-          ap (λ q. (latch_of q).clk) (before_frame (cut_latch v byte 0) v start 52 o l) ∙ released.clock
-      by_case false e =
-          let m : 260 + start ≤ o = grind (arith, nat_tests, e) in
-          let i = o - (260 + start) in
-          let p : o ≡ 260 + start + i = omega (arith, m) in
-          let l : i < 28 = omega (arith, m, u) in
-          let n : i < 52 = omega (arith, l) in
-          let j : i < 28 + 32 * 0 + 20 = omega (arith, l) in
-          ap (λ q. (lines_of v start released (cut_latch v byte 0) 52 q).clk) p
-          ∙ ap (λ q. (latch_of q).clk) (in_frame (cut_latch v byte 0) v start 52 i n ∙ as_sent v byte 0 i j)
-          ∙ sent_up v byte i released l
+      all_got events (lines_of v start released (received_latch v) 366) start rest more byte k offer received_bit b h.0
+      here h.1 h.2 long all
 
   -- one that is cut
   pub cut_ticked : (byte : ℕ) → b.side.port.link ≡ Free
@@ -117,7 +118,7 @@ module _ (events : List HostEvent) (v start : ℕ) (released : IsReleased v) (re
       → Ticked events (lines_of v start released (cut_latch v byte 0) 52) start rest b true (Some byte) k
   cut_ticked byte here there =
       all_cut events (lines_of v start released (cut_latch v byte 0) 52) start rest byte k b
-      (cut_before byte) here there
+      (cut_up v start byte released) here there
       (cut_lines v start released byte rest) all
 
   -- and one without a frame

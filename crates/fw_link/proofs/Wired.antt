@@ -1,10 +1,10 @@
 -- Facts of the latch of port 2, and of boards that are driven by a latch that is a function of the offset.
-use Rattle.std.proofs.Common.{◌≡◌, ◌<◌, ℕ, suc, zero, ◌+◌, ◌-◌, ◌*◌, ◌/◌, ◌%◌, Bool, true, false, ◌==◌, nat_le, nat_lt}
+use Rattle.std.proofs.Common.{◌≡◌, ◌<◌, ℕ, suc, zero, ◌+◌, ◌-◌, ◌*◌, ◌/◌, ◌%◌, Bool, true, false, ◌==◌, ◌&&◌, nat_le, nat_lt}
 use Rattle.std.proofs.Common.{if◌then◌else◌, bit_and, bit_or, refl, ap, sym, ◌∙◌, arith}
 use Rattle.std.proofs.lemmas.Bool.Decides.{nat_tests}
 use Rattle.mcs48_core.specs.Status.{bit, digit}
 use Rattle.fw_logic.proofs.Blocks.{ticks_add}
-use Rattle.fw_logic.proofs.Bytes.{by_byte, tests_by}
+use Rattle.bits.proofs.Every.{every_below, by_byte, tests_by}
 use Rattle.fw_link.specs.Latch.{wired, driven, frame_bit, sent_cell, sent_latch}
 use Rattle.joint_run.specs.Run.{Board, ticks}
 
@@ -28,57 +28,37 @@ lights_leave l small none =
           ∙ tests_by 256 (λ l. if l % 4 == 0 then bit 1 (255 - l) else true) (λ l. true) refl l small;
     }
 
+-- values that are the same at each byte with both wires' bits are so at each latch that pulls neither wire
+by_released : (F G : ℕ → ℕ)
+    → every_below (λ v. (if bit 0 v && bit 1 v then F v else 0) == (if bit 0 v && bit 1 v then G v else 0)) 256 ≡ true
+    → (v : ℕ) → IsReleased v → F v ≡ G v
+by_released F G each v h =
+    let both : (bit 0 v && bit 1 v) ≡ true = rw (h.clock, h.data_wire) refl in
+    ap (λ c. if c then F v else 0) (sym both)
+    ∙ by_byte (λ v. if bit 0 v && bit 1 v then F v else 0) (λ v. if bit 0 v && bit 1 v then G v else 0) each v h.byte
+    ∙ ap (λ c. if c then G v else 0) both
+
 pub both_high : (v : ℕ) → IsReleased v → wired v true true ≡ v
-both_high v h = by_byte (λ v. bit_and v 255) (λ v. v) refl v h.byte
+both_high = by_released (λ v. wired v true true) (λ v. v) refl
 
 pub falls : (b : Bool) (v : ℕ) → v < 256 → bit_and (wired v true b) 254 ≡ wired v false b
-falls true v l = by_byte (λ v. bit_and (bit_and v 255) 254) (λ v. bit_and v 254) refl v l
-falls false v l = by_byte (λ v. bit_and (bit_and v 253) 254) (λ v. bit_and v 252) refl v l
+falls true = by_byte (λ v. bit_and (bit_and v 255) 254) (λ v. bit_and v 254) refl
+falls false = by_byte (λ v. bit_and (bit_and v 253) 254) (λ v. bit_and v 252) refl
 
 pub rises : (b : Bool) (v : ℕ) → IsReleased v → bit_or (wired v false b) 1 ≡ wired v true b
-rises true v h =
-    ap (λ c. if c then bit_or (bit_and v 254) 1 else 0) (sym h.clock)
-    ∙ by_byte (λ v. if bit 0 v then bit_or (bit_and v 254) 1 else 0)
-    (λ v. if bit 0 v then bit_and v 255 else 0) refl v h.byte
-    ∙ ap (λ c. if c then bit_and v 255 else 0) h.clock
-rises false v h =
-    ap (λ c. if c then bit_or (bit_and v 252) 1 else 0) (sym h.clock)
-    ∙ by_byte (λ v. if bit 0 v then bit_or (bit_and v 252) 1 else 0)
-    (λ v. if bit 0 v then bit_and v 253 else 0) refl v h.byte
-    ∙ ap (λ c. if c then bit_and v 253 else 0) h.clock
+rises true = by_released (λ v. bit_or (wired v false true) 1) (λ v. wired v true true) refl
+rises false = by_released (λ v. bit_or (wired v false false) 1) (λ v. wired v true false) refl
 
 pub puts : (b : Bool) (v : ℕ) → IsReleased v → bit_or (2 * digit b) (bit_and v 253) ≡ wired v true b
-puts true v h =
-    ap (λ c. if c then bit_or 2 (bit_and v 253) else 0) (sym h.data_wire)
-    ∙ by_byte (λ v. if bit 1 v then bit_or 2 (bit_and v 253) else 0)
-    (λ v. if bit 1 v then bit_and v 255 else 0) refl v h.byte
-    ∙ ap (λ c. if c then bit_and v 255 else 0) h.data_wire
-puts false v h = by_byte (λ v. bit_or 0 (bit_and v 253)) (λ v. bit_and v 253) refl v h.byte
+puts true = by_released (λ v. bit_or 2 (bit_and v 253)) (λ v. wired v true true) refl
+puts false = by_released (λ v. bit_or 0 (bit_and v 253)) (λ v. wired v true false) refl
 
 pub releases : (b : Bool) (v : ℕ) → IsReleased v → bit_or (wired v true b) 3 ≡ v
-releases true v h =
-    ap (λ c. if c then bit_or (bit_and v 255) 3 else 0) (sym h.clock)
-    ∙ ap (λ c. if bit 0 v then if c then bit_or (bit_and v 255) 3 else 0 else 0) (sym h.data_wire)
-    ∙ by_byte (λ v. if bit 0 v then if bit 1 v then bit_or (bit_and v 255) 3 else 0 else 0)
-    (λ v. if bit 0 v then if bit 1 v then v else 0 else 0) refl v h.byte
-    ∙ ap (λ c. if bit 0 v then if c then v else 0 else 0) h.data_wire
-    ∙ ap (λ c. if c then v else 0) h.clock
-releases false v h =
-    ap (λ c. if c then bit_or (bit_and v 253) 3 else 0) (sym h.clock)
-    ∙ ap (λ c. if bit 0 v then if c then bit_or (bit_and v 253) 3 else 0 else 0) (sym h.data_wire)
-    ∙ by_byte (λ v. if bit 0 v then if bit 1 v then bit_or (bit_and v 253) 3 else 0 else 0)
-    (λ v. if bit 0 v then if bit 1 v then v else 0 else 0) refl v h.byte
-    ∙ ap (λ c. if bit 0 v then if c then v else 0 else 0) h.data_wire
-    ∙ ap (λ c. if c then v else 0) h.clock
+releases true = by_released (λ v. bit_or (wired v true true) 3) (λ v. v) refl
+releases false = by_released (λ v. bit_or (wired v true false) 3) (λ v. v) refl
 
 pub restores : (v : ℕ) → IsReleased v → bit_or (bit_and v 252) 3 ≡ v
-restores v h =
-    ap (λ c. if c then bit_or (bit_and v 252) 3 else 0) (sym h.clock)
-    ∙ ap (λ c. if bit 0 v then if c then bit_or (bit_and v 252) 3 else 0 else 0) (sym h.data_wire)
-    ∙ by_byte (λ v. if bit 0 v then if bit 1 v then bit_or (bit_and v 252) 3 else 0 else 0)
-    (λ v. if bit 0 v then if bit 1 v then v else 0 else 0) refl v h.byte
-    ∙ ap (λ c. if bit 0 v then if c then v else 0 else 0) h.data_wire
-    ∙ ap (λ c. if c then v else 0) h.clock
+restores = by_released (λ v. bit_or (bit_and v 252) 3) (λ v. v) refl
 
 -- cycles by two functions that agree
 pub ticks_alike : {S : Type 0} (n a b : ℕ) (F G : ℕ → S → S) (s : S)
@@ -109,7 +89,8 @@ module _ (d : Board) (x : ℕ) (latch : ℕ → ℕ) where
       (λ i u l.
       let p : y + (b + i) ≡ x + (a + i) = omega (arith, e) in
       ap (λ k. d.tick k (y + (b + i)) u) (sym (h i l)) ∙ ap (λ c. d.tick (latch (a + i)) c u) p)
-      ∙ (let z : 0 + a ≡ a = omega arith in ap (λ c. ticks n c (λ o. d.tick (latch o) (x + o)) (driven d x latch a 0 t)) (sym z))
+      ∙ (let z : 0 + a ≡ a = omega arith in ap (λ c. ticks n c (λ o. d.tick (latch o) (x + o)) (driven d x latch a 0 t))
+      (sym z))
       ∙ sym (ticks_add a n 0 (λ o. d.tick (latch o) (x + o)) t)
 
 -- the latch in cell k

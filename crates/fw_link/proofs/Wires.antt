@@ -4,7 +4,7 @@ use Rattle.std.proofs.Common.{bit_and, refl, ap, ◌∙◌, arith}
 use Rattle.std.proofs.lemmas.Bool.Decides.{nat_tests}
 use Rattle.mcs48_core.specs.Status.{bit}
 use Rattle.board_lines.specs.declared.lines.Lines.{Lines}
-use Rattle.fw_logic.proofs.Bytes.{by_byte, tests_by}
+use Rattle.bits.proofs.Every.{by_byte, tests_by}
 use Rattle.fw_link.specs.Latch.{wired, frame_bit, sent_cell, sent_latch}
 use Rattle.fw_link.proofs.Wired.{IsReleased, in_cell}
 use Rattle.joint_run.specs.Joint.{latch_of, lights_of}
@@ -35,7 +35,8 @@ rises_once : (i : ℕ) → (nat_le 16 i && not (nat_le 16 (suc i))) ≡ false
 rises_once i = by_case (nat_le 16 i) refl
   where
     by_case : (c : Bool) → nat_le 16 i ≡ c → (nat_le 16 i && not (nat_le 16 (suc i))) ≡ false
-    by_case true e = let l : 16 ≤ i = grind (arith, nat_tests, e) in let k : nat_le 16 (suc i) ≡ true = grind (arith, nat_tests, l) in rw (e, k) refl
+    by_case true e = let l : 16 ≤ i = grind (arith, nat_tests, e) in let k : nat_le 16 (suc i) ≡ true =
+        grind (arith, nat_tests, l) in rw (e, k) refl
     by_case false e = rw e refl
 
 -- cells whose clock is low for 16 cycles are a frame
@@ -44,7 +45,8 @@ pub frame_by : (latch : ℕ → Lines) (from : ℕ) (bits : ℕ → Bool)
     → ((k : ℕ) → k ≤ 10 → (latch (32 * k + from)).dat ≡ bits k) → IsFrame latch from bits
 frame_by latch from bits clock level = record {
   cells = λ k l. record {
-    falls = (let z : 32 * k + from ≡ 32 * k + from + 0 = omega arith in ap (λ o. (latch o).clk) z ∙ clock k 0 (omega arith) (omega (arith, l)));
+    falls = (let z : 32 * k + from ≡ 32 * k + from + 0 = omega arith in ap (λ o. (latch o).clk) z
+        ∙ clock k 0 (omega arith) (omega (arith, l)));
     level = level k (omega (arith, l));
     once = λ o a b.
         let i = o - (32 * k + from) in
@@ -56,11 +58,39 @@ frame_by latch from bits clock level = record {
         let then_is : (latch (suc o)).clk ≡ nat_le 16 (suc i) =
         ap (λ p. (latch p).clk) next ∙ clock k (suc i) (omega (arith, low)) (omega (arith, low, l)) in
         ap (λ c. c && not (latch (suc o)).clk) now_is ∙ ap (λ c. nat_le 16 i && not c) then_is ∙ rises_once i;
-    rises = (let z : 31 + (32 * k + from) ≡ 32 * k + from + 31 = omega arith in ap (λ o. (latch o).clk) z ∙ clock k 31 (omega arith) (omega (arith, l)));
+    rises = (let z : 31 + (32 * k + from) ≡ 32 * k + from + 31 = omega arith in ap (λ o. (latch o).clk) z
+        ∙ clock k 31 (omega arith) (omega (arith, l)));
   };
-  ends = (let z : 320 + from ≡ 32 * 10 + from + 0 = omega arith in ap (λ o. (latch o).clk) z ∙ clock 10 0 (omega arith) (omega arith));
+  ends = (let z : 320 + from ≡ 32 * 10 + from + 0 = omega arith in ap (λ o. (latch o).clk) z
+      ∙ clock 10 0 (omega arith) (omega arith));
   last = (let z : 320 + from ≡ 32 * 10 + from = omega arith in ap (λ o. (latch o).dat) z ∙ level 10 (omega arith));
 }
+
+-- so ends a frame whose clock goes on as a cell's for some cycles of the eleventh, and is then left alone
+pub frame_ends : (lines : ℕ → Lines) (start rest n : ℕ) → 16 ≤ n
+    → ((i : ℕ) → i < n → (lines (32 * 10 + (288 + start) + i)).clk ≡ nat_le 16 i)
+    → IsUp lines (608 + n + start) (609 + rest + start) → EndsFrame lines start rest
+frame_ends lines start rest n long clock up = record {
+  low = λ o a b.
+      let i = o - (608 + start) in
+      let p : o ≡ 32 * 10 + (288 + start) + i = omega (arith, a) in
+      let l : i < 16 = omega (arith, a, b) in
+      let c : nat_le 16 i ≡ false = grind (arith, nat_tests, l) in
+      ap (λ q. (lines q).clk) p ∙ clock i (omega (arith, l, long)) ∙ c;
+  high = λ o a b. by_case o a b (nat_lt o (608 + n + start)) refl;
+}
+  where
+    by_case : (o : ℕ) → 624 + start ≤ o → o < 609 + rest + start → (c : Bool) → nat_lt o (608 + n + start) ≡ c
+        → (lines o).clk ≡ true
+    by_case o a b true e =
+        let m : o < 608 + n + start = grind (arith, nat_tests, e) in
+        let i = o - (608 + start) in
+        let p : o ≡ 32 * 10 + (288 + start) + i = omega (arith, a) in
+        let l : i < n = omega (arith, a, m) in
+        let h : 16 ≤ i = omega (arith, a) in
+        let c : nat_le 16 i ≡ true = grind (arith, nat_tests, h) in
+        ap (λ q. (lines q).clk) p ∙ clock i l ∙ c
+    by_case o a b false e = let m : 608 + n + start ≤ o = grind (arith, nat_tests, e) in up o m b
 
 -- what a latch drives for n cycles from cycle x on
 abbrev pub Drives : (ℕ → Lines) → ℕ → (ℕ → ℕ) → ℕ → Type 0
@@ -99,32 +129,16 @@ module _ (lines : ℕ → Lines) (start v : ℕ) (released : IsReleased v) where
       where
         up : (i : ℕ) (c : Bool) → nat_lt i 10 ≡ c → (e : Bool) → nat_lt i 28 ≡ true
             → (latch_of (sent_latch v byte i)).clk ≡ true
-        up i true h e g = ap (λ c. (latch_of (if c then v else if nat_lt i 28 then wired v true false else sent_cell v byte ((i - 28) / 32) ((i - 28) % 32))).clk) h ∙ released.clock
+        up i true h e g = ap (λ c. (latch_of
+            (if c then v else if nat_lt i 28 then wired v true false else sent_cell v byte ((i - 28) / 32)
+            ((i - 28) % 32))).clk) h ∙ released.clock
         up i false h e g =
-            ap (λ c. (latch_of (if c then v else if nat_lt i 28 then wired v true false else sent_cell v byte ((i - 28) / 32) ((i - 28) % 32))).clk) h
+            ap (λ c. (latch_of (if c then v else if nat_lt i 28 then wired v true false else sent_cell v byte
+            ((i - 28) / 32) ((i - 28) % 32))).clk) h
             ∙ ap
             (λ c. (latch_of (if c then wired v true false else sent_cell v byte ((i - 28) / 32) ((i - 28) % 32))).clk) g
             ∙ clock_of_latch true false v released
 
     pub sent_ends : (rest : ℕ) → IsUp lines (628 + start) (609 + rest + start) → EndsFrame lines start rest
-    sent_ends rest up = record {
-      low = λ o a b.
-          let i = o - (608 + start) in
-          let p : o ≡ 32 * 10 + (288 + start) + i = omega (arith, a) in
-          let l : i < 16 = omega (arith, a, b) in
-          let c : nat_le 16 i ≡ false = grind (arith, nat_tests, l) in
-          ap (λ q. (lines q).clk) p ∙ sent_clock 10 i (omega (arith, l)) (omega (arith, l)) ∙ c;
-      high = λ o a b. by_case o a b (nat_lt o (628 + start)) refl;
-    }
-      where
-        by_case : (o : ℕ) → 624 + start ≤ o → o < 609 + rest + start → (c : Bool) → nat_lt o (628 + start) ≡ c
-            → (lines o).clk ≡ true
-        by_case o a b true e =
-            let m : o < 628 + start = grind (arith, nat_tests, e) in
-            let i = o - (608 + start) in
-            let p : o ≡ 32 * 10 + (288 + start) + i = omega (arith, a) in
-            let l : i < 20 = omega (arith, a, m) in
-            let h : 16 ≤ i = omega (arith, a) in
-            let c : nat_le 16 i ≡ true = grind (arith, nat_tests, h) in
-            ap (λ q. (lines q).clk) p ∙ sent_clock 10 i (omega (arith, l)) (omega (arith, l)) ∙ c
-        by_case o a b false e = let m : 628 + start ≤ o = grind (arith, nat_tests, e) in up o m b
+    sent_ends rest up =
+        frame_ends lines start rest 20 (omega arith) (λ i l. sent_clock 10 i (omega (arith, l)) (omega (arith, l))) up

@@ -1,12 +1,11 @@
 -- The latch of a received frame, and that of a cut one, on the wires.
-use Rattle.std.proofs.Common.{◌≡◌, ◌≤◌, ◌<◌, ℕ, suc, ◌+◌, ◌-◌, ◌*◌, ◌/◌, ◌%◌, Bool, true, false, nat_le, nat_lt, if◌then◌else◌}
+use Rattle.std.proofs.Common.{◌≡◌, ◌<◌, ℕ, suc, ◌+◌, ◌-◌, ◌*◌, ◌/◌, ◌%◌, Bool, true, false, nat_le, nat_lt, if◌then◌else◌}
 use Rattle.std.proofs.Common.{refl, ap, ◌∙◌, arith}
-use Rattle.std.proofs.lemmas.Bool.Decides.{nat_tests}
 use Rattle.board_lines.specs.declared.lines.Lines.{Lines}
 use Rattle.fw_link.specs.Latch.{wired, sent_latch, cut_latch, frame_bit, received_cell, received_latch}
 use Rattle.fw_link.proofs.Taking.{in_cell, before_cells}
 use Rattle.fw_link.proofs.Wired.{IsReleased}
-use Rattle.fw_link.proofs.Wires.{clock_of_latch, data_of_latch, lights_of_latch, frame_by, Drives}
+use Rattle.fw_link.proofs.Wires.{clock_of_latch, data_of_latch, lights_of_latch, frame_by, frame_ends, Drives}
 use Rattle.joint_run.specs.Joint.{latch_of, lights_of}
 use Rattle.wires_agree.specs.Cells.{IsUp, IsFrame}
 use Rattle.wires_agree.specs.Ticks.{EndsFrame}
@@ -77,24 +76,5 @@ module _ (lines : ℕ → Lines) (start v : ℕ) (released : IsReleased v) where
         ∙ ap (λ q. (latch_of q).clk) (before_cells v i l) ∙ released.clock
 
     pub received_ends : (rest : ℕ) → IsUp lines (626 + start) (609 + rest + start) → EndsFrame lines start rest
-    received_ends rest up = record {
-      low = λ o a b.
-          let i = o - (608 + start) in
-          let p : o ≡ 32 * 10 + (288 + start) + i = omega (arith, a) in
-          let l : i < 16 = omega (arith, a, b) in
-          let c : nat_le 16 i ≡ false = grind (arith, nat_tests, l) in
-          ap (λ q. (lines q).clk) p ∙ got_clock 10 i (omega (arith, l)) (omega (arith, l)) ∙ c;
-      high = λ o a b. by_case o a b (nat_lt o (626 + start)) refl;
-    }
-      where
-        by_case : (o : ℕ) → 624 + start ≤ o → o < 609 + rest + start → (c : Bool) → nat_lt o (626 + start) ≡ c
-            → (lines o).clk ≡ true
-        by_case o a b true e =
-            let m : o < 626 + start = grind (arith, nat_tests, e) in
-            let i = o - (608 + start) in
-            let p : o ≡ 32 * 10 + (288 + start) + i = omega (arith, a) in
-            let l : i < 18 = omega (arith, a, m) in
-            let h : 16 ≤ i = omega (arith, a) in
-            let c : nat_le 16 i ≡ true = grind (arith, nat_tests, h) in
-            ap (λ q. (lines q).clk) p ∙ got_clock 10 i (omega (arith, l)) (omega (arith, l)) ∙ c
-        by_case o a b false e = let m : 626 + start ≤ o = grind (arith, nat_tests, e) in up o m b
+    received_ends rest up =
+        frame_ends lines start rest 18 (omega arith) (λ i l. got_clock 10 i (omega (arith, l)) (omega (arith, l))) up

@@ -17,7 +17,8 @@ put f k v i = if i == k then v else f i
 abbrev pub memory : (ℕ → ℕ) → List ℕ → List ℕ
 memory f ring = before f 0 112 ring
 
--- a processor at a place with a memory, in bank 1 and the lower half of the program, and with what a block may use: A, the carries and the timer
+-- a processor at a place with a memory, in bank 1 and the lower half of the program, and with what a block may use: A,
+-- the carries and the timer
 abbrev pub scratched : Cpu → ℕ → List ℕ → Cpu → Cpu
 scratched m pc ram e =
     record m { pc = pc; rb = true; mb = false; ram = ram; a = e.a; c = e.c; ac = e.ac; t = e.t; pre = e.pre; tf = e.tf; rq = e.rq; last_t1 = e.last_t1 }
@@ -32,7 +33,8 @@ Shape d x m board pc max f ring e =
     (e.board ≡ ticks e.off 0 (λ o. d.tick m.p2 (x + o)) board)
 
 -- where a block ends: the place, the cells, the cycles it took, and the board; A, the carries and the timer are its own
-pub record At (d : Board) (k : Cpu) (pc : ℕ) (f : ℕ → ℕ) (ring : List ℕ) (cycles : ℕ) (board : d.State) (e : Stage d.State) : Type 0 where
+pub record At (d : Board) (k : Cpu) (pc : ℕ) (f : ℕ → ℕ) (ring : List ℕ) (cycles : ℕ) (board : d.State)
+    (e : Stage d.State) : Type 0 where
   pub cpu : e.cpu ≡ scratched k pc (memory f ring) e.cpu
   pub off : e.off ≡ cycles
   pub now : e.board ≡ board

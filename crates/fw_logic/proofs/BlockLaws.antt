@@ -27,7 +27,8 @@ abbrev pub cells_of : List ℕ → ℕ → ℕ
 cells_of ram i = get_or ram i 0
 
 -- cells that differ in some places alone, before one ring
-pub others_are : (f g : ℕ → ℕ) (ring : List ℕ) (written : ℕ → Bool) → ((i : ℕ) → i < 112 → written i ≡ false → g i ≡ f i)
+pub others_are : (f g : ℕ → ℕ) (ring : List ℕ) (written : ℕ → Bool)
+    → ((i : ℕ) → i < 112 → written i ≡ false → g i ≡ f i)
     → (i : ℕ) → written i ≡ false → slice_index (memory g ring) i ≡ slice_index (memory f ring) i
 others_are f g ring written same i out =
     elim (leb 112 i) as (λ b. leb 112 i ≡ b → slice_index (memory g ring) i ≡ slice_index (memory f ring) i) [
@@ -46,8 +47,10 @@ module _ (d : Board) (bytes : List ℕ) (has : HasKernel bytes) where
   pub from_world : (w : World d.State) (place : ℕ) → IsAt place w.cpu → (f : ℕ → ℕ)
       → w.cpu.ram ≡ memory f (drop 112 w.cpu.ram)
       → (k : Cpu) (pc n : ℕ) (g : ℕ → ℕ) (board : d.State) (Q : World d.State → Type 0)
-      → Leads d (kernel_in true bytes) w.cycle (begin_at d place f (drop 112 w.cpu.ram) w.cpu w.board) (At d k pc g (drop 112 w.cpu.ram) n board)
-      → ((e : World d.State) → e.cpu ≡ scratched k pc (memory g (drop 112 w.cpu.ram)) e.cpu → IsFree e.cpu → e.cycle ≡ w.cycle + n → e.board ≡ board → Q e)
+      → Leads d (kernel_in true bytes) w.cycle (begin_at d place f (drop 112 w.cpu.ram) w.cpu w.board)
+      (At d k pc g (drop 112 w.cpu.ram) n board)
+      → ((e : World d.State) → e.cpu ≡ scratched k pc (memory g (drop 112 w.cpu.ram)) e.cpu → IsFree e.cpu
+      → e.cycle ≡ w.cycle + n → e.board ≡ board → Q e)
       → Comes d TICK bytes w Q
   from_world w place is f ram k pc n g board Q law gives =
       let ring = drop 112 w.cpu.ram in
@@ -55,10 +58,12 @@ module _ (d : Board) (bytes : List ℕ) (has : HasKernel bytes) where
       let same : begin.cpu ≡ w.cpu =
       sym (ap (λ v. record w.cpu { pc = v; rb = true; mb = false; ram = memory f ring }) is.pc)
       ∙ sym (ap (λ v. record w.cpu { rb = v; mb = false; ram = memory f ring }) is.bank)
-      ∙ sym (ap (λ v. record w.cpu { mb = v; ram = memory f ring }) is.lower) ∙ sym (ap (λ v. record w.cpu { ram = v }) ram) in
+      ∙ sym (ap (λ v. record w.cpu { mb = v; ram = memory f ring }) is.lower)
+      ∙ sym (ap (λ v. record w.cpu { ram = v }) ram) in
       let z : w.cycle + 0 ≡ w.cycle = add-zero w.cycle in
       let start : world_at w.cycle begin ≡ w =
-      ap (λ c. record { cpu = begin.cpu; board = w.board; cycle = c }) z ∙ ap (λ c. record { cpu = c; board = w.board; cycle = w.cycle }) same in
+      ap (λ c. record { cpu = begin.cpu; board = w.board; cycle = c }) z
+      ∙ ap (λ c. record { cpu = c; board = w.board; cycle = w.cycle }) same in
       let e = law.end in
       subst (λ v. Comes d TICK bytes v Q) start
       (record {
@@ -71,7 +76,8 @@ module _ (d : Board) (bytes : List ℕ) (has : HasKernel bytes) where
   -- the columns
   read_others : (look f : ℕ → ℕ) (i : ℕ) → is_read i ≡ false → scanned look f i ≡ f i
   read_others look f i out =
-      by (i == 24) (i == 25) (i == 27) (nat_le 32 i && nat_lt i 44) (nat_le 48 i && nat_lt i 60) refl refl refl refl refl out
+      by (i == 24) (i == 25) (i == 27) (nat_le 32 i && nat_lt i 44) (nat_le 48 i && nat_lt i 60) refl refl refl refl
+      refl out
     where
       by : (a b c p q : Bool) → (i == 24) ≡ a → (i == 25) ≡ b → (i == 27) ≡ c → (nat_le 32 i && nat_lt i 44) ≡ p
           → (nat_le 48 i && nat_lt i 60) ≡ q
@@ -157,7 +163,8 @@ module _ (d : Board) (bytes : List ℕ) (has : HasKernel bytes) where
       let f = cells_of m.ram in
       let ring = drop 112 m.ram in
       let lit : ℕ = 255 - f 77 in
-      from_world w LAMPS is f (memory_is m.ram is.memory) (record m { p2 = lit }) TESTED 6 (put f 25 77) (ticks 2 (w.cycle + 4) (d.tick lit) (in_tick d w 4)) (PutsLights d w)
+      from_world w LAMPS is f (memory_is m.ram is.memory) (record m { p2 = lit }) TESTED 6 (put f 25 77)
+      (ticks 2 (w.cycle + 4) (d.tick lit) (in_tick d w 4)) (PutsLights d w)
       (lamps d bytes has w.cycle m f ring w.board is.free)
       (λ e cpu free cycle board.
       let p2 : e.cpu.p2 ≡ lit = ap (λ (c : Cpu). c.p2) cpu in
@@ -173,8 +180,10 @@ module _ (d : Board) (bytes : List ℕ) (has : HasKernel bytes) where
 
   -- the looks
   looks_by : (w : World d.State) → IsAt LOOKS w.cpu → (a b : Bool) → clock_seen d w ≡ a → data_seen d w ≡ b
-      → Leads d (kernel_in true bytes) w.cycle (begin_at d LOOKS (cells_of w.cpu.ram) (drop 112 w.cpu.ram) w.cpu w.board)
-      (At d w.cpu (way a b) (put (cells_of w.cpu.ram) 24 0) (drop 112 w.cpu.ram) (way_time a) (in_tick d w (way_time a)))
+      → Leads d (kernel_in true bytes) w.cycle
+      (begin_at d LOOKS (cells_of w.cpu.ram) (drop 112 w.cpu.ram) w.cpu w.board)
+      (At d w.cpu (way a b) (put (cells_of w.cpu.ram) 24 0) (drop 112 w.cpu.ram) (way_time a)
+      (in_tick d w (way_time a)))
   looks_by w is false b clock wire =
       looks_pulled d bytes has w.cycle w.cpu (cells_of w.cpu.ram) (drop 112 w.cpu.ram) w.board is.free clock
   looks_by w is true false clock wire =
@@ -188,7 +197,8 @@ module _ (d : Board) (bytes : List ℕ) (has : HasKernel bytes) where
       let f = cells_of m.ram in
       let a = clock_seen d w in
       let b = data_seen d w in
-      from_world w LOOKS is f (memory_is m.ram is.memory) m (way a b) (way_time a) (put f 24 0) (in_tick d w (way_time a))
+      from_world w LOOKS is f (memory_is m.ram is.memory) m (way a b) (way_time a) (put f 24 0)
+      (in_tick d w (way_time a))
       (Looks d w)
       (looks_by w is a b refl refl)
       (λ e cpu free cycle board. record {

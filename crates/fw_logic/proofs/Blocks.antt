@@ -37,7 +37,8 @@ module _ (d : Board) (code : Code) (has : HasRows code) where
         steps = h.steps;
         end = later o h.end;
         run =
-            ap (λ n. calm d code.tick code.bytes h.steps (record { cpu = s.cpu; board = s.board; cycle = n })) (sym begin) ∙ h.run
+            ap (λ n. calm d code.tick code.bytes h.steps (record { cpu = s.cpu; board = s.board; cycle = n }))
+            (sym begin) ∙ h.run
             ∙ ap (λ n. Some (record { cpu = h.end.cpu; board = h.end.board; cycle = n })) stop;
         goal = f h.end h.goal;
         free = h.free;
@@ -63,9 +64,11 @@ module _ (d : Board) (code : Code) (has : HasRows code) where
       (subst (λ k. Leads d code x (record { cpu = begin.cpu; board = e.board; off = k }) T) z done)
 
   -- a block that is a path of known length
-  pub straight : (plan : List Note) (y : ℕ) (k : Cpu) (from to n : ℕ) (f g : ℕ → ℕ) (ring : List ℕ) (k' : Cpu) (board after : d.State)
+  pub straight : (plan : List Note) (y : ℕ) (k : Cpu) (from to n : ℕ) (f g : ℕ → ℕ) (ring : List ℕ) (k' : Cpu)
+      (board after : d.State)
       → IsFree k
-      → Path d code y plan (begin_at d from f ring k board) (λ e. (e.cpu ≡ scratched k' to (memory g ring) e.cpu) × (e.off ≡ n) × (e.board ≡ after))
+      → Path d code y plan (begin_at d from f ring k board) (λ e. (e.cpu ≡ scratched k' to (memory g ring) e.cpu)
+      × (e.off ≡ n) × (e.board ≡ after))
       → Leads d code y (begin_at d from f ring k board) (At d k' to g ring n after)
   straight plan y k from to n f g ring k' board after free path =
       let Q : Stage d.State → Type 0 =

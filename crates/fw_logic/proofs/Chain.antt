@@ -22,7 +22,8 @@ use Rattle.fw_logic.proofs.Timing.{step_later, later_then}
 pub not_external : (pins : Pins) (m : Cpu) → IsFree m → takes_external pins m ≡ false
 not_external pins m (inl h) = rw h refl
 not_external pins m (inr h) =
-    let e = h.0 in rw e (elim (not m.svc) as (λ b. (b && false && not pins.int_pin) ≡ false) [ true ↦ refl | false ↦ refl ])
+    let e = h.0 in rw e (elim (not m.svc) as (λ b. (b && false && not pins.int_pin)
+    ≡ false) [ true ↦ refl | false ↦ refl ])
 
 pub not_timer : (m : Cpu) → IsFree m → takes_timer m ≡ false
 not_timer m (inl h) = rw h refl
@@ -31,12 +32,15 @@ not_timer m (inr h) =
 
 -- the step of a processor that can't be interrupted
 pub stepped_is : (bytes : List ℕ) (pins : Pins) (m : Cpu) (r : Decoded) → IsFree m → row_at bytes m.pc ≡ Some r
-    → stepped bytes pins m ≡ Some (record { cpu = after_timer m.run r.cycles pins (effect r.op bytes pins (past m)); cycles = r.cycles })
+    → stepped bytes pins m ≡ Some
+    (record { cpu = after_timer m.run r.cycles pins (effect r.op bytes pins (past m)); cycles = r.cycles })
 stepped_is bytes pins m r free row =
     let next : Stepped =
     record { cpu = after_timer m.run r.cycles pins (effect r.op bytes pins (past m)); cycles = r.cycles } in
-    subst (λ x. (elim x as (λ v. Option Stepped) [ true ↦ Some (entered 3 pins m) | false ↦ elim (takes_timer m) as (λ v. Option Stepped) [ true ↦ Some (entered 7 pins (record m { rq = false })) | false ↦ executed (row_at bytes m.pc) bytes pins m ] ]) ≡ Some next) (sym (not_external pins m free))
-    (subst (λ x. (elim x as (λ v. Option Stepped) [ true ↦ Some (entered 7 pins (record m { rq = false })) | false ↦ executed (row_at bytes m.pc) bytes pins m ]) ≡ Some next) (sym (not_timer m free))
+    subst (λ x. (elim x as (λ v. Option
+    Stepped) [ true ↦ Some (entered 3 pins m) | false ↦ elim (takes_timer m) as (λ v. Option Stepped) [ true ↦ Some (entered 7 pins (record m { rq = false })) | false ↦ executed (row_at bytes m.pc) bytes pins m ] ]) ≡ Some next) (sym (not_external pins m free))
+    (subst (λ x. (elim x as (λ v. Option
+    Stepped) [ true ↦ Some (entered 7 pins (record m { rq = false })) | false ↦ executed (row_at bytes m.pc) bytes pins m ]) ≡ Some next) (sym (not_timer m free))
     (ap (λ o. executed o bytes pins m) row))
 
 -- offsets are cycles from x on
@@ -48,10 +52,12 @@ ticks_from (suc n) off x f s =
 
 module _ (d : Board) (code : Code) (has : HasRows code) (x : ℕ) where
   calm_on : (n k : ℕ) (e : World d.State)
-      → ((t : World d.State) → calm d code.tick code.bytes n t ≡ Some e → calm d code.tick code.bytes (n + k) t ≡ calm d code.tick code.bytes k e)
+      → ((t : World d.State) → calm d code.tick code.bytes n t ≡ Some e → calm d code.tick code.bytes (n + k) t
+      ≡ calm d code.tick code.bytes k e)
       → (o : Option (World d.State))
       → (elim o as (λ v. Option (World d.State)) [ None ↦ None | Some t ↦ calm d code.tick code.bytes n t ]) ≡ Some e
-      → (elim o as (λ v. Option (World d.State)) [ None ↦ None | Some t ↦ calm d code.tick code.bytes (n + k) t ]) ≡ calm d code.tick code.bytes k e
+      → (elim o as (λ v. Option (World d.State)) [ None ↦ None | Some t ↦ calm d code.tick code.bytes (n + k) t ])
+      ≡ calm d code.tick code.bytes k e
   calm_on n k e ih None h = absurd cc
   calm_on n k e ih (Some t) h = ih t h
 
@@ -109,15 +115,18 @@ module _ (d : Board) (code : Code) (has : HasRows code) (x : ℕ) where
       let w = world_at x s in
       let m = left d code x r s in
       let next : Stage d.State = moved d x r.cycles m s in
-      let step : joint_step d code.bytes w ≡ Some (record { cpu = m; board = ticks r.cycles (x + s.off) (d.tick m.p2) s.board; cycle = x + s.off + r.cycles }) =
+      let step : joint_step d code.bytes w
+      ≡ Some (record { cpu = m; board = ticks r.cycles (x + s.off) (d.tick m.p2) s.board; cycle = x + s.off + r.cycles }) =
       ap (λ o. after_step d w o) (stepped_is code.bytes (pins_at d x s) s.cpu r free row) in
       let sum : x + s.off + r.cycles ≡ x + (s.off + r.cycles) = omega arith in
       let one : joint_step d code.bytes w ≡ Some (world_at x next) =
-      step ∙ ap (λ b. Some (record { cpu = m; board = b; cycle = x + s.off + r.cycles })) (ticks_from r.cycles s.off x (d.tick m.p2) s.board)
+      step ∙ ap (λ b. Some (record { cpu = m; board = b; cycle = x + s.off + r.cycles }))
+      (ticks_from r.cycles s.off x (d.tick m.p2) s.board)
       ∙ ap (λ n. Some (record { cpu = m; board = next.board; cycle = n })) sum in
       let calm_one : calm_step d code.tick code.bytes w ≡ Some (world_at x next) =
       ap
-      (λ b. elim (b && not (takes_external (seen d w) w.cpu) && not (takes_timer w.cpu)) as (λ v. Option (World d.State)) [ true ↦ None | false ↦ joint_step d code.bytes w ]) off
+      (λ b. elim (b && not (takes_external (seen d w) w.cpu) && not (takes_timer w.cpu)) as (λ v. Option
+      (World d.State)) [ true ↦ None | false ↦ joint_step d code.bytes w ]) off
       ∙ one in
       ap (λ o. elim o as (λ v. Option (World d.State)) [ None ↦ None | Some next ↦ Some next ]) calm_one
 

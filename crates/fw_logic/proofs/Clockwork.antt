@@ -8,7 +8,8 @@ use Rattle.joint_run.specs.Starts.{at_tick, starts_before, Comes, Tick, IsNth, I
 use Rattle.fw_logic.proofs.Numbers.{Reached, nth_reached, same_start, goes_on, least}
 
 -- a set of tick starts, by how many cycles they are late, and what is to be shown of it
-pub record IsClockwork (d : Board) (bytes : List ℕ) (from : World d.State) (S : ℕ → World d.State → Type 0) : Type 0 where
+pub record IsClockwork (d : Board) (bytes : List ℕ) (from : World d.State) (S : ℕ → World d.State
+    → Type 0) : Type 0 where
   pub first : Comes d TICK bytes from (λ w. (late : ℕ) × S late w × (late ≤ 1) × (w.cycle ≡ 4096 + late))
   pub each : (late : ℕ) (w : World d.State) → S late w → late ≤ 1
       → Tick d TICK bytes w (λ v. (l : ℕ) × S l v × (l ≤ 1) × (v.cycle + late ≡ w.cycle + 2048 + l))
@@ -79,7 +80,8 @@ module _ (d : Board) (bytes : List ℕ) (from : World d.State) (S : ℕ → Worl
   pub never_stuck : (k : ℕ) → (w : World d.State) × (run_at d bytes from k ≡ Some w)
   never_stuck = goes_on d TICK bytes from (λ n. ((known n).w, reached n))
 
-  pub none_early : (k : ℕ) (w : World d.State) → run_at d bytes from k ≡ Some w → at_tick d TICK w ≡ true → 4096 ≤ w.cycle
+  pub none_early : (k : ℕ) (w : World d.State) → run_at d bytes from k ≡ Some w → at_tick d TICK w ≡ true
+      → 4096 ≤ w.cycle
   none_early k w run at =
       let n = starts_before d TICK bytes from k in
       let l : 4096 + 2048 * n ≤ (known n).w.cycle = (cycle_of n).0 in
@@ -121,10 +123,12 @@ module _ (d : Board) (bytes : List ℕ) (from : World d.State) (S : ℕ → Worl
       let u : (known n).w.cycle ≤ 4096 + 2048 * n + 1 = (cycle_of n).1 in
       record { least = omega (arith, e, l); most = omega (arith, e, l, u) }
 
-  pub serving : (n stamp : ℕ) (s : IsStart d TICK bytes from n stamp) → (s.state.cpu.svc ≡ true) × (s.state.cpu.rb ≡ true)
+  pub serving : (n stamp : ℕ) (s : IsStart d TICK bytes from n stamp)
+      → (s.state.cpu.svc ≡ true) × (s.state.cpu.rb ≡ true)
   serving n stamp s =
       let k = known n in
-      subst (λ (v : World d.State). (v.cpu.svc ≡ true) × (v.cpu.rb ≡ true)) (is_nth n stamp s) (clock.serves k.late k.w k.set)
+      subst (λ (v : World d.State). (v.cpu.svc ≡ true) × (v.cpu.rb ≡ true)) (is_nth n stamp s)
+      (clock.serves k.late k.w k.set)
 
   pub ends : (stop : ℕ) → (n : ℕ) × IsEnd d TICK bytes from stop n
   ends stop =

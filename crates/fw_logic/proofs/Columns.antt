@@ -30,7 +30,8 @@ abbrev pub shows : (d : Board) → ℕ → ℕ → d.State → ℕ → ℕ
 shows d y p2 board c = 255 - (d.pins (32 + c) p2 (y + 16 * c) (ticks (16 * c) 0 (λ o. d.tick p2 (y + o)) board)).bus
 
 pub shows_is : (d : Board) (y p2 : ℕ) (board : d.State) (c : ℕ) → shows d y p2 board c ≡ downs d y p2 board c
-shows_is d y p2 board c = ap (λ b. 255 - (d.pins (32 + c) p2 (y + 16 * c) b).bus) (absolute (16 * c) y (d.tick p2) board)
+shows_is d y p2 board c = ap (λ b. 255 - (d.pins (32 + c) p2 (y + 16 * c) b).bus)
+    (absolute (16 * c) y (d.tick p2) board)
 
 module _ (d : Board) (bytes : List ℕ) (has : HasKernel bytes) where
   -- the head behind the timer's write: thirteen cycles
@@ -46,6 +47,7 @@ module _ (d : Board) (bytes : List ℕ) (has : HasKernel bytes) where
       → Leads d (kernel_in true bytes) y (begin_at d READ (ready f) ring (record k { p1 = 32 }) board)
       (At d (record k { p1 = 44 }) OFFER (scanned (shows d y k.p2 board) f) ring 192 (ticks 192 y (d.tick k.p2) board))
   columns y k f ring board free =
-      straight d (kernel_in true bytes) (has_rows true bytes has) (Until OFFER ∷ []) y (record k { p1 = 32 }) READ OFFER 192 (ready f)
+      straight d (kernel_in true bytes) (has_rows true bytes has) (Until OFFER ∷ []) y (record k { p1 = 32 }) READ OFFER
+      192 (ready f)
       (scanned (shows d y k.p2 board) f) ring (record k { p1 = 44 }) board (ticks 192 y (d.tick k.p2) board) free
       (refl, refl, absolute 192 y (d.tick k.p2) board)

@@ -21,7 +21,8 @@ module _ (d : Board) (tick : ℕ) (bytes : List ℕ) (b : All IsByte bytes)
   calm_by : (k : ℕ) (w e : World d.State)
       → ((v : World d.State) → IsFine v.cpu → calm d tick bytes k v ≡ Some e → IsFine e.cpu) → IsFine w.cpu
       → (c : Bool) → (o : Option (World d.State)) → joint_step d bytes w ≡ o
-      → (elim (elim c as (λ v. Option (World d.State)) [ true ↦ None | false ↦ o ]) as (λ v. Option (World d.State)) [ None ↦ None | Some v ↦ calm d tick bytes k v ]) ≡ Some e
+      → (elim (elim c as (λ v. Option (World d.State)) [ true ↦ None | false ↦ o ]) as (λ v. Option
+      (World d.State)) [ None ↦ None | Some v ↦ calm d tick bytes k v ]) ≡ Some e
       → IsFine e.cpu
   calm_by k w e ih h true o step is = absurd cc
   calm_by k w e ih h false None step is = absurd cc

@@ -19,7 +19,8 @@ use Rattle.fw_logic.proofs.Short.{has_rows}
 use Rattle.fw_logic.proofs.Service.{waiting, plain, serving, begun, later, IsDue, waits}
 
 -- a tick start that waiting came to
-pub record IsBegun (d : Board) (f : ℕ → ℕ) (ring : List ℕ) (m : Cpu) (board : d.State) (cycle total : ℕ) (w : World d.State) : Type 0 where
+pub record IsBegun (d : Board) (f : ℕ → ℕ) (ring : List ℕ) (m : Cpu) (board : d.State) (cycle total : ℕ)
+    (w : World d.State) : Type 0 where
   pub late : ℕ
   pub tf : Bool
   pub last : Bool
@@ -37,12 +38,15 @@ module _ (d : Board) (bytes : List ℕ) (has : HasKernel bytes) where
         board = ticks 2 cycle (d.tick m.p2) board;
         cycle = cycle + 2;
       }) Q
-      → Comes d TICK bytes (record { cpu = waiting 0 late tf last true (plain f ring m); board = board; cycle = cycle }) Q
+      → Comes d TICK bytes (record { cpu = waiting 0 late tf last true (plain f ring m); board = board; cycle = cycle })
+      Q
   enters tf last f ring m board cycle zero l Q rest =
-      let w : World d.State = record { cpu = waiting 0 0 tf last true (plain f ring m); board = board; cycle = cycle } in
+      let w : World d.State =
+      record { cpu = waiting 0 0 tf last true (plain f ring m); board = board; cycle = cycle } in
       comes_by d TICK bytes Q w (record { cpu = begun 0 tf (seen d w).t1 f ring m; cycles = 2 }) refl refl rest
   enters tf last f ring m board cycle (suc zero) l Q rest =
-      let w : World d.State = record { cpu = waiting 0 1 tf last true (plain f ring m); board = board; cycle = cycle } in
+      let w : World d.State =
+      record { cpu = waiting 0 1 tf last true (plain f ring m); board = board; cycle = cycle } in
       comes_by d TICK bytes Q w (record { cpu = begun 1 tf (seen d w).t1 f ring m; cycles = 2 }) refl refl rest
   enters tf last f ring m board cycle (suc (suc n)) l Q rest = absurd (omega (arith, l))
 
@@ -76,7 +80,8 @@ module _ (d : Board) (bytes : List ℕ) (has : HasKernel bytes) where
         last = (d.pins m.p1 m.p2 (cycle + k) now).t1;
         waited = k + 2;
         is =
-            ap (λ b. record { cpu = next; board = b; cycle = cycle + k + 2 }) (sym (ticks_add k 2 cycle (d.tick m.p2) board))
+            ap (λ b. record { cpu = next; board = b; cycle = cycle + k + 2 })
+            (sym (ticks_add k 2 cycle (d.tick m.p2) board))
             ∙ ap (λ c. record { cpu = next; board = ticks (k + 2) cycle (d.tick m.p2) board; cycle = c }) sum;
         most = due.most;
         time = omega (arith, time);

@@ -53,22 +53,26 @@ module _ (d : Board) (bytes : List ℕ) (has : HasKernel bytes) (x : ℕ) (k : C
   start = record { cpu = at_cpu; board = board; cycle = x }
 
   abbrev second : Bool → Stage d.State
-  second last = record { cpu = record at_cpu { pc = 9; a = 192; pre = k.pre + 2; last_t1 = last }; board = ticks 2 x (d.tick k.p2) board; off = 2 }
+  second last =
+      record { cpu = record at_cpu { pc = 9; a = 192; pre = k.pre + 2; last_t1 = last }; board = ticks 2 x (d.tick k.p2) board; off = 2 }
 
   abbrev third : Bool → Cpu
   third last = record at_cpu { pc = 10; a = 192; t = 192; pre = k.pre + 2 + 1; last_t1 = last }
 
   is_start : at_tick d TICK start ≡ true
   is_start =
-      ap (λ b. not b && not (takes_timer at_cpu)) (not_external (seen d start) at_cpu free) ∙ ap (λ b. not b) (not_timer at_cpu free)
+      ap (λ b. not b && not (takes_timer at_cpu)) (not_external (seen d start) at_cpu free)
+      ∙ ap (λ b. not b) (not_timer at_cpu free)
 
   steps : joint_step d bytes start ≡ Some (world_at x (second (seen d start).t1))
   steps =
       let pins = seen d start in
       let e : nat_le 32 (k.pre + 2) ≡ false = grind (arith, nat_tests, few) in
-      ap (λ o. after_step d start o) (stepped_is bytes pins at_cpu (record { op = Moves (MovAN 192); len = 2; cycles = 2 }) free
+      ap (λ o. after_step d start o)
+      (stepped_is bytes pins at_cpu (record { op = Moves (MovAN 192); len = 2; cycles = 2 }) free
       (has_rows true bytes has TICK (record { op = Moves (MovAN 192); len = 2; cycles = 2 }) refl).0)
-      ∙ ap (λ c. after_step d start (Some (record { cpu = c; cycles = 2 }))) (timer_on 2 (record at_cpu { pc = 9; a = 192 }) pins e)
+      ∙ ap (λ c. after_step d start (Some (record { cpu = c; cycles = 2 })))
+      (timer_on 2 (record at_cpu { pc = 9; a = 192 }) pins e)
 
   abbrev IsSet : Stage d.State → Type 0
   IsSet e = (last : Bool) × (e.cpu ≡ third last) × (e.off ≡ 3)
@@ -79,7 +83,8 @@ module _ (d : Board) (bytes : List ℕ) (has : HasKernel bytes) (x : ℕ) (k : C
       let s : Stage d.State = second last in
       let pins : Pins = d.pins k.p1 k.p2 (x + 2) s.board in
       let e : nat_le 32 (k.pre + 2 + 1) ≡ false = grind (arith, nat_tests, few) in
-      let Q : Stage d.State → Type 0 = λ e. (e.cpu ≡ after_timer Timer 1 pins (record s.cpu { pc = 10; t = 192 })) × (e.off ≡ 3)
+      let Q : Stage d.State → Type 0 = λ e. (e.cpu ≡ after_timer Timer 1 pins (record s.cpu { pc = 10; t = 192 }))
+      × (e.off ≡ 3)
       × (e.board ≡ ticks 1 2 (λ o. d.tick k.p2 (x + o)) (ticks 2 x (d.tick k.p2) board)) in
       let h = sound d (kernel_in false bytes) (has_rows false bytes has) x (Run 1 ∷ []) Q s (refl, refl, refl) free in
       record {
@@ -105,12 +110,14 @@ module _ (d : Board) (bytes : List ℕ) (has : HasKernel bytes) (x : ℕ) (k : C
   headed last =
       let b : d.State = ticks 3 x (d.tick k.p2) board in
       from_stage d (kernel_in true bytes) (has_rows true bytes has) x 10 (third last) f ring (at_third last)
-      (At d (record (third last) { p1 = 32 }) READ (ready f) ring 13 (ticks 13 (x + 3) (d.tick k.p2) b)) (IsHeaded last) refl
+      (At d (record (third last) { p1 = 32 }) READ (ready f) ring 13 (ticks 13 (x + 3) (d.tick k.p2) b)) (IsHeaded last)
+      refl
       (λ e h. (h.cpu, ap (λ o. 3 + o) h.off, h.now ∙ joined 3 13 x (x + 3) (d.tick k.p2) board refl))
       (head d bytes has (x + 3) (third last) f ring b free)
 
   -- what it all leaves
-  heads : (last : Bool) → (e : Stage d.State) → IsHeaded last e → IsFree e.cpu → (e.cpu.t ≡ 192) × (e.cpu.pre ≡ k.pre + 16)
+  heads : (last : Bool) → (e : Stage d.State) → IsHeaded last e → IsFree e.cpu
+      → (e.cpu.t ≡ 192) × (e.cpu.pre ≡ k.pre + 16)
       → Heads d start (world_at x e)
   heads last e h free timer =
       let now : e.cpu.ram ≡ memory (ready f) ring = ap (λ (c : Cpu). c.ram) h.0 in
@@ -175,7 +182,8 @@ module _ (d : Board) (bytes : List ℕ) (has : HasKernel bytes) (x : ℕ) (k : C
       }
 
 -- from a state of the run
-pub head_law : (d : Board) (bytes : List ℕ) → HasKernel bytes → (w : World d.State) → IsAt TICK w.cpu → w.cpu.run ≡ Timer
+pub head_law : (d : Board) (bytes : List ℕ) → HasKernel bytes → (w : World d.State) → IsAt TICK w.cpu
+    → w.cpu.run ≡ Timer
     → w.cpu.pre ≤ 15 → Tick d TICK bytes w (Heads d w)
 head_law d bytes has w is run few =
     let m = w.cpu in

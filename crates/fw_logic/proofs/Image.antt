@@ -17,7 +17,8 @@ chunks (suc n) xs = take 64 xs ∷ chunks n (drop 64 xs)
 chunk_at : (n i j : ℕ) (xs : List ℕ) → i < n → j < 64
     → get_or (get_or (chunks n xs) i []) j 0 ≡ get_or xs (64 * i + j) 0
 chunk_at zero i j xs l k = absurd (omega arith)
-chunk_at (suc n) zero j xs l k = let e : j ≡ 64 * 0 + j = omega arith in get_or-take 64 xs j 0 k ∙ ap (λ p. get_or xs p 0) e
+chunk_at (suc n) zero j xs l k = let e : j ≡ 64 * 0 + j = omega arith in
+    get_or-take 64 xs j 0 k ∙ ap (λ p. get_or xs p 0) e
 chunk_at (suc n) (suc i) j xs l k =
     let e : 64 + (64 * i + j) ≡ 64 * suc i + j = omega arith in
     chunk_at n i j (drop 64 xs) (omega arith) k ∙ get_or-drop 64 xs (64 * i + j) 0 ∙ ap (λ p. get_or xs p 0) e
@@ -48,6 +49,8 @@ row_is bytes has pc r h =
     guarded_some (not (is_table (pc % 2048)) && not (is_table ((pc + 1) % 2048)))
     (row_of (byte_in (pc % 2048)) (byte_in ((pc + 1) % 2048))) r h in
     let n = neither (is_table (pc % 2048)) (is_table ((pc + 1) % 2048)) g.0 in
-    ap (λ b. row_of b (slice_index bytes ((pc + 1) % 2048))) (has (pc % 2048) n.0 ∙ sym (byte_is (pc % 2048) (omega arith)))
-    ∙ ap (λ b. row_of (byte_in (pc % 2048)) b) (has ((pc + 1) % 2048) n.1 ∙ sym (byte_is ((pc + 1) % 2048) (omega arith)))
+    ap (λ b. row_of b (slice_index bytes ((pc + 1) % 2048))) (has (pc % 2048) n.0
+    ∙ sym (byte_is (pc % 2048) (omega arith)))
+    ∙ ap (λ b. row_of (byte_in (pc % 2048)) b) (has ((pc + 1) % 2048) n.1
+    ∙ sym (byte_is ((pc + 1) % 2048) (omega arith)))
     ∙ g.1

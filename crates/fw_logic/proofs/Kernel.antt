@@ -1,4 +1,5 @@
--- The kernel's code: its bytes in pages of 64 places, so that a place is found in a few steps, and the row at each place.
+-- The kernel's code: its bytes in pages of 64 places, so that a place is found in a few steps, and the row at each
+-- place.
 use Rattle.std.proofs.Common.{ℕ, ◌+◌, ◌/◌, ◌%◌, Bool, true, false, not, ◌&&◌, List, [], ◌∷◌, slice_index, None}
 use Rattle.std.specs.Prelude.{slice_index_or}
 use Rattle.std.specs.declared.option.Option.{Option}

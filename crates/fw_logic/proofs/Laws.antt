@@ -15,7 +15,8 @@ module _ (d : Board) (tick : ℕ) (bytes : List ℕ) where
       → ((t : World d.State) → calm d tick bytes n t ≡ Some e → calm d tick bytes (n + k) t ≡ calm d tick bytes k e)
       → (o : Option (World d.State))
       → (elim o as (λ v. Option (World d.State)) [ None ↦ None | Some t ↦ calm d tick bytes n t ]) ≡ Some e
-      → (elim o as (λ v. Option (World d.State)) [ None ↦ None | Some t ↦ calm d tick bytes (n + k) t ]) ≡ calm d tick bytes k e
+      → (elim o as (λ v. Option (World d.State)) [ None ↦ None | Some t ↦ calm d tick bytes (n + k) t ])
+      ≡ calm d tick bytes k e
   on n k e ih None h = absurd cc
   on n k e ih (Some t) h = ih t h
 
@@ -23,7 +24,8 @@ module _ (d : Board) (tick : ℕ) (bytes : List ℕ) where
       → calm d tick bytes (n + k) w ≡ calm d tick bytes k e
   add zero k w e h = let g : w ≡ e = cc in rw (zero-add, g) refl
   add (suc n) k w e h =
-      let c : suc n + k ≡ suc (n + k) = omega arith in rw c (on n k e (λ t g. add n k t e g) (calm_step d tick bytes w) h)
+      let c : suc n + k ≡ suc (n + k) = omega arith in
+      rw c (on n k e (λ t g. add n k t e g) (calm_step d tick bytes w) h)
 
   pub comes_then : (Q R : World d.State → Type 0) (w : World d.State) → Comes d tick bytes w Q
       → ((e : World d.State) → Q e → Comes d tick bytes e R) → Comes d tick bytes w R
@@ -41,7 +43,8 @@ module _ (d : Board) (tick : ℕ) (bytes : List ℕ) where
   -- one step, by what the definitions of a step say
   pub comes_by : (Q : World d.State → Type 0) (w : World d.State) (next : Stepped) → at_tick d tick w ≡ false
       → stepped bytes (seen d w) w.cpu ≡ Some next
-      → Comes d tick bytes (record { cpu = next.cpu; board = ticks next.cycles w.cycle (d.tick next.cpu.p2) w.board; cycle = w.cycle + next.cycles }) Q
+      → Comes d tick bytes
+      (record { cpu = next.cpu; board = ticks next.cycles w.cycle (d.tick next.cpu.p2) w.board; cycle = w.cycle + next.cycles }) Q
       → Comes d tick bytes w Q
   comes_by Q w next off step rest =
       let e : World d.State =

@@ -20,7 +20,6 @@ pub mod Starting
 pub mod Columns
 pub mod Looks
 pub mod Cells
-pub mod Bytes
 pub mod Scanned
 pub mod BlockLaws
 pub mod HeadLaw

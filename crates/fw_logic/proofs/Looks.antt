@@ -26,9 +26,11 @@ module _ (d : Board) (bytes : List ℕ) (has : HasKernel bytes) (y : ℕ) (k : C
   abbrev pub lit_board : d.State
   lit_board = ticks 2 (y + 4) (d.tick (255 - f 77)) (ticks 4 y step board)
 
-  pub lamps : Leads d (kernel_in true bytes) y (begin_at d LAMPS f ring k board) (At d lit TESTED (put f 25 77) ring 6 lit_board)
+  pub lamps : Leads d (kernel_in true bytes) y (begin_at d LAMPS f ring k board)
+      (At d lit TESTED (put f 25 77) ring 6 lit_board)
   lamps =
-      straight d (kernel_in true bytes) (has_rows true bytes has) (Until TESTED ∷ []) y k LAMPS TESTED 6 f (put f 25 77) ring
+      straight d (kernel_in true bytes) (has_rows true bytes has) (Until TESTED ∷ []) y k LAMPS TESTED 6 f (put f 25 77)
+      ring
       lit board lit_board free (
         refl,
         refl,
@@ -50,24 +52,29 @@ module _ (d : Board) (bytes : List ℕ) (has : HasKernel bytes) (y : ℕ) (k : C
   data_is = ap (λ b. (d.pins k.p1 k.p2 (y + 18) b).t1) (absolute 18 y step board)
 
   pub looks_pulled : clock ≡ false
-      → Leads d (kernel_in true bytes) y (begin_at d LOOKS f ring k board) (At d k PULLED (put f 24 0) ring 18 (ticks 18 y step board))
+      → Leads d (kernel_in true bytes) y (begin_at d LOOKS f ring k board)
+      (At d k PULLED (put f 24 0) ring 18 (ticks 18 y step board))
   looks_pulled low =
       straight d (kernel_in true bytes) (has_rows true bytes has) (Until 71 ∷ Go true ∷ []) y k LOOKS PULLED 18 f
       (put f 24 0) ring
       k board (ticks 18 y step board) free (ap not (clock_is ∙ low), (refl, refl, absolute 18 y step board))
 
   pub looks_got : clock ≡ true → data_wire ≡ false
-      → Leads d (kernel_in true bytes) y (begin_at d LOOKS f ring k board) (At d k GOT (put f 24 0) ring 20 (ticks 20 y step board))
+      → Leads d (kernel_in true bytes) y (begin_at d LOOKS f ring k board)
+      (At d k GOT (put f 24 0) ring 20 (ticks 20 y step board))
   looks_got high low =
-      straight d (kernel_in true bytes) (has_rows true bytes has) (Until 71 ∷ Go false ∷ Go true ∷ []) y k LOOKS GOT 20 f
+      straight d (kernel_in true bytes) (has_rows true bytes has) (Until 71 ∷ Go false ∷ Go true ∷ []) y k LOOKS GOT 20
+      f
       (put f 24 0) ring
       k board (ticks 20 y step board) free
       (ap not (clock_is ∙ high), (ap not (data_is ∙ low), (refl, refl, absolute 20 y step board)))
 
   pub looks_free : clock ≡ true → data_wire ≡ true
-      → Leads d (kernel_in true bytes) y (begin_at d LOOKS f ring k board) (At d k SEND (put f 24 0) ring 20 (ticks 20 y step board))
+      → Leads d (kernel_in true bytes) y (begin_at d LOOKS f ring k board)
+      (At d k SEND (put f 24 0) ring 20 (ticks 20 y step board))
   looks_free high high' =
-      straight d (kernel_in true bytes) (has_rows true bytes has) (Until 71 ∷ Go false ∷ Go false ∷ []) y k LOOKS SEND 20 f
+      straight d (kernel_in true bytes) (has_rows true bytes has) (Until 71 ∷ Go false ∷ Go false ∷ []) y k LOOKS SEND
+      20 f
       (put f 24 0) ring
       k board (ticks 20 y step board) free
       (ap not (clock_is ∙ high), (ap not (data_is ∙ high'), (refl, refl, absolute 20 y step board)))

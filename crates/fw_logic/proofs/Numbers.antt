@@ -8,7 +8,8 @@ use Rattle.joint_run.specs.Run.{Board, World, joint_step, step_on, run_at}
 use Rattle.joint_run.specs.Starts.{at_tick, calm, IsNth, start_in, starts_before}
 
 -- a state that a run reaches after so many steps, with so many tick starts before it
-pub record Reached (d : Board) (tick : ℕ) (bytes : List ℕ) (from : World d.State) (n : ℕ) (w : World d.State) : Type 0 where
+pub record Reached (d : Board) (tick : ℕ) (bytes : List ℕ) (from : World d.State) (n : ℕ)
+    (w : World d.State) : Type 0 where
   pub steps : ℕ
   pub run : run_at d bytes from steps ≡ Some w
   pub count : starts_before d tick bytes from steps ≡ n
@@ -32,7 +33,8 @@ module _ (d : Board) (tick : ℕ) (bytes : List ℕ) (from : World d.State) wher
   calm_by : (n k : ℕ) (w e : World d.State)
       → ((t : World d.State) → run_at d bytes from (suc k) ≡ Some t → calm d tick bytes n t ≡ Some e
       → Reaches (suc k + n) (starts_before d tick bytes from (suc k)) e)
-      → run_at d bytes from k ≡ Some w → (b : Bool) → at_tick d tick w ≡ b → (o : Option (World d.State)) → joint_step d bytes w ≡ o
+      → run_at d bytes from k ≡ Some w → (b : Bool) → at_tick d tick w ≡ b → (o : Option (World d.State))
+      → joint_step d bytes w ≡ o
       → (elim (elim b as (λ v. Option (World d.State)) [ true ↦ None | false ↦ o ]) as (λ v. Option (World d.State)) [
         | None ↦ None
         | Some t ↦ calm d tick bytes n t
@@ -53,7 +55,8 @@ module _ (d : Board) (tick : ℕ) (bytes : List ℕ) (from : World d.State) wher
       let z : k + 0 ≡ k = omega arith in
       subst (λ j. Reaches j (starts_before d tick bytes from k) e) (sym z) (run ∙ h, refl)
   calm_reaches (suc n) k w e run h =
-      calm_by n k w e (λ t run' g. calm_reaches n (suc k) t e run' g) run (at_tick d tick w) refl (joint_step d bytes w) refl h
+      calm_by n k w e (λ t run' g. calm_reaches n (suc k) t e run' g) run (at_tick d tick w) refl (joint_step d bytes w)
+      refl h
 
   -- the n-th tick start
   pub nth_reached : (n : ℕ) (w : World d.State) → IsNth d tick bytes from n w → Reached d tick bytes from n w

@@ -73,7 +73,8 @@ answered (Jni to) b m = branch b to m
 answered (Jtf to) b m = branch b to (record m { tf = false })
 answered op b m = m
 
--- notes of a path: so many instructions; instructions up to a place; a jump with its answer; A, or the data memory, in other
+-- notes of a path: so many instructions; instructions up to a place; a jump with its answer; A, or the data memory, in
+-- other
 -- words; both ways of a jump, which meet at a place in one state, by the state before, the answer and the timer
 pub data Note : Type 0 where
   Run : ℕ → Note
@@ -83,7 +84,8 @@ pub data Note : Type 0 where
   Ram : List ℕ → Note
   Fork : ℕ → (Cpu → Bool → Cpu → Cpu) → Note
 
--- the code that is executed: the rows at its places, the place of the tick, the image's bytes, and whether the timer is left alone
+-- the code that is executed: the rows at its places, the place of the tick, the image's bytes, and whether the timer is
+-- left alone
 pub record Code : Type 0 where
   pub bytes : List ℕ
   pub row : ℕ → Option Decoded
@@ -102,7 +104,8 @@ left d code x r s = after_timer s.cpu.run r.cycles (pins_at d x s) (effect r.op 
 -- an instruction that isn't asked
 abbrev pub Plainly : (d : Board) → Code → ℕ → Option Decoded → Stage d.State → (Stage d.State → Type 0) → Type 0
 Plainly d code x None s K = ⊥
-Plainly d code x (Some r) s K = elim (is_taken code.timed r.op) [ true ↦ K (moved d x r.cycles (left d code x r s) s) | false ↦ ⊥ ]
+Plainly d code x (Some r) s K =
+    elim (is_taken code.timed r.op) [ true ↦ K (moved d x r.cycles (left d code x r s) s) | false ↦ ⊥ ]
 
 -- and it isn't the tick's
 abbrev pub Quiet : (d : Board) → Code → ℕ → Stage d.State → (Stage d.State → Type 0) → Type 0
@@ -114,7 +117,8 @@ Runs d code x (suc n) s K = Quiet d code x s (λ t. Runs d code x n t K)
 
 abbrev pub Untils : (d : Board) → Code → ℕ → ℕ → ℕ → Stage d.State → (Stage d.State → Type 0) → Type 0
 Untils d code x place zero s K = ⊥
-Untils d code x place (suc n) s K = elim (s.cpu.pc == place) [ true ↦ K s | false ↦ Quiet d code x s (λ t. Untils d code x place n t K) ]
+Untils d code x place (suc n) s K =
+    elim (s.cpu.pc == place) [ true ↦ K s | false ↦ Quiet d code x s (λ t. Untils d code x place n t K) ]
 
 abbrev pub Is : Option Bool → Bool → Type 0 → Type 0
 Is None o P = ⊥
@@ -124,7 +128,8 @@ abbrev pub Jumps : (d : Board) → Code → ℕ → Option Decoded → Bool → 
 Jumps d code x None b s K = ⊥
 Jumps d code x (Some r) b s K = elim r.op [
   | Flow op ↦ elim (is_taken code.timed (Flow op)) [
-    | true ↦ Is (condition op (pins_at d x s) (past s.cpu)) b (K (moved d x r.cycles (after_timer s.cpu.run r.cycles (pins_at d x s) (answered op b (past s.cpu))) s))
+    | true ↦ Is (condition op (pins_at d x s) (past s.cpu)) b
+        (K (moved d x r.cycles (after_timer s.cpu.run r.cycles (pins_at d x s) (answered op b (past s.cpu))) s))
     | false ↦ ⊥
   ]
   | Moves op ↦ ⊥
@@ -135,11 +140,13 @@ Jumps d code x (Some r) b s K = elim r.op [
 ]
 
 abbrev pub Answers : (d : Board) → Code → ℕ → Bool → Stage d.State → (Stage d.State → Type 0) → Type 0
-Answers d code x b s K = elim (s.cpu.pc % 2048 == code.tick) [ true ↦ ⊥ | false ↦ Jumps d code x (code.row s.cpu.pc) b s K ]
+Answers d code x b s K = elim (s.cpu.pc % 2048
+    == code.tick) [ true ↦ ⊥ | false ↦ Jumps d code x (code.row s.cpu.pc) b s K ]
 
 -- the stage after a jump of these cycles, answered
 abbrev pub jumped : (d : Board) → ℕ → ℕ → FlowOp → Bool → Stage d.State → Stage d.State
-jumped d x cycles op b s = moved d x cycles (after_timer s.cpu.run cycles (pins_at d x s) (answered op b (past s.cpu))) s
+jumped d x cycles op b s = moved d x cycles (after_timer s.cpu.run cycles (pins_at d x s) (answered op b (past s.cpu)))
+    s
 
 -- both ways of a jump; they meet at one offset, with one board, and the path goes on with the answer as a term
 abbrev pub Meets : (d : Board) → Code → ℕ → ℕ → (Cpu → Bool → Cpu → Cpu) → ℕ → FlowOp → Stage d.State → Option Bool
@@ -148,13 +155,15 @@ Meets d code x p F cycles op s None K = ⊥
 Meets d code x p F cycles op s (Some b) K =
     Untils d code x p 200 (jumped d x cycles op true s) (λ t.
     (t.cpu ≡ F s.cpu true t.cpu) × Untils d code x p 200 (jumped d x cycles op false s) (λ u.
-    (u.cpu ≡ F s.cpu false u.cpu) × (u.board ≡ t.board) × (u.off ≡ t.off) × ((e : Cpu) → K (record { cpu = F s.cpu b e; board = t.board; off = t.off }))))
+    (u.cpu ≡ F s.cpu false u.cpu) × (u.board ≡ t.board) × (u.off ≡ t.off)
+    × ((e : Cpu) → K (record { cpu = F s.cpu b e; board = t.board; off = t.off }))))
 
 abbrev pub Forks : (d : Board) → Code → ℕ → ℕ → (Cpu → Bool → Cpu → Cpu) → Option Decoded → Stage d.State
     → (Stage d.State → Type 0) → Type 0
 Forks d code x p F None s K = ⊥
 Forks d code x p F (Some r) s K = elim r.op [
-  | Flow op ↦ elim (is_taken code.timed (Flow op)) [ true ↦ Meets d code x p F r.cycles op s (condition op (pins_at d x s) (past s.cpu)) K | false ↦ ⊥ ]
+  | Flow op ↦ elim (is_taken code.timed
+      (Flow op)) [ true ↦ Meets d code x p F r.cycles op s (condition op (pins_at d x s) (past s.cpu)) K | false ↦ ⊥ ]
   | Moves op ↦ ⊥
   | Alu op ↦ ⊥
   | Unary op ↦ ⊥
@@ -164,7 +173,8 @@ Forks d code x p F (Some r) s K = elim r.op [
 
 abbrev pub Parts : (d : Board) → Code → ℕ → ℕ → (Cpu → Bool → Cpu → Cpu) → Stage d.State → (Stage d.State → Type 0)
     → Type 0
-Parts d code x p F s K = elim (s.cpu.pc % 2048 == code.tick) [ true ↦ ⊥ | false ↦ Forks d code x p F (code.row s.cpu.pc) s K ]
+Parts d code x p F s K = elim (s.cpu.pc % 2048
+    == code.tick) [ true ↦ ⊥ | false ↦ Forks d code x p F (code.row s.cpu.pc) s K ]
 
 abbrev pub Path : (d : Board) → Code → ℕ → List Note → Stage d.State → (Stage d.State → Type 0) → Type 0
 Path d code x [] s Q = Q s
@@ -172,5 +182,6 @@ Path d code x (Run n ∷ rest) s Q = Runs d code x n s (λ t. Path d code x rest
 Path d code x (Until p ∷ rest) s Q = Untils d code x p 1000 s (λ t. Path d code x rest t Q)
 Path d code x (Go b ∷ rest) s Q = Answers d code x b s (λ t. Path d code x rest t Q)
 Path d code x (Acc v ∷ rest) s Q = (s.cpu.a ≡ v) × Path d code x rest (record s { cpu = record s.cpu { a = v } }) Q
-Path d code x (Ram ram ∷ rest) s Q = (s.cpu.ram ≡ ram) × Path d code x rest (record s { cpu = record s.cpu { ram = ram } }) Q
+Path d code x (Ram ram ∷ rest) s Q =
+    (s.cpu.ram ≡ ram) × Path d code x rest (record s { cpu = record s.cpu { ram = ram } }) Q
 Path d code x (Fork p F ∷ rest) s Q = Parts d code x p F s (λ t. Path d code x rest t Q)

@@ -31,7 +31,8 @@ work_at d x late tf last f ring m board =
     record { cpu = work_cpu late tf last f ring m; board = ticks 3 x (d.tick m.p2) board; off = 3 }
 
 -- the work has come to the service's end, with the way back on the stack as it was, and in time
-pub record IsOver (d : Board) (last_off : ℕ) (R : (ℕ → ℕ) → List ℕ → Stage d.State → Type 0) (e : Stage d.State) : Type 0 where
+pub record IsOver (d : Board) (last_off : ℕ) (R : (ℕ → ℕ) → List ℕ → Stage d.State → Type 0)
+    (e : Stage d.State) : Type 0 where
   pub now : ℕ → ℕ
   pub ring : List ℕ
   pub cpu : e.cpu ≡ serving DONE now ring e.cpu
@@ -41,7 +42,8 @@ pub record IsOver (d : Board) (last_off : ℕ) (R : (ℕ → ℕ) → List ℕ �
   pub does : R now ring e
 
 -- the next tick start, behind a tick that began in a cycle and so many cycles late
-pub record Next (d : Board) (x late : ℕ) (R : (ℕ → ℕ) → List ℕ → Stage d.State → Type 0) (w : World d.State) : Type 0 where
+pub record Next (d : Board) (x late : ℕ) (R : (ℕ → ℕ) → List ℕ → Stage d.State → Type 0)
+    (w : World d.State) : Type 0 where
   pub end : Stage d.State
   pub now : ℕ → ℕ
   pub ring : List ℕ
@@ -66,11 +68,13 @@ module _ (d : Board) (bytes : List ℕ) (has : HasKernel bytes) where
       ≡ Some (world_at x (second x late tf (d.pins m.p1 m.p2 x board).t1 f ring m board))
   first_step x zero l tf last f ring m board =
       let w : World d.State = record { cpu = begun 0 tf last f ring m; board = board; cycle = x } in
-      ap (λ o. after_step d w o) (stepped_is bytes (seen d w) w.cpu (record { op = Moves (MovAN 192); len = 2; cycles = 2 }) (inl refl)
+      ap (λ o. after_step d w o) (stepped_is bytes (seen d w) w.cpu
+      (record { op = Moves (MovAN 192); len = 2; cycles = 2 }) (inl refl)
       (has_rows true bytes has TICK (record { op = Moves (MovAN 192); len = 2; cycles = 2 }) refl).0)
   first_step x (suc zero) l tf last f ring m board =
       let w : World d.State = record { cpu = begun 1 tf last f ring m; board = board; cycle = x } in
-      ap (λ o. after_step d w o) (stepped_is bytes (seen d w) w.cpu (record { op = Moves (MovAN 192); len = 2; cycles = 2 }) (inl refl)
+      ap (λ o. after_step d w o) (stepped_is bytes (seen d w) w.cpu
+      (record { op = Moves (MovAN 192); len = 2; cycles = 2 }) (inl refl)
       (has_rows true bytes has TICK (record { op = Moves (MovAN 192); len = 2; cycles = 2 }) refl).0)
   first_step x (suc (suc n)) l tf last f ring m board = absurd (omega (arith, l))
 
@@ -81,7 +85,8 @@ module _ (d : Board) (bytes : List ℕ) (has : HasKernel bytes) where
       × (e.board ≡ ticks 1 2 (λ o. d.tick m.p2 (x + o)) (ticks 2 x (d.tick m.p2) board))
 
   sets : (x late : ℕ) → late ≤ 1 → (tf last : Bool) (f : ℕ → ℕ) (ring : List ℕ) (m : Cpu) (board : d.State)
-      → Path d (kernel_in false bytes) x (Run 1 ∷ []) (second x late tf last f ring m board) (IsSet x late tf f ring m board)
+      → Path d (kernel_in false bytes) x (Run 1 ∷ []) (second x late tf last f ring m board)
+      (IsSet x late tf f ring m board)
   sets x zero l tf last f ring m board = (refl, refl, refl)
   sets x (suc zero) l tf last f ring m board = (refl, refl, refl)
   sets x (suc (suc n)) l tf last f ring m board = absurd (omega (arith, l))
@@ -110,7 +115,9 @@ module _ (d : Board) (bytes : List ℕ) (has : HasKernel bytes) where
       let f : ℕ → d.State → d.State = d.tick e.cpu.p2 in
       let b : d.State = ticks 2 (x + off) f e.board in
       let goes : 32 * q.t' + q.pre' ≡ 32 * t + pre + 2 = h.1 in
-      subst (λ r. Comes d TICK bytes (record { cpu = waiting q.t' q.pre' q.tf' last r (plain now ring e.cpu); board = b; cycle = x + off + 2 }) (Next d x late R))
+      subst (λ r. Comes d TICK bytes
+      (record { cpu = waiting q.t' q.pre' q.tf' last r (plain now ring e.cpu); board = b; cycle = x + off + 2 })
+      (Next d x late R))
       (sym h.2)
       (comes_as d TICK bytes (IsBegun d now ring e.cpu b (x + off + 2) (32 * q.t' + q.pre')) (Next d x late R)
       (record { cpu = waiting q.t' q.pre' q.tf' last false (plain now ring e.cpu); board = b; cycle = x + off + 2 })
@@ -163,26 +170,31 @@ module _ (d : Board) (bytes : List ℕ) (has : HasKernel bytes) where
       subst (λ c. Comes d TICK bytes (record { cpu = c; board = e.board; cycle = x + off }) goal) (sym over.cpu)
       (comes_by d TICK bytes goal w (record { cpu = after_timer k.run 2 pins given; cycles = 2 }) refl
       (back d bytes has pins over.now over.ring k over.low over.high)
-      (subst (λ c. Comes d TICK bytes (record { cpu = c; board = ticks 2 (x + off) (d.tick c.p2) e.board; cycle = x + off + 2 }) goal) (sym gives)
-      (rests x late R e over.now over.ring over.does over.cpu k.t k.pre k.tf pins.t1 left (omega (arith, left, few, short, room)) q q.sum)))
+      (subst (λ c. Comes d TICK bytes
+      (record { cpu = c; board = ticks 2 (x + off) (d.tick c.p2) e.board; cycle = x + off + 2 }) goal) (sym gives)
+      (rests x late R e over.now over.ring over.does over.cpu k.t k.pre k.tf pins.t1 left
+      (omega (arith, left, few, short, room)) q q.sum)))
 
   -- from a tick start to the next, by the law of the work
   pub serves : (x late : ℕ) → late ≤ 1 → (tf last : Bool) (f : ℕ → ℕ) (ring : List ℕ) (m : Cpu) (board : d.State)
       → (last_off : ℕ) → last_off ≤ 2040 → (R : (ℕ → ℕ) → List ℕ → Stage d.State → Type 0)
-      → ((last' : Bool) → Leads d (kernel_in true bytes) x (work_at d x late tf last' f ring m board) (IsOver d last_off R))
+      → ((last' : Bool) → Leads d (kernel_in true bytes) x (work_at d x late tf last' f ring m board)
+      (IsOver d last_off R))
       → Tick d TICK bytes (record { cpu = begun late tf last f ring m; board = board; cycle = x }) (Next d x late R)
   serves x late few tf last f ring m board last_off room R work =
       let pins = d.pins m.p1 m.p2 x board in
       let two = second x late tf pins.t1 f ring m board in
       let step = d.tick m.p2 in
-      let set = sound d (kernel_in false bytes) (has_rows false bytes has) x (Run 1 ∷ []) (IsSet x late tf f ring m board) two
+      let set = sound d (kernel_in false bytes) (has_rows false bytes has) x (Run 1 ∷ [])
+      (IsSet x late tf f ring m board) two
       (sets x late few tf pins.t1 f ring m board) (inl refl) in
       record {
         at = refl;
         first = world_at x two;
         step = first_step x late few tf last f ring m board;
         rest =
-            comes_then d TICK bytes (λ w. (e : Stage d.State) × (w ≡ world_at x e) × IsSet x late tf f ring m board e) (Next d x late R) (world_at x two)
+            comes_then d TICK bytes (λ w. (e : Stage d.State) × (w ≡ world_at x e) × IsSet x late tf f ring m board e)
+            (Next d x late R) (world_at x two)
             (comes false x two (IsSet x late tf f ring m board) set)
             (λ w h.
             let e = h.0 in
@@ -195,7 +207,8 @@ module _ (d : Board) (bytes : List ℕ) (has : HasKernel bytes) where
             let does = work e.cpu.last_t1 in
             let end = does.end in
             let short : end.off ≤ last_off = does.goal.short in
-            let timing : IsTiming (clock_of at.cpu) = record { run = refl; pre = omega (arith, few); t = omega arith } in
+            let timing : IsTiming (clock_of at.cpu) =
+            record { run = refl; pre = omega (arith, few); t = omega arith } in
             let clock = does.clock refl timing (omega (arith, few, short, room)) in
             let count : total (clock_of end.cpu) + 3 ≡ 32 * 192 + (late + 5) + end.off = clock.count in
             subst (λ v. Comes d TICK bytes v (Next d x late R)) (sym same)

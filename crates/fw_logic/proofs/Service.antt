@@ -129,7 +129,8 @@ asked t pre tf l k = asked_by t pre tf l k (nat_le 32 (pre + 2)) (t == 255) refl
 abbrev pub later : (d : Board) → ℕ → Cpu → d.State → ℕ → ℕ → World d.State
 later d cycle c board n p2 = record { cpu = c; board = ticks n cycle (d.tick p2) board; cycle = cycle + n }
 
-module _ (d : Board) (bytes : List ℕ) (row : row_at bytes WAIT ≡ Some (record { op = Flow (Jmp WAIT); len = 2; cycles = 2 }))
+module _ (d : Board) (bytes : List ℕ)
+    (row : row_at bytes WAIT ≡ Some (record { op = Flow (Jmp WAIT); len = 2; cycles = 2 }))
     (m : Cpu) (board : d.State) (cycle total : ℕ) where
   -- the interrupt is due, at most a cycle after the overflow
   pub record IsDue (w : World d.State) : Type 0 where
@@ -186,7 +187,8 @@ module _ (d : Board) (bytes : List ℕ) (row : row_at bytes WAIT ≡ Some (recor
       let sum : cycle + n + 2 ≡ cycle + (n + 2) = omega arith in
       comes_by d TICK bytes IsDue w (record { cpu = next; cycles = 2 }) refl
       (ap (λ r. executed r bytes pins w.cpu) row ∙ ap (λ c. Some (record { cpu = c; cycles = 2 })) (q.is m last pins))
-      (subst (λ c. Comes d TICK bytes (record { cpu = next; board = ticks 2 (cycle + n) (d.tick m.p2) w.board; cycle = c }) IsDue)
+      (subst (λ c. Comes d TICK bytes
+      (record { cpu = next; board = ticks 2 (cycle + n) (d.tick m.p2) w.board; cycle = c }) IsDue)
       (sym sum)
       (subst (λ b. Comes d TICK bytes (record { cpu = next; board = b; cycle = cycle + (n + 2) }) IsDue)
       (ticks_add n 2 cycle (d.tick m.p2) board)

@@ -91,7 +91,8 @@ module _ (d : Board) (code : Code) (has : HasRows code) (x : ℕ) where
       → code.row s.cpu.pc ≡ Some (record { op = Flow op; len = len; cycles = cycles })
       → (s.cpu.pc % 2048 == code.tick) ≡ false
       → (c : Bool) → is_taken code.timed (Flow op) ≡ c
-      → (elim c as (λ v. Type 0) [ true ↦ Is (condition op (pins_at d x s) (past s.cpu)) b (K (moved d x cycles (after_timer s.cpu.run cycles (pins_at d x s) (answered op b (past s.cpu))) s)) | false ↦ ⊥ ])
+      → (elim c as (λ v.
+      Type 0) [ true ↦ Is (condition op (pins_at d x s) (past s.cpu)) b (K (moved d x cycles (after_timer s.cpu.run cycles (pins_at d x s) (answered op b (past s.cpu))) s)) | false ↦ ⊥ ])
       → To s K
   jumps_as b K s len cycles op row off false taken h = absurd h
   jumps_as b K s len cycles op row off true taken h =
@@ -99,7 +100,8 @@ module _ (d : Board) (code : Code) (has : HasRows code) (x : ℕ) where
       let a =
       answered_is op pins (past s.cpu) b
       (K (moved d x cycles (after_timer s.cpu.run cycles pins (answered op b (past s.cpu))) s)) h in
-      by_row d code has x K s (record { op = Flow op; len = len; cycles = cycles }) row taken off (subst (λ m. K (moved d x cycles (after_timer s.cpu.run cycles pins m) s)) a.0 a.1)
+      by_row d code has x K s (record { op = Flow op; len = len; cycles = cycles }) row taken off
+      (subst (λ m. K (moved d x cycles (after_timer s.cpu.run cycles pins m) s)) a.0 a.1)
 
   jumps_by : (b : Bool) (K : Stage d.State → Type 0) (s : Stage d.State) (len cycles : ℕ) (op : Op)
       → code.row s.cpu.pc ≡ Some (record { op = op; len = len; cycles = cycles })
@@ -137,10 +139,12 @@ module _ (d : Board) (code : Code) (has : HasRows code) (x : ℕ) where
       let pins = pins_at d x s in
       let a = answered_is op pins (past s.cpu) b (Unit {0}) (subst (λ o. Is o b (Unit {0})) (sym is) (refl, tt)) in
       chain d code has x (λ e. e ≡ jumped d x cycles op b s) K s
-      (by_row d code has x (λ e. e ≡ jumped d x cycles op b s) s (record { op = Flow op; len = len; cycles = cycles }) row taken off (ap (λ m. moved d x cycles (after_timer s.cpu.run cycles pins m) s) (sym a.0)) free)
+      (by_row d code has x (λ e. e ≡ jumped d x cycles op b s) s (record { op = Flow op; len = len; cycles = cycles })
+      row taken off (ap (λ m. moved d x cycles (after_timer s.cpu.run cycles pins m) s) (sym a.0)) free)
       (λ e same f. subst (λ t. Leads d code x t K) (sym same) rest)
 
-  meets : (p : ℕ) (F : Cpu → Bool → Cpu → Cpu) (K : Stage d.State → Type 0) (s : Stage d.State) (len cycles : ℕ) (op : FlowOp)
+  meets : (p : ℕ) (F : Cpu → Bool → Cpu → Cpu) (K : Stage d.State → Type 0) (s : Stage d.State) (len cycles : ℕ)
+      (op : FlowOp)
       → code.row s.cpu.pc ≡ Some (record { op = Flow op; len = len; cycles = cycles })
       → is_taken code.timed (Flow op) ≡ true
       → (s.cpu.pc % 2048 == code.tick) ≡ false → (o : Option Bool) → condition op (pins_at d x s) (past s.cpu) ≡ o
@@ -148,26 +152,37 @@ module _ (d : Board) (code : Code) (has : HasRows code) (x : ℕ) where
   meets p F K s len cycles op row taken off None is h free = absurd h
   meets p F K s len cycles op row taken off (Some true) is h free =
       by_jump K s len cycles op true row taken off is
-      (chain d code has x (λ t. (t.cpu ≡ F s.cpu true t.cpu) × Untils d code x p 200 (jumped d x cycles op false s) (λ u. (u.cpu ≡ F s.cpu false u.cpu) × (u.board ≡ t.board) × (u.off ≡ t.off) × ((e : Cpu) → K (record { cpu = F s.cpu true e; board = t.board; off = t.off })))) K (jumped d x cycles op true s)
-      (untils p 200 (λ t. (t.cpu ≡ F s.cpu true t.cpu) × Untils d code x p 200 (jumped d x cycles op false s) (λ u. (u.cpu ≡ F s.cpu false u.cpu) × (u.board ≡ t.board) × (u.off ≡ t.off) × ((e : Cpu) → K (record { cpu = F s.cpu true e; board = t.board; off = t.off })))) (jumped d x cycles op true s) h (answered_free op true (past s.cpu) free))
+      (chain d code has x (λ t. (t.cpu ≡ F s.cpu true t.cpu) × Untils d code x p 200 (jumped d x cycles op false s)
+      (λ u. (u.cpu ≡ F s.cpu false u.cpu) × (u.board ≡ t.board) × (u.off ≡ t.off)
+      × ((e : Cpu) → K (record { cpu = F s.cpu true e; board = t.board; off = t.off })))) K
+      (jumped d x cycles op true s)
+      (untils p 200 (λ t. (t.cpu ≡ F s.cpu true t.cpu) × Untils d code x p 200 (jumped d x cycles op false s)
+      (λ u. (u.cpu ≡ F s.cpu false u.cpu) × (u.board ≡ t.board) × (u.off ≡ t.off)
+      × ((e : Cpu) → K (record { cpu = F s.cpu true e; board = t.board; off = t.off })))) (jumped d x cycles op true s)
+      h (answered_free op true (past s.cpu) free))
       (λ t g f.
       let other =
       untils p 200
-      (λ u. (u.cpu ≡ F s.cpu false u.cpu) × (u.board ≡ t.board) × (u.off ≡ t.off) × ((e : Cpu) → K (record { cpu = F s.cpu true e; board = t.board; off = t.off })))
+      (λ u. (u.cpu ≡ F s.cpu false u.cpu) × (u.board ≡ t.board) × (u.off ≡ t.off)
+      × ((e : Cpu) → K (record { cpu = F s.cpu true e; board = t.board; off = t.off })))
       (jumped d x cycles op false s) g.1 (answered_free op false (past s.cpu) free) in
-      stay d code has x K t (subst (λ c. K (record { cpu = c; board = t.board; off = t.off })) (sym g.0) (other.goal.3 t.cpu)) f))
+      stay d code has x K t (subst (λ c. K (record { cpu = c; board = t.board; off = t.off })) (sym g.0)
+      (other.goal.3 t.cpu)) f))
       free
   meets p F K s len cycles op row taken off (Some false) is h free =
       let first =
       untils p 200
-      (λ t. (t.cpu ≡ F s.cpu true t.cpu) × Untils d code x p 200 (jumped d x cycles op false s) (λ u. (u.cpu ≡ F s.cpu false u.cpu) × (u.board ≡ t.board) × (u.off ≡ t.off) × ((e : Cpu) → K (record { cpu = F s.cpu false e; board = t.board; off = t.off }))))
+      (λ t. (t.cpu ≡ F s.cpu true t.cpu) × Untils d code x p 200 (jumped d x cycles op false s)
+      (λ u. (u.cpu ≡ F s.cpu false u.cpu) × (u.board ≡ t.board) × (u.off ≡ t.off)
+      × ((e : Cpu) → K (record { cpu = F s.cpu false e; board = t.board; off = t.off }))))
       (jumped d x cycles op true s) h (answered_free op true (past s.cpu) free) in
       let t = first.end in
       let Q : Stage d.State → Type 0 =
       λ u. (u.cpu ≡ F s.cpu false u.cpu) × (u.board ≡ t.board) × (u.off ≡ t.off) ×
       ((e : Cpu) → K (record { cpu = F s.cpu false e; board = t.board; off = t.off })) in
       by_jump K s len cycles op false row taken off is
-      (chain d code has x Q K (jumped d x cycles op false s) (untils p 200 Q (jumped d x cycles op false s) first.goal.1 (answered_free op false (past s.cpu) free))
+      (chain d code has x Q K (jumped d x cycles op false s)
+      (untils p 200 Q (jumped d x cycles op false s) first.goal.1 (answered_free op false (past s.cpu) free))
       (λ u g f.
       stay d code has x K u
       (subst (λ c. K (record { cpu = c; board = u.board; off = u.off })) (sym g.0)
@@ -175,17 +190,20 @@ module _ (d : Board) (code : Code) (has : HasRows code) (x : ℕ) where
       (subst (λ v. K (record { cpu = F s.cpu false u.cpu; board = t.board; off = v })) (sym g.2) (g.3 u.cpu)))) f))
       free
 
-  forks_as : (p : ℕ) (F : Cpu → Bool → Cpu → Cpu) (K : Stage d.State → Type 0) (s : Stage d.State) (len cycles : ℕ) (op : FlowOp)
+  forks_as : (p : ℕ) (F : Cpu → Bool → Cpu → Cpu) (K : Stage d.State → Type 0) (s : Stage d.State) (len cycles : ℕ)
+      (op : FlowOp)
       → code.row s.cpu.pc ≡ Some (record { op = Flow op; len = len; cycles = cycles })
       → (s.cpu.pc % 2048 == code.tick) ≡ false
       → (c : Bool) → is_taken code.timed (Flow op) ≡ c
-      → (elim c as (λ v. Type 0) [ true ↦ Meets d code x p F cycles op s (condition op (pins_at d x s) (past s.cpu)) K | false ↦ ⊥ ])
+      → (elim c as (λ v.
+      Type 0) [ true ↦ Meets d code x p F cycles op s (condition op (pins_at d x s) (past s.cpu)) K | false ↦ ⊥ ])
       → To s K
   forks_as p F K s len cycles op row off false taken h = absurd h
   forks_as p F K s len cycles op row off true taken h =
       meets p F K s len cycles op row taken off (condition op (pins_at d x s) (past s.cpu)) refl h
 
-  forks_by : (p : ℕ) (F : Cpu → Bool → Cpu → Cpu) (K : Stage d.State → Type 0) (s : Stage d.State) (len cycles : ℕ) (op : Op)
+  forks_by : (p : ℕ) (F : Cpu → Bool → Cpu → Cpu) (K : Stage d.State → Type 0) (s : Stage d.State) (len cycles : ℕ)
+      (op : Op)
       → code.row s.cpu.pc ≡ Some (record { op = op; len = len; cycles = cycles })
       → (s.cpu.pc % 2048 == code.tick) ≡ false
       → Forks d code x p F (Some (record { op = op; len = len; cycles = cycles })) s K → To s K

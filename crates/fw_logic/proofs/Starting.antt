@@ -10,7 +10,7 @@ use Rattle.fw_kernel.specs.declared.labels.TheConstants.{TICK}
 use Rattle.fw_kernel.specs.Places.{HasKernel}
 use Rattle.joint_run.specs.Run.{Board, World, ticks, seen}
 use Rattle.joint_run.specs.Starts.{Comes}
-use Rattle.fw_logic.specs.Cadence.{power_on}
+use Rattle.fw_logic.specs.Boards.{power_on}
 use Rattle.fw_logic.proofs.Path.{Stage, Until, Path, world_at}
 use Rattle.fw_logic.proofs.Kernel.{kernel_in}
 use Rattle.fw_logic.proofs.Block.{put}
@@ -76,7 +76,8 @@ module _ (d : Board) (bytes : List ℕ) (has : HasKernel bytes) where
       comes_by d TICK bytes Q at (record { cpu = on; cycles = 1 }) refl
       (stepped_is bytes pins at.cpu (record { op = Control EnTcnti; len = 1; cycles = 1 }) (inr (refl, refl)) row)
       (comes_by d TICK bytes Q next (record {
-        cpu = waiting 130 0 false (seen d next).t1 false (plain (powered bytes) empty_ring (record reset_cpu { a = 130 }));
+        cpu = waiting 130 0 false (seen d next).t1 false
+            (plain (powered bytes) empty_ring (record reset_cpu { a = 130 }));
         cycles = 1;
       }) refl (ap (λ r. executed r bytes (seen d next) on) row') (rest (seen d next).t1))
 
@@ -88,7 +89,8 @@ module _ (d : Board) (bytes : List ℕ) (has : HasKernel bytes) where
       let m : Cpu = record reset_cpu { a = 130 } in
       let b : d.State = ticks 62 0 (d.tick 255) board in
       let e = h.end in
-      let same : world_at 0 e ≡ record { cpu = set_cpu e.cpu.last_t1; board = ticks 60 0 (d.tick 255) board; cycle = 60 } =
+      let same : world_at 0 e
+      ≡ record { cpu = set_cpu e.cpu.last_t1; board = ticks 60 0 (d.tick 255) board; cycle = 60 } =
       ap (λ c. world_at 0 (record { cpu = c; board = e.board; off = e.off })) h.goal.0
       ∙ ap (λ o. world_at 0 (record { cpu = set_cpu e.cpu.last_t1; board = e.board; off = o })) h.goal.1
       ∙ ap (λ v. world_at 0 (record { cpu = set_cpu e.cpu.last_t1; board = v; off = 60 })) h.goal.2 in

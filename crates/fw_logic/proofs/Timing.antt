@@ -47,7 +47,8 @@ pub step_later : (k : Clock) (m : Cpu) (c : ℕ) (pins : Pins) (start : ℕ) →
     → IsLater k (clock_of (after_timer m.run c pins m)) start (start + c)
 step_later k m c pins start e h few room =
     subst
-    (λ j. IsTiming j → total j + (start + c) < 8192 + start → IsLater j (clock_of (after_timer m.run c pins m)) start (start + c)) e
+    (λ j. IsTiming j → total j + (start + c) < 8192 + start
+    → IsLater j (clock_of (after_timer m.run c pins m)) start (start + c)) e
     (λ h room.
     let run : m.run ≡ Timer = h.run in
     let short : total (clock_of m) + c < 8192 = omega (arith, room) in

@@ -8,7 +8,7 @@ use Rattle.fw_kernel.specs.declared.labels.TheConstants.{TICK, READ, OFFER, LAMP
 use Rattle.fw_kernel.specs.Places.{HasKernel}
 use Rattle.joint_run.specs.Run.{Board, World, ticks}
 use Rattle.joint_run.specs.Starts.{Comes, Tick}
-use Rattle.fw_logic.specs.Cadence.{numbered}
+use Rattle.fw_logic.specs.Boards.{numbered}
 use Rattle.fw_logic.specs.Scan.{levels_in, downs, in_tick, lights_cell}
 
 -- a processor at work at a place: register bank 1, the lower half of the program, and no interrupt can come, since

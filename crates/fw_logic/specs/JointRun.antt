@@ -19,13 +19,15 @@ TellsTick m answer = (edges : List Edge) (events : List HostEvent) (w : World Be
 
 -- at a tick start the next step executes the instruction that the kernel has at TICK
 abbrev pub ExecutesTick : Machine → Bool → Type 0
-ExecutesTick m answer = (bytes : List ℕ) → HasKernel bytes → (edges : List Edge) (events : List HostEvent) (w : World Beside)
+ExecutesTick m answer =
+    (bytes : List ℕ) → HasKernel bytes → (edges : List Edge) (events : List HostEvent) (w : World Beside)
     → w.cpu ≡ m.mcu → answer ≡ true
     → stepped bytes (seen (joint_board edges events) w) w.cpu
     ≡ executed (row_at KERNEL TICK) bytes (seen (joint_board edges events) w) w.cpu
 
 -- the joint run is never stuck; no tick starts before cycle 4,096; each number has its start, which keeps the cadence,
--- and an interrupt is in service there, with register bank 1; and the run ends at one of them, whatever its end stamp is
+-- and an interrupt is in service there, with register bank 1; and the run ends at one of them, whatever its end stamp
+-- is
 pub record KeepsTime (bytes : List ℕ) (edges : List Edge) (events : List HostEvent) : Type 0 where
   pub goes_on : (k : ℕ) → (w : World Beside) × (run_at (joint_board edges events) bytes joint_start k ≡ Some w)
   pub none_early : (k : ℕ) (w : World Beside) → run_at (joint_board edges events) bytes joint_start k ≡ Some w

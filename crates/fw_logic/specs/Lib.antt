@@ -1,6 +1,5 @@
-pub mod Cadence
+pub mod Boards
 pub mod Scan
 pub mod Blocks
-pub mod Sizes
 pub mod Steps
 pub mod JointRun

@@ -9,7 +9,8 @@ infixl 10 ◌>>=◌
 abbrev pub ◌>>=◌ : {A B : Type 0} → Option A → (A → Option B) → Option B
 found >>= next = option_and_then next found
 
--- the bytes that digits write, the high digit of a byte first; none where a character is no digit, or a digit is left over
+-- the bytes that digits write, the high digit of a byte first; none where a character is no digit, or a digit is left
+-- over
 abbrev pub bytes_of : List ℕ → Option (List ℕ)
 bytes_of [] = Some []
 bytes_of (digit ∷ []) = None
@@ -31,11 +32,17 @@ pub record Record : Type 0 where
   pub bytes : List ℕ
   pub total : ℕ
 
--- a line's bytes are the count, the address with its high byte first, the type, as many bytes of data as the count says, and a sum byte
+-- a line's bytes are the count, the address with its high byte first, the type, as many bytes of data as the count
+-- says, and a sum byte
 abbrev pub record_of : List ℕ → Option Record
 record_of (count ∷ high ∷ low ∷ kind ∷ rest) =
     if length rest == count + 1
-    then Some (record { address = high * 256 + low; kind = kind; bytes = take count rest; total = sum (count ∷ high ∷ low ∷ kind ∷ rest) % 256 })
+    then Some (record {
+      address = high * 256 + low;
+      kind = kind;
+      bytes = take count rest;
+      total = sum (count ∷ high ∷ low ∷ kind ∷ rest) % 256;
+    })
     else None
 record_of bytes = None
 

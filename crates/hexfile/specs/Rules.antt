@@ -1,4 +1,5 @@
--- The rules of HEX, and what a line does that breaks none of them. The lines before it came to a `Progress`: the memory that they filled, and whether one of them ended the file.
+-- The rules of HEX, and what a line does that breaks none of them. The lines before it came to a `Progress`: the memory
+-- that they filled, and whether one of them ended the file.
 use Rattle.std.specs.Prelude.{ℕ, Bool, true, false, not, ◌&&◌, ◌||◌, List, [], ◌∷◌, length, None, Some, ◌==◌, if◌then◌else◌}
 use Rattle.std.specs.Str.{bytes_eq}
 use Rattle.std.specs.declared.option.Option.{Option}
@@ -34,7 +35,8 @@ is_upper_address line = line.kind == 2 || line.kind == 4
 abbrev pub is_start_address : Record → Bool
 is_start_address line = line.kind == 3 || line.kind == 5
 
--- data are of any number, an end has none, an upper part of addresses is 0000, a start address has four bytes, and there is no other type
+-- data are of any number, an end has none, an upper part of addresses is 0000, a start address has four bytes, and
+-- there is no other type
 abbrev pub fits_kind : Record → Bool
 fits_kind line =
     if is_data line then true
@@ -42,7 +44,9 @@ fits_kind line =
     else (if is_upper_address line then bytes_eq line.bytes (0 ∷ 0 ∷ [])
     else (if is_start_address line then length line.bytes == 4 else false)))
 
--- the rules of a line that has the form, in the order of their numbers, each with whether the line breaks it: its bytes don't sum to 0; its type is none or has other bytes; it gives a byte past the last place; it gives a place that was given; it follows the end
+-- the rules of a line that has the form, in the order of their numbers, each with whether the line breaks it: its bytes
+-- don't sum to 0; its type is none or has other bytes; it gives a byte past the last place; it gives a place that was
+-- given; it follows the end
 abbrev pub judgements : Progress → Record → List (Rule × Bool)
 judgements before line =
     (Sum, not (line.total == 0))

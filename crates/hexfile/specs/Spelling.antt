@@ -11,9 +11,11 @@ sum_byte bytes = (256 - sum bytes % 256) % 256
 abbrev pub line_text : List ℕ → List ℕ
 line_text bytes = 58 ∷ flat_map hex_byte (bytes ++ sum_byte bytes ∷ []) ++ 10 ∷ []
 
--- 16 bytes from a place on are a data line: their number, the place with its high byte first, type 00, and the bytes; where each is 00, they are no line
+-- 16 bytes from a place on are a data line: their number, the place with its high byte first, type 00, and the bytes;
+-- where each is 00, they are no line
 abbrev pub row_text : ℕ → List ℕ → List ℕ
-row_text place row = if list_all (λ byte. byte == 0) row then [] else line_text (16 ∷ place / 256 ∷ place % 256 ∷ 0 ∷ row)
+row_text place row =
+    if list_all (λ byte. byte == 0) row then [] else line_text (16 ∷ place / 256 ∷ place % 256 ∷ 0 ∷ row)
 
 -- the text of one of the 128 rows of a program memory
 abbrev pub row_at : List ℕ → ℕ → List ℕ

@@ -42,8 +42,8 @@ outside_cycle now p2 next o =
       done = c.done;
     }
 
--- nothing happens in a cycle and nothing is said: the host and the controller rest, the lights stay, and the clock, which
--- no one but the keyboard drives then, doesn't fall
+-- nothing happens in a cycle and nothing is said: the host and the controller rest, the lights stay, and the clock,
+-- which no one but the keyboard drives then, doesn't fall
 abbrev pub is_quiet : ℕ → ℕ → Option HostEvent → Outside → Bool
 is_quiet now p2 next o =
     (is_at_rest o.desk && not (is_due now next)) && (lights_of p2 == o.shown) && not (o.clock && not (latch_of p2).clk)

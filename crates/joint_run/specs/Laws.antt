@@ -8,6 +8,7 @@ use Rattle.joint_run.specs.Joint.{Beside, joint_board, joint_start}
 
 -- a tick start that is reached from one start to the next, n of them before it, is tick start n of the run
 abbrev pub NumberedStarts : Type 0
-NumberedStarts = (edges : List Edge) (events : List HostEvent) (tick : ℕ) (bytes : List ℕ) (n stamp : ℕ) (w : World Beside)
+NumberedStarts =
+    (edges : List Edge) (events : List HostEvent) (tick : ℕ) (bytes : List ℕ) (n stamp : ℕ) (w : World Beside)
     → IsNth (joint_board edges events) tick bytes joint_start n w → at_tick (joint_board edges events) tick w ≡ true
     → w.cycle ≡ 4096 + stamp → IsStart (joint_board edges events) tick bytes joint_start n stamp

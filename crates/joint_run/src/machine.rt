@@ -61,13 +61,13 @@ fn pins(matrix: &Matrix, outside: &Outside, mcu: &Mcu) -> Pins
     }
 }
 
-/// The processor's step over this program, with these levels at its pins.
+/// The processor's step over this program, with these levels at its pins, built into this place.
 fn execute(image: &Image, mcu: &mut Mcu, given: Pins) -> Result<u8, Stuck>
     ensures step { IsStep image.now.bytes mcu.old (stepped image.now.bytes given mcu.old) result mcu.new }
     ensures some { IfOk result (λ cycles. 0 < cycles) }
     ensures few { IfOk result (λ cycles. cycles < 3) }
 {
-    mcu.step(image, given)
+    mcu.step_inlined::<2>(image, given)
 }
 
 /// The latch of port 2.

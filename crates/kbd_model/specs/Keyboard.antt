@@ -10,10 +10,8 @@ use Rattle.kbd_model.specs.Queue.{KeyQueue, empty, first}
 
 -- the ticks left of the power-on test; whether scanning is enabled; whether a parameter is awaited; the reply to a
 -- command, with whether a reset is due once it is sent; whether AA is due, by which the end of the test is told; the
--- last byte sent other than FE; the key queue; the key that repeats; the rate byte; the lights
--- (bit 0 Scroll, bit 1 Num,
--- bit 2 Caps); which places are held, by
--- their numbers
+-- last byte sent other than FE; the key queue; the key that repeats; the rate byte; the lights (bit 0 Scroll, bit 1
+-- Num, bit 2 Caps); which places are held, by their numbers
 pub record Keyboard : Type 0 where
   pub test : ℕ
   pub enabled : Bool

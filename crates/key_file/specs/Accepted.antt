@@ -50,7 +50,8 @@ abbrev pub IsThin : List Edge → Type 0
 IsThin [] = Unit {0}
 IsThin (a ∷ es) = IsFifthLater a es × IsThin es
 
--- what is accepted of a history whatever the layout; the first field says that each edge's place is one of the matrix's 96
+-- what is accepted of a history whatever the layout; the first field says that each edge's place is one of the matrix's
+-- 96
 pub record IsAccepted (history : KeyHistory) : Type 0 where
   pub in_matrix : ArePlaces history.edges
   pub edges_in_order : AreInOrder history.edges

@@ -35,7 +35,8 @@ is_held edge edges = if edge.down then is_down edge.place edges else not (is_dow
 -- fewer than 2,240 cycles since an earlier edge, where there is one; the rule names both stamps
 abbrev pub soon_after : (ℕ → ℕ → Rule) → Option Edge → Edge → List (Judgement Rule)
 soon_after rule None edge = []
-soon_after rule (Some earlier) edge = judge (rule earlier.stamp edge.stamp) (nat_lt edge.stamp (earlier.stamp + 2240)) ∷ []
+soon_after rule (Some earlier) edge =
+    judge (rule earlier.stamp edge.stamp) (nat_lt edge.stamp (earlier.stamp + 2240)) ∷ []
 
 -- the rules of edges: the key's state, the dwell since its last edge, and the density of five edges in a row
 abbrev pub edge_judgements : List Edge → Edge → List (Judgement Rule)

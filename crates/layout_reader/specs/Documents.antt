@@ -16,7 +16,8 @@ use Rattle.layout_reader.specs.Layouts.{KeyLayout}
 abbrev pub entries_from : List LayoutEntry → Items → Result (List LayoutEntry) Refusal
 entries_from earlier no_items = Ok earlier
 entries_from earlier (item element more) =
-    and_then (at_entry (length earlier + 1) (entry_from earlier element)) (λ entry. entries_from (earlier ++ entry ∷ []) more)
+    and_then (at_entry (length earlier + 1) (entry_from earlier element))
+    (λ entry. entries_from (earlier ++ entry ∷ []) more)
 
 -- the layout of a tree, or its first fault: first the top level, which is entry 0, then the entries
 unfoldable pub layout_of : Members → Result KeyLayout Refusal

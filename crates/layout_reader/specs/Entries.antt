@@ -13,12 +13,14 @@ use Rattle.layout_reader.specs.Fields.{has_other_field, has_field, is_not_text, 
 
 -- the key whose code the entry sends; where it names none, its own
 unfoldable pub sends_in : Members → Option ℕ
-sends_in fields = if has_field (codes "sends") fields then key_at (codes "sends") fields else key_at (codes "key") fields
+sends_in fields =
+    if has_field (codes "sends") fields then key_at (codes "sends") fields else key_at (codes "key") fields
 
 -- the place in the entry's column and row
 unfoldable pub place_in : Members → Option ℕ
 place_in fields =
-    option_and_then (λ column. option_and_then (place_at column) (byte_at (codes "row") fields)) (byte_at (codes "column") fields)
+    option_and_then (λ column. option_and_then (place_at column) (byte_at (codes "row") fields))
+    (byte_at (codes "column") fields)
 
 -- the entry of the fields, where nothing is wrong with them
 abbrev pub entry_of : Members → Entry
@@ -35,12 +37,24 @@ is_place_taken earlier place = list_any (λ entry. entry.place == place) earlier
 unfoldable pub is_key_named : List Entry → ℕ → Bool
 is_key_named earlier key = list_any (λ entry. entry.key == key) earlier
 
+-- an entry names no key, no column or no row
+abbrev pub lacks_field : Members → Bool
+lacks_field fields =
+    not (has_field (codes "key") fields) || not (has_field (codes "column") fields)
+    || not (has_field (codes "row") fields)
+
+-- a key's name is no text, or a column or a row no whole number
+abbrev pub has_wrong_kind : Members → Bool
+has_wrong_kind fields =
+    is_not_text (codes "key") fields || is_not_whole (codes "column") fields || is_not_whole (codes "row") fields
+    || is_not_text (codes "sends") fields
+
 -- the questions for an entry, in their order
 abbrev pub entry_judgements : List Entry → Members → List Judgement
 entry_judgements earlier fields =
     judge UnknownField (has_other_field level.Entry fields)
-    ∷ judge MissingField (not (has_field (codes "key") fields) || not (has_field (codes "column") fields) || not (has_field (codes "row") fields))
-    ∷ judge WrongKind (is_not_text (codes "key") fields || is_not_whole (codes "column") fields || is_not_whole (codes "row") fields || is_not_text (codes "sends") fields)
+    ∷ judge MissingField (lacks_field fields)
+    ∷ judge WrongKind (has_wrong_kind fields)
     ∷ judge UnknownKey (is_none (key_at (codes "key") fields) || is_none (sends_in fields))
     ∷ judge PlaceOutOfRange (is_none (place_in fields))
     ∷ judge PlaceTaken (is_place_taken earlier (entry_of fields).place)

@@ -30,12 +30,18 @@ abbrev pub is_empty : Items → Bool
 is_empty no_items = true
 is_empty (item element more) = false
 
+-- the format or the rate is no whole number, the entries are no list, or the name is no text
+abbrev pub has_wrong_kind : Members → Bool
+has_wrong_kind top =
+    is_not_whole (codes "format") top || is_not_list (codes "key") top || is_not_text (codes "name") top
+    || is_not_whole (codes "rate") top
+
 -- the questions for the top level, in their order
 abbrev pub top_judgements : Members → List Judgement
 top_judgements top =
     judge UnknownField (has_other_field Top top)
     ∷ judge MissingField (not (has_field (codes "format") top) || not (has_field (codes "key") top))
-    ∷ judge WrongKind (is_not_whole (codes "format") top || is_not_list (codes "key") top || is_not_text (codes "name") top || is_not_whole (codes "rate") top)
+    ∷ judge WrongKind (has_wrong_kind top)
     ∷ judge WrongFormat (not (is_whole 1 (whole_at (codes "format") top)))
     ∷ judge RateOutOfRange (is_none (rate_in top))
     ∷ judge NoEntries (is_empty (elements_in top))

@@ -13,9 +13,8 @@ impl Running {
     ghost use Rattle.std.specs.Prelude.{◌≡◌, ℕ, ◌<◌, ◌^◌, true, false, IfOk};
     ghost use Rattle.ctl_link.specs.Empty.{is_held};
     ghost use Rattle.ctl_link.specs.Link.{is_busy};
-    ghost use Rattle.byte_time.specs.declared.meeting.Meeting.TheVariants.{Sent, Got};
-    ghost use Rattle.byte_time.specs.ByteTime.{happened_at, Begins, Arrives, IsWhole, carried};
-    ghost use Rattle.link_model.specs.Passing.{MayBegin};
+    ghost use Rattle.byte_time.specs.ByteTime.{happened_at, Begins, carried};
+    ghost use Rattle.link_model.specs.Passing.{MayBegin, ending, passed_over};
 
     /// The cycles of a tick's meeting, 321 from `now` on, which is at offset 288.
     pub(crate) fn carry(
@@ -29,8 +28,8 @@ impl Running {
         ensures { IfOk result (λ u. self.new ≡ carried events.now meeting now self.old) }
     {
         match meeting {
-            Meeting::Sent(byte) => self.carry_from_keyboard(events, byte, now),
-            Meeting::Got(byte) => self.carry_to_keyboard(events, byte, now),
+            Meeting::Sent(byte) => self.carry_byte(events, Some(byte), now),
+            Meeting::Got(_) => self.carry_byte(events, None, now),
             Meeting::Inhibited | Meeting::Idle | Meeting::Cut => self.run_on(
                 events,
                 now,
@@ -39,38 +38,20 @@ impl Running {
         }
     }
 
-    /// The keyboard's byte begins and arrives.
-    fn carry_from_keyboard(
+    /// A byte begins and ends: the keyboard's, which arrives, or one for it, where none arrives.
+    fn carry_byte(
         &mut self,
         events: &[HostEvent],
-        byte: u8,
+        arriving: Option<u8>,
         now: u64,
     ) -> Result<(), AllocError>
         requires near { now < 2 ^ 62 }
         requires may_begin { is_held self.old.port.link ≡ false }
-        ensures { IfOk result (λ u. self.new ≡ carried events.now (Sent byte) now self.old) }
+        ensures { IfOk result (λ u. self.new ≡ passed_over events.now arriving now self.old) }
     {
-        self.begin(true);
+        self.begin(arriving.is_some());
         self.run_on(events, now, now + BYTE)?;
-        self.arrive(now + BYTE, byte);
-        self.run_on(events, now + BYTE, now + BYTE + 1)?;
-        Ok(())
-    }
-
-    /// A byte for the keyboard begins and is handed over.
-    fn carry_to_keyboard(
-        &mut self,
-        events: &[HostEvent],
-        byte: u8,
-        now: u64,
-    ) -> Result<(), AllocError>
-        requires near { now < 2 ^ 62 }
-        requires may_begin { is_held self.old.port.link ≡ false }
-        ensures { IfOk result (λ u. self.new ≡ carried events.now (Got byte) now self.old) }
-    {
-        self.begin(false);
-        self.run_on(events, now, now + BYTE)?;
-        self.hand_over();
+        self.end_byte(now + BYTE, arriving);
         self.run_on(events, now + BYTE, now + BYTE + 1)?;
         Ok(())
     }
@@ -83,19 +64,14 @@ impl Running {
         self.desk.port.link = Link::Busy(UnderWay { from_keyboard });
     }
 
-    /// The keyboard's byte has arrived.
-    fn arrive(&mut self, now: u64, byte: u8)
+    /// The byte under way ends: the keyboard's has arrived, or that for it is whole.
+    fn end_byte(&mut self, now: u64, arriving: Option<u8>)
         requires { is_busy self.old.port.link ≡ true }
-        ensures { self.new ≡ record self.old { port = happened_at now (Arrives byte) self.old.port } }
+        ensures { self.new ≡ record self.old { port = happened_at now (ending arriving) self.old.port } }
     {
-        self.desk.port.receive(now, Some(byte));
-    }
-
-    /// The byte for the keyboard is whole.
-    fn hand_over(&mut self)
-        requires { is_busy self.old.port.link ≡ true }
-        ensures { (now : ℕ) → self.new ≡ record self.old { port = happened_at now IsWhole self.old.port } }
-    {
-        self.desk.port.hand_over();
+        match arriving {
+            Some(byte) => self.desk.port.receive(now, Some(byte)),
+            None => self.desk.port.hand_over(),
+        }
     }
 }

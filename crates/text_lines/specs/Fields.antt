@@ -1,4 +1,5 @@
--- The parts of a line. The lines of a text are those of std's `lines`: they end with LF, a CR before an LF is dropped, and a last piece counts where it isn't empty.
+-- The parts of a line. The lines of a text are those of std's `lines`: they end with LF, a CR before an LF is dropped,
+-- and a last piece counts where it isn't empty.
 use Rattle.std.specs.Prelude.{ℕ, Bool, false, List, [], ◌∷◌, ◌==◌, ◌||◌, nat_lt, length}
 use Rattle.std.specs.List.{list_all, slice_split, filter}
 

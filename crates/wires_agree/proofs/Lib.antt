@@ -1,6 +1,5 @@
 pub mod Between
 pub mod Frames
-pub mod Latches
 pub mod Looked
 pub mod Meetings
 pub mod Pulls

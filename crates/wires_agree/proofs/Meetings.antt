@@ -36,7 +36,8 @@ stays_request events now s byte e =
     (ap (λ l. (took_where now (held_since now p.awaits l) (if p.core.output_full then None else taken p.core) p).port.link) e ∙ e)
 
 module _ (events : List HostEvent) (latch : ℕ → Lines) where
-  requests : (n now : ℕ) (b : Pc) (byte : ℕ) → ((o : ℕ) → now ≤ o → o < now + n → (latch o).clk ≡ true) → b.side.port.link ≡ Request byte
+  -- and so over cycles that leave the clock alone
+  pub requests : (n now : ℕ) (b : Pc) (byte : ℕ) → ((o : ℕ) → now ≤ o → o < now + n → (latch o).clk ≡ true) → b.side.port.link ≡ Request byte
       → (board_cycles events latch n now b).side.port.link ≡ Request byte
   requests zero now b byte up e = e
   requests (suc n) now b byte up e =

@@ -11,7 +11,8 @@ IsUp latch from to = (o : ℕ) → from ≤ o → o < to → (latch o).clk ≡ t
 abbrev pub IsDown : (ℕ → Lines) → ℕ → ℕ → Type 0
 IsDown latch from to = (o : ℕ) → from ≤ o → o < to → (latch o).clk ≡ false
 
--- a cell: the clock falls at its first cycle, with this level of data; it doesn't fall again; it is high at its last cycle
+-- a cell: the clock falls at its first cycle, with this level of data; it doesn't fall again; it is high at its last
+-- cycle
 pub record IsCell (latch : ℕ → Lines) (from : ℕ) (dat : Bool) : Type 0 where
   pub falls : (latch from).clk ≡ false
   pub level : (latch from).dat ≡ dat

@@ -42,7 +42,8 @@ WhilePulled =
 abbrev pub StampZeroFirst : Type 0
 StampZeroFirst =
     (events : List HostEvent) (latch : ℕ → Lines) (n now : ℕ) → now + n ≤ 4096
-    → ((o : ℕ) → now ≤ o → o < now + n → (latch o).clk ≡ true) → board_cycles events latch n now pc_at_start ≡ pc_at_start
+    → ((o : ℕ) → now ≤ o → o < now + n → (latch o).clk ≡ true)
+    → board_cycles events latch n now pc_at_start ≡ pc_at_start
 
 -- what the keyboard reads of the controller's frame, from cycle n of cell k on: the bit behind the edge
 abbrev pub FrameShown : Type 0

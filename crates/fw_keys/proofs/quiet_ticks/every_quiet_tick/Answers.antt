@@ -1,4 +1,4 @@
-use Rattle.fw_logic.specs.Cadence.{numbered}
+use Rattle.fw_logic.specs.Boards.{numbered}
 use Rattle.fw_keys.proofs.QuietTick.{quiet_tick}
 use Rattle.fw_keys.proofs.quiet_ticks.every_quiet_tick.Goals as goal
 

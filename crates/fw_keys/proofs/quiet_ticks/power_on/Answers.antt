@@ -1,4 +1,4 @@
-use Rattle.fw_logic.specs.Cadence.{numbered}
+use Rattle.fw_logic.specs.Boards.{numbered}
 use Rattle.fw_keys.proofs.PowerOn.{starts}
 use Rattle.fw_keys.proofs.quiet_ticks.power_on.Goals as goal
 

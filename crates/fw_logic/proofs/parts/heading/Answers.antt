@@ -1,4 +1,4 @@
-use Rattle.fw_logic.specs.Cadence.{numbered}
+use Rattle.fw_logic.specs.Boards.{numbered}
 use Rattle.fw_logic.proofs.HeadLaw.{head_law}
 use Rattle.fw_logic.proofs.parts.heading.Goals as goal
 

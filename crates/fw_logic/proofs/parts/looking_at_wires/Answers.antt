@@ -1,4 +1,4 @@
-use Rattle.fw_logic.specs.Cadence.{numbered}
+use Rattle.fw_logic.specs.Boards.{numbered}
 use Rattle.fw_logic.proofs.BlockLaws.{looks_law}
 use Rattle.fw_logic.proofs.parts.looking_at_wires.Goals as goal
 

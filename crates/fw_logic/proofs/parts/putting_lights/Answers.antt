@@ -1,4 +1,4 @@
-use Rattle.fw_logic.specs.Cadence.{numbered}
+use Rattle.fw_logic.specs.Boards.{numbered}
 use Rattle.fw_logic.proofs.BlockLaws.{lamps_law}
 use Rattle.fw_logic.proofs.parts.putting_lights.Goals as goal
 

@@ -1,4 +1,4 @@
-use Rattle.fw_logic.specs.Cadence.{numbered}
+use Rattle.fw_logic.specs.Boards.{numbered}
 use Rattle.fw_logic.proofs.BlockLaws.{columns_law}
 use Rattle.fw_logic.proofs.parts.reading_columns.Goals as goal
 
