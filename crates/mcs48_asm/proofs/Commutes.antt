@@ -7,13 +7,15 @@ use Rattle.mcs48_asm.specs.declared.flaw.Flaw.{Flaw}
 use Rattle.mcs48_asm.specs.declared.flaw.Flaw.TheVariants.{Misfit}
 use Rattle.mcs48_asm.specs.declared.rows.Row.{Row as KeptRow}
 use Rattle.mcs48_asm.specs.Characters.{is_comma}
-use Rattle.mcs48_asm.specs.Words.{trimmed, run_of, tail_of}
-use Rattle.mcs48_asm.specs.Views.{form_seen, kept_fit}
+use Rattle.mcs48_asm.specs.Reading.Words.{trimmed, run_of, tail_of}
+use Rattle.mcs48_asm.specs.Reading.Views.{form_seen, kept_fit}
 use Rattle.mcs48_asm.specs.declared.argument.Role.{Role}
 use Rattle.mcs48_asm.specs.Capped.{value_capped, argument_capped, reading_capped, statement_capped, found_capped, line_capped}
-use Rattle.mcs48_asm.specs.Values.{Value, Number, value_of}
+use Rattle.mcs48_asm.specs.Values.{Value, Number}
+use Rattle.mcs48_asm.specs.Reading.Values.{value_of}
 use Rattle.mcs48_asm.specs.Rows.{Argument, Reading, given, joined, both, instructions}
-use Rattle.mcs48_asm.specs.Statements.{Statement, instruction_with, instruction_in, first_fit, line_with, values_of, parts_of}
+use Rattle.mcs48_asm.specs.Statements.{Statement, instruction_with, line_with}
+use Rattle.mcs48_asm.specs.Reading.Statements.{instruction_in, first_fit, values_of, parts_of}
 
 pub is_some-map : {A B : Type 0} (f : A → B) (o : Option A) → is_some (option_map f o) ≡ is_some o
 is_some-map f None = refl

@@ -6,10 +6,12 @@ use Rattle.std.specs.Str.{bytes_eq}
 use Rattle.std.specs.Map.{lookup}
 use Rattle.std.proofs.lemmas.Slice.Eq.{bytes_eq-Decides}
 use Rattle.indexmap.specs.IndexMap.{insert_entry}
-use Rattle.mcs48_asm.specs.Values.{Value, Number, value_of}
-use Rattle.mcs48_asm.specs.Statements.{Data, values_of}
+use Rattle.mcs48_asm.specs.Values.{Value, Number}
+use Rattle.mcs48_asm.specs.Reading.Values.{value_of}
+use Rattle.mcs48_asm.specs.Statements.{Data}
+use Rattle.mcs48_asm.specs.Reading.Statements.{values_of}
 use Rattle.mcs48_asm.specs.Capped.{value_capped, statement_capped}
-use Rattle.mcs48_asm.specs.Views.{kept_value, kept_part}
+use Rattle.mcs48_asm.specs.Reading.Views.{kept_value, kept_part}
 
 pub lookup-kept : (entries : List (Bor (List ℕ) × ℕ)) (name : List ℕ) → lookup (λ (key : Bor (List ℕ)). bytes_eq name key.now) entries ≡ kept_value entries name
 lookup-kept [] name = refl

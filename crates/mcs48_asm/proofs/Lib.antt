@@ -1,3 +1,15 @@
+pub mod Reserved
+pub mod Worded
+pub mod Shaped
+pub mod Alone
+pub mod EntryRanges
+pub mod ByteAlone
+pub mod EntryBytes
+pub mod EntryLines
+pub mod Entries
+pub mod SameLines
+pub mod Says
+pub mod Tokenized
 pub mod Commutes
 pub mod Tables
 pub mod Worked
@@ -15,9 +27,7 @@ pub mod Large
 pub mod Plain
 pub mod Readings
 pub mod Numerals
-pub mod Fits
 pub mod Shapes
-pub mod Opcodes
 pub mod Sizes
 pub mod Listed
 pub mod RoundTrip

@@ -6,13 +6,12 @@ use Rattle.std.proofs.lemmas.Bool.Decides.{nat_tests}
 use Rattle.hex_text.specs.Digits.{hex_digit}
 use Rattle.mcs48_isa.specs.Text.{value, address}
 use Rattle.mcs48_asm.specs.Characters.{is_word_character}
-use Rattle.mcs48_asm.specs.Values.{Number, digit_value, number_in, number_of, number_or_name, value_of}
+use Rattle.mcs48_asm.specs.Values.{digit_value, number_in, number_of}
 
--- a text is one word, which writes a number
+-- a text is one word, which is a number
 pub record IsNumeral (text : List ℕ) (n : ℕ) : Type 0 where
   pub word : list_all is_word_character text ≡ true
   pub number : number_of text ≡ Some n
-  pub value : value_of text ≡ Some (Number n)
 
 digit-word : (n : ℕ) → n < 16 → is_word_character (hex_digit n) ≡ true
 digit-word n h = grind (arith, nat_tests)
@@ -60,7 +59,6 @@ value-numeral n h =
     record {
       word = and_from _ _ (digit-word (n / 16) (omega arith)) (and_from _ _ (digit-word (n % 16) (omega arith)) refl);
       number = value-number n h;
-      value = ap (λ found. number_or_name found (value n)) (value-number n h);
     }
 
 -- an address
@@ -69,5 +67,4 @@ address-numeral a h =
     record {
       word = and_from _ _ (digit-word (a / 256 % 16) (omega arith)) (and_from _ _ (digit-word (a % 256 / 16) (omega arith)) (and_from _ _ (digit-word (a % 256 % 16) (omega arith)) refl));
       number = address-number a h;
-      value = ap (λ found. number_or_name found (address a)) (address-number a h);
     }

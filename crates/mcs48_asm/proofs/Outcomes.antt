@@ -5,7 +5,8 @@ use Rattle.std.specs.declared.result.Result.{Result}
 use Rattle.mcs48_isa.specs.declared.image.Image.{Image}
 use Rattle.mcs48_asm.specs.declared.fault.AsmFault.{AsmFault}
 use Rattle.mcs48_asm.specs.Names.{Meanings, definitions, value_named}
-use Rattle.mcs48_asm.specs.Capped.{kept_line, kept_places}
+use Rattle.mcs48_asm.specs.Capped.{kept_places}
+use Rattle.mcs48_asm.specs.Reading.Views.{kept_line}
 use Rattle.mcs48_asm.specs.Assembly.{outcome_of}
 use Rattle.mcs48_asm.specs.Answers.{IsOutcome}
 

@@ -10,7 +10,8 @@ use Rattle.std.specs.Str.Lines.{lines}
 use Rattle.mcs48_asm.specs.declared.flaw.Flaw.{Flaw}
 use Rattle.mcs48_asm.specs.declared.flaw.Flaw.TheVariants.{Misfit, UnknownName, NameTaken, OffPage, PastEnd, PlaceTaken}
 use Rattle.mcs48_asm.specs.Flaws.{number_of}
-use Rattle.mcs48_asm.specs.Capped.{capped, kept_line, kept_places}
+use Rattle.mcs48_asm.specs.Capped.{capped, kept_places}
+use Rattle.mcs48_asm.specs.Reading.Views.{kept_line}
 use Rattle.mcs48_asm.specs.Statements.{Line}
 use Rattle.mcs48_asm.specs.Places.{Placed, places, covers, is_filled, count_of, start_of}
 use Rattle.mcs48_asm.specs.Faults.{fault_of, is_past_end, is_filled_again, is_refused, has_unknown_name, is_defined_again, is_off_page}

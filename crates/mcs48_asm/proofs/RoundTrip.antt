@@ -7,8 +7,8 @@ use Rattle.mcs48_isa.specs.Text.{text_of}
 use Rattle.mcs48_isa.specs.Listing.{that_fits, statement_of, size_of, listing_of}
 use Rattle.mcs48_asm.specs.Assembly.{assembly_of}
 use Rattle.mcs48_asm.proofs.Readings.{IsRead, text_at, bytes_at}
-use Rattle.mcs48_asm.proofs.Shapes.{byte_alone}
-use Rattle.mcs48_asm.proofs.Opcodes.{row_reads}
+use Rattle.mcs48_asm.proofs.ByteAlone.{byte_alone}
+use Rattle.mcs48_asm.proofs.EntryBytes.{row_reads}
 use Rattle.mcs48_asm.proofs.Sizes.{byte_below, sized}
 use Rattle.mcs48_asm.proofs.Listed.{listing-assembles}
 

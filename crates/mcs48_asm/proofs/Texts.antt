@@ -5,9 +5,10 @@ use Rattle.std.proofs.lemmas.Bool.Decides.{nat_tests}
 use Rattle.mcs48_isa.specs.Instructions.{Operand}
 use Rattle.mcs48_asm.specs.declared.flaw.Flaw.TheVariants.{Syntax}
 use Rattle.mcs48_asm.specs.Characters.{is_comma, is_colon}
-use Rattle.mcs48_asm.specs.Words.{trimmed}
-use Rattle.mcs48_asm.specs.Statements.{flawed, line_of_parts}
-use Rattle.mcs48_asm.specs.Rows.{read_all, operands_of}
+use Rattle.mcs48_asm.specs.Reading.Words.{trimmed}
+use Rattle.mcs48_asm.specs.Statements.{flawed}
+use Rattle.mcs48_asm.specs.Reading.Statements.{line_of_parts}
+use Rattle.mcs48_asm.specs.Reading.Operands.{read_all, operands_of}
 use Rattle.text_lines.proofs.FirstLine.{split-is_cons}
 
 filled : (c : ℕ) (cs : List ℕ) → (length (c ∷ cs) == 0) ≡ false

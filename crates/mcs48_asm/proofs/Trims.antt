@@ -2,7 +2,7 @@
 use Rattle.std.proofs.Common.{◌≡◌, ℕ, ◌-◌, ◌≤◌, true, false, List, [], ◌∷◌, ◌++◌, length, take, get_or, suc, refl, ap, sym, ◌∙◌, arith}
 use Rattle.std.proofs.Math.Seq.{take-suc, take-length}
 use Rattle.mcs48_asm.specs.Characters.{is_blank}
-use Rattle.mcs48_asm.specs.Words.{trimmed_end, onto_trimmed}
+use Rattle.mcs48_asm.specs.Reading.Words.{trimmed_end, onto_trimmed}
 
 trimmed_end-blank : (xs : List ℕ) (b : ℕ) → is_blank b ≡ true → trimmed_end (xs ++ b ∷ []) ≡ trimmed_end xs
 trimmed_end-blank [] b h = rw h refl

@@ -5,7 +5,7 @@ use Rattle.std.specs.declared.result.Result.{Result}
 use Rattle.mcs48_asm.specs.declared.flaw.Flaw.{Flaw}
 use Rattle.mcs48_asm.specs.Values.{Value, Number, Named, Low}
 use Rattle.mcs48_asm.specs.Rows.{Argument, Reading}
-use Rattle.mcs48_asm.specs.Statements.{Statement, Nothing, Instruction, Origin, Data, Equate, Line, line_of}
+use Rattle.mcs48_asm.specs.Statements.{Statement, Nothing, Instruction, Origin, Data, Equate, Line}
 use Rattle.mcs48_asm.specs.Places.{Placed, start_of, count_of}
 
 -- 65,536 stands for each number past 65,535
@@ -38,10 +38,6 @@ found_capped (Err flaw) = Err flaw
 -- a line with 65,536 for each number past 65,535
 abbrev pub line_capped : Line → Line
 line_capped line = record { flaw = line.flaw; label = line.label; statement = statement_capped line.statement }
-
--- what the program keeps of a line
-abbrev pub kept_line : List ℕ → Line
-kept_line line = line_capped (line_of line)
 
 -- the lines, each with its place, where 65,536 stands for each place past 65,535
 abbrev pub kept_places : ℕ → List Line → List Placed

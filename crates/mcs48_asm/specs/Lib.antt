@@ -1,6 +1,5 @@
-pub mod Capped
 pub mod Characters
-pub mod Words
+pub mod Tokens
 pub mod Values
 pub mod Rows
 pub mod Flaws
@@ -9,6 +8,7 @@ pub mod Places
 pub mod Names
 pub mod Faults
 pub mod Assembly
-pub mod Views
 pub mod Answers
 pub mod Examples
+pub mod Capped
+pub mod Reading

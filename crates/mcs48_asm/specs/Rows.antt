@@ -1,6 +1,6 @@
 -- Which operands an instruction may have, and what they say.
-use Rattle.std.specs.Prelude.{ℕ, ◌+◌, ◌-◌, Bool, true, List, [], ◌∷◌, ◌==◌, ◌&&◌, ◌||◌, length, nat_le, map, Some, None, if◌then◌else◌, codes}
-use Rattle.std.specs.List.{list_any, list_all, slice_split, filter_map, range_with_len}
+use Rattle.std.specs.Prelude.{ℕ, ◌+◌, ◌-◌, Bool, true, List, [], ◌∷◌, ◌==◌, ◌&&◌, ◌||◌, nat_le, Some, None, if◌then◌else◌, codes}
+use Rattle.std.specs.List.{list_any, list_all, filter_map, range_with_len}
 use Rattle.std.specs.Option.{option_map, option_and_then, option_or}
 use Rattle.std.specs.Str.{bytes_eq}
 use Rattle.std.specs.declared.option.Option.{Option}
@@ -8,8 +8,7 @@ use Rattle.mcs48_isa.specs.Instructions.{Operand, Is, Register, Pointer, Expande
 use Rattle.mcs48_isa.specs.Table.{row_of}
 use Rattle.mcs48_asm.specs.declared.argument.Role.{Role}
 use Rattle.mcs48_asm.specs.declared.argument.Role.TheVariants as role
-use Rattle.mcs48_asm.specs.Characters.{is_comma}
-use Rattle.mcs48_asm.specs.Words.{trimmed}
+use Rattle.mcs48_asm.specs.Tokens.{parts_of, alone}
 use Rattle.mcs48_asm.specs.Values.{Value, value_of}
 
 -- an instruction as a source writes it: its word, what its operands are, and its first byte before numbers are added
@@ -95,19 +94,24 @@ expander (letter ∷ digit ∷ []) = if letter == 80 then numbered 52 55 digit e
 expander _ = None
 
 -- # and a value
-abbrev pub immediate : List ℕ → Option Value
-immediate [] = None
-immediate (mark ∷ text) = if mark == 35 then value_of text else None
+abbrev pub immediate : List (List ℕ) → Option Value
+immediate ((mark ∷ word) ∷ tokens) = if mark == 35 then value_of (word ∷ tokens) else None
+immediate _ = None
 
--- what a text says as an operand like this, where it is one
-abbrev pub read : Operand → List ℕ → Option Reading
-read (Is word) text = if bytes_eq word text then Some (fixed 0) else None
-read (Register r) text = option_map fixed (register text)
-read (Pointer i) text = option_map fixed (pointer text)
-read (Expander p) text = option_map fixed (expander text)
-read (Immediate n) text = option_map (given role.Byte) (immediate text)
-read (Address a) text = option_map (given role.Address) (value_of text)
-read (Target n) text = option_map (given role.Target) (value_of text)
+-- a word of the table
+abbrev pub word_read : List ℕ → List ℕ → Option Reading
+word_read word token = if bytes_eq word token then Some (fixed 0) else None
+
+-- what tokens say as an operand like this, where they are one: it as the table writes it, with any number, and a value
+-- where the table has one
+abbrev pub read : Operand → List (List ℕ) → Option Reading
+read (Is word) tokens = alone (word_read word) tokens
+read (Register r) tokens = option_map fixed (alone register tokens)
+read (Pointer i) tokens = option_map fixed (alone pointer tokens)
+read (Expander p) tokens = option_map fixed (alone expander tokens)
+read (Immediate n) tokens = option_map (given role.Byte) (immediate tokens)
+read (Address a) tokens = option_map (given role.Address) (value_of tokens)
+read (Target n) tokens = option_map (given role.Target) (value_of tokens)
 
 -- what two operands say together
 abbrev pub joined : Reading → Reading → Reading
@@ -118,13 +122,12 @@ joined first second =
 abbrev pub both : Option Reading → Option Reading → Option Reading
 both first second = option_and_then (λ said. option_map (joined said) second) first
 
--- what texts say as the operands of an instruction, where they are
+-- what tokens say as the operands of an instruction, a comma between two, where they are
+abbrev pub read_parts : List Operand → List (List (List ℕ)) → Option Reading
+read_parts (operand ∷ []) (tokens ∷ []) = read operand tokens
+read_parts (first ∷ second ∷ []) (tokens ∷ other ∷ []) = both (read first tokens) (read second other)
+read_parts _ _ = None
+
 abbrev pub read_all : List Operand → List (List ℕ) → Option Reading
 read_all [] [] = Some (fixed 0)
-read_all (operand ∷ []) (text ∷ []) = read operand text
-read_all (first ∷ second ∷ []) (text ∷ other ∷ []) = both (read first text) (read second other)
-read_all _ _ = None
-
--- the texts of the operands behind the first word: the parts between commas, without the blanks round them
-abbrev pub operands_of : List ℕ → List (List ℕ)
-operands_of text = if length text == 0 then [] else map trimmed (slice_split is_comma text)
+read_all operands tokens = read_parts operands (parts_of tokens)

@@ -1,10 +1,11 @@
 -- Numbers and values.
-use Rattle.std.specs.Prelude.{ℕ, ◌+◌, ◌-◌, ◌*◌, Bool, List, ◌==◌, ◌&&◌, nat_le, nat_lt, fold, length, take, slice_index, Some, None, if◌then◌else◌, codes}
+use Rattle.std.specs.Prelude.{ℕ, ◌+◌, ◌-◌, ◌*◌, Bool, List, [], ◌∷◌, ◌==◌, ◌&&◌, nat_le, nat_lt, fold, length, take, slice_index, Some, None, if◌then◌else◌, codes}
 use Rattle.std.specs.List.{list_all}
+use Rattle.std.specs.Option.{option_map}
 use Rattle.std.specs.Str.{bytes_eq}
 use Rattle.std.specs.declared.option.Option.{Option}
 use Rattle.mcs48_asm.specs.Characters.{is_digit}
-use Rattle.mcs48_asm.specs.Words.{run_of, tail_of, is_name}
+use Rattle.mcs48_asm.specs.Tokens.{name_of}
 
 -- the value of a digit, 0 to 9 or A to F; any other character is 16, which is no digit of a base
 abbrev pub digit_value : ℕ → ℕ
@@ -29,8 +30,8 @@ last_of text = slice_index text (length text - 1)
 abbrev pub front_of : List ℕ → List ℕ
 front_of text = take (length text - 1) text
 
--- the number that a word writes: hexadecimal digits that begin with a decimal one and H, binary digits and B, or decimal
--- digits
+-- the number that a word writes: hexadecimal digits that begin with a decimal one and H, binary digits and B, or
+-- decimal digits
 abbrev pub number_of : List ℕ → Option ℕ
 number_of word =
     if last_of word == 72 then (if is_digit (slice_index word 0) then number_in 16 (front_of word) else None)
@@ -42,16 +43,17 @@ pub data Value : Type 0 where
   Named : List ℕ → Value
   Low : List ℕ → Value
 
--- what a text that is no number gives: a name, or LOW and a name
-abbrev pub name_value : List ℕ → Option Value
-name_value text =
-    if is_name text then Some (Named text)
-    else (if bytes_eq (run_of text) (codes "LOW") && is_name (tail_of text) then Some (Low (tail_of text)) else None)
-
+-- what a token that is no number gives: a name
 abbrev pub number_or_name : Option ℕ → List ℕ → Option Value
-number_or_name (Some n) text = Some (Number n)
-number_or_name None text = name_value text
+number_or_name (Some n) token = Some (Number n)
+number_or_name None token = option_map Named (name_of token)
 
--- the value that a text writes
-abbrev pub value_of : List ℕ → Option Value
-value_of text = number_or_name (number_of text) text
+-- LOW and a name
+abbrev pub low_of : List ℕ → List ℕ → Option Value
+low_of low name = if bytes_eq low (codes "LOW") then option_map Low (name_of name) else None
+
+-- the value that tokens write
+abbrev pub value_of : List (List ℕ) → Option Value
+value_of (token ∷ []) = number_or_name (number_of token) token
+value_of (low ∷ name ∷ []) = low_of low name
+value_of _ = None

@@ -4,8 +4,9 @@ ghost use Rattle.std.specs.Prelude.{◌≡◌, ◌≤◌, List, ℕ, Ok, length,
 ghost use Rattle.std.specs.Char.{to_ascii_uppercase};
 ghost use Rattle.std.specs.Str.Lines.{lines};
 ghost use Rattle.mcs48_asm.specs.Assembly.{outcome_of, assembly_of};
-ghost use Rattle.mcs48_asm.specs.Capped.{kept_line, kept_places};
-ghost use Rattle.mcs48_asm.specs.Views.{kept_value};
+ghost use Rattle.mcs48_asm.specs.Capped.{kept_places};
+ghost use Rattle.mcs48_asm.specs.Reading.Views.{kept_line};
+ghost use Rattle.mcs48_asm.specs.Reading.Views.{kept_value};
 ghost use Rattle.mcs48_asm.specs.Answers.{IsOutcome};
 ghost use Rattle.mcs48_isa.specs.Memory.{IsMemory};
 ghost use Rattle.mcs48_isa.specs.Listing.{listing_of};

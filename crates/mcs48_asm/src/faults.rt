@@ -5,8 +5,8 @@ ghost use Rattle.std.specs.List.{list_any};
 ghost use Rattle.mcs48_asm.specs.Faults.{is_above, is_past, is_too_large, arguments, is_outside, has_wrong_number, is_equate, has_labelled_equate, has_unknown_name, is_refused, is_defined_again, is_off_page, is_past_end, is_filled_again, fault_of};
 ghost use Rattle.mcs48_asm.specs.Names.{meaning, labelled, equated};
 ghost use Rattle.mcs48_asm.specs.Rows.{is_reserved};
-ghost use Rattle.mcs48_asm.specs.Statements.{parts_of};
-ghost use Rattle.mcs48_asm.specs.Views.{kept_value, kept_part, value_seen, argument_seen, statement_seen, line_seen};
+ghost use Rattle.mcs48_asm.specs.Reading.Statements.{parts_of};
+ghost use Rattle.mcs48_asm.specs.Reading.Views.{kept_value, kept_part, value_seen, argument_seen, statement_seen, line_seen};
 
 use crate::argument::{Argument, Role, Value};
 use crate::flaw::Flaw;

@@ -4,10 +4,12 @@ ghost use Rattle.std.specs.Prelude.{◌≡◌, ◌∷◌, not, []};
 ghost use Rattle.std.specs.List.{list_all, slice_split};
 ghost use Rattle.std.specs.Option.{option_map};
 ghost use Rattle.mcs48_asm.specs.Characters.{is_word_character, is_allowed, is_colon};
-ghost use Rattle.mcs48_asm.specs.Words.{trimmed};
-ghost use Rattle.mcs48_asm.specs.Statements.{statement_of, flawed, line_with, line_of_parts, is_known_word, is_spelled, line_of};
-ghost use Rattle.mcs48_asm.specs.Capped.{line_capped, kept_line};
-ghost use Rattle.mcs48_asm.specs.Views.{found_seen, line_seen};
+ghost use Rattle.mcs48_asm.specs.Reading.Words.{trimmed};
+ghost use Rattle.mcs48_asm.specs.Reading.Statements.{statement_of, line_of_parts, is_known_word, is_spelled};
+ghost use Rattle.mcs48_asm.specs.Statements.{flawed, line_with, line_of};
+ghost use Rattle.mcs48_asm.specs.Capped.{line_capped};
+ghost use Rattle.mcs48_asm.specs.Reading.Views.{kept_line};
+ghost use Rattle.mcs48_asm.specs.Reading.Views.{found_seen, line_seen};
 
 use crate::characters::{is_allowed, is_word_character};
 use crate::flaw::Flaw;

@@ -5,9 +5,11 @@ ghost use Rattle.std.specs.List.{list_any};
 ghost use Rattle.std.specs.Option.{option_map, ForSome};
 ghost use Rattle.std.specs.Str.{bytes_eq};
 ghost use Rattle.mcs48_asm.specs.Characters.{is_blank};
-ghost use Rattle.mcs48_asm.specs.Rows.{instructions, is_instruction, reserved, is_reserved, numbered, register, pointer, expander, immediate, fixed, given, read, joined, both, read_all, operands_of};
+ghost use Rattle.mcs48_asm.specs.Rows.{instructions, is_instruction, reserved, is_reserved, fixed, given, joined, both};
+ghost use Rattle.mcs48_asm.specs.Rows.{numbered, register, pointer, expander};
+ghost use Rattle.mcs48_asm.specs.Reading.Operands.{immediate, read, read_all, operands_of};
 ghost use Rattle.mcs48_asm.specs.Capped.{value_capped, reading_capped};
-ghost use Rattle.mcs48_asm.specs.Views.{value_seen, reading_seen, spelled, operand_seen, operands_seen, form_seen};
+ghost use Rattle.mcs48_asm.specs.Reading.Views.{value_seen, reading_seen, spelled, operand_seen, operands_seen, form_seen};
 
 use crate::argument::{Argument, Reading, Role, Value};
 use crate::characters::is_blank;
@@ -15,6 +17,9 @@ use crate::rows::{Operand, RESERVED, ROWS, Row, Shape};
 use crate::values::value_of;
 use crate::words::trimmed;
 use text_lines::split_once;
+
+/// The most characters of a word that no line defines.
+const LONGEST: usize = 5;
 
 /// The place of the first blank in a word of the table.
 fn place_of_blank(word: &[u8]) -> Option<usize>
@@ -99,12 +104,12 @@ fn is_listed(word: &[u8]) -> bool
     is_among(reserved(), word)
 }
 
-/// Whether no line defines a name.
-#[tactic(auto, unfolding(crate::specs::Rows::is_reserved))]
+/// Whether no line defines a name. Each such word is short, and most names are looked at no further.
+#[tactic(auto, unfolding(crate::specs::Rows::is_reserved), using(crate::proofs::Reserved::reserved_long))]
 pub(crate) fn is_reserved(name: &[u8]) -> bool
     ensures { result ≡ is_reserved name.now }
 {
-    is_listed(name) || is_instruction(name)
+    name.len() <= LONGEST && (is_listed(name) || is_instruction(name))
 }
 
 /// The number of a digit from one to another.

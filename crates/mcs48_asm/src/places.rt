@@ -2,10 +2,10 @@
 
 ghost use Rattle.std.specs.Prelude.{◌≡◌, ◌+◌, ◌≤◌, ◌^◌, count_by, length};
 ghost use Rattle.mcs48_asm.specs.Characters.{is_comma};
-ghost use Rattle.mcs48_asm.specs.Statements.{parts_of};
+ghost use Rattle.mcs48_asm.specs.Reading.Statements.{parts_of};
 ghost use Rattle.mcs48_asm.specs.Capped.{capped};
 ghost use Rattle.mcs48_asm.specs.Places.{count_of, start_of};
-ghost use Rattle.mcs48_asm.specs.Views.{statement_seen};
+ghost use Rattle.mcs48_asm.specs.Reading.Views.{statement_seen};
 
 use crate::statement::Statement;
 

@@ -4,11 +4,12 @@ ghost use Rattle.std.specs.Prelude.{◌≡◌, is_some};
 ghost use Rattle.std.specs.Option.{option_map, ok_or};
 ghost use Rattle.mcs48_asm.specs.declared.flaw.Flaw.TheVariants.{Misfit};
 ghost use Rattle.mcs48_asm.specs.Rows.{instructions};
-ghost use Rattle.mcs48_asm.specs.Words.{run_of, tail_of};
-ghost use Rattle.mcs48_asm.specs.Statements.{Data, values_of, parts_of, equate_of, origin_of, data_of, instruction_with, instruction_in, first_fit, statement_of};
-ghost use Rattle.mcs48_asm.specs.Values.{value_of};
+ghost use Rattle.mcs48_asm.specs.Reading.Words.{run_of, tail_of};
+ghost use Rattle.mcs48_asm.specs.Statements.{Data, instruction_with};
+ghost use Rattle.mcs48_asm.specs.Reading.Statements.{values_of, parts_of, equate_of, origin_of, data_of, instruction_in, first_fit, statement_of};
+ghost use Rattle.mcs48_asm.specs.Reading.Values.{value_of};
 ghost use Rattle.mcs48_asm.specs.Capped.{statement_capped, found_capped};
-ghost use Rattle.mcs48_asm.specs.Views.{reading_seen, statement_seen, found_seen, form_seen, kept_fit};
+ghost use Rattle.mcs48_asm.specs.Reading.Views.{reading_seen, statement_seen, found_seen, form_seen, kept_fit};
 
 use crate::argument::{Argument, Reading};
 use crate::flaw::Flaw;

@@ -3,9 +3,10 @@
 ghost use Rattle.std.specs.Prelude.{◌≡◌, ◌≤◌, nat_lt};
 ghost use Rattle.std.specs.List.{list_all};
 ghost use Rattle.std.specs.Option.{option_map};
-ghost use Rattle.mcs48_asm.specs.Values.{digit_value, are_digits, written, number_in, number_of, name_value, value_of};
+ghost use Rattle.mcs48_asm.specs.Values.{digit_value, are_digits, written, number_in, number_of};
+ghost use Rattle.mcs48_asm.specs.Reading.Values.{name_value, value_of};
 ghost use Rattle.mcs48_asm.specs.Capped.{capped, value_capped};
-ghost use Rattle.mcs48_asm.specs.Views.{kept_part, value_seen};
+ghost use Rattle.mcs48_asm.specs.Reading.Views.{kept_part, value_seen};
 
 use crate::argument::Value;
 use crate::words::{is_name, split_word};

@@ -3,7 +3,8 @@
 ghost use Rattle.std.specs.Prelude.{◌≡◌};
 ghost use Rattle.std.specs.List.{list_all};
 ghost use Rattle.mcs48_asm.specs.Characters.{is_word_character};
-ghost use Rattle.mcs48_asm.specs.Words.{unindented, trimmed_end, trimmed, run_of, after_run, tail_of, from_word, first_word, second_word, is_name};
+ghost use Rattle.mcs48_asm.specs.Reading.Words.{unindented, trimmed_end, trimmed, run_of, after_run, tail_of, from_word, first_word, second_word};
+ghost use Rattle.mcs48_asm.specs.Tokens.{is_name};
 
 use crate::characters::{is_blank, is_initial, is_word_character};
 

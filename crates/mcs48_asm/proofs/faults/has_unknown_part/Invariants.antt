@@ -1,8 +1,8 @@
 use Rattle.std.proofs.Common.{◌≡◌, is_none, length}
 use Rattle.std.specs.List.{list_any}
 use Rattle.mcs48_asm.specs.Names.{meaning}
-use Rattle.mcs48_asm.specs.Statements.{parts_of}
-use Rattle.mcs48_asm.specs.Views.{kept_value, kept_part}
+use Rattle.mcs48_asm.specs.Reading.Statements.{parts_of}
+use Rattle.mcs48_asm.specs.Reading.Views.{kept_value, kept_part}
 use Rattle.mcs48_asm.proofs.faults.has_unknown_part.Given as goal
 
 abbrev pub invariant-loop-part : goal.invariant-loop-part

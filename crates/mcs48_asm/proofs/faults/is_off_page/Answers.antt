@@ -1,6 +1,6 @@
 use Rattle.std.proofs.Common.{sym}
-use Rattle.mcs48_asm.specs.Statements.{parts_of}
-use Rattle.mcs48_asm.specs.Views.{kept_value}
+use Rattle.mcs48_asm.specs.Reading.Statements.{parts_of}
+use Rattle.mcs48_asm.specs.Reading.Views.{kept_value}
 use Rattle.mcs48_asm.proofs.Parts.{outside-parts}
 use Rattle.mcs48_asm.proofs.faults.is_off_page.Goals as goal
 

@@ -3,7 +3,7 @@ use borrow.Author.Tests.{tests}
 use Rattle.std.proofs.lemmas.Iterator.Search.{all_from_yields_List}
 use Rattle.std.proofs.lemmas.Iterator.Splits.{YieldsList-from_slice_split}
 use Rattle.mcs48_asm.specs.Characters.{is_word_character}
-use Rattle.mcs48_asm.specs.Statements.{is_known_word}
+use Rattle.mcs48_asm.specs.Reading.Statements.{is_known_word}
 use Rattle.mcs48_asm.proofs.line.are_known_words.Goals as goal
 
 pub returns : goal.returns

@@ -2,8 +2,9 @@ use Rattle.std.proofs.Common.{ℕ, List, Option, ap, ◌∙◌}
 use Rattle.std.specs.Option.{option_map}
 use Rattle.std.specs.Borrow.{Bor}
 use Rattle.mcs48_asm.specs.Capped.{found_capped}
-use Rattle.mcs48_asm.specs.Statements.{line_with, statement_of}
-use Rattle.mcs48_asm.specs.Words.{trimmed}
+use Rattle.mcs48_asm.specs.Statements.{line_with}
+use Rattle.mcs48_asm.specs.Reading.Statements.{statement_of}
+use Rattle.mcs48_asm.specs.Reading.Words.{trimmed}
 use Rattle.mcs48_asm.proofs.Commutes.{line-capped}
 use Rattle.mcs48_asm.proofs.line.line_with.Goals as goal
 

@@ -1,5 +1,5 @@
-use Rattle.mcs48_asm.specs.Statements.{parts_of}
-use Rattle.mcs48_asm.specs.Views.{kept_value}
+use Rattle.mcs48_asm.specs.Reading.Statements.{parts_of}
+use Rattle.mcs48_asm.specs.Reading.Views.{kept_value}
 use Rattle.mcs48_asm.proofs.Parts.{map-parts}
 use Rattle.mcs48_asm.proofs.meaning.bytes_of.Goals as goal
 

@@ -1,7 +1,7 @@
 use Rattle.std.proofs.Common.{◌≡◌, ◌%◌, ◌++◌, map, length}
 use Rattle.mcs48_asm.specs.Names.{taken}
-use Rattle.mcs48_asm.specs.Statements.{parts_of}
-use Rattle.mcs48_asm.specs.Views.{kept_value, kept_part}
+use Rattle.mcs48_asm.specs.Reading.Statements.{parts_of}
+use Rattle.mcs48_asm.specs.Reading.Views.{kept_value, kept_part}
 use Rattle.mcs48_asm.proofs.meaning.data_bytes.Given as goal
 
 -- the bytes so far, and those of the parts that are left

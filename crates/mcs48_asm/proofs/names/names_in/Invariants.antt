@@ -2,8 +2,9 @@ use Rattle.std.proofs.Common.{◌≡◌, List, ℕ, map, length}
 use Rattle.std.specs.Option.{option_or}
 use Rattle.std.specs.Str.Lines.{lines}
 use Rattle.mcs48_asm.specs.Names.{value_named, definitions}
-use Rattle.mcs48_asm.specs.Capped.{kept_line, kept_places}
-use Rattle.mcs48_asm.specs.Views.{kept_value}
+use Rattle.mcs48_asm.specs.Capped.{kept_places}
+use Rattle.mcs48_asm.specs.Reading.Views.{kept_line}
+use Rattle.mcs48_asm.specs.Reading.Views.{kept_value}
 use Rattle.mcs48_asm.proofs.names.names_in.Given as goal
 
 -- the names so far, and those that the rest of the text defines

@@ -1,8 +1,9 @@
 use Rattle.std.proofs.Common.{ap, ◌∙◌}
 use Rattle.std.specs.Option.{option_map}
 use Rattle.mcs48_asm.specs.declared.argument.Role.TheVariants as role
-use Rattle.mcs48_asm.specs.Rows.{given, immediate}
-use Rattle.mcs48_asm.specs.Values.{value_of}
+use Rattle.mcs48_asm.specs.Rows.{given}
+use Rattle.mcs48_asm.specs.Reading.Operands.{immediate}
+use Rattle.mcs48_asm.specs.Reading.Values.{value_of}
 use Rattle.mcs48_asm.proofs.Commutes.{given-capped}
 use Rattle.mcs48_asm.proofs.operands.read.Goals as goal
 

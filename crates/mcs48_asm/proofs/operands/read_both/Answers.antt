@@ -1,8 +1,9 @@
 use Rattle.std.proofs.Common.{ap, ◌∙◌}
 use Rattle.std.specs.Option.{option_map}
 use Rattle.mcs48_asm.specs.Capped.{reading_capped}
-use Rattle.mcs48_asm.specs.Rows.{both, read}
-use Rattle.mcs48_asm.specs.Views.{reading_seen, operand_seen}
+use Rattle.mcs48_asm.specs.Rows.{both}
+use Rattle.mcs48_asm.specs.Reading.Operands.{read}
+use Rattle.mcs48_asm.specs.Reading.Views.{reading_seen, operand_seen}
 use Rattle.mcs48_asm.proofs.Commutes.{both-capped}
 use Rattle.mcs48_asm.proofs.operands.read_both.Goals as goal
 

@@ -1,6 +1,6 @@
 use Rattle.std.proofs.Common.{◌&&◌, sym, ap, ◌∙◌, is_some}
-use Rattle.mcs48_asm.specs.Statements.{values_of, parts_of}
-use Rattle.mcs48_asm.specs.Values.{value_of}
+use Rattle.mcs48_asm.specs.Reading.Statements.{values_of, parts_of}
+use Rattle.mcs48_asm.specs.Reading.Values.{value_of}
 use Rattle.mcs48_asm.proofs.Commutes.{parts-turn, parts-end}
 use Rattle.mcs48_asm.proofs.statement.are_values.Goals as goal
 

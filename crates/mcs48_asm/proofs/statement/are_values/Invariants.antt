@@ -1,5 +1,5 @@
 use Rattle.std.proofs.Common.{◌≡◌, is_some, length}
-use Rattle.mcs48_asm.specs.Statements.{values_of, parts_of}
+use Rattle.mcs48_asm.specs.Reading.Statements.{values_of, parts_of}
 use Rattle.mcs48_asm.proofs.statement.are_values.Given as goal
 
 abbrev pub invariant-loop-part : goal.invariant-loop-part

@@ -1,7 +1,8 @@
 use Rattle.std.proofs.Common.{ap, ◌∙◌}
 use Rattle.std.specs.Option.{option_map, ok_or}
 use Rattle.mcs48_asm.specs.declared.flaw.Flaw.TheVariants.{Misfit}
-use Rattle.mcs48_asm.specs.Statements.{Data, values_of, parts_of}
+use Rattle.mcs48_asm.specs.Statements.{Data}
+use Rattle.mcs48_asm.specs.Reading.Statements.{values_of, parts_of}
 use Rattle.mcs48_asm.proofs.Commutes.{found-capped}
 use Rattle.mcs48_asm.proofs.Keeps.{data-kept, data-none}
 use Rattle.mcs48_asm.proofs.statement.data_in.Goals as goal

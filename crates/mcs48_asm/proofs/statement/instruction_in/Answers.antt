@@ -1,9 +1,9 @@
 use Rattle.std.proofs.Common.{◌≡◌, true, sym, ap, ◌∙◌}
 use Rattle.std.specs.Option.{option_map}
 use Rattle.std.specs.Str.{bytes_eq}
-use Rattle.mcs48_asm.specs.Rows.{read_all, operands_of}
+use Rattle.mcs48_asm.specs.Reading.Operands.{read_all, operands_of}
 use Rattle.mcs48_asm.specs.Statements.{instruction_with}
-use Rattle.mcs48_asm.specs.Views.{form_seen}
+use Rattle.mcs48_asm.specs.Reading.Views.{form_seen}
 use Rattle.mcs48_asm.proofs.Commutes.{instruction-capped}
 use Rattle.mcs48_asm.proofs.statement.instruction_in.Goals as goal
 

@@ -1,5 +1,6 @@
 use Rattle.std.proofs.Common.{ap, ◌∙◌, unwrap_or}
-use Rattle.mcs48_asm.specs.Values.{Number, value_of}
+use Rattle.mcs48_asm.specs.Values.{Number}
+use Rattle.mcs48_asm.specs.Reading.Values.{value_of}
 use Rattle.mcs48_asm.proofs.Commutes.{part-capped}
 use Rattle.mcs48_asm.proofs.values.part_value.Goals as goal
 

@@ -1,5 +1,5 @@
 use Rattle.std.proofs.Common.{◌≡◌, length}
-use Rattle.mcs48_asm.specs.Words.{from_word}
+use Rattle.mcs48_asm.specs.Reading.Words.{from_word}
 use Rattle.mcs48_asm.proofs.words.from_word.Given as goal
 
 abbrev pub invariant-loop-rest : goal.invariant-loop-rest

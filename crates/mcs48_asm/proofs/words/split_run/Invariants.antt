@@ -1,5 +1,5 @@
 use Rattle.std.proofs.Common.{◌≡◌, ◌≤◌, ◌-◌, ◌++◌, length, take, drop}
-use Rattle.mcs48_asm.specs.Words.{run_of, after_run}
+use Rattle.mcs48_asm.specs.Reading.Words.{run_of, after_run}
 use Rattle.mcs48_asm.proofs.words.split_run.Given as goal
 
 abbrev pub invariant-loop-end : goal.invariant-loop-end

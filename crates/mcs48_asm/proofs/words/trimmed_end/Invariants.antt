@@ -1,5 +1,5 @@
 use Rattle.std.proofs.Common.{◌≡◌, length}
-use Rattle.mcs48_asm.specs.Words.{trimmed_end}
+use Rattle.mcs48_asm.specs.Reading.Words.{trimmed_end}
 use Rattle.mcs48_asm.proofs.words.trimmed_end.Given as goal
 
 abbrev pub invariant-loop-rest : goal.invariant-loop-rest

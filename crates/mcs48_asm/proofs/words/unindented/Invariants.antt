@@ -1,5 +1,5 @@
 use Rattle.std.proofs.Common.{◌≡◌, length}
-use Rattle.mcs48_asm.specs.Words.{unindented}
+use Rattle.mcs48_asm.specs.Reading.Words.{unindented}
 use Rattle.mcs48_asm.proofs.words.unindented.Given as goal
 
 abbrev pub invariant-loop-rest : goal.invariant-loop-rest

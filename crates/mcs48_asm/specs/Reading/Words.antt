@@ -1,7 +1,6 @@
--- Words: unbroken runs of letters, digits and _, and the blanks round them.
-use Rattle.std.specs.Prelude.{ℕ, Bool, false, List, [], ◌∷◌, ◌&&◌, nat_le, length, if◌then◌else◌}
-use Rattle.std.specs.List.{list_all}
-use Rattle.mcs48_asm.specs.Characters.{is_initial, is_word_character, is_blank}
+-- Words as the program finds them: unbroken runs of letters, digits and _, and the blanks round them.
+use Rattle.std.specs.Prelude.{ℕ, List, [], ◌∷◌, if◌then◌else◌}
+use Rattle.mcs48_asm.specs.Characters.{is_word_character, is_blank}
 
 -- a text without the blanks at its start
 abbrev pub unindented : List ℕ → List ℕ
@@ -48,8 +47,3 @@ first_word text = run_of (from_word text)
 -- the second word of a text, or nothing
 abbrev pub second_word : List ℕ → List ℕ
 second_word text = first_word (after_run (from_word text))
-
--- a name begins with a letter or _, goes on with letters, digits and _, and has at most 31 characters
-abbrev pub is_name : List ℕ → Bool
-is_name [] = false
-is_name (c ∷ cs) = is_initial c && list_all is_word_character cs && nat_le (length (c ∷ cs)) 31

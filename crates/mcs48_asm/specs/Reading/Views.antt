@@ -14,17 +14,19 @@ use Rattle.mcs48_asm.specs.declared.argument.Value.TheVariants as written
 use Rattle.mcs48_asm.specs.declared.line.Line.{Line as KeptLine}
 use Rattle.mcs48_asm.specs.declared.flaw.Flaw.{Flaw}
 use Rattle.mcs48_asm.specs.declared.statement.Statement.TheVariants as statements
-use Rattle.mcs48_asm.specs.Values.{Value, Number, Named, Low, value_of}
+use Rattle.mcs48_asm.specs.Values.{Value, Number, Named, Low}
+use Rattle.mcs48_asm.specs.Reading.Values.{value_of}
 use Rattle.mcs48_asm.specs.declared.rows.Operand.{Operand as KeptOperand}
 use Rattle.mcs48_asm.specs.declared.rows.Operand.TheVariants as operands
 use Rattle.mcs48_asm.specs.declared.rows.Shape.{Shape as KeptShape}
 use Rattle.mcs48_asm.specs.declared.rows.Shape.TheVariants as shapes
 use Rattle.mcs48_asm.specs.declared.rows.Row.{Row as KeptRow}
 use Rattle.mcs48_isa.specs.Instructions.{Operand, Is, Register, Pointer, Expander, Immediate, Address, Target}
-use Rattle.mcs48_asm.specs.Capped.{value_capped, statement_capped}
+use Rattle.mcs48_asm.specs.Capped.{value_capped, statement_capped, line_capped}
 use Rattle.mcs48_asm.specs.Characters.{is_blank}
 use Rattle.mcs48_asm.specs.Rows.{Argument, Reading, Form}
-use Rattle.mcs48_asm.specs.Statements.{Statement, Nothing, Instruction, Origin, Data, Equate, Line, parts_of, instruction_in}
+use Rattle.mcs48_asm.specs.Statements.{Statement, Nothing, Instruction, Origin, Data, Equate, Line}
+use Rattle.mcs48_asm.specs.Reading.Statements.{parts_of, instruction_in, line_of}
 
 abbrev pub value_seen : KeptValue → Value
 value_seen (written.Number n) = Number n
@@ -94,3 +96,7 @@ kept_fit (row ∷ rows) word operands =
     option_or
     (option_map statement_capped (instruction_in (form_seen row) word operands))
     (kept_fit rows word operands)
+
+-- what the program keeps of a line
+abbrev pub kept_line : List ℕ → Line
+kept_line line = line_capped (line_of line)

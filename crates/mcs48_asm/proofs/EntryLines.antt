@@ -1,0 +1,219 @@
+-- The line of a listing that an entry of the table writes says this instruction.
+use Rattle.std.proofs.Common.{◌≡◌, ℕ, ◌==◌, ◌&&◌, not, Bool, true, false, cond, nat_le, List, [], ◌∷◌, ◌++◌, length, codes, Some, None, Ok, refl, ap, sym, ◌∙◌, append-nil}
+use Rattle.std.specs.List.{list_all, slice_split, onto_first}
+use Rattle.std.specs.Option.{option_map, option_or}
+use Rattle.std.specs.Str.{bytes_eq}
+use Rattle.std.proofs.lemmas.Bool.{and_parts, and_from, not-true, eqb-true}
+use Rattle.std.proofs.lemmas.List.Folds.{list_all-append}
+use Rattle.mcs48_isa.specs.Instructions.{Operand, Is, Entry}
+use Rattle.mcs48_isa.specs.Text.{operand_text, operands_text, entry_text}
+use Rattle.mcs48_asm.specs.declared.flaw.Flaw.TheVariants.{Syntax}
+use Rattle.mcs48_asm.specs.Characters.{is_word_character, is_blank, is_comma, is_colon, is_semicolon, is_allowed}
+use Rattle.mcs48_asm.specs.Tokens.{words_of, first_of, goes_on, before_tokens, tokens_of}
+use Rattle.mcs48_asm.specs.Rows.{Form, read_all, instructions, is_instruction}
+use Rattle.mcs48_asm.specs.Statements.{Statement, instruction_with, first_fit, statement_in, statement_of, is_known_word, is_spelled, line_of_parts, line_with, flawed, line_of}
+use Rattle.mcs48_asm.specs.Reading.Words.{run_of, after_run}
+use Rattle.mcs48_asm.proofs.Plain.{is_plain, IsPlain, all_weaker, one_part, uncut, plain-allowed, plain-semicolon, plain-colon, unbroken-plain, word-unbroken}
+use Rattle.mcs48_asm.proofs.Readings.{said}
+use Rattle.mcs48_asm.proofs.Tokenized.{tokens-run, run-none, before-apart, before-joined}
+use Rattle.mcs48_asm.proofs.Worded.{words-run, words-step}
+use Rattle.mcs48_asm.proofs.Alone.{is_token, token-one}
+use Rattle.mcs48_asm.proofs.Entries.{is_good_word, is_shown, shown, all_same, any_unlike, AllListed, operand_tokens, said_all, read-same, read-unlike, too-many}
+
+-- the first form that fits has this first byte, and those before it do not fit
+abbrev pub hits : List Form → List ℕ → ℕ → List Operand → Bool
+hits [] word first operands = false
+hits (form ∷ forms) word first operands =
+    cond (bytes_eq form.word word)
+    (cond (all_same form.operands operands) (form.first == first) (any_unlike form.operands operands && hits forms word first operands))
+    (hits forms word first operands)
+
+fit-hit : (place : ℕ) (forms : List Form) (word : List ℕ) (first : ℕ) (operands : List Operand) → hits forms word first operands ≡ true → nat_le (length operands) 2 ≡ true → AllListed place operands
+    → first_fit forms (word ∷ operand_tokens place operands) ≡ Some (instruction_with first (said_all place operands))
+fit-hit place [] word first operands h few all = absurd (cc)
+fit-hit place (form ∷ forms) word first operands h few all =
+    go (bytes_eq form.word word) (all_same form.operands operands) refl h (λ more. fit-hit place forms word first operands more few all)
+  where
+    go : (t s : Bool) → all_same form.operands operands ≡ s
+        → cond t (cond s (form.first == first) (any_unlike form.operands operands && hits forms word first operands)) (hits forms word first operands) ≡ true
+        → (hits forms word first operands ≡ true → first_fit forms (word ∷ operand_tokens place operands) ≡ Some (instruction_with first (said_all place operands)))
+        → option_or (cond t (option_map (instruction_with form.first) (read_all form.operands (operand_tokens place operands))) None) (first_fit forms (word ∷ operand_tokens place operands))
+        ≡ Some (instruction_with first (said_all place operands))
+    go false s same h more = more h
+    go true true same h more =
+        ap (λ o. option_or (option_map (instruction_with form.first) o) (first_fit forms (word ∷ operand_tokens place operands))) (read-same place form.operands operands same few all)
+        ∙ ap (λ k. Some (instruction_with k (said_all place operands))) (eqb-true form.first first h)
+    go true false same h more =
+        let both = and_parts (any_unlike form.operands operands) (hits forms word first operands) h in
+        ap (λ o. option_or (option_map (instruction_with form.first) o) (first_fit forms (word ∷ operand_tokens place operands))) (read-unlike place form.operands operands both.0 few all)
+        ∙ more both.1
+
+-- a word before another character
+run-before : (word rest : List ℕ) → list_all is_word_character word ≡ true → goes_on rest ≡ false → (run_of (word ++ rest) ≡ word) × (after_run (word ++ rest) ≡ rest)
+run-before [] rest all ends = run-none rest ends
+run-before (c ∷ cs) rest all ends =
+    let both = and_parts (is_word_character c) (list_all is_word_character cs) all in
+    let more = run-before cs rest both.1 ends in
+    (ap (λ b. cond b (c ∷ run_of (cs ++ rest)) []) both.0 ∙ ap (λ run. c ∷ run) more.0, ap (λ b. cond b (after_run (cs ++ rest)) (c ∷ (cs ++ rest))) both.0 ∙ more.1)
+
+goes-front : (c : ℕ) (cs rest : List ℕ) → goes_on ((c ∷ cs) ++ rest) ≡ is_word_character c
+goes-front c cs rest = refl
+
+pub word-before : (c : ℕ) (cs rest : List ℕ) → list_all is_word_character (c ∷ cs) ≡ true → goes_on rest ≡ false
+    → (tokens_of ((c ∷ cs) ++ rest) ≡ (c ∷ cs) ∷ tokens_of rest) × (words_of ((c ∷ cs) ++ rest) ≡ (c ∷ cs) ∷ words_of rest)
+word-before c cs rest all ends =
+    let goes = (and_parts (is_word_character c) (list_all is_word_character cs) all).0 in
+    let run = run-before (c ∷ cs) rest all ends in (
+      tokens-run ((c ∷ cs) ++ rest) goes ∙ ap (λ w. w ∷ tokens_of (after_run ((c ∷ cs) ++ rest))) run.0 ∙ ap (λ r. (c ∷ cs) ∷ tokens_of r) run.1,
+      words-run ((c ∷ cs) ++ rest) goes ∙ ap (λ w. w ∷ words_of (after_run ((c ∷ cs) ++ rest))) run.0 ∙ ap (λ r. (c ∷ cs) ∷ words_of r) run.1,
+    )
+
+-- a token before a comma
+comma-first : (rest : List ℕ) → tokens_of (44 ∷ rest) ≡ codes "," ∷ tokens_of rest
+comma-first rest = go (goes_on rest)
+  where
+    go : (g : Bool) → before_tokens 44 g (tokens_of rest) ≡ codes "," ∷ tokens_of rest
+    go true = refl
+    go false = refl
+
+token-before : (text rest : List ℕ) → is_token text ≡ true → tokens_of (text ++ 44 ∷ rest) ≡ text ∷ codes "," ∷ tokens_of rest
+token-before [] rest h = absurd (cc)
+token-before (c ∷ []) rest h =
+    before-apart c (tokens_of (44 ∷ rest)) (not-true (is_blank c) (and_parts (not (is_blank c)) _ h).0) ∙ ap (λ ts. (c ∷ []) ∷ ts) (comma-first rest)
+token-before (c ∷ d ∷ ds) rest h =
+    let first = and_parts (not (is_blank c)) _ h in
+    let second = and_parts (not (is_comma c)) _ first.1 in
+    ap (λ g. before_tokens c g (tokens_of ((d ∷ ds) ++ 44 ∷ rest))) (and_parts (is_word_character d) (list_all is_word_character ds) second.1).0
+    ∙ before-joined c (tokens_of ((d ∷ ds) ++ 44 ∷ rest)) (not-true (is_blank c) first.0) (not-true (is_comma c) second.0)
+    ∙ ap (onto_first c) (word-before d ds (44 ∷ rest) second.1 refl).0
+    ∙ ap (λ ts. (c ∷ d ∷ ds) ∷ ts) (comma-first rest)
+
+-- the words before a character that is in none
+goes-before : (text : List ℕ) (m : ℕ) (rest : List ℕ) → is_word_character m ≡ false → goes_on (text ++ m ∷ rest) ≡ goes_on text
+goes-before [] m rest h = h
+goes-before (c ∷ cs) m rest h = refl
+
+words-before : (text : List ℕ) (m : ℕ) (rest : List ℕ) → is_word_character m ≡ false → words_of (text ++ m ∷ rest) ≡ words_of text ++ words_of rest
+words-before [] m rest h = words-step m rest ∙ ap (λ b. cond b (cond (goes_on rest) (onto_first m (words_of rest)) ((m ∷ []) ∷ words_of rest)) (words_of rest)) h
+words-before (c ∷ cs) m rest h =
+    words-step c (cs ++ m ∷ rest)
+    ∙ ap (λ g. cond (is_word_character c) (cond g (onto_first c (words_of (cs ++ m ∷ rest))) ((c ∷ []) ∷ words_of (cs ++ m ∷ rest))) (words_of (cs ++ m ∷ rest))) (goes-before cs m rest h)
+    ∙ ap (λ ws. cond (is_word_character c) (cond (goes_on cs) (onto_first c ws) ((c ∷ []) ∷ ws)) ws) (words-before cs m rest h)
+    ∙ go (is_word_character c) (goes_on cs) refl
+    ∙ ap (λ ws. ws ++ words_of rest) (sym (words-step c cs))
+  where
+    put : (ws xs more : List (List ℕ)) (w : List ℕ) → ws ≡ w ∷ more → onto_first c (ws ++ xs) ≡ onto_first c ws ++ xs
+    put ws xs more w h = ap (λ ws. onto_first c (ws ++ xs)) h ∙ sym (ap (λ ws. onto_first c ws ++ xs) h)
+
+    go : (t g : Bool) → goes_on cs ≡ g → cond t (cond g (onto_first c (words_of cs ++ words_of rest)) ((c ∷ []) ∷ (words_of cs ++ words_of rest))) (words_of cs ++ words_of rest)
+        ≡ cond t (cond g (onto_first c (words_of cs)) ((c ∷ []) ∷ words_of cs)) (words_of cs) ++ words_of rest
+    go false g is = refl
+    go true false is = refl
+    go true true is = put (words_of cs) (words_of rest) (words_of (after_run cs)) (run_of cs) (words-run cs is)
+
+-- the operands of an entry
+record IsTail (place : ℕ) (operands : List Operand) : Type 0 where
+  pub ends : goes_on (operands_text place operands) ≡ false
+  pub tokens : tokens_of (operands_text place operands) ≡ operand_tokens place operands
+  pub plain : IsPlain (operands_text place operands)
+  pub good : list_all is_good_word (words_of (operands_text place operands)) ≡ true
+
+tail-is : (place : ℕ) (operands : List Operand) → nat_le (length operands) 2 ≡ true → AllListed place operands → IsTail place operands
+tail-is place [] few all = record { ends = refl; tokens = refl; plain = refl; good = refl }
+tail-is place (o ∷ []) few all =
+    let t = operand_text place o in
+    let first = and_parts (is_token t) _ (shown place o all.0) in
+    let second = and_parts (list_all is_plain t) _ first.1 in
+    record {
+      ends = refl;
+      tokens = ap tokens_of (append-nil t) ∙ token-one t first.0;
+      plain = ap (list_all is_plain) (append-nil t) ∙ second.0;
+      good = ap (λ x. list_all is_good_word (words_of x)) (append-nil t) ∙ second.1;
+    }
+tail-is place (o ∷ u ∷ []) few all =
+    let t = operand_text place o in
+    let v = operand_text place u in
+    let first = and_parts (is_token t) _ (shown place o all.0) in
+    let second = and_parts (list_all is_plain t) _ first.1 in
+    let third = and_parts (is_token v) _ (shown place u all.1.0) in
+    let fourth = and_parts (list_all is_plain v) _ third.1 in
+    record {
+      ends = refl;
+      tokens = ap (λ x. tokens_of (t ++ 44 ∷ x)) (append-nil v) ∙ token-before t v first.0 ∙ ap (λ ts. t ∷ codes "," ∷ ts) (token-one v third.0);
+      plain = ap (λ x. list_all is_plain (t ++ 44 ∷ x)) (append-nil v) ∙ list_all-append is_plain t (44 ∷ v) ∙ and_from _ _ second.0 fourth.0;
+      good = ap (λ x. list_all is_good_word (words_of (t ++ 44 ∷ x))) (append-nil v) ∙ ap (list_all is_good_word) (words-before t 44 v refl)
+          ∙ list_all-append is_good_word (words_of t) (words_of v) ∙ and_from _ _ second.1 fourth.1;
+    }
+tail-is place (o ∷ u ∷ w ∷ ws) few all = absurd (too-many (length ws) few)
+
+pub good-known : (words : List (List ℕ)) → list_all is_good_word words ≡ true → list_all is_known_word words ≡ true
+good-known [] h = refl
+good-known (w ∷ ws) h =
+    let both = and_parts (is_good_word w) (list_all is_good_word ws) h in
+    and_from _ _ (and_parts (is_known_word w) _ both.0).0 (good-known ws both.1)
+
+pub good-first : (words : List (List ℕ)) → list_all is_good_word words ≡ true → bytes_eq (first_of words) (codes "EQU") ≡ false
+good-first [] h = refl
+good-first (w ∷ ws) h = not-true (bytes_eq w (codes "EQU")) (and_parts (is_known_word w) _ (and_parts (is_good_word w) (list_all is_good_word ws) h).0).1
+
+-- a plain line whose words are known says what its statement says
+pub plain-line : (text : List ℕ) (statement : Statement) → IsPlain text → list_all is_known_word (words_of text) ≡ true → statement_of text ≡ Ok statement → line_of text ≡ said statement
+plain-line text statement plain words statement_is =
+    let allowed : list_all is_allowed text ≡ true = all_weaker is_plain is_allowed plain-allowed text plain in
+    ap (λ t. cond (is_spelled t) (line_of_parts (slice_split is_colon t)) (flawed Syntax)) (uncut is_plain is_semicolon plain-semicolon text plain)
+    ∙ ap (λ b. cond b (line_of_parts (slice_split is_colon text)) (flawed Syntax)) (and_from _ _ allowed words)
+    ∙ ap line_of_parts (one_part is_plain is_colon plain-colon text plain)
+    ∙ ap (line_with None) statement_is
+
+-- what the table has to be like
+abbrev pub is_word_shown : Operand → Bool
+is_word_shown (Is word) = is_shown word
+is_word_shown operand = true
+
+abbrev pub is_first : List ℕ → Bool
+is_first word = list_all is_word_character word && (goes_on word && (is_good_word word && (not (bytes_eq word (codes "ORG")) && (not (bytes_eq word (codes "DB")) && is_instruction word))))
+
+abbrev pub is_entry : Entry → Bool
+is_entry entry =
+    is_first entry.word && (nat_le (length entry.operands) 2 && (list_all is_word_shown entry.operands && hits instructions entry.word entry.first entry.operands))
+
+statement-is : (word : List ℕ) (words tokens : List (List ℕ)) (statement : Statement) → bytes_eq (first_of words) (codes "EQU") ≡ false → bytes_eq word (codes "ORG") ≡ false → bytes_eq word (codes "DB") ≡ false
+    → is_instruction word ≡ true → first_fit instructions (word ∷ tokens) ≡ Some statement → statement_in (word ∷ words) (word ∷ tokens) ≡ Ok statement
+statement-is word words tokens statement equ org db is found =
+    rw (equ, org, db, is, found) refl
+
+word-line : (place : ℕ) (word : List ℕ) (first : ℕ) (operands : List Operand) → is_first word ≡ true → nat_le (length operands) 2 ≡ true → hits instructions word first operands ≡ true → AllListed place operands
+    → IsPlain (word ++ operands_text place operands) × (line_of (word ++ operands_text place operands) ≡ said (instruction_with first (said_all place operands)))
+word-line place [] first operands h few hit all = absurd (cc)
+word-line place (c ∷ cs) first operands h few hit all =
+    let word : List ℕ = c ∷ cs in
+    let text : List ℕ = word ++ operands_text place operands in
+    let made = and_parts (list_all is_word_character word) _ h in
+    let goes = and_parts (goes_on word) _ made.1 in
+    let good = and_parts (is_good_word word) _ goes.1 in
+    let org = and_parts (not (bytes_eq word (codes "ORG"))) _ good.1 in
+    let db = and_parts (not (bytes_eq word (codes "DB"))) _ org.1 in
+    let tail = tail-is place operands few all in
+    let whole = word-before c cs (operands_text place operands) made.0 tail.ends in
+    let plain : IsPlain text =
+    list_all-append is_plain word (operands_text place operands)
+    ∙ and_from _ _ (all_weaker is_word_character is_plain (λ c w. unbroken-plain c (word-unbroken c w)) word made.0) tail.plain in
+    let known : list_all is_known_word (words_of text) ≡ true =
+    ap (list_all is_known_word) whole.1 ∙ and_from _ _ (and_parts (is_known_word word) _ good.0).0 (good-known (words_of (operands_text place operands)) tail.good) in (
+      plain,
+      plain-line text (instruction_with first (said_all place operands)) plain known (
+          ap (λ ws. statement_in ws (tokens_of text)) whole.1
+          ∙ ap (statement_in (word ∷ words_of (operands_text place operands))) (whole.0 ∙ ap (λ ts. word ∷ ts) tail.tokens)
+          ∙ statement-is word (words_of (operands_text place operands)) (operand_tokens place operands) (instruction_with first (said_all place operands))
+          (good-first (words_of (operands_text place operands)) tail.good) (not-true _ org.0) (not-true _ db.0) db.1
+          (fit-hit place instructions word first operands hit few all)
+          ),
+    )
+
+pub entry-line : (place : ℕ) (entry : Entry) → is_entry entry ≡ true → AllListed place entry.operands
+    → IsPlain (entry_text place entry) × (line_of (entry_text place entry) ≡ said (instruction_with entry.first (said_all place entry.operands)))
+entry-line place entry h all =
+    let first = and_parts (is_first entry.word) _ h in
+    let few = and_parts (nat_le (length entry.operands) 2) _ first.1 in
+    let shown = and_parts (list_all is_word_shown entry.operands) _ few.1 in
+    word-line place entry.word entry.first entry.operands first.0 few.0 shown.1 all
