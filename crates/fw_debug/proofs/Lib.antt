@@ -1,0 +1,11 @@
+pub mod AtNumber
+pub mod Counted
+pub mod Counting
+pub mod Fields
+pub mod Hits
+pub mod Lasting
+pub mod Making
+pub mod Obeyed
+pub mod Printed
+pub mod Over
+pub mod Standing

@@ -1,0 +1,115 @@
+-- A session's state: whether its run has ended there, and its next step.
+use Rattle.std.proofs.Common.{◌≡◌, ℕ, suc, ◌+◌, Bool, true, false, not, ◌&&◌, ◌||◌, List, Some, None, Ok, Err, is_none, is_ok, refl, ap, sym, subst, ◌∙◌}
+use Rattle.std.specs.Prelude.{if◌then◌else◌, nat_le}
+use Rattle.std.specs.declared.option.Option.{Option}
+use Rattle.std.specs.declared.result.Result.{Result}
+use Rattle.mcs48_isa.specs.declared.operation.Decoded.{Decoded}
+use Rattle.mcs48_core.specs.Cpu.{Cpu}
+use Rattle.mcs48_core.specs.declared.levels.Pins.{Pins}
+use Rattle.mcs48_core.specs.declared.stepping.Stuck.{Stuck}
+use Rattle.mcs48_core.specs.Step.{Stepped, stepped, executed, row_at, takes_external, takes_timer, entered}
+use Rattle.board_lines.specs.declared.event.Edge.{Edge}
+use Rattle.board_lines.specs.declared.event.HostEvent.{HostEvent}
+use Rattle.joint_run.specs.Joint.{Beside, joint_board, joint_pins, joint_start}
+use Rattle.joint_run.specs.declared.machine.Machine.{Machine}
+use Rattle.joint_run.specs.Run.{Board, World, after_step, joint_step, run_at, seen, step_on}
+use Rattle.fw_logic.specs.JointRun.{TellsTick}
+use Rattle.joint_feed.specs.declared.course.Course.{Course}
+use Rattle.joint_feed.specs.Course.{IsOnCourse, IsStepOn}
+use Rattle.joint_feed.specs.Stories.{Story, state_at, starts_tick}
+use Rattle.fw_debug.specs.Sessions.{sitting, is_over, next_from, next_state, has_ended}
+use Rattle.fw_debug.specs.Stuck.{sticks}
+use Rattle.fw_debug.specs.Advance.{IsStateAt, IsAdvanced}
+
+none_after : (d : Board) (w : World d.State) (o : Option Stepped) → is_none (after_step d w o) ≡ is_none o
+none_after d w None = refl
+none_after d w (Some n) = refl
+
+none_executed : (r : Option Decoded) (bytes : List ℕ) (pins : Pins) (m : Cpu) → is_none (executed r bytes pins m) ≡ is_none r
+none_executed None bytes pins m = refl
+none_executed (Some d) bytes pins m = refl
+
+none_by : (e t : Bool) (x y : Stepped) (o : Option Stepped) → e ≡ false
+    → is_none (elim e as (λ b. Option Stepped) [ true ↦ Some x | false ↦ elim t as (λ b. Option Stepped) [ true ↦ Some y | false ↦ o ] ]) ≡ (not t && is_none o)
+none_by true t x y o h = absurd (cc h)
+none_by false true x y o h = refl
+none_by false false x y o h = refl
+
+pin_high : (a b : Bool) → (a && b && not true) ≡ false
+pin_high true true = refl
+pin_high true false = refl
+pin_high false b = refl
+
+-- a step with the pin INT high is missing exactly where the processor is stuck
+none_stepped : (bytes : List ℕ) (pins : Pins) (m : Cpu) → pins.int_pin ≡ true → is_none (stepped bytes pins m) ≡ sticks bytes m
+none_stepped bytes pins m high =
+    let off : takes_external pins m ≡ false = ap (λ b. not m.svc && m.ext_on && not b) high ∙ pin_high (not m.svc) m.ext_on in
+    none_by (takes_external pins m) (takes_timer m) (entered 3 pins m) (entered 7 pins (record m { rq = false })) (executed (row_at bytes m.pc) bytes pins m) off
+    ∙ ap (λ b. not (takes_timer m) && b) (none_executed (row_at bytes m.pc) bytes pins m)
+
+int_high : (edges : List Edge) (events : List HostEvent) (w : World Beside) → (seen (joint_board edges events) w).int_pin ≡ true
+unfolding joint_pins
+int_high edges events w = refl
+
+none_step : (edges : List Edge) (events : List HostEvent) (bytes : List ℕ) (w : World Beside) → is_none (joint_step (joint_board edges events) bytes w) ≡ sticks bytes w.cpu
+none_step edges events bytes w =
+    let d : Board = joint_board edges events in
+    none_after d w (stepped bytes (seen d w) w.cpu) ∙ none_stepped bytes (seen d w) w.cpu (int_high edges events w)
+
+-- the next state from one that is there
+next_there : (s : Story) (k : ℕ) (w : World Beside) (over : Bool) → state_at s k ≡ Some w → over ≡ is_over s w → next_state s k ≡ (if over then None else state_at s (suc k))
+next_there s k w over e o = ap (next_from s k) e ∙ ap (λ b. if b then None else state_at s (suc k)) (sym o)
+
+-- where the run is past its end it has ended
+pub ended_past : (s : Story) (k : ℕ) (w : World Beside) (over : Bool) → state_at s k ≡ Some w → over ≡ is_over s w → over ≡ true → next_state s k ≡ None
+ended_past s k w over e o t = next_there s k w over e o ∙ ap (λ b. if b then None else state_at s (suc k)) t
+
+module _ (s : Story) (c : Course) (h : IsOnCourse s c) where
+  pub here : state_at s c.joint.steps ≡ Some h.world
+  here = subst (λ (bytes : List ℕ). run_at (joint_board s.edges s.events) bytes joint_start c.joint.steps ≡ Some h.world) h.image h.in_run.run
+
+  same : (w : World Beside) → state_at s c.joint.steps ≡ Some w → h.world ≡ w
+  same w e = let f : Some h.world ≡ Some w = sym here ∙ e in cc f
+
+  -- what is answered of the machine is so of the state
+  pub past_so : (starts : Bool) (cycle stop : ℕ) (result : Bool) → TellsTick c.joint starts → cycle ≡ c.joint.cycle → stop ≡ s.stop
+      → result ≡ ((starts && nat_le (4096 + stop) cycle) || nat_le (stop + 6152) cycle) → (w : World Beside) → state_at s c.joint.steps ≡ Some w → result ≡ is_over s w
+  past_so starts cycle stop result tells at end is w e =
+      let world : h.world ≡ w = same w e in
+      let cpu : w.cpu ≡ c.joint.mcu = sym (h.in_run.mcu ∙ ap (λ (v : World Beside). v.cpu) world) in
+      let tick : starts ≡ starts_tick s w = tells s.edges s.events w cpu in
+      let now : cycle ≡ w.cycle = at ∙ h.in_run.cycle ∙ ap (λ (v : World Beside). v.cycle) world in
+      is ∙ ap (λ (n : ℕ). (starts && nat_le (4096 + n) cycle) || nat_le (n + 6152) cycle) end
+      ∙ ap (λ (n : ℕ). (starts && nat_le (4096 + s.stop) n) || nat_le (s.stop + 6152) n) now
+      ∙ ap (λ b. (b && nat_le (4096 + s.stop) w.cycle) || nat_le (s.stop + 6152) w.cycle) tick
+
+  -- before its end the run ends exactly where the processor is stuck
+  pub ended_so : (past stuck : Bool) → ((w : World Beside) → state_at s c.joint.steps ≡ Some w → past ≡ is_over s w) → past ≡ false → stuck ≡ sticks s.bytes c.joint.mcu
+      → stuck ≡ has_ended s c.joint.steps
+  ended_so past stuck over f is =
+      let next : next_state s c.joint.steps ≡ state_at s (suc c.joint.steps) =
+      next_there s c.joint.steps h.world past here (over h.world here) ∙ ap (λ b. if b then None else state_at s (suc c.joint.steps)) f in
+      let step : state_at s (suc c.joint.steps) ≡ joint_step (joint_board s.edges s.events) s.bytes h.world = ap (step_on (joint_board s.edges s.events) s.bytes) here in
+      is ∙ ap (sticks s.bytes) h.in_run.mcu ∙ sym (none_step s.edges s.events s.bytes h.world) ∙ sym (ap is_none (next ∙ step))
+
+  pub state_now : IsStateAt (sitting s c.joint.steps) c.joint
+  state_now = record { world = h.world; state = here; mcu = h.in_run.mcu; cycle = h.in_run.cycle; steps = refl }
+
+-- the same as an answer of the session, whose image is the one that is run
+pub stays : (s : Story) (old new : Course) (r : Result (Unit {0}) Stuck) → IsOnCourse s old → IsStepOn s old r new → IsOnCourse s new
+stays s old new (Ok done) h step = step.0
+stays s old new (Err stuck) h step = step.0
+
+pub advanced : (s : Story) (old new : Course) (r : Result (Unit {0}) Stuck) (past : Bool) → IsOnCourse s old → IsStepOn s old r new
+    → ((w : World Beside) → state_at s old.joint.steps ≡ Some w → past ≡ is_over s w) → past ≡ false
+    → IsAdvanced (sitting s old.joint.steps) (is_ok r) (sitting s new.joint.steps)
+advanced s old new (Ok done) past h step over f =
+    let k : new.joint.steps ≡ suc old.joint.steps = step.1 in
+    let there : state_at s (suc old.joint.steps) ≡ Some step.0.world = subst (λ (n : ℕ). state_at s n ≡ Some step.0.world) k (here s new step.0) in
+    let w : World Beside = h.world in
+    let next = next_there s old.joint.steps w past (here s old h) (over w (here s old h)) ∙ ap (λ b. if b then None else state_at s (suc old.joint.steps)) f in
+    (ap (sitting s) k, step.0.world, there, next ∙ there)
+advanced s old new (Err stuck) past h step over f =
+    let w : World Beside = h.world in
+    let next = next_there s old.joint.steps w past (here s old h) (over w (here s old h)) ∙ ap (λ b. if b then None else state_at s (suc old.joint.steps)) f in
+    (ap (λ (j : Machine). sitting s j.steps) step.1, next ∙ step.3)

@@ -1,0 +1,14 @@
+use Rattle.std.proofs.Common.{◌≡◌, ap, subst, sym, ◌∙◌}
+use Rattle.joint_feed.specs.Stories.{story}
+use Rattle.fw_debug.specs.Advance.{TellsOver}
+use Rattle.fw_debug.specs.Sessions.{has_ended}
+use Rattle.fw_debug.specs.Stuck.{sticks}
+use Rattle.fw_debug.proofs.Standing.{ended_so}
+use Rattle.fw_debug.proofs.session.Session.has_ended.Goals as goal
+
+pub returns-else-is_past : goal.returns-else-is_past
+returns-else-is_past c =
+    subst (λ t. c.sticks.result ≡ has_ended t.story t.steps) c.self.view_is
+    (ended_so (story c.self.inside.image.bytes c.self.inside.history) c.self.inside.course c.self.invariant c.is_past.result c.sticks.result
+    (subst (λ t. TellsOver t c.is_past.result) (sym c.self.view_is) c.is_past.ensures.over) c.if-is_past.false
+    (c.sticks.ensures ∙ ap (sticks c.self.inside.image.bytes) c.mcu.ensures.processor))

@@ -1,0 +1,73 @@
+-- What probes count: the number of the steps whose state meets them, and the first of these.
+use Rattle.std.specs.Prelude.{◌≡◌, ◌≤◌, ℕ, ◌-◌, ◌^◌, ◌==◌, nat_lt, min, if◌then◌else◌}
+use Rattle.std.specs.Prelude.{List, [], ◌∷◌, length, map, slice_get, Some, None}
+use Rattle.std.specs.Option.{option_and_then}
+use Rattle.std.specs.declared.option.Option.{Option}
+use Rattle.joint_feed.specs.Stories.{Story}
+use Rattle.fw_debug.specs.declared.command.Command.{Command}
+use Rattle.fw_debug.specs.declared.command.Command.TheVariants.{Arm, Drop}
+use Rattle.fw_debug.specs.Probes.{Watch, armed}
+use Rattle.fw_debug.specs.Counts.{met_between, counted_between}
+use Rattle.fw_debug.specs.Looks.{looks}
+use Rattle.fw_debug.specs.Sessions.{Debug, walk, hunt}
+use Rattle.fw_debug.specs.Told.{obeyed}
+
+-- after a look at each of the states that the first n steps lead to
+abbrev pub LooksCount : Type 0
+LooksCount = (s : Story) (n : ℕ) (probes : List Watch) → looks s n probes ≡ map (counted_between s 0 n) probes
+
+-- each probe has looked at each state between the steps of one time in a session and those of another
+pub record IsCounted (s : Story) (old new : Debug) : Type 0 where
+  pub later : old.steps ≤ new.steps
+  pub probes : new.probes ≡ map (counted_between s old.steps new.steps) old.probes
+
+-- after the steps that a line `step` makes
+abbrev pub WalkCounts : Type 0
+WalkCounts = (s : Story) (count : ℕ) (d : Debug) → IsCounted s d (walk s count d)
+
+-- after those that a line `go` makes
+abbrev pub HuntCounts : Type 0
+HuntCounts = (s : Story) (count : ℕ) (d : Debug) → IsCounted s d (hunt s count d).debug
+
+-- what is told by a probe that had counted nothing: how many of the steps between meet it, and the least of them
+pub record IsTally (s : Story) (k n : ℕ) (old new : Watch) : Type 0 where
+  pub kind : new.kind ≡ old.kind
+  pub arms : new.counted.arms ≡ old.counted.arms
+  pub count : new.counted.count ≡ min (length (met_between s k n old)) (2 ^ 64 - 1)
+  pub first : new.counted.first ≡ slice_get (met_between s k n old) 0
+
+-- such a probe tells so
+abbrev pub CountsFromNone : Type 0
+CountsFromNone = (s : Story) (k n : ℕ) (watch : Watch)
+    → watch.counted.count ≡ 0 → watch.counted.first ≡ None → IsTally s k n watch (counted_between s k n watch)
+
+-- the number that a probe has behind a line; none where the line arms it or drops it
+abbrev pub number_behind : Command → ℕ → Option ℕ
+number_behind (Arm armed a b) probe = if armed == probe then None else Some probe
+number_behind (Drop dropped) probe =
+    if dropped == probe then None else Some (if nat_lt dropped probe then probe - 1 else probe)
+number_behind command probe = Some probe
+
+-- the number that it has behind several lines
+abbrev pub number_after : List Command → ℕ → Option ℕ
+number_after [] probe = Some probe
+number_after (command ∷ others) probe = option_and_then (number_after others) (number_behind command probe)
+
+-- a session behind several lines
+abbrev pub obeyed_all : Story → List Command → Debug → Debug
+obeyed_all s [] d = d
+obeyed_all s (command ∷ others) d = obeyed_all s others (obeyed s command d).debug
+
+-- a probe goes on counting through the lines of a session, until it is armed anew or dropped
+abbrev pub LinesCount : Type 0
+LinesCount = (s : Story) (lines : List Command) (d : Debug) (probe later : ℕ) (watch : Watch)
+    → slice_get d.probes probe ≡ Some watch → number_after lines probe ≡ Some later
+    → slice_get (obeyed_all s lines d).probes later
+    ≡ Some (counted_between s d.steps (obeyed_all s lines d).steps watch)
+
+-- one that a line arms counts from there on, with the new arms
+abbrev pub CountsSinceArmed : Type 0
+CountsSinceArmed = (s : Story) (lines : List Command) (d : Debug) (probe a b later : ℕ) (watch : Watch)
+    → slice_get d.probes probe ≡ Some watch → number_after lines probe ≡ Some later
+    → (now : Watch) × (slice_get (obeyed_all s (Arm probe a b ∷ lines) d).probes later ≡ Some now)
+    × IsTally s d.steps (obeyed_all s lines (obeyed s (Arm probe a b) d).debug).steps (armed a b watch) now

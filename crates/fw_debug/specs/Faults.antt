@@ -1,0 +1,26 @@
+-- What is answered where a line has a fault.
+use Rattle.std.specs.Prelude.{◌≡◌, ℕ, Result, Ok, Err}
+use Rattle.first_fault.specs.FirstFault.{Fault}
+use Rattle.fw_debug.specs.declared.rule.Rule.{Rule}
+use Rattle.fw_debug.specs.declared.rule.Rule.TheVariants.{Form, Probe}
+use Rattle.fw_debug.specs.declared.rule.LineFault.{LineFault}
+use Rattle.fw_debug.specs.declared.rule.LineFault.TheVariants.{Bad, NoProbe}
+use Rattle.fw_debug.specs.declared.rule.SessionFault.{SessionFault}
+use Rattle.fw_debug.specs.declared.rule.SessionFault.TheVariants.{Line}
+use Rattle.fw_debug.specs.Scripts.{number_of}
+
+-- a rule that is broken at a line of a script
+abbrev pub at_line : ℕ → Rule → SessionFault
+at_line line rule = Line line (number_of rule)
+
+-- a rule that is broken by a line alone
+abbrev pub line_fault : Rule → LineFault
+line_fault Form = Bad
+line_fault Probe = NoProbe
+
+-- a script without a fault is right, and of any other the first fault is told
+abbrev pub IsVerdict : Result ℕ (Fault Rule) → Result (Unit {0}) SessionFault → Type 0
+IsVerdict (Ok left) (Ok done) = Unit {0}
+IsVerdict (Ok left) (Err fault) = ⊥
+IsVerdict (Err first) (Ok done) = ⊥
+IsVerdict (Err first) (Err fault) = fault ≡ at_line first.item first.rule

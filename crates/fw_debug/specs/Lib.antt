@@ -1,0 +1,15 @@
+pub mod Advance
+pub mod Commands
+pub mod CountLaw
+pub mod Counts
+pub mod Faults
+pub mod Lines
+pub mod Looks
+pub mod Making
+pub mod Obeyed
+pub mod Probes
+pub mod Scripts
+pub mod Sessions
+pub mod Stuck
+pub mod Tallies
+pub mod Told

@@ -1,0 +1,31 @@
+//! The debugger of a run: probes that look at each of its steps, and the lines of a script that makes it step by step.
+//!
+//! This layer knows the joint machine from outside: its processor, its counts, and where a tick starts. It knows what a
+//! probe is and three kinds of it, the lines of a script, and what each prints. It knows no rule of the keyboard, the
+//! controller or the host. Source: our own.
+#![tactic(auto)]
+
+mod command;
+mod kinds;
+mod law;
+mod listed;
+mod obeying;
+mod probe;
+mod rule;
+mod script;
+mod scripted;
+mod session;
+mod stepping;
+mod tally;
+#[cfg(test)]
+mod tests;
+mod texts;
+
+pub use kinds::{AddressProbe, CellProbe, RegisterProbe};
+pub use law::probes_count;
+pub use probe::{Probe, look_all};
+pub use rule::{LineFault, SessionFault};
+pub use script::check_script;
+pub use scripted::obey_script;
+pub use session::Session;
+pub use tally::Tally;

@@ -1,0 +1,4 @@
+pub mod Beginning
+pub mod Counts
+pub mod Feeding
+pub mod Going

@@ -1,0 +1,3 @@
+pub mod Course
+pub mod Feed
+pub mod Stories
