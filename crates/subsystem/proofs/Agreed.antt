@@ -7,6 +7,7 @@ use Rattle.board_lines.specs.Cadence.{listed}
 use Rattle.fw_kernel.specs.declared.labels.TheConstants.{TICK}
 use Rattle.fw_logic.proofs.Numbers.{same_start}
 use Rattle.fw_logic.specs.JointRun.{KeepsTime}
+use Rattle.joint_feed.specs.Stories.{Story}
 use Rattle.joint_run.specs.Joint.{Beside, joint_board, joint_start}
 use Rattle.joint_run.specs.Run.{Board, World}
 use Rattle.joint_run.specs.Starts.{IsStart}
@@ -15,7 +16,7 @@ use Rattle.agreement.specs.Agreement.{Agrees}
 use Rattle.link_model.specs.Expected.{Whole, expected}
 use Rattle.link_model.specs.Machine.{Machine}
 use Rattle.subsystem.specs.declared.outcome.Run.{Run}
-use Rattle.subsystem.specs.Running.{Story, IsRun, lines_of, start_stamp, starts_among}
+use Rattle.subsystem.specs.Running.{IsRun, lines_of, start_stamp, starts_among}
 use Rattle.subsystem.proofs.Lines.{one_longer}
 use Rattle.subsystem.proofs.Timekeeping.{numbered}
 

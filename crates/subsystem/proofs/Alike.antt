@@ -1,13 +1,15 @@
 -- What is run has one run.
-use Rattle.std.proofs.Common.{◌≡◌, ◌≤◌, ◌<◌, ℕ, zero, suc, ◌+◌, ◌-◌, true, false, List, [], ◌∷◌, ◌++◌, length, ltb, Some, refl, ap, sym, subst, ◌∙◌, arith, length-append}
+use Rattle.std.proofs.Common.{◌≡◌, ◌≤◌, ◌<◌, ℕ, zero, suc, ◌+◌, ◌-◌, true, false, List, [], ◌∷◌, ◌++◌, length, ltb, refl, ap, sym, subst, ◌∙◌, arith, length-append}
 use Rattle.std.proofs.lemmas.Bool.Decides.{nat_tests}
 use Rattle.std.proofs.lemmas.List.{get_or_append_left}
 use Rattle.board_lines.specs.Cadence.{listed}
+use Rattle.joint_feed.proofs.Going.{same_state}
+use Rattle.joint_feed.specs.Stories.{Story, state_at}
 use Rattle.joint_run.specs.Joint.{Beside, log_of}
 use Rattle.joint_run.specs.Run.{World}
 use Rattle.subsystem.specs.declared.outcome.Run.{Run}
 use Rattle.subsystem.specs.Agreement.{AreAlike}
-use Rattle.subsystem.specs.Running.{Story, IsRun, lines_of, start_stamp, starts_among, state_at}
+use Rattle.subsystem.specs.Running.{IsRun, lines_of, start_stamp, starts_among}
 use Rattle.subsystem.proofs.Agreed.{run_starts, run_last}
 
 -- later states leave the starts as they are
@@ -61,13 +63,10 @@ same_steps s a b p q =
       ] refl
     ] refl
 
-some_is : {w v : World Beside} → Some w ≡ Some v → w ≡ v
-some_is h = cc h
-
 pub runs_alike : (s : Story) (a b : Run) → IsRun s a → IsRun s b → AreAlike a b
 runs_alike s a b p q =
     let steps = same_steps s a b p q in
-    let world : p.world ≡ q.world = some_is (sym p.reached ∙ ap (state_at s) steps ∙ q.reached) in
+    let world : p.world ≡ q.world = same_state (sym p.reached ∙ ap (state_at s) steps ∙ q.reached) in
     let starts : a.starts.items ≡ b.starts.items = p.starts ∙ ap (λ (k : ℕ). starts_among s (suc k)) steps ∙ sym q.starts in
     record {
       log = p.log ∙ ap (λ (v : List ℕ). lines_of v (log_of p.world.board)) starts

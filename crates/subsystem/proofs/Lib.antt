@@ -2,11 +2,10 @@ pub mod Advancing
 pub mod Agreed
 pub mod Alike
 pub mod Beginning
-pub mod Counts
 pub mod Ending
-pub mod Feeding
 pub mod Judging
 pub mod Lines
+pub mod Looking
 pub mod Said
 pub mod Ticks
 pub mod Timekeeping

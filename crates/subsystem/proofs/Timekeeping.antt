@@ -8,25 +8,22 @@ use Rattle.std.specs.declared.option.Option.{Option}
 use Rattle.board_lines.specs.Cadence.{IsNear, KeepsCadenceTo, listed}
 use Rattle.fw_kernel.specs.declared.labels.TheConstants.{TICK}
 use Rattle.fw_logic.specs.JointRun.{KeepsTime}
+use Rattle.joint_feed.proofs.Going.{same_state}
+use Rattle.joint_feed.specs.Stories.{Story, state_at, starts_tick}
 use Rattle.mcs48_core.specs.Step.{Stepped, stepped}
 use Rattle.joint_run.specs.Joint.{Beside, joint_board, joint_start}
 use Rattle.joint_run.specs.Run.{World, after_step, joint_step, seen, step_on}
 use Rattle.joint_run.specs.Starts.{start_in, starts_before, IsStart, IsEnd}
 use Rattle.subsystem.specs.declared.outcome.Run.{Run}
-use Rattle.subsystem.specs.Running.{Story, state_at, starts_tick, start_stamp, starts_among, IsRun}
-use Rattle.subsystem.specs.Progress.{GoesOnTo, is_over}
+use Rattle.subsystem.specs.Running.{GoesOnTo, IsRun, is_over, start_stamp, starts_among}
 use Rattle.subsystem.proofs.Lines.{one_longer}
-
--- what stands in equal options is equal
-some_is : {w v : World Beside} → Some w ≡ Some v → w ≡ v
-some_is h = cc h
 
 -- the cycle never falls
 after_grows : (s : Story) (w v : World Beside) (n : Option Stepped) → after_step (joint_board s.edges s.events) w n ≡ Some v → w.cycle ≤ v.cycle
 after_grows s w v None h = absurd cc
-after_grows s w v (Some n) h = let e : w.cycle + n.cycles ≡ v.cycle = ap (λ (u : World Beside). u.cycle) (some_is h) in omega (arith, e)
+after_grows s w v (Some n) h = let e : w.cycle + n.cycles ≡ v.cycle = ap (λ (u : World Beside). u.cycle) (same_state h) in omega (arith, e)
 
-one_grows : (s : Story) (k : ℕ) (w v : World Beside) → state_at s k ≡ Some w → state_at s (suc k) ≡ Some v → w.cycle ≤ v.cycle
+pub one_grows : (s : Story) (k : ℕ) (w v : World Beside) → state_at s k ≡ Some w → state_at s (suc k) ≡ Some v → w.cycle ≤ v.cycle
 one_grows s k w v h g =
     let step : joint_step (joint_board s.edges s.events) s.bytes w ≡ Some v = sym (ap (step_on (joint_board s.edges s.events) s.bytes) h) ∙ g in
     after_grows s w v (stepped s.bytes (seen (joint_board s.edges s.events) w) w.cpu) step
@@ -36,7 +33,7 @@ module _ (s : Story) (t : KeepsTime s.bytes s.edges s.events) where
   grows k zero w v l h g =
       let e : k ≡ 0 = omega (arith, l) in
       let f : Some w ≡ Some v = sym h ∙ ap (state_at s) e ∙ g in
-      let same : w.cycle ≡ v.cycle = ap (λ (u : World Beside). u.cycle) (some_is f) in
+      let same : w.cycle ≡ v.cycle = ap (λ (u : World Beside). u.cycle) (same_state f) in
       omega (arith, same)
   grows k (suc m) w v l h g =
       elim (leb k m) as (λ b. leb k m ≡ b → w.cycle ≤ v.cycle) [
@@ -49,7 +46,7 @@ module _ (s : Story) (t : KeepsTime s.bytes s.edges s.events) where
         | false ↦ λ f.
             let e : k ≡ suc m = grind (arith, nat_tests, f, l) in
             let i : Some w ≡ Some v = sym h ∙ ap (state_at s) e ∙ g in
-            let same : w.cycle ≡ v.cycle = ap (λ (u : World Beside). u.cycle) (some_is i) in
+            let same : w.cycle ≡ v.cycle = ap (λ (u : World Beside). u.cycle) (same_state i) in
             omega (arith, same)
       ] refl
 
@@ -90,7 +87,7 @@ module _ (s : Story) (t : KeepsTime s.bytes s.edges s.events) where
         | false ↦ λ f.
             let j = on_at k e.start.steps on (grind (arith, nat_tests, f)) in
             let same : Some j.0 ≡ Some e.start.state = sym j.1 ∙ e.start.reached in
-            let open_still : is_over s e.start.state ≡ false = sym (ap (is_over s) (some_is same)) ∙ j.2 in
+            let open_still : is_over s e.start.state ≡ false = sym (ap (is_over s) (same_state same)) ∙ j.2 in
             let reached : nat_le (4096 + s.stop) e.start.state.cycle ≡ true = grind (arith, nat_tests, reaches, stamp) in
             let over : is_over s e.start.state ≡ true = ap (λ b. b && nat_le (4096 + s.stop) e.start.state.cycle) e.start.at ∙ reached in
             absurd (cc (open_still, over))

@@ -2,14 +2,16 @@
 use Rattle.std.specs.Prelude.{◌≡◌, ◌-◌, length}
 use Rattle.board_lines.specs.Cadence.{KeepsCadenceTo, listed}
 use Rattle.fw_compile.specs.Image.{image_of}
+use Rattle.joint_feed.specs.Stories.{Story, story}
 use Rattle.key_file.specs.Accepted.{IsAccepted}
 use Rattle.key_file.specs.Histories.{KeyHistory}
 use Rattle.layout_reader.specs.Layouts.{KeyLayout, IsKeyLayout}
 use Rattle.link_model.specs.Expected.{expected_log}
 use Rattle.subsystem.specs.declared.outcome.Run.{Run}
-use Rattle.subsystem.specs.Running.{Story, IsRun, story}
+use Rattle.subsystem.specs.Running.{IsRun}
 
--- a run's log is the one that the model expects where its ticks start when the run's do, and these starts keep the cadence
+-- a run's log is the one that the model expects where its ticks start when the run's do, and these starts keep the
+-- cadence
 pub record IsExpected (layout : KeyLayout) (history : KeyHistory) (run : Run) : Type 0 where
   pub log : run.log.items ≡ expected_log layout history run.starts.items
   pub cadence : KeepsCadenceTo (listed run.starts.items) (length run.starts.items - 1)

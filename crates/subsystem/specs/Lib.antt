@@ -1,6 +1,6 @@
 pub mod Account
 pub mod Agreement
-pub mod Feed
+pub mod Looking
 pub mod Progress
 pub mod Running
 pub mod Texts

@@ -1,35 +1,14 @@
 -- A run of the whole subsystem, from power-on to the first tick start at or after the end stamp.
-use Rattle.std.specs.Prelude.{◌≡◌, ℕ, zero, suc, ◌-◌, Bool, true, List, [], ◌∷◌, ◌++◌, length, map, Some, None, if◌then◌else◌}
+use Rattle.std.specs.Prelude.{◌≡◌, ℕ, zero, suc, ◌+◌, ◌-◌, Bool, true, false, ◌&&◌, nat_le, List, [], ◌∷◌, ◌++◌, length}
+use Rattle.std.specs.Prelude.{map, Some, None, if◌then◌else◌}
 use Rattle.std.specs.declared.option.Option.{Option}
 use Rattle.board_lines.specs.Cadence.{IsLast, listed, tick_of}
-use Rattle.board_lines.specs.declared.event.Edge.{Edge}
-use Rattle.board_lines.specs.declared.event.HostEvent.{HostEvent}
 use Rattle.host_turn.specs.declared.stamped.Stamped.{Stamped}
-use Rattle.joint_run.specs.Joint.{Beside, joint_board, joint_start, log_of}
-use Rattle.joint_run.specs.Run.{World, run_at}
-use Rattle.joint_run.specs.Starts.{at_tick}
-use Rattle.fw_kernel.specs.declared.labels.TheConstants.{TICK}
+use Rattle.joint_feed.specs.Stories.{Story, state_at, starts_tick}
+use Rattle.joint_run.specs.Joint.{Beside, log_of}
+use Rattle.joint_run.specs.Run.{World}
 use Rattle.link_model.specs.declared.line.LogLine.{LogLine}
-use Rattle.key_file.specs.Histories.{KeyHistory}
 use Rattle.subsystem.specs.declared.outcome.Run.{Run}
-
--- what is run: the program, the edges of keys, the host's events, and the end stamp
-pub record Story : Type 0 where
-  pub bytes : List ℕ
-  pub edges : List Edge
-  pub events : List HostEvent
-  pub stop : ℕ
-
-abbrev pub story : List ℕ → KeyHistory → Story
-story bytes history = record { bytes = bytes; edges = history.edges; events = history.host; stop = history.end }
-
--- the joint state after so many steps from power-on, if there is one
-abbrev pub state_at : Story → ℕ → Option (World Beside)
-state_at s k = run_at (joint_board s.edges s.events) s.bytes joint_start k
-
--- whether a tick starts at a state
-abbrev pub starts_tick : Story → World Beside → Bool
-starts_tick s w = at_tick (joint_board s.edges s.events) TICK w
 
 -- the stamp of the tick that starts at a state, if one does
 abbrev pub start_stamp : Story → Option (World Beside) → List ℕ
@@ -41,6 +20,15 @@ abbrev pub starts_among : Story → ℕ → List ℕ
 starts_among s zero = []
 starts_among s (suc k) = starts_among s k ++ start_stamp s (state_at s k)
 
+-- the run is over at a state: a tick starts at or after the end stamp
+abbrev pub is_over : Story → World Beside → Bool
+is_over s w = starts_tick s w && nat_le (4096 + s.stop) w.cycle
+
+-- it isn't at any of the first k states
+abbrev pub GoesOnTo : Story → ℕ → Type 0
+GoesOnTo s zero = Unit {0}
+GoesOnTo s (suc k) = GoesOnTo s k × (w : World Beside) × (state_at s k ≡ Some w) × (is_over s w ≡ false)
+
 -- an item of the log with its tick
 abbrev pub line_of : List ℕ → Stamped → LogLine
 line_of starts s = record { tick = tick_of (listed starts) (length starts - 1) s.cycle; item = s.item }
@@ -48,9 +36,9 @@ line_of starts s = record { tick = tick_of (listed starts) (length starts - 1) s
 abbrev pub lines_of : List ℕ → List Stamped → List LogLine
 lines_of starts log = map (line_of starts) log
 
--- the run ends before the step that begins at the first tick start at or after the end stamp. `starts` are the stamps of
--- all tick starts up to it, `end` is the processor there, `steps` and `cycles` are counted from power-on, and the log is
--- what was said, each item with its tick
+-- the run ends before the step that begins at the first tick start at or after the end stamp. `starts` are the stamps
+-- of all tick starts up to it, `end` is the processor there, `steps` and `cycles` are counted from power-on, and the log
+-- is what was said, each item with its tick
 pub record IsRun (s : Story) (run : Run) : Type 0 where
   pub world : World Beside
   pub reached : state_at s run.steps ≡ Some world

@@ -16,7 +16,7 @@ pub struct Account {
 
 /// Puts items behind a log, in this tick.
 fn push_lines(log: &mut Vec<LogLine>, tick: u32, items: &[Stamped]) -> Result<(), AllocError>
-    ensures { OnOk result (log.new.items ≡ log.old.items ++ map (in_tick tick) items.now) }
+    ensures lines { OnOk result (log.new.items ≡ log.old.items ++ map (in_tick tick) items.now) }
 {
     for stamped in items {
         log.push(LogLine {

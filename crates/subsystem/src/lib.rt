@@ -1,13 +1,12 @@
 //! The subsystem as a whole: the run of a layout's compiled image under a key history, and the log's text.
 //!
 //! This layer knows where a run begins and ends, which of its steps are tick starts, and how the log is written. It makes
-//! the one joint run: the history's events are handed to the joint machine as they come near, and what it says is kept
-//! with its tick. That the log is the one which the model expects is a law of the layer below. It knows no instruction, no
-//! wire and no rule of the keyboard. Source: our own.
+//! the one joint run, in which probes look at the state after each step, and keeps what is said with its tick. That the
+//! log is the one which the model expects is a law of the layer below. It knows no instruction, no wire and no rule of the
+//! keyboard. Source: our own.
 #![tactic(auto)]
 
 mod account;
-mod feed;
 mod law;
 mod outcome;
 mod printing;

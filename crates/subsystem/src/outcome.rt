@@ -22,7 +22,7 @@ pub struct Run {
 
 /// The processor as it stands.
 pub(crate) fn copied(mcu: &Mcu) -> Mcu
-    ensures { result ≡ mcu.now }
+    ensures copy { result ≡ mcu.now }
 {
     Mcu {
         pc: mcu.pc,

@@ -9,7 +9,7 @@ use std::alloc::{AllocError, Global};
 
 /// Appends a line: the tick in decimal, a space, the item's text, LF.
 fn push_line(text: &mut Vec<u8>, line: LogLine) -> Result<(), AllocError>
-    ensures { OnOk result (text.new.items ≡ text.old.items ++ line_text line) }
+    ensures line { OnOk result (text.new.items ≡ text.old.items ++ line_text line) }
 {
     text.extend_from_slice(itoa::Buffer::new().format(line.tick).as_bytes())?;
     text.push(b' ')?;

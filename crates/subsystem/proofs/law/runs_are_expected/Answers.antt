@@ -1,6 +1,6 @@
 use Rattle.fw_compile.specs.Image.{image_of}
+use Rattle.joint_feed.specs.Stories.{story}
 use Rattle.link_model.specs.Machine.{keyboard}
-use Rattle.subsystem.specs.Running.{story}
 use Rattle.subsystem.proofs.Agreed.{log_as_expected}
 use Rattle.subsystem.proofs.Timekeeping.{keeps_cadence}
 use Rattle.subsystem.proofs.law.runs_are_expected.Goals as goal

@@ -1,54 +1,60 @@
-use Rattle.std.proofs.Common.{◌≡◌, ◌≤◌, ◌+◌, ◌-◌, ◌++◌, length, map, refl, sym, subst, arith}
+use Rattle.std.proofs.Common.{◌≡◌, suc, ◌-◌, ◌++◌, length, map, None, sym, subst, ◌∙◌, arith}
+use Rattle.std.proofs.lemmas.Result.{on_ok_weaker}
+use Rattle.fw_debug.proofs.Over.{seen_map}
+use Rattle.fw_debug.specs.Probes.{looked}
+use Rattle.joint_feed.specs.Course.{IsOnCourse, IsSaid}
+use Rattle.joint_feed.specs.Stories.{state_at, story}
 use Rattle.subsystem.specs.Account.{in_tick}
-use Rattle.subsystem.specs.Feed.{IsFed}
-use Rattle.subsystem.specs.Running.{story}
-use Rattle.subsystem.proofs.Advancing.{never_stuck, edges_there, host_there, few_starts, so_far_again}
+use Rattle.subsystem.proofs.Advancing.{never_stuck, few_starts, so_far_again}
+use Rattle.subsystem.proofs.Looking.{looked_next}
 use Rattle.subsystem.proofs.progress.Progress.advance.Goals as goal
 
-pub step_into-requires : goal.step_into-requires
-step_into-requires c =
-    let near = c.requires.near in
-    let range = c.edges-edges.ensures.accepted.end_in_range in
-    record { near = omega (arith, near, range) }
+pub step-requires : goal.step-requires
+step-requires g c =
+    let stands = c.requires.judged.stands.course in
+    let soon = c.requires.soon in
+    record {
+      on = subst (λ bytes. IsOnCourse (story bytes c.args.history.now) c.args.self.now.course) (sym stands.image) stands;
+      near = omega (arith, soon);
+    }
 
 pub unreachable-requires : goal.unreachable-requires
-unreachable-requires c =
-    let s = story c.args.image.now.bytes c.args.history.now in
-    let a = c.edges-edges.ensures.accepted in
-    never_stuck s c.args.self.now c.step_into.new.self c.in-Err._stuck c.requires.judged a.thin a.edges_in_order c.requires.time c.in-Err.ensures.run
-
-pub count-requires-clause-made : goal.count-requires-clause-made
-count-requires-clause-made c =
-    let s = story c.args.image.now.bytes c.args.history.now in
-    let a = c.edges-edges.ensures.accepted in
-    let there = edges_there s c.args.self.now c.step_into.new.self c.step_into.new.seen c.requires.judged a.thin a.edges_in_order c.in-Ok.ensures.step c.in-Ok.ensures.run c.requires.time in
-    subst (λ v. c.args.self.now.feed.made + c.step_into.new.seen.edges ≤ length v) (sym c.edges-edges.ensures.edges) there
-
-pub count-requires-clause-done : goal.count-requires-clause-done
-count-requires-clause-done c =
-    let s = story c.args.image.now.bytes c.args.history.now in
-    let a = c.edges-edges.ensures.accepted in
-    let there = host_there s c.args.self.now c.step_into.new.self c.step_into.new.seen c.requires.judged a.thin a.edges_in_order c.in-Ok.ensures.step c.in-Ok.ensures.run c.requires.time in
-    subst (λ v. c.args.self.now.feed.done + c.step_into.new.seen.host ≤ length v) (sym c.host-events.ensures.host) there
+unreachable-requires g c =
+    let h = c.args.history.now in
+    let next = suc c.args.self.now.course.joint.steps in
+    never_stuck (story c.args.image.now.bytes h) next c.requires.time
+    (subst (λ bytes. state_at (story bytes h) next ≡ None) c.requires.judged.stands.course.image c.in-Err.ensures.on.3)
 
 pub note-requires : goal.note-requires
-note-requires c =
-    let s = story c.args.image.now.bytes c.args.history.now in
-    let a = c.edges-edges.ensures.accepted in
-    record { few = few_starts s c.args.self.now c.requires.judged c.requires.near a.end_in_range }
+note-requires g c =
+    record { few = few_starts (story c.args.image.now.bytes c.args.history.now) c.args.self.now c.requires.judged c.requires.soon }
 
 pub returns-clause-so_far : goal.returns-clause-so_far
-returns-clause-so_far c =
-    let s = story c.args.image.now.bytes c.args.history.now in
+returns-clause-so_far g c =
+    let h = c.args.history.now in
+    let s = story c.args.image.now.bytes h in
     let p = c.args.self.now in
-    let a = c.edges-edges.ensures.accepted in
-    let seen = c.step_into.new.seen in
-    let e = c.in_ok-note-in-Ok.ensures in
-    let fed : IsFed c.args.history.now.edges c.args.history.now.host c.count.new.self =
-    subst (λ v. IsFed c.args.history.now.edges v c.count.new.self) c.host-events.ensures.host
-    (subst (λ v. IsFed v c.host-events.result.now c.count.new.self) c.edges-edges.ensures.edges c.count.ensures.fed) in
-    let said : c.note.new.self.log.items ≡ p.account.log.items ++ map (in_tick (length p.account.starts.items - 1)) seen.items.items =
-    subst (λ v. c.note.new.self.log.items ≡ p.account.log.items ++ map (in_tick (length p.account.starts.items - 1)) v) c.as_slice.ensures.value e.log in
-    so_far_again s p c.step_into.new.self seen c.requires.judged a.thin a.edges_in_order c.in-Ok.ensures.step c.in-Ok.ensures.run c.requires.time
-    (record { joint = c.step_into.new.self; feed = c.count.new.self; account = c.note.new.self; seen = seen }) refl c.in-Ok.ensures.some c.in-Ok.ensures.few fed
-    c.count.ensures.made c.count.ensures.done e.starts said
+    let k = p.course.joint.steps in
+    let new = c.step.new.self in
+    let image = c.requires.judged.stands.course.image in
+    let e = c.in-Ok.ensures in
+    let step : IsOnCourse s new × (new.joint.steps ≡ suc k) =
+    subst (λ bytes. IsOnCourse (story bytes h) new × (new.joint.steps ≡ suc k)) image e.on in
+    let tells : IsSaid s k new.seen.items.items = subst (λ bytes. IsSaid (story bytes h) k new.seen.items.items) image e.said in
+    on_ok_weaker c.note.result (λ log.
+    so_far_again s p new c.requires.judged step.0 step.1 tells c.requires.time c.note.new.self c.note.ensures.starts
+    (subst (λ v. c.note.new.self.log.items ≡ p.account.log.items ++ map (in_tick (length p.account.starts.items - 1)) v) c.as_slice.ensures.value log))
+    c.note.ensures.log
+
+pub returns-clause-steps : goal.returns-clause-steps
+returns-clause-steps g c = c.in-Ok.ensures.on.1
+
+pub returns-clause-looked : goal.returns-clause-looked
+returns-clause-looked g c =
+    let h = c.args.history.now in
+    let k = c.args.self.now.course.joint.steps in
+    let new = c.step.new.self in
+    let on : IsOnCourse (story c.args.image.now.bytes h) new =
+    subst (λ bytes. IsOnCourse (story bytes h) new) c.requires.judged.stands.course.image c.in-Ok.ensures.on.0 in
+    looked_next (story c.args.image.now.bytes h) new on k c.steps-steps.result _ _ c.in-Ok.ensures.on.1 c.steps-steps.ensures.steps
+    (c.look_all.ensures.looked ∙ sym (seen_map _ (looked c.steps-steps.result new.joint.mcu) c.args.probes.now.items))

@@ -1,13 +1,8 @@
-use Rattle.std.proofs.Common.{subst}
-use Rattle.subsystem.specs.Running.{story}
-use Rattle.subsystem.specs.Feed.{IsFed}
+use Rattle.joint_feed.specs.Stories.{story}
 use Rattle.subsystem.proofs.Beginning.{begins}
 use Rattle.subsystem.proofs.progress.Progress.new.Goals as goal
 
-pub returns : goal.returns
-returns c =
-    let h = c.args.history.now in
-    let fed : IsFed h.edges h.host c.new.result =
-    subst (λ v. IsFed h.edges v c.new.result) c.host.ensures.host (subst (λ v. IsFed v c.host.result.now c.new.result) c.edges.ensures.edges c.new.ensures.fed) in
-    begins (story c.args.image.now.bytes h) (record { joint = c.power_on.result; feed = c.new.result; account = c.new-2.result; seen = c.nothing.result })
-    c.power_on.ensures.parts c.power_on.ensures.run fed c.new.ensures.made c.new.ensures.done c.new-2.ensures.log c.new-2.ensures.starts
+pub returns-clause-so_far : goal.returns-clause-so_far
+returns-clause-so_far c =
+    begins (story c.args.image.now.bytes c.args.history.now) (record { course = c.new.result; account = c.new-2.result })
+    c.new.ensures.on c.new.ensures.steps c.new-2.ensures.log c.new-2.ensures.starts

@@ -1,0 +1,49 @@
+-- Probes look at the states of a run, one after another.
+use Rattle.std.proofs.Common.{◌≡◌, ℕ, suc, List, map, Some, Ok, Err, OnErr, ap, subst, sym, ◌∙◌}
+use Rattle.std.specs.declared.option.Option.{Option}
+use Rattle.std.specs.declared.result.Result.{Result}
+use Rattle.fw_debug.specs.Looks.{looked_at, looks}
+use Rattle.fw_debug.specs.Probes.{Watch, looked}
+use Rattle.joint_feed.proofs.Going.{here}
+use Rattle.joint_feed.specs.Course.{IsOnCourse}
+use Rattle.joint_feed.specs.Stories.{Story, state_at, story}
+use Rattle.joint_feed.specs.declared.course.Course.{Course}
+use Rattle.joint_run.specs.Joint.{Beside}
+use Rattle.joint_run.specs.Run.{World}
+use Rattle.key_file.specs.Histories.{KeyHistory}
+use Rattle.mcs48_core.specs.Cpu.{Cpu}
+use Rattle.subsystem.specs.Looking.{HaveLookedAtSome}
+
+-- a look at the machine is one at the state that its last step led to
+pub looked_next : (s : Story) (it : Course) (on : IsOnCourse s it) (k step : ℕ) (before after : List Watch) → it.joint.steps ≡ suc k → step ≡ it.joint.steps
+    → after ≡ map (looked step it.joint.mcu) before → after ≡ looked_at (suc k) (state_at s (suc k)) before
+looked_next s it on k step before after steps at is =
+    let there : state_at s (suc k) ≡ Some on.world = subst (λ (n : ℕ). state_at s n ≡ Some on.world) steps (here s it on) in
+    is ∙ ap (λ (n : ℕ). map (looked n it.joint.mcu) before) (at ∙ steps)
+    ∙ ap (λ (m : Cpu). map (looked (suc k) m) before) on.in_run.mcu
+    ∙ sym (ap (λ (o : Option (World Beside)). looked_at (suc k) o before) there)
+
+-- where no step was made they have looked at as many
+pub looks_still : (s : Story) (old new : Course) (first before : List Watch) → new ≡ old → before ≡ looks s old.joint.steps first → before ≡ looks s new.joint.steps first
+looks_still s old new first before e so_far = so_far ∙ sym (ap (λ (it : Course). looks s it.joint.steps first) e)
+
+-- after one look more the probes have looked at one state more
+pub looks_more : (s : Story) (k next : ℕ) (first before after : List Watch) → next ≡ suc k → before ≡ looks s k first
+    → after ≡ looked_at (suc k) (state_at s (suc k)) before → after ≡ looks s next first
+looks_more s k next first before after e so_far is =
+    is ∙ ap (looked_at (suc k) (state_at s (suc k))) so_far ∙ sym (ap (λ (n : ℕ). looks s n first) e)
+
+-- what was said of one image's run and of its steps is so of the same image by another name
+pub looked_whole : (h : KeyHistory) (before after : List Watch) (bytes image : List ℕ) (steps k : ℕ) → bytes ≡ image → k ≡ steps
+    → after ≡ looks (story bytes h) steps before → after ≡ looks (story image h) k before
+looked_whole h before after bytes image steps k same e so =
+    so ∙ ap (λ (b : List ℕ). looks (story b h) steps before) same ∙ ap (λ (n : ℕ). looks (story image h) n before) (sym e)
+
+pub looked_some : (h : KeyHistory) (before after : List Watch) (bytes image : List ℕ) → bytes ≡ image
+    → HaveLookedAtSome (story bytes h) before after → HaveLookedAtSome (story image h) before after
+looked_some h before after bytes image same so = subst (λ (b : List ℕ). HaveLookedAtSome (story b h) before after) same so
+
+-- what is so holds after an error too
+pub on_err : {A E P : Type 0} (result : Result A E) → P → OnErr result P
+on_err (Ok a) p = tt
+on_err (Err e) p = p
