@@ -2,6 +2,7 @@
 //! top call, and ends with its status.
 #![tactic(auto)]
 
+use fw_debug::{AddressProbe, CellProbe, Probe, RegisterProbe};
 use io_edge::{FileShelf, StreamSink};
 use kbd48_app::{Exit, kbd48};
 use std::process::ExitCode;
@@ -23,8 +24,23 @@ fn main(rt: HostRuntime) -> ExitCode {
         Err(fault) if fault.kind() == io::ErrorKind::InvalidData => Vec::new(rt.alloc()),
         Err(_) => return ExitCode::from(Exit::Memory.status()),
     };
+    let mut probes: Vec<Box<dyn Probe>> = Vec::new(rt.alloc());
+    // A function that makes a boxed `dyn` and hands it out isn't allowed, so the three are made here.
+    let (Ok(address), Ok(register), Ok(cell)) = (
+        Box::new(rt.alloc(), AddressProbe::new()),
+        Box::new(rt.alloc(), RegisterProbe::new()),
+        Box::new(rt.alloc(), CellProbe::new()),
+    ) else {
+        return ExitCode::from(Exit::Memory.status());
+    };
+    if probes.push(address).is_err()
+        || probes.push(register).is_err()
+        || probes.push(cell).is_err()
+    {
+        return ExitCode::from(Exit::Memory.status());
+    }
     let mut shelf = FileShelf::new(&rt);
     let mut out = StreamSink::new(io::writer(&rt));
-    let exit = kbd48(rt.alloc(), &words, &mut shelf, &mut out);
+    let exit = kbd48(rt.alloc(), &words, &mut shelf, &mut out, &mut probes);
     ExitCode::from(exit.status())
 }

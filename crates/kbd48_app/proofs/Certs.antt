@@ -60,42 +60,7 @@ read_by read file second shelf (Found bytes) h =
 is_read : (read : Kind) (file first second : List ℕ) (shelf : Told) → Reads read file (pair_plan Certify first second) shelf → IsRead read file second (after_fetch shelf) (fetched shelf first (limit_of kinds.Hex))
 is_read read file first second shelf h = read_by read file second (after_fetch shelf) (fetched shelf first (limit_of kinds.Hex)) h
 
--- where the plan leads, by what the two fetches come to
-leads_first : (first second bytes : List ℕ) (shelf : Told) → fetched shelf first (limit_of kinds.Hex) ≡ Found bytes → leads (pair_plan Certify first second) shelf ≡ leads (plan_from second bytes) (after_fetch shelf)
-leads_first first second bytes shelf is =
-    ap (on_fetched exits.Read exits.Input (λ b. leads (plan_from second b) (after_fetch shelf))) is
-
-leads_image : (second bytes image : List ℕ) (shelf : Told) → hex_of bytes ≡ Ok image → leads (plan_from second bytes) shelf ≡ leads (cert_next second image) shelf
-leads_image second bytes image shelf is = ap (λ (o : HexOutcome). leads (with_image (cert_next second) o) shelf) is
-
-leads_second : (second image text : List ℕ) (shelf : Told) → fetched shelf second (limit_of kinds.Cert) ≡ Found text → leads (cert_next second image) shelf ≡ exit_said (cert_said image text)
-leads_second second image text shelf is =
-    ap (on_fetched exits.Read exits.Input (λ t. exit_said (cert_said image t))) is
-
--- each fault is answered
-pub cert_hex : (first second : List ℕ) (shelf : Told) (fault : HexFault) → HasHexFault fault (pair_plan Certify first second) shelf → leads (pair_plan Certify first second) shelf ≡ exits.Input
-cert_hex first second shelf fault h =
-    elim (is_read kinds.Hex h.0 first second shelf h.1) [
-      | inl this ↦
-          leads_first first second h.0 shelf this.1
-          ∙ ap (λ (o : HexOutcome). leads (with_image (cert_next second) o) (after_fetch shelf)) h.2
-      | inr more ↦ let other : kinds.Cert ≡ kinds.Hex = more.2.0 in absurd cc
-    ]
-
-pub cert_asm : (first second : List ℕ) (shelf : Told) (fault : ℕ × ℕ) → HasAsmFault fault (pair_plan Certify first second) shelf → leads (pair_plan Certify first second) shelf ≡ exits.Input
-cert_asm first second shelf fault h =
-    elim (is_read kinds.Asm h.0 first second shelf h.1) [
-      | inl this ↦ let other : kinds.Hex ≡ kinds.Asm = this.0 in absurd cc
-      | inr more ↦ let other : kinds.Cert ≡ kinds.Asm = more.2.0 in absurd cc
-    ]
-
-pub cert_layout : (first second : List ℕ) (shelf : Told) (fault : LayoutRefusal) → HasLayoutFault fault (pair_plan Certify first second) shelf → leads (pair_plan Certify first second) shelf ≡ exits.Input
-cert_layout first second shelf fault h =
-    elim (is_read kinds.Layout h.0 first second shelf h.1) [
-      | inl this ↦ let other : kinds.Hex ≡ kinds.Layout = this.0 in absurd cc
-      | inr more ↦ let other : kinds.Cert ≡ kinds.Layout = more.2.0 in absurd cc
-    ]
-
+-- no key file and no script is read
 pub cert_keys : (first second file : List ℕ) (shelf : Told) → Reads kinds.Keys file (pair_plan Certify first second) shelf → ⊥
 cert_keys first second file shelf h =
     elim (is_read kinds.Keys file first second shelf h) [
@@ -103,18 +68,11 @@ cert_keys first second file shelf h =
       | inr more ↦ let other : kinds.Cert ≡ kinds.Keys = more.2.0 in cc
     ]
 
-pub cert_fault : (first second : List ℕ) (shelf : Told) (fault : ℕ × ℕ) → HasCertFault fault (pair_plan Certify first second) shelf → leads (pair_plan Certify first second) shelf ≡ exits.Input
-cert_fault first second shelf fault h =
-    elim (is_read kinds.Hex h.0 first second shelf h.1) [
-      | inl image ↦
-          elim (is_read kinds.Cert h.4 first second shelf h.5) [
-            | inl this ↦ let other : kinds.Hex ≡ kinds.Cert = this.0 in absurd cc
-            | inr more ↦
-                leads_first first second h.0 shelf image.1
-                ∙ (leads_image second h.0 h.2 (after_fetch shelf) h.3
-                ∙ (leads_second second h.2 h.4 (after_fetch shelf) more.2.3 ∙ ap exit_said h.6))
-          ]
-      | inr more ↦ let other : kinds.Cert ≡ kinds.Hex = more.2.0 in absurd cc
+pub cert_script : (first second file : List ℕ) (shelf : Told) → Reads kinds.Script file (pair_plan Certify first second) shelf → ⊥
+cert_script first second file shelf h =
+    elim (is_read kinds.Script file first second shelf h) [
+      | inl this ↦ let other : kinds.Hex ≡ kinds.Script = this.0 in cc
+      | inr more ↦ let other : kinds.Cert ≡ kinds.Script = more.2.0 in cc
     ]
 
 -- a certificate without a fault
@@ -130,9 +88,60 @@ exits_by number (Err fault) = inr ((fault.item, number fault.rule), refl)
 pub cert_exits : (image text : List ℕ) → (exit_said (cert_said image text) ≡ exits.Done) ⊎ ((fault : ℕ × ℕ) × (cert_said image text ≡ Err (Cert fault.0 fault.1)))
 cert_exits image text = exits_by number_of (certificate_said image text)
 
--- where nothing stands in the way, all is said
-pub cert_done : (first second bytes image text : List ℕ) (proved : Proved) (shelf : Told) → fetched shelf first (limit_of kinds.Hex) ≡ Found bytes → hex_of bytes ≡ Ok image → fetched (after_fetch shelf) second (limit_of kinds.Cert) ≡ Found text → certificate_said image text ≡ Ok proved → leads (pair_plan Certify first second) shelf ≡ exits.Done
-cert_done first second bytes image text proved shelf found is then right =
-    leads_first first second bytes shelf found
-    ∙ (leads_image second bytes image (after_fetch shelf) is
-    ∙ (leads_second second image text (after_fetch shelf) then ∙ right_exit number_of (certificate_said image text) proved right))
+module _ (n : ℕ) where
+  -- where the plan leads, by what the two fetches come to, where there are so many probes
+  leads_first : (first second bytes : List ℕ) (shelf : Told) → fetched shelf first (limit_of kinds.Hex) ≡ Found bytes → leads n (pair_plan Certify first second) shelf ≡ leads n (plan_from second bytes) (after_fetch shelf)
+  leads_first first second bytes shelf is =
+      ap (on_fetched exits.Read exits.Input (λ b. leads n (plan_from second b) (after_fetch shelf))) is
+
+  leads_image : (second bytes image : List ℕ) (shelf : Told) → hex_of bytes ≡ Ok image → leads n (plan_from second bytes) shelf ≡ leads n (cert_next second image) shelf
+  leads_image second bytes image shelf is = ap (λ (o : HexOutcome). leads n (with_image (cert_next second) o) shelf) is
+
+  leads_second : (second image text : List ℕ) (shelf : Told) → fetched shelf second (limit_of kinds.Cert) ≡ Found text → leads n (cert_next second image) shelf ≡ exit_said (cert_said image text)
+  leads_second second image text shelf is =
+      ap (on_fetched exits.Read exits.Input (λ t. exit_said (cert_said image t))) is
+
+  -- each fault is answered
+  pub cert_hex : (first second : List ℕ) (shelf : Told) (fault : HexFault) → HasHexFault fault (pair_plan Certify first second) shelf → leads n (pair_plan Certify first second) shelf ≡ exits.Input
+  cert_hex first second shelf fault h =
+      elim (is_read kinds.Hex h.0 first second shelf h.1) [
+        | inl this ↦
+            leads_first first second h.0 shelf this.1
+            ∙ ap (λ (o : HexOutcome). leads n (with_image (cert_next second) o) (after_fetch shelf)) h.2
+        | inr more ↦ let other : kinds.Cert ≡ kinds.Hex = more.2.0 in absurd cc
+      ]
+
+  pub cert_asm : (first second : List ℕ) (shelf : Told) (fault : ℕ × ℕ) → HasAsmFault fault (pair_plan Certify first second) shelf → leads n (pair_plan Certify first second) shelf ≡ exits.Input
+  cert_asm first second shelf fault h =
+      elim (is_read kinds.Asm h.0 first second shelf h.1) [
+        | inl this ↦ let other : kinds.Hex ≡ kinds.Asm = this.0 in absurd cc
+        | inr more ↦ let other : kinds.Cert ≡ kinds.Asm = more.2.0 in absurd cc
+      ]
+
+  pub cert_layout : (first second : List ℕ) (shelf : Told) (fault : LayoutRefusal) → HasLayoutFault fault (pair_plan Certify first second) shelf → leads n (pair_plan Certify first second) shelf ≡ exits.Input
+  cert_layout first second shelf fault h =
+      elim (is_read kinds.Layout h.0 first second shelf h.1) [
+        | inl this ↦ let other : kinds.Hex ≡ kinds.Layout = this.0 in absurd cc
+        | inr more ↦ let other : kinds.Cert ≡ kinds.Layout = more.2.0 in absurd cc
+      ]
+
+  pub cert_fault : (first second : List ℕ) (shelf : Told) (fault : ℕ × ℕ) → HasCertFault fault (pair_plan Certify first second) shelf → leads n (pair_plan Certify first second) shelf ≡ exits.Input
+  cert_fault first second shelf fault h =
+      elim (is_read kinds.Hex h.0 first second shelf h.1) [
+        | inl image ↦
+            elim (is_read kinds.Cert h.4 first second shelf h.5) [
+              | inl this ↦ let other : kinds.Hex ≡ kinds.Cert = this.0 in absurd cc
+              | inr more ↦
+                  leads_first first second h.0 shelf image.1
+                  ∙ (leads_image second h.0 h.2 (after_fetch shelf) h.3
+                  ∙ (leads_second second h.2 h.4 (after_fetch shelf) more.2.3 ∙ ap exit_said h.6))
+            ]
+        | inr more ↦ let other : kinds.Cert ≡ kinds.Hex = more.2.0 in absurd cc
+      ]
+
+  -- where nothing stands in the way, all is said
+  pub cert_done : (first second bytes image text : List ℕ) (proved : Proved) (shelf : Told) → fetched shelf first (limit_of kinds.Hex) ≡ Found bytes → hex_of bytes ≡ Ok image → fetched (after_fetch shelf) second (limit_of kinds.Cert) ≡ Found text → certificate_said image text ≡ Ok proved → leads n (pair_plan Certify first second) shelf ≡ exits.Done
+  cert_done first second bytes image text proved shelf found is then right =
+      leads_first first second bytes shelf found
+      ∙ (leads_image second bytes image (after_fetch shelf) is
+      ∙ (leads_second second image text (after_fetch shelf) then ∙ right_exit number_of (certificate_said image text) proved right))

@@ -1,30 +1,33 @@
 -- Where nothing stands in the way.
-use Rattle.std.proofs.Common.{◌≡◌, ℕ, ◌-◌, ◌^◌, ◌<◌, Bool, List, Some, None, Ok, ap, sym, ◌∙◌, subst, inl, inr, refl, arith}
+use Rattle.std.proofs.Common.{◌≡◌, ℕ, ◌-◌, ◌^◌, ◌<◌, Bool, List, length, Some, None, Ok, ap, sym, ◌∙◌, subst, inl, inr, refl, arith}
 use Rattle.layout_reader.specs.Faults.{Refusal as LayoutRefusal}
 use Rattle.layout_reader.specs.Layouts.{KeyLayout}
 use Rattle.std.specs.declared.option.Option.{Option}
 use Rattle.std.specs.declared.result.Result.{Result}
 use Rattle.hexfile.specs.Hex.{HexOutcome}
+use Rattle.fw_debug.specs.Probes.{Watch}
 use Rattle.io_edge.specs.Faults.{Rose}
-use Rattle.io_edge.specs.Shelf.{Told, Fetched, Found, fetched}
+use Rattle.io_edge.specs.Shelf.{Told, Fetched, Found, after_fetch, fetched}
 use Rattle.mcs48_isa.specs.Listing.{listing_of}
 use Rattle.kbd48_app.specs.declared.exit.Exit.{Exit}
 use Rattle.kbd48_app.specs.declared.exit.Exit.TheVariants as exits
 use Rattle.kbd48_app.specs.declared.words.Command.{Command}
-use Rattle.kbd48_app.specs.declared.words.Command.TheVariants.{OverFile, OverPair, Feed}
+use Rattle.kbd48_app.specs.declared.words.Command.TheVariants.{OverFile, OverPair, Debug, Feed}
 use Rattle.kbd48_app.specs.declared.words.PairCommand.TheVariants.{Certify, OverRun}
 use Rattle.kbd48_app.specs.declared.words.FileCommand.{FileCommand}
 use Rattle.kbd48_app.specs.declared.words.FileCommand.TheVariants.{Step, Listing, Assemble, Compile}
 use Rattle.kbd48_app.specs.Answers.{MayAnswerOf, MayAnswer, MayEndAs}
 use Rattle.kbd48_app.specs.Complete.{IsSound, IsFaultless, IsFaultlessAs, IsLeft}
+use Rattle.kbd48_app.specs.declared.kind.Kind.TheVariants as kinds
+use Rattle.kbd48_app.specs.Debugging.{script_fault}
 use Rattle.kbd48_app.specs.Kinds.{kind_of, limit_of}
-use Rattle.kbd48_app.specs.Plans.{Answer, assembled, compiled, file_said, of_image, plan_of, run_said}
+use Rattle.kbd48_app.specs.Plans.{Answer, Runs, assembled, compiled, file_said, of_image, plan_of, run_said, script_next}
 use Rattle.kbd48_app.specs.Reached.{on_fetched, may_lack}
 use Rattle.kbd48_app.specs.Says.{Says, exit_said}
 use Rattle.kbd48_app.specs.Stepping.{Progress, Stands, Stopped, after_steps}
-use Rattle.kbd48_app.specs.Words.{command_of, name_in, second_in}
+use Rattle.kbd48_app.specs.Words.{command_of, name_in, second_in, third_in}
 use Rattle.kbd48_app.proofs.Certs.{cert_done}
-use Rattle.kbd48_app.proofs.Ends.{leads, ends_so, IsLed}
+use Rattle.kbd48_app.proofs.Ends.{leads, ends_so, script_exit, IsLed}
 use Rattle.kbd48_app.proofs.Runs.{history_exit, leads_both}
 
 -- the exit of a run
@@ -50,6 +53,7 @@ memory_left (OverFile Assemble) = inr refl
 memory_left (OverFile Compile) = inr refl
 memory_left (OverPair Certify) = inr refl
 memory_left (OverPair (OverRun command)) = inr refl
+memory_left Debug = inr refl
 
 answer_left : (command : Command) (led : Exit) (answer : Answer) (lack : Bool) → IsLeft (Some command) led → IsLed led lack answer → IsLeft (Some command) (exit_said answer)
 answer_left command led answer lack left may =
@@ -66,35 +70,52 @@ found_left command bytes outcome is sound =
     subst (λ (o : Fetched). IsLeft (Some (OverFile command)) (on_fetched exits.Read exits.Input (λ bs. exit_said (file_said command bs)) o)) (sym is)
     (sound_left command bytes sound)
 
-answers_left : (words : List (List ℕ)) (command : Option Command) (shelf after : Option Told) (answer : Answer) → IsFaultlessAs command words shelf → MayEndAs command words shelf answer after → IsLeft command (exit_said answer)
-answers_left words None shelf after answer faultless may = absurd faultless
-answers_left words (Some (Feed bytes)) shelf after answer faultless may = fed_left bytes _ answer may.0
-answers_left words (Some (OverFile command)) None after answer faultless may = absurd faultless
-answers_left words (Some (OverFile command)) (Some shelf) after answer faultless may =
+-- a script without a fault
+script_done : (n : ℕ) (script : List ℕ) (outcome : Fetched) → outcome ≡ Found script → script_fault n script ≡ None → on_fetched exits.Read exits.Input (λ s. script_exit (script_fault n s)) outcome ≡ exits.Done
+script_done n script outcome is has =
+    ap (on_fetched exits.Read exits.Input (λ s. script_exit (script_fault n s))) is ∙ ap script_exit has
+
+answers_left : (words : List (List ℕ)) (command : Option Command) (shelf after : Option Told) (answer : Answer) (probes left : List Watch) → IsFaultlessAs (length probes) command words shelf → MayEndAs command words shelf answer after probes left → IsLeft command (exit_said answer)
+answers_left words None shelf after answer probes left faultless may = absurd faultless
+answers_left words (Some (Feed bytes)) shelf after answer probes left faultless may = fed_left bytes _ answer may.0
+answers_left words (Some (OverFile command)) None after answer probes left faultless may = absurd faultless
+answers_left words (Some (OverFile command)) (Some shelf) after answer probes left faultless may =
     let p = plan_of (Some (OverFile command)) words in
-    answer_left (OverFile command) (leads p shelf) answer (may_lack p shelf)
+    answer_left (OverFile command) (leads (length probes) p shelf) answer (may_lack p shelf)
     (found_left command faultless.0 (fetched shelf (name_in words) (limit_of (kind_of command))) faultless.1 faultless.2)
-    (ends_so p shelf answer after may)
-answers_left words (Some (OverPair command)) None after answer faultless may = absurd faultless
-answers_left words (Some (OverPair Certify)) (Some shelf) after answer faultless may =
+    (ends_so p shelf answer after probes left may)
+answers_left words (Some (OverPair command)) None after answer probes left faultless may = absurd faultless
+answers_left words (Some (OverPair Certify)) (Some shelf) after answer probes left faultless may =
     let p = plan_of (Some (OverPair Certify)) words in
     let h = faultless in
-    answer_left (OverPair Certify) (leads p shelf) answer (may_lack p shelf)
-    (inl (cert_done (name_in words) (second_in words) h.0 h.2 h.4 h.6 shelf h.1 h.3 h.5 h.7))
-    (ends_so p shelf answer after may)
-answers_left words (Some (OverPair (OverRun command))) (Some shelf) after answer faultless may =
+    answer_left (OverPair Certify) (leads (length probes) p shelf) answer (may_lack p shelf)
+    (inl (cert_done (length probes) (name_in words) (second_in words) h.0 h.2 h.4 h.6 shelf h.1 h.3 h.5 h.7))
+    (ends_so p shelf answer after probes left may)
+answers_left words (Some (OverPair (OverRun command))) (Some shelf) after answer probes left faultless may =
     let p = plan_of (Some (OverPair (OverRun command))) words in
     let h = faultless in
-    answer_left (OverPair (OverRun command)) (leads p shelf) answer (may_lack p shelf)
-    (inl (leads_both command (name_in words) (second_in words) h.0 h.4 h.2 shelf h.1 h.3 h.5 ∙ ap history_exit h.7))
-    (ends_so p shelf answer after may)
+    let on = after_fetch (after_fetch shelf) in
+    answer_left (OverPair (OverRun command)) (leads (length probes) p shelf) answer (may_lack p shelf)
+    (inl (leads_both (length probes) (Runs command) (name_in words) (second_in words) h.0 h.4 h.2 shelf h.1 h.3 h.5 ∙ ap (history_exit (length probes) (Runs command) h.2 on) h.7))
+    (ends_so p shelf answer after probes left may)
+answers_left words (Some Debug) None after answer probes left faultless may = absurd faultless
+answers_left words (Some Debug) (Some shelf) after answer probes left faultless may =
+    let n = length probes in
+    let p = plan_of (Some Debug) words in
+    let next = script_next (third_in words) in
+    let h = faultless in
+    let on = after_fetch (after_fetch shelf) in
+    answer_left Debug (leads n p shelf) answer (may_lack p shelf)
+    (inl (leads_both n next (name_in words) (second_in words) h.0 h.4 h.2 shelf h.1 h.3 h.5
+    ∙ (ap (history_exit n next h.2 on) h.7 ∙ script_done n h.8 (fetched on (third_in words) (limit_of kinds.Script)) h.9 h.10)))
+    (ends_so p shelf answer after probes left may)
 
 not_risen : (before after : ℕ) → after ≡ before → before < 2 ^ 64 - 1 → Rose before after → ⊥
 not_risen before after same below rose = omega (arith, same, below, rose)
 
-pub left : (words : List (List ℕ)) (shelf end : Option Told) (taken taken' : Option (List ℕ)) (exit : Exit) (before after : ℕ) → IsFaultless words shelf → after ≡ before → before < 2 ^ 64 - 1 → (exit ≡ exits.Write → Rose before after) → (answer : Answer) × MayAnswer words shelf answer end × Says answer taken taken' exit → IsLeft (command_of words) exit
-left words shelf end taken taken' exit before after faultless same below write says =
+pub left : (n : ℕ) (words : List (List ℕ)) (shelf end : Option Told) (probes kept : List Watch) (taken taken' : Option (List ℕ)) (exit : Exit) (before after : ℕ) → length probes ≡ n → IsFaultless n words shelf → after ≡ before → before < 2 ^ 64 - 1 → (exit ≡ exits.Write → Rose before after) → (answer : Answer) × MayAnswer words shelf answer end probes kept × Says answer taken taken' exit → IsLeft (command_of words) exit
+left n words shelf end probes kept taken taken' exit before after many faultless same below write says =
     elim says.2 [
-      | inl whole ↦ subst (λ (e : Exit). IsLeft (command_of words) e) (sym whole.0) (answers_left words (command_of words) shelf end says.0 faultless says.1)
+      | inl whole ↦ subst (λ (e : Exit). IsLeft (command_of words) e) (sym whole.0) (answers_left words (command_of words) shelf end says.0 probes kept (subst (λ (k : ℕ). IsFaultless k words shelf) (sym many) faultless) says.1)
       | inr part ↦ absurd (not_risen before after same below (write part.0))
     ]

@@ -1,25 +1,37 @@
 -- How a plan ends over a shelf that tells its files.
-use Rattle.std.proofs.Common.{◌≡◌, ℕ, Bool, true, false, List, Some, None, Err, inl, inr, refl, ap, subst, ◌∙◌, ◌⊎◌}
+use Rattle.std.proofs.Common.{◌≡◌, ℕ, Bool, true, false, List, length, Some, None, Err, inl, inr, refl, ap, subst, ◌∙◌, ◌⊎◌}
 use Rattle.std.specs.declared.option.Option.{Option}
+use Rattle.fw_compile.specs.Image.{image_of}
+use Rattle.fw_debug.specs.Probes.{Watch}
+use Rattle.fw_debug.specs.Told.{Told as Session}
+use Rattle.joint_feed.specs.Stories.{story}
 use Rattle.io_edge.specs.Shelf.{Told, Fetched, Fails, Long, Found, after_fetch, fetched}
 use Rattle.kbd48_app.specs.declared.exit.Exit.{Exit}
 use Rattle.kbd48_app.specs.declared.exit.Exit.TheVariants as exits
 use Rattle.kbd48_app.specs.declared.kind.Kind.{Kind}
 use Rattle.kbd48_app.specs.declared.refusal.Refusal.TheVariants.{Read, TooLong, Memory}
 use Rattle.kbd48_app.specs.declared.words.Command.{Command}
-use Rattle.kbd48_app.specs.Answers.{OnFetched, MayEnd, MayEndAs, MayAnswer}
+use Rattle.kbd48_app.specs.Answers.{OnFetched, MayAnswerSession, MayEnd, MayEndAs, MayAnswer}
+use Rattle.fw_debug.specs.Obeyed.{session_told}
+use Rattle.kbd48_app.specs.Debugging.{script_fault}
 use Rattle.kbd48_app.specs.Kinds.{limit_of}
-use Rattle.kbd48_app.specs.Plans.{Answer, Plan, Gives, Runs, Fetches, plan, plan_of}
+use Rattle.kbd48_app.specs.Plans.{Answer, Plan, Gives, Runs, Debugs, Fetches, plan, plan_of}
 use Rattle.kbd48_app.specs.Reached.{on_fetched, may_lack}
 use Rattle.kbd48_app.specs.Says.{Says, exit_said}
 use Rattle.kbd48_app.specs.Words.{command_of}
 
--- the exit where memory isn't wanting
-abbrev pub leads : Plan → Told → Exit
-leads (Gives said) shelf = exit_said said
-leads (Runs command layout history) shelf = exits.Done
-leads (Fetches kind name next) shelf =
-    on_fetched exits.Read exits.Input (λ bytes. leads (next bytes) (after_fetch shelf)) (fetched shelf name (limit_of kind))
+-- the exit of a script, by its first fault
+abbrev pub script_exit : Option (ℕ × ℕ) → Exit
+script_exit None = exits.Done
+script_exit (Some fault) = exits.Input
+
+-- the exit where memory isn't wanting, and there are so many probes
+abbrev pub leads : ℕ → Plan → Told → Exit
+leads n (Gives said) shelf = exit_said said
+leads n (Runs command layout history) shelf = exits.Done
+leads n (Debugs layout history script) shelf = script_exit (script_fault n script)
+leads n (Fetches kind name next) shelf =
+    on_fetched exits.Read exits.Input (λ bytes. leads n (next bytes) (after_fetch shelf)) (fetched shelf name (limit_of kind))
 
 -- an answer's exit is the one that a plan leads to, or memory was wanting
 abbrev pub IsLed : Exit → Bool → Answer → Type 0
@@ -33,32 +45,38 @@ after_fetched kind on exit end answer goes (Found bytes) h = elim h [ inl memory
 weaker : (exit : Exit) (lack : Bool) (answer : Answer) → IsLed exit lack answer → IsLed exit true answer
 weaker exit lack answer h = elim h [ inl same ↦ inl same | inr memory ↦ inr (memory.0, refl) ]
 
-pub ends_so : (p : Plan) (shelf : Told) (answer : Answer) (after : Option Told) → MayEnd p (Some shelf) answer after → IsLed (leads p shelf) (may_lack p shelf) answer
-ends_so (Gives said) shelf answer after h = elim h.0 [ inl memory ↦ inr (memory, refl) | inr same ↦ inl (ap exit_said same) ]
-ends_so (Runs command layout history) shelf answer after h =
-    elim h.0 [ inl memory ↦ inr (memory, refl) | inr said ↦ inl (ap exit_said said.2) ]
-ends_so (Fetches kind name next) shelf answer after h =
-    let on : List ℕ → Type 0 = λ bytes. MayEnd (next bytes) (Some (after_fetch shelf)) answer after in
-    let exit : List ℕ → Exit = λ bytes. leads (next bytes) (after_fetch shelf) in
-    let end : Type 0 = after ≡ Some (after_fetch shelf) in
+session_led : (first : Option (ℕ × ℕ)) (session : Session) (answer : Answer) (probes left : List Watch) → MayAnswerSession first session answer probes left → IsLed (script_exit first) true answer
+session_led None session answer probes left h = elim h [ inl memory ↦ inr (memory, refl) | inr said ↦ inl (ap exit_said said.0) ]
+session_led (Some fault) session answer probes left h = inl (ap exit_said h.0)
+
+pub ends_so : (p : Plan) (shelf : Told) (answer : Answer) (after : Option Told) (probes left : List Watch) → MayEnd p (Some shelf) answer after probes left → IsLed (leads (length probes) p shelf) (may_lack p shelf) answer
+ends_so (Gives said) shelf answer after probes left h = elim h.0 [ inl memory ↦ inr (memory, refl) | inr same ↦ inl (ap exit_said same) ]
+ends_so (Runs command layout history) shelf answer after probes left h =
+    elim h.0 [ inl memory ↦ inr (memory.0, refl) | inr said ↦ inl (ap exit_said said.2) ]
+ends_so (Debugs layout history script) shelf answer after probes left h =
+    session_led (script_fault (length probes) script) (session_told (story (image_of layout) history) script probes) answer probes left h.0
+ends_so (Fetches kind name next) shelf answer after probes left h =
+    let on : List ℕ → Type 0 = λ bytes. MayEnd (next bytes) (Some (after_fetch shelf)) answer after probes left in
+    let exit : List ℕ → Exit = λ bytes. leads (length probes) (next bytes) (after_fetch shelf) in
+    let end : Type 0 = (after ≡ Some (after_fetch shelf)) × (left ≡ probes) in
     after_fetched kind on exit end answer
-    (λ bytes more. weaker (exit bytes) (may_lack (next bytes) (after_fetch shelf)) answer (ends_so (next bytes) (after_fetch shelf) answer after more))
+    (λ bytes more. weaker (exit bytes) (may_lack (next bytes) (after_fetch shelf)) answer (ends_so (next bytes) (after_fetch shelf) answer after probes left more))
     (fetched shelf name (limit_of kind))
     (subst (λ (o : Fetched). OnFetched ((answer ≡ Err Read) × end) ((answer ≡ Err (TooLong kind)) × end) (λ bytes. ((answer ≡ Err Memory) × end) ⊎ on bytes) o) h.1 h.2)
 
-ends_as : (command : Option Command) (words : List (List ℕ)) (shelf : Told) (answer : Answer) (after : Option Told) → MayEndAs command words (Some shelf) answer after → IsLed (leads (plan_of command words) shelf) (may_lack (plan_of command words) shelf) answer
-ends_as None words shelf answer after h = inl (ap exit_said h.0)
-ends_as (Some command) words shelf answer after h = ends_so (plan_of (Some command) words) shelf answer after h
+ends_as : (command : Option Command) (words : List (List ℕ)) (shelf : Told) (answer : Answer) (after : Option Told) (probes left : List Watch) → MayEndAs command words (Some shelf) answer after probes left → IsLed (leads (length probes) (plan_of command words) shelf) (may_lack (plan_of command words) shelf) answer
+ends_as None words shelf answer after probes left h = inl (ap exit_said h.0)
+ends_as (Some command) words shelf answer after probes left h = ends_so (plan_of (Some command) words) shelf answer after probes left h
 
 -- the exit is the one that the plan leads to, or memory was wanting, or the sink failed
 abbrev pub IsExit : Exit → Bool → Exit → Type 0
 IsExit led lack exit = (exit ≡ led) ⊎ ((exit ≡ exits.Memory) × (lack ≡ true)) ⊎ (exit ≡ exits.Write)
 
-pub exits_so : (words : List (List ℕ)) (shelf : Told) (taken taken' : Option (List ℕ)) (exit : Exit) (after : Option Told) → (answer : Answer) × MayAnswer words (Some shelf) answer after × Says answer taken taken' exit → IsExit (leads (plan words) shelf) (may_lack (plan words) shelf) exit
-exits_so words shelf taken taken' exit after h =
+pub exits_so : (words : List (List ℕ)) (shelf : Told) (taken taken' : Option (List ℕ)) (exit : Exit) (after : Option Told) (probes left : List Watch) → (answer : Answer) × MayAnswer words (Some shelf) answer after probes left × Says answer taken taken' exit → IsExit (leads (length probes) (plan words) shelf) (may_lack (plan words) shelf) exit
+exits_so words shelf taken taken' exit after probes left h =
     elim h.2 [
       | inl whole ↦
-          elim (ends_as (command_of words) words shelf h.0 after h.1) [
+          elim (ends_as (command_of words) words shelf h.0 after probes left h.1) [
             | inl same ↦ inl (whole.0 ∙ same)
             | inr memory ↦ inr (inl (whole.0 ∙ ap exit_said memory.0, memory.1))
           ]

@@ -22,6 +22,8 @@ pub mod OneText
 pub mod PrintAlike
 pub mod Printed
 pub mod RunExits
+pub mod Sessions
+pub mod Found
 pub mod Caused
 pub mod CertExits
 pub mod Received

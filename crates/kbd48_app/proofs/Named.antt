@@ -1,15 +1,16 @@
 -- The words behind a command's own.
 use Rattle.std.proofs.Common.{◌≡◌, ℕ, ◌<◌, List, [], ◌∷◌, length, map, string_bytes, slice_index_or, String, Global, Some, ap, sym, subst, ◌∙◌, arith}
 use Rattle.std.specs.declared.option.Option.{Option}
+use Rattle.fw_debug.specs.Probes.{Watch}
 use Rattle.io_edge.specs.Shelf.{Told}
 use Rattle.kbd48_app.specs.declared.words.Command.{Command}
-use Rattle.kbd48_app.specs.declared.words.Command.TheVariants.{OverFile, OverPair}
+use Rattle.kbd48_app.specs.declared.words.Command.TheVariants.{OverFile, OverPair, Debug}
 use Rattle.kbd48_app.specs.declared.words.PairCommand.{PairCommand}
 use Rattle.kbd48_app.specs.declared.words.FileCommand.{FileCommand}
 use Rattle.kbd48_app.specs.Answers.{MayAnswer, MayEnd, MayEndAs}
 use Rattle.kbd48_app.specs.Kinds.{kind_of}
-use Rattle.kbd48_app.specs.Plans.{Answer, Gives, Fetches, file_said, pair_plan}
-use Rattle.kbd48_app.specs.Words.{command_of, name_in, second_in}
+use Rattle.kbd48_app.specs.Plans.{Answer, Gives, Fetches, debug_plan, file_said, pair_plan}
+use Rattle.kbd48_app.specs.Words.{command_of, name_in, second_in, third_in}
 
 -- the second word is the first name
 name_is : (words : List (String Global)) (word : String Global) → 1 < length words → word ≡ slice_index_or words 1 word → string_bytes word ≡ name_in (map string_bytes words)
@@ -18,13 +19,13 @@ name_is (first ∷ []) word more at = absurd (omega arith)
 name_is (first ∷ second ∷ others) word more at = ap string_bytes at
 
 -- a command over one file, whose name is the second word
-pub ends_over_file : (words : List (String Global)) (command : FileCommand) (word : String Global) (name : List ℕ) (shelf after : Option Told) (answer : Answer) → command_of (map string_bytes words) ≡ Some (OverFile command) → 1 < length words → word ≡ slice_index_or words 1 word → name ≡ string_bytes word → MayEnd (Fetches (kind_of command) name (λ bytes. Gives (file_said command bytes))) shelf answer after → MayAnswer (map string_bytes words) shelf answer after
-ends_over_file words command word name shelf after answer is more at same h =
+pub ends_over_file : (words : List (String Global)) (command : FileCommand) (word : String Global) (name : List ℕ) (shelf after : Option Told) (answer : Answer) (probes left : List Watch) → command_of (map string_bytes words) ≡ Some (OverFile command) → 1 < length words → word ≡ slice_index_or words 1 word → name ≡ string_bytes word → MayEnd (Fetches (kind_of command) name (λ bytes. Gives (file_said command bytes))) shelf answer after probes left → MayAnswer (map string_bytes words) shelf answer after probes left
+ends_over_file words command word name shelf after answer probes left is more at same h =
     let said = λ (bytes : List ℕ). Gives (file_said command bytes) in
     let first : name ≡ name_in (map string_bytes words) = same ∙ name_is words word more at in
-    let named : MayEnd (Fetches (kind_of command) (name_in (map string_bytes words)) said) shelf answer after =
-    subst (λ (n : List ℕ). MayEnd (Fetches (kind_of command) n said) shelf answer after) first h in
-    subst (λ (c : Option Command). MayEndAs c (map string_bytes words) shelf answer after) (sym is) named
+    let named : MayEnd (Fetches (kind_of command) (name_in (map string_bytes words)) said) shelf answer after probes left =
+    subst (λ (n : List ℕ). MayEnd (Fetches (kind_of command) n said) shelf answer after probes left) first h in
+    subst (λ (c : Option Command). MayEndAs c (map string_bytes words) shelf answer after probes left) (sym is) named
 
 first_name : (words : List (String Global)) (word : String Global) → 2 < length words → word ≡ slice_index_or words 1 word → string_bytes word ≡ name_in (map string_bytes words)
 first_name words word more at = name_is words word (omega (arith, more)) at
@@ -37,11 +38,32 @@ second_name (first ∷ second ∷ []) word more at = absurd (omega arith)
 second_name (first ∷ second ∷ third ∷ others) word more at = ap string_bytes at
 
 -- a command over two files, whose names are the second and the third word
-pub ends_over_pair : (words : List (String Global)) (command : PairCommand) (word word' : String Global) (name name' : List ℕ) (shelf after : Option Told) (answer : Answer) → command_of (map string_bytes words) ≡ Some (OverPair command) → 2 < length words → word ≡ slice_index_or words 1 word → word' ≡ slice_index_or words 2 word' → name ≡ string_bytes word → name' ≡ string_bytes word' → MayEnd (pair_plan command name name') shelf answer after → MayAnswer (map string_bytes words) shelf answer after
-ends_over_pair words command word word' name name' shelf after answer is more at at' same same' h =
+pub ends_over_pair : (words : List (String Global)) (command : PairCommand) (word word' : String Global) (name name' : List ℕ) (shelf after : Option Told) (answer : Answer) (probes left : List Watch) → command_of (map string_bytes words) ≡ Some (OverPair command) → 2 < length words → word ≡ slice_index_or words 1 word → word' ≡ slice_index_or words 2 word' → name ≡ string_bytes word → name' ≡ string_bytes word' → MayEnd (pair_plan command name name') shelf answer after probes left → MayAnswer (map string_bytes words) shelf answer after probes left
+ends_over_pair words command word word' name name' shelf after answer probes left is more at at' same same' h =
     let first : name ≡ name_in (map string_bytes words) = same ∙ first_name words word more at in
     let second : name' ≡ second_in (map string_bytes words) = same' ∙ second_name words word' more at' in
-    let named : MayEnd (pair_plan command (name_in (map string_bytes words)) (second_in (map string_bytes words))) shelf answer after =
-    subst (λ (n : List ℕ). MayEnd (pair_plan command (name_in (map string_bytes words)) n) shelf answer after) second
-    (subst (λ (n : List ℕ). MayEnd (pair_plan command n name') shelf answer after) first h) in
-    subst (λ (c : Option Command). MayEndAs c (map string_bytes words) shelf answer after) (sym is) named
+    let named : MayEnd (pair_plan command (name_in (map string_bytes words)) (second_in (map string_bytes words))) shelf answer after probes left =
+    subst (λ (n : List ℕ). MayEnd (pair_plan command (name_in (map string_bytes words)) n) shelf answer after probes left) second
+    (subst (λ (n : List ℕ). MayEnd (pair_plan command n name') shelf answer after probes left) first h) in
+    subst (λ (c : Option Command). MayEndAs c (map string_bytes words) shelf answer after probes left) (sym is) named
+
+-- the fourth word is the third name
+third_name : (words : List (String Global)) (word : String Global) → 3 < length words → word ≡ slice_index_or words 3 word → string_bytes word ≡ third_in (map string_bytes words)
+third_name [] word more at = absurd (omega arith)
+third_name (first ∷ []) word more at = absurd (omega arith)
+third_name (first ∷ second ∷ []) word more at = absurd (omega arith)
+third_name (first ∷ second ∷ third ∷ []) word more at = absurd (omega arith)
+third_name (first ∷ second ∷ third ∷ fourth ∷ others) word more at = ap string_bytes at
+
+-- `debug`, whose names are the words behind its own
+pub ends_over_debug : (words : List (String Global)) (word word' word'' : String Global) (name name' name'' : List ℕ) (shelf after : Option Told) (answer : Answer) (probes left : List Watch) → command_of (map string_bytes words) ≡ Some Debug → 3 < length words → word ≡ slice_index_or words 1 word → word' ≡ slice_index_or words 2 word' → word'' ≡ slice_index_or words 3 word'' → name ≡ string_bytes word → name' ≡ string_bytes word' → name'' ≡ string_bytes word'' → MayEnd (debug_plan name name' name'') shelf answer after probes left → MayAnswer (map string_bytes words) shelf answer after probes left
+ends_over_debug words word word' word'' name name' name'' shelf after answer probes left is more at at' at'' same same' same'' h =
+    let texts = map string_bytes words in
+    let first : name ≡ name_in texts = same ∙ name_is words word (omega (arith, more)) at in
+    let second : name' ≡ second_in texts = same' ∙ second_name words word' (omega (arith, more)) at' in
+    let third : name'' ≡ third_in texts = same'' ∙ third_name words word'' more at'' in
+    let named : MayEnd (debug_plan (name_in texts) (second_in texts) (third_in texts)) shelf answer after probes left =
+    subst (λ (n : List ℕ). MayEnd (debug_plan (name_in texts) (second_in texts) n) shelf answer after probes left) third
+    (subst (λ (n : List ℕ). MayEnd (debug_plan (name_in texts) n name'') shelf answer after probes left) second
+    (subst (λ (n : List ℕ). MayEnd (debug_plan n name' name'') shelf answer after probes left) first h)) in
+    subst (λ (c : Option Command). MayEndAs c texts shelf answer after probes left) (sym is) named

@@ -2,6 +2,7 @@
 -- history they say one.
 use Rattle.std.proofs.Common.{◌≡◌, ◌⊎◌, ℕ, List, Some, Ok, Err, inl, inr, subst}
 use Rattle.std.specs.declared.option.Option.{Option}
+use Rattle.fw_debug.specs.Probes.{Watch}
 use Rattle.io_edge.specs.Shelf.{Told, Fetched, Fails, Long, Found, after_fetch, fetched}
 use Rattle.key_file.specs.Histories.{KeyHistory}
 use Rattle.key_file.specs.KeyFile.{history_of}
@@ -16,10 +17,10 @@ use Rattle.kbd48_app.specs.declared.words.RunCommand.{RunCommand}
 use Rattle.kbd48_app.specs.Answers.{MayAnswerOf, MayAnswerRun, MayEnd, OnFetched}
 use Rattle.kbd48_app.specs.Kinds.{limit_of}
 use Rattle.kbd48_app.specs.Plans.{Plan, Fetches, Runs, keys_next, keys_refusal, pair_plan, with_history, with_layout}
-use Rattle.kbd48_app.proofs.Runs.{HistoryOutcome, LayoutOutcome, run_from}
+use Rattle.kbd48_app.proofs.Runs.{HistoryOutcome, LayoutOutcome, plan_from}
 
 -- a text is no refusal
-no_refusal : (text : List ℕ) (refusal : Refusal) → Ok text ≡ Err refusal → ⊥
+pub no_refusal : (text : List ℕ) (refusal : Refusal) → Ok text ≡ Err refusal → ⊥
 no_refusal text refusal h = absurd (cc h)
 
 -- and no answer in place of one
@@ -29,7 +30,8 @@ no_text a b text refusal (inr said) = absurd (no_refusal text refusal said)
 
 -- what two plans print over one shelf that tells its files is one text
 abbrev pub PrintsOne : Plan → Plan → Type 0
-PrintsOne p q = (shelf : Told) (a b : List ℕ) (after later : Option Told) → MayEnd p (Some shelf) (Ok a) after → MayEnd q (Some shelf) (Ok b) later → a ≡ b
+PrintsOne p q = (shelf : Told) (a b : List ℕ) (after later : Option Told) (probes left others : List Watch)
+    → MayEnd p (Some shelf) (Ok a) after probes left → MayEnd q (Some shelf) (Ok b) later probes others → a ≡ b
 
 -- what was found, of two fetches that come to the same
 found_one : (a b : List ℕ) (f g : List ℕ → Type 0) (fails fails' long long' : Type 0) → (fails → ⊥) → (long → ⊥)
@@ -41,37 +43,39 @@ found_one a b f g fails fails' long long' unfetched cut h (Found bytes) e k = h 
 -- behind a fetch
 fetch_one : (kind : Kind) (name : List ℕ) (next other : List ℕ → Plan) → ((bytes : List ℕ) → PrintsOne (next bytes) (other bytes))
     → PrintsOne (Fetches kind name next) (Fetches kind name other)
-fetch_one kind name next other h shelf a b after later e k =
+fetch_one kind name next other h shelf a b after later probes left others e k =
     let on : Option Told = Some (after_fetch shelf) in
-    let f : List ℕ → Type 0 = λ bytes. ((Ok a ≡ Err Memory) × (after ≡ on)) ⊎ MayEnd (next bytes) on (Ok a) after in
-    let g : List ℕ → Type 0 = λ bytes. ((Ok b ≡ Err Memory) × (later ≡ on)) ⊎ MayEnd (other bytes) on (Ok b) later in
+    let end : Type 0 = (after ≡ on) × (left ≡ probes) in
+    let end' : Type 0 = (later ≡ on) × (others ≡ probes) in
+    let f : List ℕ → Type 0 = λ bytes. ((Ok a ≡ Err Memory) × end) ⊎ MayEnd (next bytes) on (Ok a) after probes left in
+    let g : List ℕ → Type 0 = λ bytes. ((Ok b ≡ Err Memory) × end') ⊎ MayEnd (other bytes) on (Ok b) later probes others in
     found_one a b f g
-    ((Ok a ≡ Err Read) × (after ≡ on)) ((Ok b ≡ Err Read) × (later ≡ on))
-    ((Ok a ≡ Err (TooLong kind)) × (after ≡ on)) ((Ok b ≡ Err (TooLong kind)) × (later ≡ on))
+    ((Ok a ≡ Err Read) × end) ((Ok b ≡ Err Read) × end')
+    ((Ok a ≡ Err (TooLong kind)) × end) ((Ok b ≡ Err (TooLong kind)) × end')
     (λ r. no_refusal a Read r.0) (λ r. no_refusal a (TooLong kind) r.0)
     (λ bytes x y. elim x [
       | inl none ↦ absurd (no_refusal a Memory none.0)
       | inr more ↦ elim y [
         | inl none ↦ absurd (no_refusal b Memory none.0)
-        | inr too ↦ h bytes (after_fetch shelf) a b after later more too
+        | inr too ↦ h bytes (after_fetch shelf) a b after later probes left others more too
       ]
     ])
     (fetched shelf name (limit_of kind))
-    (subst (λ (o : Fetched). OnFetched ((Ok a ≡ Err Read) × (after ≡ on)) ((Ok a ≡ Err (TooLong kind)) × (after ≡ on)) f o) e.1 e.2)
-    (subst (λ (o : Fetched). OnFetched ((Ok b ≡ Err Read) × (later ≡ on)) ((Ok b ≡ Err (TooLong kind)) × (later ≡ on)) g o) k.1 k.2)
+    (subst (λ (o : Fetched). OnFetched ((Ok a ≡ Err Read) × end) ((Ok a ≡ Err (TooLong kind)) × end) f o) e.1 e.2)
+    (subst (λ (o : Fetched). OnFetched ((Ok b ≡ Err Read) × end') ((Ok b ≡ Err (TooLong kind)) × end') g o) k.1 k.2)
 
-module _ (c d : RunCommand) (h : (layout : KeyLayout) (history : KeyHistory) (a b : List ℕ) → MayAnswerRun c layout history (Ok a) → MayAnswerRun d layout history (Ok b) → a ≡ b) where
+module _ (c d : RunCommand) (h : (layout : KeyLayout) (history : KeyHistory) (a b : List ℕ) (probes left others : List Watch) → MayAnswerRun c layout history (Ok a) probes left → MayAnswerRun d layout history (Ok b) probes others → a ≡ b) where
   -- behind the key file
   history_one : (layout : KeyLayout) (outcome : HistoryOutcome) → PrintsOne (with_history (Runs c layout) outcome) (with_history (Runs d layout) outcome)
-  history_one layout (Ok history) shelf a b after later e k = h layout history a b e.0 k.0
-  history_one layout (Err fault) shelf a b after later e k = no_text a b a (keys_refusal fault) e.0
+  history_one layout (Ok history) shelf a b after later probes left others e k = h layout history a b probes left others e.0 k.0
+  history_one layout (Err fault) shelf a b after later probes left others e k = no_text a b a (keys_refusal fault) e.0
 
   -- behind the layout
-  layout_one : (keys : List ℕ) (outcome : LayoutOutcome) → PrintsOne (with_layout (keys_next c keys) outcome) (with_layout (keys_next d keys) outcome)
-  layout_one keys (Ok layout) shelf a b after later e k =
+  layout_one : (keys : List ℕ) (outcome : LayoutOutcome) → PrintsOne (with_layout (keys_next (Runs c) keys) outcome) (with_layout (keys_next (Runs d) keys) outcome)
+  layout_one keys (Ok layout) shelf a b after later probes left others e k =
       fetch_one kinds.Keys keys (λ text. with_history (Runs c layout) (history_of layout text)) (λ text. with_history (Runs d layout) (history_of layout text))
-      (λ text. history_one layout (history_of layout text)) shelf a b after later e k
-  layout_one keys (Err fault) shelf a b after later e k = no_text a b a (Layout fault.entry fault.number) e.0
+      (λ text. history_one layout (history_of layout text)) shelf a b after later probes left others e k
+  layout_one keys (Err fault) shelf a b after later probes left others e k = no_text a b a (Layout fault.entry fault.number) e.0
 
   pub pairs_one : (layout keys : List ℕ) → PrintsOne (pair_plan (OverRun c) layout keys) (pair_plan (OverRun d) layout keys)
-  pairs_one layout keys = fetch_one kinds.Layout layout (run_from c keys) (run_from d keys) (λ bytes. layout_one keys (layout_of_document bytes))
+  pairs_one layout keys = fetch_one kinds.Layout layout (plan_from (Runs c) keys) (plan_from (Runs d) keys) (λ bytes. layout_one keys (layout_of_document bytes))

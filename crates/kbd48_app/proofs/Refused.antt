@@ -1,5 +1,5 @@
 -- Words outside the forms, over any shelf.
-use Rattle.std.proofs.Common.{◌≡◌, ℕ, List, Some, None, Ok, Err, inl, inr, refl, ap, sym, ◌∙◌, ◌⊎◌}
+use Rattle.std.proofs.Common.{◌≡◌, ℕ, List, length, Some, None, Ok, Err, inl, inr, refl, ap, sym, ◌∙◌, ◌⊎◌}
 use Rattle.std.specs.declared.option.Option.{Option}
 use Rattle.std.specs.declared.result.Result.{Result}
 use Rattle.hexfile.specs.Hex.{HexOutcome, hex_of}
@@ -10,21 +10,26 @@ use Rattle.key_file.specs.declared.fault.KeyFault.TheVariants as faults
 use Rattle.layout_reader.specs.Documents.{layout_of_document}
 use Rattle.layout_reader.specs.Faults.{Refusal as LayoutRefusal}
 use Rattle.layout_reader.specs.Layouts.{KeyLayout}
+use Rattle.fw_debug.specs.Probes.{Watch}
+use Rattle.fw_debug.specs.Told.{Told as Session}
+use Rattle.fw_compile.specs.Image.{image_of}
+use Rattle.joint_feed.specs.Stories.{story}
 use Rattle.io_edge.specs.Shelf.{Told, Fetched, Fails, Long, Found, after_fetch}
 use Rattle.kbd48_app.specs.declared.exit.Exit.{Exit}
 use Rattle.kbd48_app.specs.declared.exit.Exit.TheVariants as exits
 use Rattle.kbd48_app.specs.declared.refusal.Refusal.TheVariants.{Words, Read, TooLong, Memory}
 use Rattle.kbd48_app.specs.declared.words.Command.{Command}
-use Rattle.kbd48_app.specs.declared.words.Command.TheVariants.{OverFile, OverPair, Feed}
+use Rattle.kbd48_app.specs.declared.words.Command.TheVariants.{OverFile, OverPair, Debug, Feed}
 use Rattle.kbd48_app.specs.declared.words.PairCommand.TheVariants.{Certify, OverRun}
-use Rattle.kbd48_app.specs.declared.words.RunCommand.{RunCommand}
 use Rattle.kbd48_app.specs.declared.words.FileCommand.{FileCommand}
 use Rattle.std.specs.Option.{option_map}
-use Rattle.kbd48_app.specs.Answers.{OnFetched, MayAnswerOf, MayAnswer, MayEnd, MayEndAs}
+use Rattle.kbd48_app.specs.Answers.{OnFetched, MayAnswerOf, MayAnswerSession, MayAnswer, MayEnd, MayEndAs}
+use Rattle.fw_debug.specs.Obeyed.{session_told}
+use Rattle.kbd48_app.specs.Debugging.{script_fault}
 use Rattle.kbd48_app.specs.declared.kind.Kind.{Kind}
-use Rattle.kbd48_app.specs.Plans.{Answer, Plan, Gives, Runs, Fetches, cert_next, cert_said, file_said, keys_next, plan_of, with_history, with_image, with_layout}
+use Rattle.kbd48_app.specs.Plans.{Answer, Plan, Gives, Runs, Debugs, Fetches, cert_next, cert_said, file_said, keys_next, plan_of, script_next, with_history, with_image, with_layout}
 use Rattle.kbd48_app.specs.Says.{Says, exit_said}
-use Rattle.kbd48_app.specs.Words.{command_of, second_in}
+use Rattle.kbd48_app.specs.Words.{command_of, second_in, third_in}
 use Rattle.kbd48_app.proofs.Certs.{cert_exits}
 use Rattle.kbd48_app.proofs.FileExits.{Exits, file_exits}
 
@@ -47,6 +52,7 @@ never_said said answer never h is =
 abbrev Never : Plan → Type 0
 Never (Gives said) = exit_said said ≡ exits.Words → ⊥
 Never (Runs command layout history) = Unit {0}
+Never (Debugs layout history script) = Unit {0}
 Never (Fetches kind name next) = (bytes : List ℕ) → Never (next bytes)
 
 never_by : (kind : Kind) (answer : Answer) (end : Type 0) (on : List ℕ → Type 0) → ((bytes : List ℕ) → on bytes → exit_said answer ≡ exits.Words → ⊥) → (outcome : Fetched) → OnFetched ((answer ≡ Err Read) × end) ((answer ≡ Err (TooLong kind)) × end) (λ bytes. ((answer ≡ Err Memory) × end) ⊎ on bytes) outcome → exit_said answer ≡ exits.Words → ⊥
@@ -58,16 +64,26 @@ never_by kind answer end on goes (Found bytes) h is =
       | inr more ↦ goes bytes more is
     ]
 
-never_ends : (p : Plan) → Never p → (shelf after : Option Told) (answer : Answer) → MayEnd p shelf answer after → exit_said answer ≡ exits.Words → ⊥
-never_ends (Gives said) never shelf after answer h is = never_said said answer never h.0 is
-never_ends (Runs command layout history) never shelf after answer h is =
-    elim h.0 [
+never_session : (first : Option (ℕ × ℕ)) (session : Session) (answer : Answer) (probes left : List Watch) → MayAnswerSession first session answer probes left → exit_said answer ≡ exits.Words → ⊥
+never_session (Some fault) session answer probes left h is = let e : exits.Input ≡ exits.Words = sym (ap exit_said h.0) ∙ is in cc
+never_session None session answer probes left h is =
+    elim h [
       | inl memory ↦ let e : exits.Memory ≡ exits.Words = sym (ap exit_said memory) ∙ is in cc
+      | inr said ↦ let e : exits.Done ≡ exits.Words = sym (ap exit_said said.0) ∙ is in cc
+    ]
+
+never_ends : (p : Plan) → Never p → (shelf after : Option Told) (answer : Answer) (probes left : List Watch) → MayEnd p shelf answer after probes left → exit_said answer ≡ exits.Words → ⊥
+never_ends (Gives said) never shelf after answer probes left h is = never_said said answer never h.0 is
+never_ends (Runs command layout history) never shelf after answer probes left h is =
+    elim h.0 [
+      | inl memory ↦ let e : exits.Memory ≡ exits.Words = sym (ap exit_said memory.0) ∙ is in cc
       | inr said ↦ let e : exits.Done ≡ exits.Words = sym (ap exit_said said.2) ∙ is in cc
     ]
-never_ends (Fetches kind name next) never shelf after answer h is =
-    never_by kind answer (after ≡ option_map after_fetch shelf) (λ bytes. MayEnd (next bytes) (option_map after_fetch shelf) answer after)
-    (λ bytes more. never_ends (next bytes) (never bytes) (option_map after_fetch shelf) after answer more) h.0 h.2 is
+never_ends (Debugs layout history script) never shelf after answer probes left h is =
+    never_session (script_fault (length probes) script) (session_told (story (image_of layout) history) script probes) answer probes left h.0 is
+never_ends (Fetches kind name next) never shelf after answer probes left h is =
+    never_by kind answer ((after ≡ option_map after_fetch shelf) × (left ≡ probes)) (λ bytes. MayEnd (next bytes) (option_map after_fetch shelf) answer after probes left)
+    (λ bytes more. never_ends (next bytes) (never bytes) (option_map after_fetch shelf) after answer probes left more) h.0 h.2 is
 
 never_certified : (image text : List ℕ) → exit_said (cert_said image text) ≡ exits.Words → ⊥
 never_certified image text is =
@@ -77,43 +93,44 @@ never_image : (second : List ℕ) (outcome : HexOutcome) → Never (with_image (
 never_image second (Ok image) = never_certified image
 never_image second (Err fault) = λ is. cc
 
-never_history : (command : RunCommand) (layout : KeyLayout) (outcome : Result KeyHistory KeyFault) → Never (with_history (Runs command layout) outcome)
-never_history command layout (Ok history) = tt
-never_history command layout (Err (faults.Input line number)) = λ is. cc
-never_history command layout (Err (faults.Timing line number earlier stamp)) = λ is. cc
-never_history command layout (Err faults.Memory) = λ is. cc
+never_history : (next : KeyLayout → KeyHistory → Plan) → ((layout : KeyLayout) (history : KeyHistory) → Never (next layout history)) → (layout : KeyLayout) (outcome : Result KeyHistory KeyFault) → Never (with_history (next layout) outcome)
+never_history next never layout (Ok history) = never layout history
+never_history next never layout (Err (faults.Input line number)) = λ is. cc
+never_history next never layout (Err (faults.Timing line number earlier stamp)) = λ is. cc
+never_history next never layout (Err faults.Memory) = λ is. cc
 
-never_layout : (command : RunCommand) (second : List ℕ) (outcome : Result KeyLayout LayoutRefusal) → Never (with_layout (keys_next command second) outcome)
-never_layout command second (Ok layout) = λ text. never_history command layout (history_of layout text)
-never_layout command second (Err fault) = λ is. cc
+never_layout : (next : KeyLayout → KeyHistory → Plan) → ((layout : KeyLayout) (history : KeyHistory) → Never (next layout history)) → (second : List ℕ) (outcome : Result KeyLayout LayoutRefusal) → Never (with_layout (keys_next next second) outcome)
+never_layout next never second (Ok layout) = λ text. never_history next never layout (history_of layout text)
+never_layout next never second (Err fault) = λ is. cc
 
 never_command : (command : Command) (words : List (List ℕ)) → Never (plan_of (Some command) words)
 never_command (Feed bytes) words = λ is. cc
 never_command (OverFile command) words = λ bytes. never_file command bytes (file_said command bytes) (file_exits command bytes)
 never_command (OverPair Certify) words = λ bytes. never_image (second_in words) (hex_of bytes)
-never_command (OverPair (OverRun command)) words = λ bytes. never_layout command (second_in words) (layout_of_document bytes)
+never_command (OverPair (OverRun command)) words = λ bytes. never_layout (Runs command) (λ layout history. tt) (second_in words) (layout_of_document bytes)
+never_command Debug words = λ bytes. never_layout (script_next (third_in words)) (λ layout history script. tt) (second_in words) (layout_of_document bytes)
 
-only_none : (command : Option Command) (words : List (List ℕ)) (shelf after : Option Told) (answer : Answer) → MayEndAs command words shelf answer after → exit_said answer ≡ exits.Words → command ≡ None
-only_none None words shelf after answer h is = refl
-only_none (Some command) words shelf after answer h is =
-    absurd (never_ends (plan_of (Some command) words) (never_command command words) shelf after answer h is)
+only_none : (command : Option Command) (words : List (List ℕ)) (shelf after : Option Told) (answer : Answer) (probes left : List Watch) → MayEndAs command words shelf answer after probes left → exit_said answer ≡ exits.Words → command ≡ None
+only_none None words shelf after answer probes left h is = refl
+only_none (Some command) words shelf after answer probes left h is =
+    absurd (never_ends (plan_of (Some command) words) (never_command command words) shelf after answer probes left h is)
 
 -- the words are refused only where they have no form
-pub words_only : (words : List (List ℕ)) (shelf after : Option Told) (taken taken' : Option (List ℕ)) (exit : Exit) → (answer : Answer) × MayAnswer words shelf answer after × Says answer taken taken' exit → exit ≡ exits.Words → command_of words ≡ None
-words_only words shelf after taken taken' exit h is =
+pub words_only : (words : List (List ℕ)) (shelf after : Option Told) (probes left : List Watch) (taken taken' : Option (List ℕ)) (exit : Exit) → (answer : Answer) × MayAnswer words shelf answer after probes left × Says answer taken taken' exit → exit ≡ exits.Words → command_of words ≡ None
+words_only words shelf after probes left taken taken' exit h is =
     elim (said_exit h.0 taken taken' exit h.2) [
-      | inl same ↦ only_none (command_of words) words shelf after h.0 h.1 (sym same ∙ is)
+      | inl same ↦ only_none (command_of words) words shelf after h.0 probes left h.1 (sym same ∙ is)
       | inr write ↦ absurd (cc)
     ]
 
-none_refused : (command : Option Command) (words : List (List ℕ)) (shelf after : Option Told) (answer : Answer) → MayEndAs command words shelf answer after → command ≡ None → answer ≡ Err Words
-none_refused None words shelf after answer h is = h.0
-none_refused (Some command) words shelf after answer h is = absurd cc
+none_refused : (command : Option Command) (words : List (List ℕ)) (shelf after : Option Told) (answer : Answer) (probes left : List Watch) → MayEndAs command words shelf answer after probes left → command ≡ None → answer ≡ Err Words
+none_refused None words shelf after answer probes left h is = h.0
+none_refused (Some command) words shelf after answer probes left h is = absurd cc
 
 -- and wherever they have none
-pub words_refused : (words : List (List ℕ)) (shelf after : Option Told) (taken taken' : Option (List ℕ)) (exit : Exit) → (answer : Answer) × MayAnswer words shelf answer after × Says answer taken taken' exit → command_of words ≡ None → (exit ≡ exits.Words) ⊎ (exit ≡ exits.Write)
-words_refused words shelf after taken taken' exit h is =
+pub words_refused : (words : List (List ℕ)) (shelf after : Option Told) (probes left : List Watch) (taken taken' : Option (List ℕ)) (exit : Exit) → (answer : Answer) × MayAnswer words shelf answer after probes left × Says answer taken taken' exit → command_of words ≡ None → (exit ≡ exits.Words) ⊎ (exit ≡ exits.Write)
+words_refused words shelf after probes left taken taken' exit h is =
     elim (said_exit h.0 taken taken' exit h.2) [
-      | inl same ↦ inl (same ∙ ap exit_said (none_refused (command_of words) words shelf after h.0 h.1 is))
+      | inl same ↦ inl (same ∙ ap exit_said (none_refused (command_of words) words shelf after h.0 probes left h.1 is))
       | inr write ↦ inr write
     ]

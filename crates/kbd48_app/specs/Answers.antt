@@ -1,20 +1,26 @@
--- How a plan ends over a shelf: with which answer, and after which fetches.
+-- How a plan ends over a shelf: with which answer, after which fetches, and how it leaves the probes that are handed in.
 use Rattle.std.specs.Prelude.{◌≡◌, ◌⊎◌, ℕ, ◌≤◌, List, length, None, Some, Ok, Err}
 use Rattle.std.specs.Option.{option_map}
 use Rattle.std.specs.declared.alloc.Global.{Global}
 use Rattle.std.specs.declared.option.Option.{Option}
 use Rattle.std.specs.declared.result.Result.{Result}
 use Rattle.std.specs.declared.vec.Vec.{Vec}
+use Rattle.fw_compile.specs.Image.{image_of}
+use Rattle.fw_debug.specs.Probes.{Watch}
+use Rattle.fw_debug.specs.Told.{Told as Session}
+use Rattle.joint_feed.specs.Stories.{story}
 use Rattle.io_edge.specs.Shelf.{Told, Fetched, Fails, Long, Found, after_fetch, fetched}
 use Rattle.kbd48_app.specs.declared.refusal.Refusal.{Refusal}
-use Rattle.kbd48_app.specs.declared.refusal.Refusal.TheVariants.{Words, Read, TooLong, Memory}
+use Rattle.kbd48_app.specs.declared.refusal.Refusal.TheVariants.{Words, Read, TooLong, Script, Memory}
 use Rattle.kbd48_app.specs.declared.words.Command.{Command}
 use Rattle.kbd48_app.specs.declared.words.RunCommand.{RunCommand}
 use Rattle.key_file.specs.Histories.{KeyHistory}
 use Rattle.layout_reader.specs.Layouts.{KeyLayout}
+use Rattle.fw_debug.specs.Obeyed.{session_told}
+use Rattle.kbd48_app.specs.Debugging.{script_fault}
 use Rattle.kbd48_app.specs.Kinds.{limit_of}
-use Rattle.kbd48_app.specs.Plans.{Answer, Plan, Gives, Runs, Fetches, plan_of}
-use Rattle.kbd48_app.specs.RunTexts.{IsRunText}
+use Rattle.kbd48_app.specs.Plans.{Answer, Plan, Gives, Runs, Debugs, Fetches, plan_of}
+use Rattle.kbd48_app.specs.RunTexts.{IsRunText, HaveLooked}
 use Rattle.kbd48_app.specs.Words.{command_of}
 
 -- the bytes of a fetch that found a file are within the limit that it was given
@@ -32,10 +38,24 @@ MayFetch None name limit outcome = IsWithin limit outcome
 abbrev pub MayAnswerOf : Answer → Answer → Type 0
 MayAnswerOf said answer = (answer ≡ Err Memory) ⊎ (answer ≡ said)
 
--- the same of the run of a layout under a history
-abbrev pub MayAnswerRun : RunCommand → KeyLayout → KeyHistory → Answer → Type 0
-MayAnswerRun command layout history answer =
-    (answer ≡ Err Memory) ⊎ ((text : List ℕ) × IsRunText command layout history text × (answer ≡ Ok text))
+-- the same of the run of a layout under a history, at which the probes look
+abbrev pub MayAnswerRun : RunCommand → KeyLayout → KeyHistory → Answer → List Watch → List Watch → Type 0
+MayAnswerRun command layout history answer probes left =
+    ((answer ≡ Err Memory) × HaveLooked layout history probes left)
+    ⊎ ((text : List ℕ) × IsRunText command layout history text probes left × (answer ≡ Ok text))
+
+-- the same of a session: a script with a fault is refused before a line of it is obeyed
+abbrev pub MayAnswerSession : Option (ℕ × ℕ) → Session → Answer → List Watch → List Watch → Type 0
+MayAnswerSession (Some fault) session answer probes left =
+    (answer ≡ Err (Script fault.0 fault.1)) × (left ≡ probes)
+MayAnswerSession None session answer probes left =
+    (answer ≡ Err Memory) ⊎ ((answer ≡ Ok session.text) × (left ≡ session.debug.probes))
+
+-- the same of a script over the run of a layout under a history
+abbrev pub MayAnswerDebug : KeyLayout → KeyHistory → List ℕ → Answer → List Watch → List Watch → Type 0
+MayAnswerDebug layout history script answer probes left =
+    MayAnswerSession (script_fault (length probes) script)
+    (session_told (story (image_of layout) history) script probes) answer probes left
 
 -- a case for each thing that a fetch may come to
 abbrev pub OnFetched : Type 0 → Type 0 → (List ℕ → Type 0) → Fetched → Type 0
@@ -43,27 +63,36 @@ OnFetched fails long found Fails = fails
 OnFetched fails long found Long = long
 OnFetched fails long found (Found bytes) = found bytes
 
--- how a plan may end over a shelf, which tells `after` when it has ended: a fetch that fails, or finds too many bytes,
--- ends it; where one finds a file, memory may be wanting for it, and else the plan goes on
-abbrev pub MayEnd : Plan → Option Told → Answer → Option Told → Type 0
-MayEnd (Gives said) shelf answer after = MayAnswerOf said answer × (after ≡ shelf)
-MayEnd (Runs command layout history) shelf answer after = MayAnswerRun command layout history answer × (after ≡ shelf)
-MayEnd (Fetches kind name next) shelf answer after =
+-- the shelf has come so far, and the probes are as they were
+abbrev pub IsKept : Option Told → Option Told → List Watch → List Watch → Type 0
+IsKept on after probes left = (after ≡ on) × (left ≡ probes)
+
+-- how a plan may end over a shelf, which tells `after` when it has ended, and with probes, which are `left` then: a
+-- fetch that fails, or finds too many bytes, ends it; where one finds a file, memory may be wanting for it, and else the
+-- plan goes on. The probes are left as they are, but by a run and a session
+abbrev pub MayEnd : Plan → Option Told → Answer → Option Told → List Watch → List Watch → Type 0
+MayEnd (Gives said) shelf answer after probes left = MayAnswerOf said answer × IsKept shelf after probes left
+MayEnd (Runs command layout history) shelf answer after probes left =
+    MayAnswerRun command layout history answer probes left × (after ≡ shelf)
+MayEnd (Debugs layout history script) shelf answer after probes left =
+    MayAnswerDebug layout history script answer probes left × (after ≡ shelf)
+MayEnd (Fetches kind name next) shelf answer after probes left =
     let on = option_map after_fetch shelf in
     (outcome : Fetched) × MayFetch shelf name (limit_of kind) outcome
     × OnFetched
-    ((answer ≡ Err Read) × (after ≡ on))
-    ((answer ≡ Err (TooLong kind)) × (after ≡ on))
-    (λ bytes. ((answer ≡ Err Memory) × (after ≡ on)) ⊎ MayEnd (next bytes) on answer after)
+    ((answer ≡ Err Read) × IsKept on after probes left)
+    ((answer ≡ Err (TooLong kind)) × IsKept on after probes left)
+    (λ bytes. ((answer ≡ Err Memory) × IsKept on after probes left) ⊎ MayEnd (next bytes) on answer after probes left)
     outcome
 
 -- the same of words, which are refused where they have no form
-abbrev pub MayEndAs : Option Command → List (List ℕ) → Option Told → Answer → Option Told → Type 0
-MayEndAs None words shelf answer after = (answer ≡ Err Words) × (after ≡ shelf)
-MayEndAs (Some command) words shelf answer after = MayEnd (plan_of (Some command) words) shelf answer after
+abbrev pub MayEndAs : Option Command → List (List ℕ) → Option Told → Answer → Option Told → List Watch → List Watch → Type 0
+MayEndAs None words shelf answer after probes left = (answer ≡ Err Words) × IsKept shelf after probes left
+MayEndAs (Some command) words shelf answer after probes left =
+    MayEnd (plan_of (Some command) words) shelf answer after probes left
 
-abbrev pub MayAnswer : List (List ℕ) → Option Told → Answer → Option Told → Type 0
-MayAnswer words shelf answer after = MayEndAs (command_of words) words shelf answer after
+abbrev pub MayAnswer : List (List ℕ) → Option Told → Answer → Option Told → List Watch → List Watch → Type 0
+MayAnswer words shelf answer after probes left = MayEndAs (command_of words) words shelf answer after probes left
 
 -- an answer of the code, whose text is a vector
 abbrev pub answer_of : Result (Vec ℕ Global) Refusal → Answer

@@ -15,11 +15,12 @@ use Rattle.io_edge.specs.Shelf.{Told}
 use Rattle.kbd48_app.specs.declared.exit.Exit.{Exit}
 use Rattle.kbd48_app.specs.declared.exit.Exit.TheVariants.{Memory, Write}
 use Rattle.kbd48_app.specs.declared.kind.Kind.{Kind}
-use Rattle.kbd48_app.specs.declared.kind.Kind.TheVariants.{Hex, Asm, Layout, Keys, Cert}
+use Rattle.kbd48_app.specs.declared.kind.Kind.TheVariants.{Hex, Asm, Layout, Keys, Cert, Script}
 use Rattle.kbd48_app.specs.declared.refusal.Refusal.TheVariants as refusals
 use Rattle.kbd48_app.specs.declared.words.Command.{Command}
 use Rattle.kbd48_app.specs.declared.words.Command.TheVariants.{OverFile}
 use Rattle.kbd48_app.specs.declared.words.FileCommand.TheVariants.{Step}
+use Rattle.kbd48_app.specs.Debugging.{script_fault}
 use Rattle.kbd48_app.specs.Plans.{Plan, cert_said}
 use Rattle.kbd48_app.specs.Reached.{IsTooLong, Reads}
 use Rattle.kbd48_app.specs.Stepping.{Stopped, after_steps}
@@ -59,15 +60,21 @@ HasTimingFault fault stamps plan shelf = HasKeyFault (TimingFault fault.0 fault.
 abbrev pub IsUntimely : Plan → Told → Type 0
 IsUntimely plan shelf = (fault : ℕ × ℕ) × (stamps : ℕ × ℕ) × HasTimingFault fault stamps plan shelf
 
+-- a script is reached, and this is its first fault, with its line, where there are so many probes
+abbrev pub HasScriptFault : ℕ → ℕ × ℕ → Plan → Told → Type 0
+HasScriptFault probes fault plan shelf =
+    (script : List ℕ) × Reads Script script plan shelf × (script_fault probes script ≡ Some fault)
+
 -- a file that is reached has too many bytes, or a fault, which is none of time
-abbrev pub HasFileFault : Plan → Told → Type 0
-HasFileFault plan shelf =
+abbrev pub HasFileFault : ℕ → Plan → Told → Type 0
+HasFileFault probes plan shelf =
     ((kind : Kind) × IsTooLong kind plan shelf)
     ⊎ ((fault : HexFault) × HasHexFault fault plan shelf)
     ⊎ ((fault : ℕ × ℕ) × HasAsmFault fault plan shelf)
     ⊎ ((fault : LayoutRefusal) × HasLayoutFault fault plan shelf)
     ⊎ ((fault : ℕ × ℕ) × HasCertFault fault plan shelf)
     ⊎ ((fault : ℕ × ℕ) × HasKeysFault fault plan shelf)
+    ⊎ ((fault : ℕ × ℕ) × HasScriptFault probes fault plan shelf)
 
 -- one of the COUNT steps of `step`, over the image of the HEX file, meets a byte without an instruction
 abbrev pub IsStuck : Option Command → Plan → Told → Type 0

@@ -13,14 +13,15 @@ use Rattle.key_file.specs.KeyFile.{history_of}
 use Rattle.kbd48_app.specs.declared.exit.Exit.{Exit}
 use Rattle.kbd48_app.specs.declared.exit.Exit.TheVariants.{Done, Memory, Stuck}
 use Rattle.kbd48_app.specs.declared.words.Command.{Command}
-use Rattle.kbd48_app.specs.declared.words.Command.TheVariants.{OverFile, OverPair, Feed}
+use Rattle.kbd48_app.specs.declared.words.Command.TheVariants.{OverFile, OverPair, Debug, Feed}
 use Rattle.kbd48_app.specs.declared.words.FileCommand.{FileCommand}
 use Rattle.kbd48_app.specs.declared.words.FileCommand.TheVariants.{Step, Listing, Assemble, Compile}
 use Rattle.kbd48_app.specs.declared.words.PairCommand.{PairCommand}
 use Rattle.kbd48_app.specs.declared.words.PairCommand.TheVariants.{Certify, OverRun}
-use Rattle.kbd48_app.specs.declared.kind.Kind.TheVariants.{Hex, Layout, Keys, Cert}
+use Rattle.kbd48_app.specs.declared.kind.Kind.TheVariants.{Hex, Layout, Keys, Cert, Script}
+use Rattle.kbd48_app.specs.Debugging.{script_fault}
 use Rattle.kbd48_app.specs.Kinds.{limit_of, kind_of}
-use Rattle.kbd48_app.specs.Words.{command_of, name_in, second_in}
+use Rattle.kbd48_app.specs.Words.{command_of, name_in, second_in, third_in}
 
 -- the bytes are a file without a fault
 abbrev pub IsSound : FileCommand → List ℕ → Type 0
@@ -50,15 +51,28 @@ AreServed (OverRun command) first second (Some shelf) =
     × (text : List ℕ) × (fetched (after_fetch shelf) second (limit_of Keys) ≡ Found text)
     × (history : KeyHistory) × (history_of layout text ≡ Ok history)
 
--- the words have a form, and the files that it names are served
-abbrev pub IsFaultlessAs : Option Command → List (List ℕ) → Option Told → Type 0
-IsFaultlessAs None words shelf = ⊥
-IsFaultlessAs (Some (Feed bytes)) words shelf = Unit {0}
-IsFaultlessAs (Some (OverFile command)) words shelf = IsServed command (name_in words) shelf
-IsFaultlessAs (Some (OverPair command)) words shelf = AreServed command (name_in words) (second_in words) shelf
+-- the same of the three files of `debug`, where there are so many probes
+abbrev pub AllServed : ℕ → List ℕ → List ℕ → List ℕ → Option Told → Type 0
+AllServed probes first second third None = ⊥
+AllServed probes first second third (Some shelf) =
+    (bytes : List ℕ) × (fetched shelf first (limit_of Layout) ≡ Found bytes)
+    × (layout : KeyLayout) × (layout_of_document bytes ≡ Ok layout)
+    × (text : List ℕ) × (fetched (after_fetch shelf) second (limit_of Keys) ≡ Found text)
+    × (history : KeyHistory) × (history_of layout text ≡ Ok history)
+    × (script : List ℕ) × (fetched (after_fetch (after_fetch shelf)) third (limit_of Script) ≡ Found script)
+    × (script_fault probes script ≡ None)
 
-abbrev pub IsFaultless : List (List ℕ) → Option Told → Type 0
-IsFaultless words shelf = IsFaultlessAs (command_of words) words shelf
+-- the words have a form, and the files that it names are served
+abbrev pub IsFaultlessAs : ℕ → Option Command → List (List ℕ) → Option Told → Type 0
+IsFaultlessAs probes None words shelf = ⊥
+IsFaultlessAs probes (Some (Feed bytes)) words shelf = Unit {0}
+IsFaultlessAs probes (Some (OverFile command)) words shelf = IsServed command (name_in words) shelf
+IsFaultlessAs probes (Some (OverPair command)) words shelf = AreServed command (name_in words) (second_in words) shelf
+IsFaultlessAs probes (Some Debug) words shelf =
+    AllServed probes (name_in words) (second_in words) (third_in words) shelf
+
+abbrev pub IsFaultless : ℕ → List (List ℕ) → Option Told → Type 0
+IsFaultless probes words shelf = IsFaultlessAs probes (command_of words) words shelf
 
 -- the exits that are left then: all was done, memory was wanting, or, in `step` alone, a byte without an instruction
 -- was met

@@ -7,6 +7,7 @@ pub mod Stepping
 pub mod Feeding
 pub mod TranslationLaw
 pub mod RunTexts
+pub mod Debugging
 pub mod Plans
 pub mod Answers
 pub mod PrintAlike

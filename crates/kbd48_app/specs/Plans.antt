@@ -24,7 +24,7 @@ use Rattle.kbd48_app.specs.declared.kind.Kind.TheVariants as kinds
 use Rattle.kbd48_app.specs.declared.refusal.Refusal.{Refusal}
 use Rattle.kbd48_app.specs.declared.refusal.Refusal.TheVariants.{Words, Hex, Asm, Layout, Keys, Cert, Timing, Stuck, Memory}
 use Rattle.kbd48_app.specs.declared.words.Command.{Command}
-use Rattle.kbd48_app.specs.declared.words.Command.TheVariants.{OverFile, OverPair, Feed}
+use Rattle.kbd48_app.specs.declared.words.Command.TheVariants.{OverFile, OverPair, Debug, Feed}
 use Rattle.kbd48_app.specs.declared.words.FileCommand.{FileCommand}
 use Rattle.kbd48_app.specs.declared.words.FileCommand.TheVariants.{Step, Listing, Assemble, Compile}
 use Rattle.kbd48_app.specs.declared.words.PairCommand.{PairCommand}
@@ -32,18 +32,19 @@ use Rattle.kbd48_app.specs.declared.words.PairCommand.TheVariants.{Certify, Over
 use Rattle.kbd48_app.specs.declared.words.RunCommand.{RunCommand}
 use Rattle.kbd48_app.specs.Kinds.{kind_of}
 use Rattle.kbd48_app.specs.Feeding.{fed_text}
-use Rattle.kbd48_app.specs.Words.{command_of, name_in, second_in}
+use Rattle.kbd48_app.specs.Words.{command_of, name_in, second_in, third_in}
 use Rattle.kbd48_app.specs.Stepping.{Progress, Stands, Stopped, after_steps}
 
 -- a text, or a refusal
 abbrev pub Answer : Type 0
 Answer = Result (List ℕ) Refusal
 
--- a plan says something, or what a command says of the run of a layout under a history, or it fetches the file of this
--- kind and name, and goes on with the file's bytes
+-- a plan says something, or what a command says of the run of a layout under a history, or what a script says in a
+-- session over such a run, or it fetches the file of this kind and name, and goes on with the file's bytes
 pub data Plan : Type 0 where
   Gives : Answer → Plan
   Runs : RunCommand → KeyLayout → KeyHistory → Plan
+  Debugs : KeyLayout → KeyHistory → List ℕ → Plan
   Fetches : Kind → List ℕ → (List ℕ → Plan) → Plan
 
 -- `step` of a run that stands or has stopped after its steps
@@ -112,15 +113,26 @@ abbrev pub with_history : (KeyHistory → Plan) → Result KeyHistory KeyFault �
 with_history next (Ok history) = next history
 with_history next (Err fault) = Gives (Err (keys_refusal fault))
 
--- `run` and `expect`: the layout comes first, and then the key file, which is read for the layout
-abbrev pub keys_next : RunCommand → List ℕ → KeyLayout → Plan
-keys_next command name layout = Fetches kinds.Keys name (λ text. with_history (Runs command layout) (history_of layout text))
+-- behind a layout comes the key file, which is read for the layout
+abbrev pub keys_next : (KeyLayout → KeyHistory → Plan) → List ℕ → KeyLayout → Plan
+keys_next next name layout = Fetches kinds.Keys name (λ text. with_history (next layout) (history_of layout text))
+
+-- what is fetched for a layout and a history of two files
+abbrev pub history_plan : (KeyLayout → KeyHistory → Plan) → List ℕ → List ℕ → Plan
+history_plan next first second =
+    Fetches kinds.Layout first (λ bytes. with_layout (keys_next next second) (layout_of_document bytes))
+
+-- `debug`: behind both comes the script
+abbrev pub script_next : List ℕ → KeyLayout → KeyHistory → Plan
+script_next name layout history = Fetches kinds.Script name (Debugs layout history)
+
+abbrev pub debug_plan : List ℕ → List ℕ → List ℕ → Plan
+debug_plan first second third = history_plan (script_next third) first second
 
 -- a command over two files, by their names
 abbrev pub pair_plan : PairCommand → List ℕ → List ℕ → Plan
 pair_plan Certify first second = Fetches kinds.Hex first (λ bytes. with_image (cert_next second) (hex_of bytes))
-pair_plan (OverRun command) first second =
-    Fetches kinds.Layout first (λ bytes. with_layout (keys_next command second) (layout_of_document bytes))
+pair_plan (OverRun command) first second = history_plan (Runs command) first second
 
 -- a command's plan, with the words that it came from; words without a command are refused
 abbrev pub plan_of : Option Command → List (List ℕ) → Plan
@@ -129,6 +141,7 @@ plan_of (Some (Feed bytes)) words = Gives (Ok (fed_text bytes))
 plan_of (Some (OverFile command)) words =
     Fetches (kind_of command) (name_in words) (λ bytes. Gives (file_said command bytes))
 plan_of (Some (OverPair command)) words = pair_plan command (name_in words) (second_in words)
+plan_of (Some Debug) words = debug_plan (name_in words) (second_in words) (third_in words)
 
 abbrev pub plan : List (List ℕ) → Plan
 plan words = plan_of (command_of words) words

@@ -7,7 +7,7 @@ use Rattle.kbd48_app.specs.declared.exit.Exit.TheVariants.{Memory, Write}
 use Rattle.kbd48_app.specs.declared.kind.Kind.{Kind}
 use Rattle.kbd48_app.specs.Answers.{OnFetched}
 use Rattle.kbd48_app.specs.Kinds.{limit_of}
-use Rattle.kbd48_app.specs.Plans.{Plan, Gives, Runs, Fetches}
+use Rattle.kbd48_app.specs.Plans.{Plan, Gives, Runs, Debugs, Fetches}
 
 -- a value for each thing that a fetch may come to
 abbrev pub on_fetched : {A : Type 0} → A → A → (List ℕ → A) → Fetched → A
@@ -19,6 +19,7 @@ on_fetched fails long found (Found bytes) = found bytes
 abbrev pub IsUnserved : Plan → Told → Type 0
 IsUnserved (Gives said) shelf = ⊥
 IsUnserved (Runs command layout history) shelf = ⊥
+IsUnserved (Debugs layout history script) shelf = ⊥
 IsUnserved (Fetches kind name next) shelf =
     OnFetched (Unit {0}) ⊥ (λ bytes. IsUnserved (next bytes) (after_fetch shelf)) (fetched shelf name (limit_of kind))
 
@@ -26,6 +27,7 @@ IsUnserved (Fetches kind name next) shelf =
 abbrev pub IsTooLong : Kind → Plan → Told → Type 0
 IsTooLong long (Gives said) shelf = ⊥
 IsTooLong long (Runs command layout history) shelf = ⊥
+IsTooLong long (Debugs layout history script) shelf = ⊥
 IsTooLong long (Fetches kind name next) shelf =
     OnFetched ⊥ (kind ≡ long)
     (λ bytes. IsTooLong long (next bytes) (after_fetch shelf))
@@ -35,6 +37,7 @@ IsTooLong long (Fetches kind name next) shelf =
 abbrev pub Reads : Kind → List ℕ → Plan → Told → Type 0
 Reads read file (Gives said) shelf = ⊥
 Reads read file (Runs command layout history) shelf = ⊥
+Reads read file (Debugs layout history script) shelf = ⊥
 Reads read file (Fetches kind name next) shelf =
     OnFetched ⊥ ⊥
     (λ bytes. ((kind ≡ read) × (bytes ≡ file)) ⊎ Reads read file (next bytes) (after_fetch shelf))
@@ -44,12 +47,14 @@ Reads read file (Fetches kind name next) shelf =
 abbrev pub may_lack : Plan → Told → Bool
 may_lack (Gives said) shelf = true
 may_lack (Runs command layout history) shelf = true
+may_lack (Debugs layout history script) shelf = true
 may_lack (Fetches kind name next) shelf = on_fetched false false (λ bytes. true) (fetched shelf name (limit_of kind))
 
 -- the names and the limits of the fetches that a plan comes to, in order, where memory isn't wanting
 abbrev pub fetches_of : Plan → Told → List (List ℕ × ℕ)
 fetches_of (Gives said) shelf = []
 fetches_of (Runs command layout history) shelf = []
+fetches_of (Debugs layout history script) shelf = []
 fetches_of (Fetches kind name next) shelf =
     (name, limit_of kind)
     ∷ on_fetched [] [] (λ bytes. fetches_of (next bytes) (after_fetch shelf)) (fetched shelf name (limit_of kind))

@@ -9,7 +9,7 @@ use Rattle.std.specs.Str.Parse.{digits_value}
 use Rattle.std.specs.declared.option.Option.{Option}
 use Rattle.hex_text.specs.Digits.{digit_value}
 use Rattle.kbd48_app.specs.declared.words.Command.{Command}
-use Rattle.kbd48_app.specs.declared.words.Command.TheVariants.{OverFile, OverPair, Feed}
+use Rattle.kbd48_app.specs.declared.words.Command.TheVariants.{OverFile, OverPair, Debug, Feed}
 use Rattle.kbd48_app.specs.declared.words.FileCommand.{FileCommand}
 use Rattle.kbd48_app.specs.declared.words.FileCommand.TheVariants.{Step, Listing, Assemble, Compile}
 use Rattle.kbd48_app.specs.declared.words.PairCommand.{PairCommand}
@@ -54,6 +54,12 @@ abbrev pub pair_of : PairCommand → List (List ℕ) → Option Command
 pair_of command (first ∷ second ∷ []) = if is_name first && is_name second then Some (OverPair command) else None
 pair_of command words = None
 
+-- `debug` NAME NAME NAME
+abbrev pub debug_of : List (List ℕ) → Option Command
+debug_of (layout ∷ keys ∷ script ∷ []) =
+    if is_name layout && is_name keys && is_name script then Some Debug else None
+debug_of words = None
+
 -- both options of `run`, in either order
 abbrev pub are_both : List ℕ → List ℕ → Bool
 are_both first second =
@@ -96,11 +102,18 @@ command_of (command ∷ words) =
     else (if bytes_eq command (codes "cert") then pair_of Certify words
     else (if bytes_eq command (codes "run") then run_of words
     else (if bytes_eq command (codes "expect") then pair_of (OverRun Expect) words
-    else (if bytes_eq command (codes "words") then feed_of words else None)))))))
+    else (if bytes_eq command (codes "debug") then debug_of words
+    else (if bytes_eq command (codes "words") then feed_of words else None))))))))
 
 -- the words have an accepted form
 abbrev pub is_form : List (List ℕ) → Bool
 is_form words = is_some (command_of words)
+
+-- words that no run is made for: those without a form, and the commands but `run`, `expect` and `debug`
+abbrev pub is_without_run : Option Command → Bool
+is_without_run (Some (OverPair (OverRun command))) = false
+is_without_run (Some Debug) = false
+is_without_run command = true
 
 -- the first file that a command names
 abbrev pub name_in : List (List ℕ) → List ℕ
@@ -112,8 +125,14 @@ abbrev pub second_in : List (List ℕ) → List ℕ
 second_in (command ∷ name ∷ second ∷ others) = second
 second_in words = []
 
+-- the third file that a command names
+abbrev pub third_in : List (List ℕ) → List ℕ
+third_in (command ∷ name ∷ second ∷ third ∷ others) = third
+third_in words = []
+
 -- how many files a command names; they are the words behind its own
 abbrev pub files_in : Command → ℕ
 files_in (OverFile command) = 1
 files_in (OverPair command) = 2
+files_in Debug = 3
 files_in (Feed bytes) = 0

@@ -1,10 +1,12 @@
 //! From the words and the files to the answer: a text, or the refusal that stands in its place.
 
-ghost use Rattle.std.specs.Prelude.{◌≡◌, ◌⊎◌, ◌≤◌, map, string_bytes, length, Ok, Err, IfOk, MatchResult};
+ghost use Rattle.std.specs.Prelude.{◌≡◌, ◌⊎◌, ◌≤◌, List, map, string_bytes, length, true, Ok, Err, IfOk, MatchResult};
 ghost use Rattle.io_edge.specs.Faults.{Rose};
 ghost use Rattle.kbd48_app.specs.Answers.{answer_of, MayAnswer, MayAnswerOf, MayEnd};
 ghost use Rattle.kbd48_app.specs.Kinds.{limit_of, kind_of};
-ghost use Rattle.kbd48_app.specs.Plans.{Gives, Fetches, assembled, compiled, file_said, keys_refusal, pair_plan};
+ghost use Rattle.kbd48_app.specs.Plans.{Gives, Fetches, assembled, compiled, debug_plan, file_said, keys_refusal, pair_plan, script_next};
+ghost use Rattle.kbd48_app.specs.Words.{command_of, is_without_run};
+ghost use Rattle.fw_debug.specs.Probes.{Watch};
 ghost use Rattle.hexfile.specs.Hex.{hex_of};
 ghost use Rattle.hexfile.specs.declared.fault.HexFault.{HexFault};
 ghost use Rattle.layout_reader.specs.Documents.{layout_of_document};
@@ -16,6 +18,7 @@ ghost use Rattle.mcs48_asm.specs.Assembly.{assembly_of};
 ghost use Rattle.mcs48_isa.specs.Listing.{listing_of};
 
 use crate::certifying::certify;
+use crate::debugging::debug;
 use crate::feeding::feed;
 use crate::fetching::fetch_file;
 use crate::kind::Kind;
@@ -24,6 +27,7 @@ use crate::stepping::step;
 use crate::telling::tell;
 use crate::words::{Command, FileCommand, PairCommand, RunCommand, read_command};
 use fw_compile::compile;
+use fw_debug::{Probe, check_script};
 use hexfile::{read_hex, write_hex};
 use io_edge::Shelf;
 use key_file::{History, KeyFault, read_history};
@@ -122,8 +126,8 @@ fn over_file<F: Shelf>(
     name: &str,
     shelf: &mut F,
 ) -> Result<Vec<u8>, Refusal>
-    ensures ends { MayEnd (Fetches (kind_of command) name.now (λ bytes. Gives (file_said command bytes)))
-        (F.told shelf.old) (answer_of result) (F.told shelf.new) }
+    ensures ends { (probes : List Watch) → MayEnd (Fetches (kind_of command) name.now (λ bytes. Gives (file_said command bytes)))
+        (F.told shelf.old) (answer_of result) (F.told shelf.new) probes probes }
     ensures read { result ≡ Err Refusal.Read → Rose (F.faults shelf.old) (F.faults shelf.new) }
     ensures steady { (result ≡ Err Refusal.Read) ⊎ (F.faults shelf.new ≡ F.faults shelf.old) }
 {
@@ -138,8 +142,8 @@ fn over_cert<F: Shelf>(
     certificate: &str,
     shelf: &mut F,
 ) -> Result<Vec<u8>, Refusal>
-    ensures ends { MayEnd (pair_plan PairCommand.Certify image.now certificate.now)
-        (F.told shelf.old) (answer_of result) (F.told shelf.new) }
+    ensures ends { (probes : List Watch) → MayEnd (pair_plan PairCommand.Certify image.now certificate.now)
+        (F.told shelf.old) (answer_of result) (F.told shelf.new) probes probes }
     ensures read { result ≡ Err Refusal.Read → Rose (F.faults shelf.old) (F.faults shelf.new) }
     ensures steady { (result ≡ Err Refusal.Read) ⊎ (F.faults shelf.new ≡ F.faults shelf.old) }
 {
@@ -157,9 +161,10 @@ fn over_run<F: Shelf>(
     layout: &str,
     keys: &str,
     shelf: &mut F,
+    probes: &mut Vec<Box<dyn Probe>>,
 ) -> Result<Vec<u8>, Refusal>
-    ensures ends { MayEnd (pair_plan (PairCommand.OverRun command) layout.now keys.now)
-        (F.told shelf.old) (answer_of result) (F.told shelf.new) }
+    ensures ends { MayEnd (pair_plan (PairCommand.OverRun command) layout.now keys.now) (F.told shelf.old)
+        (answer_of result) (F.told shelf.new) (map (λ b. watch b) probes.old.items) (map (λ b. watch b) probes.new.items) }
     ensures read { result ≡ Err Refusal.Read → Rose (F.faults shelf.old) (F.faults shelf.new) }
     ensures steady { (result ≡ Err Refusal.Read) ⊎ (F.faults shelf.new ≡ F.faults shelf.old) }
 {
@@ -167,7 +172,49 @@ fn over_run<F: Shelf>(
     let layout = layout_in(alloc, &document)?;
     let text = fetch_file(alloc, shelf, keys, Kind::Keys)?;
     let history = history_in(alloc, &text, &layout)?;
-    tell(alloc, command, &layout, &history)
+    tell(alloc, command, &layout, &history, probes)
+}
+
+/// `debug`, once the layout and the key file are judged: fetches the script, judges it, and obeys its lines.
+fn over_script<F: Shelf>(
+    alloc: Global,
+    layout: &Layout,
+    history: History,
+    script: &str,
+    shelf: &mut F,
+    probes: &mut Vec<Box<dyn Probe>>,
+) -> Result<Vec<u8>, Refusal>
+    requires accepted { IsAcceptedFor layout.now history }
+    ensures ends { MayEnd (script_next script.now layout.now history) (F.told shelf.old) (answer_of result)
+        (F.told shelf.new) (map (λ b. watch b) probes.old.items) (map (λ b. watch b) probes.new.items) }
+    ensures read { result ≡ Err Refusal.Read → Rose (F.faults shelf.old) (F.faults shelf.new) }
+    ensures steady { (result ≡ Err Refusal.Read) ⊎ (F.faults shelf.new ≡ F.faults shelf.old) }
+{
+    let script = fetch_file(alloc, shelf, script, Kind::Script)?;
+    let verdict = check_script(&script, probes.len());
+    debug(alloc, layout, history, &script, verdict, probes)
+}
+
+/// `debug`: fetches the layout, the key file and the script, judges each before the next is fetched, and then obeys the
+/// script's lines.
+fn over_debug<F: Shelf>(
+    alloc: Global,
+    layout: &str,
+    keys: &str,
+    script: &str,
+    shelf: &mut F,
+    probes: &mut Vec<Box<dyn Probe>>,
+) -> Result<Vec<u8>, Refusal>
+    ensures ends { MayEnd (debug_plan layout.now keys.now script.now) (F.told shelf.old) (answer_of result)
+        (F.told shelf.new) (map (λ b. watch b) probes.old.items) (map (λ b. watch b) probes.new.items) }
+    ensures read { result ≡ Err Refusal.Read → Rose (F.faults shelf.old) (F.faults shelf.new) }
+    ensures steady { (result ≡ Err Refusal.Read) ⊎ (F.faults shelf.new ≡ F.faults shelf.old) }
+{
+    let document = fetch_file(alloc, shelf, layout, Kind::Layout)?;
+    let layout = layout_in(alloc, &document)?;
+    let text = fetch_file(alloc, shelf, keys, Kind::Keys)?;
+    let history = history_in(alloc, &text, &layout)?;
+    over_script(alloc, &layout, history, script, shelf, probes)
 }
 
 /// A command over two files.
@@ -177,21 +224,32 @@ fn over_pair<F: Shelf>(
     first: &str,
     second: &str,
     shelf: &mut F,
+    probes: &mut Vec<Box<dyn Probe>>,
 ) -> Result<Vec<u8>, Refusal>
-    ensures ends { MayEnd (pair_plan command first.now second.now)
-        (F.told shelf.old) (answer_of result) (F.told shelf.new) }
+    ensures ends { MayEnd (pair_plan command first.now second.now) (F.told shelf.old) (answer_of result)
+        (F.told shelf.new) (map (λ b. watch b) probes.old.items) (map (λ b. watch b) probes.new.items) }
+    ensures untouched { command ≡ PairCommand.Certify
+        → map (λ b. watch b) probes.new.items ≡ map (λ b. watch b) probes.old.items }
     ensures read { result ≡ Err Refusal.Read → Rose (F.faults shelf.old) (F.faults shelf.new) }
     ensures steady { (result ≡ Err Refusal.Read) ⊎ (F.faults shelf.new ≡ F.faults shelf.old) }
 {
     match command {
         PairCommand::Certify => over_cert(alloc, first, second, shelf),
-        PairCommand::OverRun(command) => over_run(alloc, command, first, second, shelf),
+        PairCommand::OverRun(command) => over_run(alloc, command, first, second, shelf, probes),
     }
 }
 
 /// The answer to the words.
-pub fn answer<F: Shelf>(alloc: Global, words: &[String], shelf: &mut F) -> Result<Vec<u8>, Refusal>
-    ensures ends { MayAnswer (map string_bytes words.now) (F.told shelf.old) (answer_of result) (F.told shelf.new) }
+pub fn answer<F: Shelf>(
+    alloc: Global,
+    words: &[String],
+    shelf: &mut F,
+    probes: &mut Vec<Box<dyn Probe>>,
+) -> Result<Vec<u8>, Refusal>
+    ensures ends { MayAnswer (map string_bytes words.now) (F.told shelf.old) (answer_of result) (F.told shelf.new)
+        (map (λ b. watch b) probes.old.items) (map (λ b. watch b) probes.new.items) }
+    ensures untouched { is_without_run (command_of (map string_bytes words.now)) ≡ true
+        → map (λ b. watch b) probes.new.items ≡ map (λ b. watch b) probes.old.items }
     ensures read { result ≡ Err Refusal.Read → Rose (F.faults shelf.old) (F.faults shelf.new) }
     ensures steady { (result ≡ Err Refusal.Read) ⊎ (F.faults shelf.new ≡ F.faults shelf.old) }
 {
@@ -199,6 +257,9 @@ pub fn answer<F: Shelf>(alloc: Global, words: &[String], shelf: &mut F) -> Resul
         None => Err(Refusal::Words),
         Some(Command::Feed(bytes)) => feed(alloc, bytes.as_slice()),
         Some(Command::OverFile(command)) => over_file(alloc, command, &words[1], shelf),
-        Some(Command::OverPair(command)) => over_pair(alloc, command, &words[1], &words[2], shelf),
+        Some(Command::OverPair(command)) => over_pair(
+            alloc, command, &words[1], &words[2], shelf, probes,
+        ),
+        Some(Command::Debug) => over_debug(alloc, &words[1], &words[2], &words[3], shelf, probes),
     }
 }

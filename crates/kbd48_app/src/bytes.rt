@@ -40,7 +40,7 @@ fn read_byte(word: &str) -> Option<u8>
 impl KeyboardBytes {
     /// The bytes that the words give; none where there are none or more than 4,096, or one of them is no BYTE.
     pub fn read(words: &[String]) -> Option<KeyboardBytes>
-        ensures { let texts = map string_bytes words.now in
+        ensures bytes { let texts = map string_bytes words.now in
             result ≡ (if nat_lt 0 (length texts) && nat_le (length texts) 4096 then bytes_of texts else None) }
     {
         if words.is_empty() || words.len() > MOST_BYTES {
@@ -55,7 +55,7 @@ impl KeyboardBytes {
 
     /// The bytes, in order.
     pub fn as_slice(&self) -> &[u8]
-        ensures { result.now ≡ self.now }
+        ensures bytes { result.now ≡ self.now }
     {
         self.bytes.as_slice()
     }

@@ -25,7 +25,7 @@ fn proved_line(alloc: Global, proved: Proved) -> Result<Vec<u8>, AllocError>
 /// Judges a certificate for an image.
 pub fn certify(alloc: Global, image: &Image, text: &[u8]) -> Result<Vec<u8>, Refusal>
     requires { length text.now ≤ 65536 }
-    ensures { MayAnswerOf (cert_said image.now.bytes text.now) (answer_of result) }
+    ensures says { MayAnswerOf (cert_said image.now.bytes text.now) (answer_of result) }
 {
     match check_cert(alloc, image, text) {
         Err(CertFault::Line { line, number }) => Err(Refusal::Cert { line, number }),

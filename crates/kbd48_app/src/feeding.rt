@@ -71,7 +71,7 @@ fn text_of_bytes(alloc: Global, bytes: &[u8]) -> Result<Vec<u8>, AllocError>
 
 /// What INT 09h says of keyboard bytes.
 pub fn feed(alloc: Global, bytes: &[u8]) -> Result<Vec<u8>, Refusal>
-    ensures { MayAnswerOf (Ok (fed_text bytes.now)) (answer_of result) }
+    ensures says { MayAnswerOf (Ok (fed_text bytes.now)) (answer_of result) }
 {
     text_of_bytes(alloc, bytes).map_err(|_| Refusal::Memory)
 }

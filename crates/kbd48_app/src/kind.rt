@@ -10,6 +10,7 @@ pub enum Kind {
     Layout,
     Keys,
     Cert,
+    Script,
 }
 
 impl Kind {
@@ -17,19 +18,19 @@ impl Kind {
 
     /// The most bytes that a file of this kind may have.
     pub fn limit(self) -> usize
-        ensures { result ≡ limit_of self }
+        ensures limit { result ≡ limit_of self }
     {
         match self {
             Kind::Hex => 16_384,
             Kind::Asm => 262_144,
-            Kind::Layout | Kind::Cert => 65_536,
+            Kind::Layout | Kind::Cert | Kind::Script => 65_536,
             Kind::Keys => 4_194_304,
         }
     }
 
     /// The kind as refusals name it.
     pub fn name(self) -> &'static str
-        ensures { result.now ≡ name_of self }
+        ensures name { result.now ≡ name_of self }
     {
         match self {
             Kind::Hex => "hex",
@@ -37,6 +38,7 @@ impl Kind {
             Kind::Layout => "layout",
             Kind::Keys => "keys",
             Kind::Cert => "cert",
+            Kind::Script => "script",
         }
     }
 }

@@ -9,6 +9,7 @@
 mod answering;
 mod bytes;
 mod certifying;
+mod debugging;
 mod exit;
 mod feeding;
 mod fetching;

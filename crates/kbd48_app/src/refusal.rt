@@ -42,6 +42,11 @@ pub enum Refusal {
         line: u32,
         number: u8,
     },
+    /// The line of the script, counted from 1, and its fault.
+    Script {
+        line: u32,
+        number: u8,
+    },
     /// The line of the key file, counted from 1, its fault, which is one of time, and two stamps, in cycles.
     Timing {
         line: u32,
@@ -139,7 +144,7 @@ fn stuck_line(stuck: Stuck) -> Line
 impl Refusal {
     /// The exit that it ends the call with.
     pub fn exit(&self) -> Exit
-        ensures { result ≡ exit_of self.now }
+        ensures exit { result ≡ exit_of self.now }
     {
         match self {
             Refusal::Words => Exit::Words,
@@ -149,7 +154,8 @@ impl Refusal {
             | Refusal::Asm { .. }
             | Refusal::Layout { .. }
             | Refusal::Keys { .. }
-            | Refusal::Cert { .. } => Exit::Input,
+            | Refusal::Cert { .. }
+            | Refusal::Script { .. } => Exit::Input,
             Refusal::Timing { .. } => Exit::Timing,
             Refusal::Stuck(_) => Exit::Stuck,
             Refusal::Memory => Exit::Memory,
@@ -158,7 +164,7 @@ impl Refusal {
 
     /// The line that is printed, with its LF.
     pub fn line(&self) -> Line
-        ensures { result.items ≡ line_of self.now }
+        ensures line { result.items ≡ line_of self.now }
     {
         match self {
             Refusal::Words => fixed_line("words: not a command of kbd48\n"),
@@ -174,6 +180,7 @@ impl Refusal {
             ),
             Refusal::Keys { line, number } => fault_line(Kind::Keys, " line ", *line, *number),
             Refusal::Cert { line, number } => fault_line(Kind::Cert, " line ", *line, *number),
+            Refusal::Script { line, number } => fault_line(Kind::Script, " line ", *line, *number),
             Refusal::Timing {
                 line,
                 number,

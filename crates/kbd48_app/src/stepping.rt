@@ -27,7 +27,8 @@ struct Ran {
     cycles: u64,
 }
 
-/// Runs so many steps from reset.
+/// Runs so many steps from reset. The loop is compiled by itself, so that its values stay in registers.
+#[inline(never)]
 fn run(image: &Image, count: u32) -> Result<Ran, Stuck>
     ensures ran { MatchResult result
         (λ ran. after_steps image.now.bytes count ≡ Stands ran.mcu ran.cycles)
@@ -46,7 +47,7 @@ fn run(image: &Image, count: u32) -> Result<Ran, Stuck>
 
 /// The state after so many steps of an image from reset.
 pub fn step(alloc: Global, image: &Image, count: u32) -> Result<Vec<u8>, Refusal>
-    ensures { MayAnswerOf (run_said count (after_steps image.now.bytes count)) (answer_of result) }
+    ensures says { MayAnswerOf (run_said count (after_steps image.now.bytes count)) (answer_of result) }
 {
     match run(image, count) {
         Err(stuck) => Err(Refusal::Stuck(stuck)),

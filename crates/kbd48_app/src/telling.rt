@@ -1,16 +1,18 @@
 //! `run` and `expect`: what is printed of the run of a layout under a key history.
 
-ghost use Rattle.std.specs.Prelude.{◌≡◌, ◌-◌, ◌++◌, [], if◌then◌else◌, length, IfOk, OnOk};
+ghost use Rattle.std.specs.Prelude.{◌≡◌, ◌-◌, ◌++◌, [], if◌then◌else◌, length, map, IfOk, OnOk};
 ghost use Rattle.board_lines.specs.Cadence.{KeepsCadenceTo, listed};
 ghost use Rattle.fw_compile.specs.Image.{image_of};
 ghost use Rattle.key_file.specs.Accepted.{IsAcceptedFor};
 ghost use Rattle.mcs48_core.specs.StateText.{state_text_of};
-ghost use Rattle.subsystem.specs.Running.{IsRun, story};
+ghost use Rattle.joint_feed.specs.Stories.{story};
+ghost use Rattle.subsystem.specs.Running.{IsRun};
 ghost use Rattle.kbd48_app.specs.Answers.{MayAnswerRun, answer_of};
-ghost use Rattle.kbd48_app.specs.RunTexts.{IsRunText, expected_text, run_text, start_line, start_lines};
+ghost use Rattle.kbd48_app.specs.RunTexts.{HaveLooked, IsRunText, expected_text, run_text, start_line, start_lines};
 
 use crate::refusal::Refusal;
 use crate::words::RunCommand;
+use fw_debug::Probe;
 use key_file::History;
 use layout_reader::Layout;
 use link_model::expect;
@@ -94,11 +96,15 @@ fn text_of_run(
     command: RunCommand,
     layout: &Layout,
     history: &History,
+    probes: &mut Vec<Box<dyn Probe>>,
 ) -> Result<Vec<u8>, AllocError>
     requires accepted { IsAcceptedFor layout.now history.now }
-    ensures { IfOk result (λ text. IsRunText command layout.now history.now text.items) }
+    ensures text { IfOk result (λ text. IsRunText command layout.now history.now text.items
+        (map (λ b. watch b) probes.old.items) (map (λ b. watch b) probes.new.items)) }
+    ensures looked { HaveLooked layout.now history.now
+        (map (λ b. watch b) probes.old.items) (map (λ b. watch b) probes.new.items) }
 {
-    let run = run(alloc, layout, history)?;
+    let run = run(alloc, layout, history, probes)?;
     match command {
         RunCommand::Log { ticks, steps } => run_text(alloc, &run, ticks, steps),
         RunCommand::Expect => expected_text(alloc, layout, history, &run),
@@ -111,11 +117,13 @@ pub fn tell(
     command: RunCommand,
     layout: &Layout,
     history: &History,
+    probes: &mut Vec<Box<dyn Probe>>,
 ) -> Result<Vec<u8>, Refusal>
     requires accepted { IsAcceptedFor layout.now history.now }
-    ensures { MayAnswerRun command layout.now history.now (answer_of result) }
+    ensures says { MayAnswerRun command layout.now history.now (answer_of result)
+        (map (λ b. watch b) probes.old.items) (map (λ b. watch b) probes.new.items) }
 {
-    match text_of_run(alloc, command, layout, history) {
+    match text_of_run(alloc, command, layout, history, probes) {
         Ok(text) => Ok(text),
         Err(_) => Err(Refusal::Memory),
     }

@@ -1,23 +1,24 @@
 //! The top call.
 
-ghost use Rattle.std.specs.Prelude.{◌≡◌, ℕ, ◌-◌, ◌^◌, ◌<◌, ◌⊎◌, map, string_bytes, true, None, Err, IfSome};
+ghost use Rattle.std.specs.Prelude.{◌≡◌, ℕ, ◌-◌, ◌^◌, ◌<◌, ◌⊎◌, length, map, string_bytes, true, None, Err, IfSome};
 ghost use Rattle.hexfile.specs.declared.fault.HexFault.{HexFault};
 ghost use Rattle.io_edge.specs.Faults.{Rose};
 ghost use Rattle.layout_reader.specs.Faults.{Refusal as LayoutRefusal};
 ghost use Rattle.kbd48_app.specs.declared.kind.Kind.{Kind};
 ghost use Rattle.kbd48_app.specs.Answers.{answer_of, MayAnswer};
-ghost use Rattle.kbd48_app.specs.Causes.{HasAsmFault, HasCertFault, HasFileFault, HasHexFault, HasKeysFault, HasLayoutFault, HasTimingFault, IsStuck, IsUntimely, MayExit};
+ghost use Rattle.kbd48_app.specs.Causes.{HasAsmFault, HasCertFault, HasFileFault, HasHexFault, HasKeysFault, HasLayoutFault, HasScriptFault, HasTimingFault, IsStuck, IsUntimely, MayExit};
 ghost use Rattle.kbd48_app.specs.Complete.{IsFaultless, IsLeft};
 ghost use Rattle.kbd48_app.specs.Plans.{Answer, plan};
 ghost use Rattle.kbd48_app.specs.Reached.{IsTooLong, IsUnserved, fetches_of, Makes, may_lack};
 ghost use Rattle.kbd48_app.specs.Said.{ByLines, TakesAll, TakesPart};
 ghost use Rattle.kbd48_app.specs.Says.{Says, text_said};
-ghost use Rattle.kbd48_app.specs.Words.{command_of};
+ghost use Rattle.kbd48_app.specs.Words.{command_of, is_without_run};
 
 use crate::answering::answer;
 use crate::exit::Exit;
 use crate::refusal::Refusal;
 use crate::saying::say;
+use fw_debug::Probe;
 use io_edge::{Shelf, Sink};
 use std::alloc::Global;
 
@@ -56,11 +57,25 @@ fn conclude<K: Sink>(out: &mut K, answer: &Result<Vec<u8>, Refusal>) -> Exit
 /// order of the words, each before the next is fetched; the first refusal ends the call. All that is said goes to the
 /// sink line by line, each line offered whole in one `put`. A sink that fails ends the call with `Write`; want of memory
 /// with `Memory`, which never comes for words outside the forms.
-pub fn kbd48<F: Shelf, K: Sink>(alloc: Global, words: &[String], shelf: &mut F, out: &mut K) -> Exit
-    // What is printed: the text of an answer that the words and the shelf may give, each line whole in one put.
-    ensures says { (answer : Answer) × MayAnswer (map string_bytes words.now) (F.told shelf.old) answer (F.told shelf.new)
+///
+/// At each step of the run of `run` and `expect` each probe looks once. `debug` obeys a script with them. Nothing else is
+/// done with them.
+pub fn kbd48<F: Shelf, K: Sink>(
+    alloc: Global,
+    words: &[String],
+    shelf: &mut F,
+    out: &mut K,
+    probes: &mut Vec<Box<dyn Probe>>,
+) -> Exit
+    // What is printed, and how the probes are left: the text of an answer that the words, the shelf and the probes may
+    // give, each line whole in one put.
+    ensures says { let before = map (λ b. watch b) probes.old.items in let after = map (λ b. watch b) probes.new.items in
+        (answer : Answer) × MayAnswer (map string_bytes words.now) (F.told shelf.old) answer (F.told shelf.new) before after
         × Says answer (K.taken out.old) (K.taken out.new) result
         × ByLines (K.told out.old) (K.told out.new) (text_said answer) }
+    // The probes: words without a run leave them as they are.
+    ensures untouched { is_without_run (command_of (map string_bytes words.now)) ≡ true
+        → map (λ b. watch b) probes.new.items ≡ map (λ b. watch b) probes.old.items }
     // Words: exactly where the words have no form.
     ensures words { command_of (map string_bytes words.now) ≡ None → (result ≡ Exit.Words) ⊎ (result ≡ Exit.Write) }
     ensures words_only { result ≡ Exit.Words → command_of (map string_bytes words.now) ≡ None }
@@ -85,8 +100,11 @@ pub fn kbd48<F: Shelf, K: Sink>(alloc: Global, words: &[String], shelf: &mut F, 
         HasCertFault fault (plan (map string_bytes words.now)) told → MayExit Exit.Input result) }
     ensures keys { IfSome (F.told shelf.old) (λ told. (fault : ℕ × ℕ) →
         HasKeysFault fault (plan (map string_bytes words.now)) told → MayExit Exit.Input result) }
+    ensures script { IfSome (F.told shelf.old) (λ told. (fault : ℕ × ℕ) →
+        HasScriptFault (length probes.old.items) fault (plan (map string_bytes words.now)) told
+        → MayExit Exit.Input result) }
     ensures input_only { IfSome (F.told shelf.old) (λ told.
-        result ≡ Exit.Input → HasFileFault (plan (map string_bytes words.now)) told) }
+        result ≡ Exit.Input → HasFileFault (length probes.old.items) (plan (map string_bytes words.now)) told) }
     // Timing, of a shelf that tells its files: exactly where a key file that is reached has a fault of time first.
     ensures timing { IfSome (F.told shelf.old) (λ told. (fault : ℕ × ℕ) (stamps : ℕ × ℕ) →
         HasTimingFault fault stamps (plan (map string_bytes words.now)) told → MayExit Exit.Timing result) }
@@ -105,13 +123,13 @@ pub fn kbd48<F: Shelf, K: Sink>(alloc: Global, words: &[String], shelf: &mut F, 
     ensures put_failed { K.faults out.old < K.faults out.new → result ≡ Exit.Write }
     // Where nothing stands in the way, and no put failed, only want of memory is left, or in `step` a byte without an
     // instruction.
-    ensures complete { IsFaultless (map string_bytes words.now) (F.told shelf.old)
+    ensures complete { IsFaultless (length probes.old.items) (map string_bytes words.now) (F.told shelf.old)
         → K.faults out.new ≡ K.faults out.old → K.faults out.old < 2 ^ 64 - 1
         → IsLeft (command_of (map string_bytes words.now)) result }
     // The fetches: those that the words come to, in their order, and no others.
     ensures fetches { IfSome (F.told shelf.old) (λ told.
         Makes (fetches_of (plan (map string_bytes words.now)) told) told (F.told shelf.new) result) }
 {
-    let answer = answer(alloc, words, shelf);
+    let answer = answer(alloc, words, shelf, probes);
     conclude(out, &answer)
 }

@@ -4,7 +4,7 @@ ghost use Rattle.std.specs.Prelude.{◌≡◌, ◌<◌, ◌≤◌, codes, length
 ghost use Rattle.std.specs.Str.{bytes_eq};
 ghost use Rattle.std.specs.Char.{is_ascii_digit};
 ghost use Rattle.std.specs.List.{list_all};
-ghost use Rattle.kbd48_app.specs.Words.{is_name, is_short_number, count_of, step_of, named_of, pair_of, are_both, log_of, run_of, feed_of, command_of, files_in, is_form};
+ghost use Rattle.kbd48_app.specs.Words.{is_name, is_short_number, count_of, step_of, named_of, pair_of, debug_of, are_both, log_of, run_of, feed_of, command_of, files_in, is_form};
 
 use crate::bytes::KeyboardBytes;
 use crate::kind::Kind;
@@ -50,6 +50,8 @@ pub enum Command {
     OverFile(FileCommand),
     /// A command over the files that the two words behind it name.
     OverPair(PairCommand),
+    /// `debug` NAME NAME NAME: a layout, a key file for it, and a script. They are the three words behind the command.
+    Debug,
     /// `words` BYTE ..
     Feed(KeyboardBytes),
 }
@@ -59,7 +61,7 @@ impl FileCommand {
 
     /// The kind of the file that the command names.
     pub fn kind(self) -> Kind
-        ensures { result ≡ kind_of self }
+        ensures kind { result ≡ kind_of self }
     {
         match self {
             FileCommand::Step { .. } | FileCommand::Listing => Kind::Hex,
@@ -139,6 +141,19 @@ fn read_pair(command: PairCommand, words: &[String]) -> Option<Command>
 {
     match words {
         [first, second] if is_name(first) && is_name(second) => Some(Command::OverPair(command)),
+        _ => None,
+    }
+}
+
+/// `debug` NAME NAME NAME
+fn read_debug(words: &[String]) -> Option<Command>
+    ensures command { result ≡ debug_of (map string_bytes words.now) }
+    ensures named { IfSome result (λ command. files_in command ≤ length words.now) }
+{
+    match words {
+        [layout, keys, script] if is_name(layout) && is_name(keys) && is_name(script) => {
+            Some(Command::Debug)
+        }
         _ => None,
     }
 }
@@ -225,6 +240,7 @@ pub fn read_command(words: &[String]) -> Option<Command>
         "cert" => read_pair(PairCommand::Certify, words),
         "run" => read_run(words),
         "expect" => read_pair(PairCommand::OverRun(RunCommand::Expect), words),
+        "debug" => read_debug(words),
         "words" => read_feed(words),
         _ => None,
     }

@@ -11,11 +11,15 @@ mod certifying;
 #[cfg(test)]
 mod compiling;
 #[cfg(test)]
+mod debugging;
+#[cfg(test)]
 mod kernel;
 #[cfg(test)]
 mod keys;
 #[cfg(test)]
 mod listing;
+#[cfg(test)]
+mod probing;
 #[cfg(test)]
 mod rows;
 #[cfg(test)]

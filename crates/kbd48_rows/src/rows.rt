@@ -1,5 +1,6 @@
 //! A row of the table, and how it is run.
 
+use fw_debug::{AddressProbe, CellProbe, Probe, RegisterProbe};
 use io_edge::{MemShelf, MemSink};
 use kbd48_app::{Exit, kbd48};
 use std::alloc::{AllocError, Global};
@@ -51,7 +52,22 @@ pub fn shelf_of(alloc: Global, file: &[u8], fails: &[u32]) -> Result<MemShelf, A
     shelf_with(alloc, &[("f", file)], fails)
 }
 
-/// Runs the program over this shelf and a sink of so much room, of which the puts with these numbers fail.
+/// Runs the program over this shelf and a sink of so much room, of which the puts with these numbers fail, with these
+/// probes.
+pub fn run_with(
+    alloc: Global,
+    words: &[&str],
+    shelf: &mut MemShelf,
+    room: usize,
+    fails: &[u32],
+    probes: &mut Vec<Box<dyn Probe>>,
+) -> Result<Outcome, AllocError> {
+    let mut sink = MemSink::new(alloc, room, Vec::from_slice(alloc, fails)?)?;
+    let exit = kbd48(alloc, &owned(alloc, words)?, shelf, &mut sink, probes);
+    Ok(Outcome { exit, sink })
+}
+
+/// The same with a probe of each kind, in the order of the program.
 pub fn run(
     alloc: Global,
     words: &[&str],
@@ -59,9 +75,11 @@ pub fn run(
     room: usize,
     fails: &[u32],
 ) -> Result<Outcome, AllocError> {
-    let mut sink = MemSink::new(alloc, room, Vec::from_slice(alloc, fails)?)?;
-    let exit = kbd48(alloc, &owned(alloc, words)?, shelf, &mut sink);
-    Ok(Outcome { exit, sink })
+    let mut probes: Vec<Box<dyn Probe>> = Vec::new(alloc);
+    probes.push(Box::new(alloc, AddressProbe::new())?)?;
+    probes.push(Box::new(alloc, RegisterProbe::new())?)?;
+    probes.push(Box::new(alloc, CellProbe::new())?)?;
+    run_with(alloc, words, shelf, room, fails, &mut probes)
 }
 
 impl Outcome {

@@ -9,7 +9,7 @@ use std::process::Abort;
 use std::test::Fail;
 
 /// The text of the sample layout: each key at the place of its number, at the default rate.
-fn sample_layout(alloc: Global) -> Result<String, AllocError> {
+pub fn sample_layout(alloc: Global) -> Result<String, AllocError> {
     let mut text = String::from_str(alloc, "format = 1\n")?;
     let mut place = 0u32;
     for key in &KEYS {

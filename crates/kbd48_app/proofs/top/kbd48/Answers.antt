@@ -1,97 +1,103 @@
 use Rattle.std.proofs.Common.{map, string_bytes}
+use Rattle.std.proofs.lemmas.List.{length-map}
 use Rattle.kbd48_app.specs.Answers.{answer_of}
 use Rattle.kbd48_app.proofs.Complete.{left}
 use Rattle.kbd48_app.proofs.Refused.{words_only, words_refused}
-use Rattle.kbd48_app.proofs.Told.{told_unserved, told_unserved_only, told_too_long, told_hex, told_asm, told_layout, told_cert, told_keys, told_timing, told_timing_only, told_input_only, told_stuck, told_stuck_only, told_memory, told_fetches}
+use Rattle.kbd48_app.proofs.Told.{told_unserved, told_unserved_only, told_too_long, told_hex, told_asm, told_layout, told_cert, told_keys, told_script, told_timing, told_timing_only, told_input_only, told_stuck, told_stuck_only, told_memory, told_fetches}
 use Rattle.kbd48_app.proofs.top.kbd48.Goals as goal
 
 pub returns-clause-complete : goal.returns-clause-complete
 returns-clause-complete g c =
     λ faultless same below.
-    left (map string_bytes c.args.words.now) (g.F.Shelf.told c.args.shelf.now) _ _ _ _ _ _ faultless same below c.conclude.ensures.write
+    left _ (map string_bytes c.args.words.now) (g.F.Shelf.told c.args.shelf.now) _ _ _ _ _ _ _ _ (length-map c.args.probes.now.items _) faultless same below c.conclude.ensures.write
     (answer_of c.answer-answer.result, c.answer-answer.ensures.ends, c.conclude.ensures.says)
 
 pub returns-clause-words : goal.returns-clause-words
 returns-clause-words g c =
-    words_refused (map string_bytes c.args.words.now) (g.F.Shelf.told c.args.shelf.now) _ _ _ _
+    words_refused (map string_bytes c.args.words.now) (g.F.Shelf.told c.args.shelf.now) _ _ _ _ _ _
     (answer_of c.answer-answer.result, c.answer-answer.ensures.ends, c.conclude.ensures.says)
 
 pub returns-clause-words_only : goal.returns-clause-words_only
 returns-clause-words_only g c =
-    words_only (map string_bytes c.args.words.now) (g.F.Shelf.told c.args.shelf.now) _ _ _ _
+    words_only (map string_bytes c.args.words.now) (g.F.Shelf.told c.args.shelf.now) _ _ _ _ _ _
     (answer_of c.answer-answer.result, c.answer-answer.ensures.ends, c.conclude.ensures.says)
 
 pub returns-clause-unserved : goal.returns-clause-unserved
 returns-clause-unserved g c =
-    told_unserved (map string_bytes c.args.words.now) (g.F.Shelf.told c.args.shelf.now) _ _ _ _
+    told_unserved (map string_bytes c.args.words.now) (g.F.Shelf.told c.args.shelf.now) _ _ _ _ _ _
     (answer_of c.answer-answer.result, c.answer-answer.ensures.ends, c.conclude.ensures.says)
 
 pub returns-clause-unserved_only : goal.returns-clause-unserved_only
 returns-clause-unserved_only g c =
-    told_unserved_only (map string_bytes c.args.words.now) (g.F.Shelf.told c.args.shelf.now) _ _ _ _
+    told_unserved_only (map string_bytes c.args.words.now) (g.F.Shelf.told c.args.shelf.now) _ _ _ _ _ _
     (answer_of c.answer-answer.result, c.answer-answer.ensures.ends, c.conclude.ensures.says)
 
 pub returns-clause-too_long : goal.returns-clause-too_long
 returns-clause-too_long g c =
-    told_too_long (map string_bytes c.args.words.now) (g.F.Shelf.told c.args.shelf.now) _ _ _ _
+    told_too_long (map string_bytes c.args.words.now) (g.F.Shelf.told c.args.shelf.now) _ _ _ _ _ _
     (answer_of c.answer-answer.result, c.answer-answer.ensures.ends, c.conclude.ensures.says)
 
 pub returns-clause-hex : goal.returns-clause-hex
 returns-clause-hex g c =
-    told_hex (map string_bytes c.args.words.now) (g.F.Shelf.told c.args.shelf.now) _ _ _ _
+    told_hex (map string_bytes c.args.words.now) (g.F.Shelf.told c.args.shelf.now) _ _ _ _ _ _
     (answer_of c.answer-answer.result, c.answer-answer.ensures.ends, c.conclude.ensures.says)
 
 pub returns-clause-asm : goal.returns-clause-asm
 returns-clause-asm g c =
-    told_asm (map string_bytes c.args.words.now) (g.F.Shelf.told c.args.shelf.now) _ _ _ _
+    told_asm (map string_bytes c.args.words.now) (g.F.Shelf.told c.args.shelf.now) _ _ _ _ _ _
     (answer_of c.answer-answer.result, c.answer-answer.ensures.ends, c.conclude.ensures.says)
 
 pub returns-clause-layout : goal.returns-clause-layout
 returns-clause-layout g c =
-    told_layout (map string_bytes c.args.words.now) (g.F.Shelf.told c.args.shelf.now) _ _ _ _
+    told_layout (map string_bytes c.args.words.now) (g.F.Shelf.told c.args.shelf.now) _ _ _ _ _ _
     (answer_of c.answer-answer.result, c.answer-answer.ensures.ends, c.conclude.ensures.says)
 
 pub returns-clause-cert : goal.returns-clause-cert
 returns-clause-cert g c =
-    told_cert (map string_bytes c.args.words.now) (g.F.Shelf.told c.args.shelf.now) _ _ _ _
+    told_cert (map string_bytes c.args.words.now) (g.F.Shelf.told c.args.shelf.now) _ _ _ _ _ _
     (answer_of c.answer-answer.result, c.answer-answer.ensures.ends, c.conclude.ensures.says)
 
 pub returns-clause-input_only : goal.returns-clause-input_only
 returns-clause-input_only g c =
-    told_input_only (map string_bytes c.args.words.now) (g.F.Shelf.told c.args.shelf.now) _ _ _ _
+    told_input_only _ (map string_bytes c.args.words.now) (g.F.Shelf.told c.args.shelf.now) _ _ _ _ _ _ (length-map c.args.probes.now.items _)
     (answer_of c.answer-answer.result, c.answer-answer.ensures.ends, c.conclude.ensures.says)
 
 pub returns-clause-stuck : goal.returns-clause-stuck
 returns-clause-stuck g c =
-    told_stuck (map string_bytes c.args.words.now) (g.F.Shelf.told c.args.shelf.now) _ _ _ _
+    told_stuck (map string_bytes c.args.words.now) (g.F.Shelf.told c.args.shelf.now) _ _ _ _ _ _
     (answer_of c.answer-answer.result, c.answer-answer.ensures.ends, c.conclude.ensures.says)
 
 pub returns-clause-stuck_only : goal.returns-clause-stuck_only
 returns-clause-stuck_only g c =
-    told_stuck_only (map string_bytes c.args.words.now) (g.F.Shelf.told c.args.shelf.now) _ _ _ _
+    told_stuck_only (map string_bytes c.args.words.now) (g.F.Shelf.told c.args.shelf.now) _ _ _ _ _ _
     (answer_of c.answer-answer.result, c.answer-answer.ensures.ends, c.conclude.ensures.says)
 
 pub returns-clause-memory : goal.returns-clause-memory
 returns-clause-memory g c =
-    told_memory (map string_bytes c.args.words.now) (g.F.Shelf.told c.args.shelf.now) _ _ _ _
+    told_memory (map string_bytes c.args.words.now) (g.F.Shelf.told c.args.shelf.now) _ _ _ _ _ _
     (answer_of c.answer-answer.result, c.answer-answer.ensures.ends, c.conclude.ensures.says)
 
 pub returns-clause-fetches : goal.returns-clause-fetches
 returns-clause-fetches g c =
-    told_fetches (map string_bytes c.args.words.now) (g.F.Shelf.told c.args.shelf.now) _ _ _ _
+    told_fetches (map string_bytes c.args.words.now) (g.F.Shelf.told c.args.shelf.now) _ _ _ _ _ _
     (answer_of c.answer-answer.result, c.answer-answer.ensures.ends, c.conclude.ensures.says)
 
 pub returns-clause-keys : goal.returns-clause-keys
 returns-clause-keys g c =
-    told_keys (map string_bytes c.args.words.now) (g.F.Shelf.told c.args.shelf.now) _ _ _ _
+    told_keys (map string_bytes c.args.words.now) (g.F.Shelf.told c.args.shelf.now) _ _ _ _ _ _
     (answer_of c.answer-answer.result, c.answer-answer.ensures.ends, c.conclude.ensures.says)
 
 pub returns-clause-timing : goal.returns-clause-timing
 returns-clause-timing g c =
-    told_timing (map string_bytes c.args.words.now) (g.F.Shelf.told c.args.shelf.now) _ _ _ _
+    told_timing (map string_bytes c.args.words.now) (g.F.Shelf.told c.args.shelf.now) _ _ _ _ _ _
     (answer_of c.answer-answer.result, c.answer-answer.ensures.ends, c.conclude.ensures.says)
 
 pub returns-clause-timing_only : goal.returns-clause-timing_only
 returns-clause-timing_only g c =
-    told_timing_only (map string_bytes c.args.words.now) (g.F.Shelf.told c.args.shelf.now) _ _ _ _
+    told_timing_only (map string_bytes c.args.words.now) (g.F.Shelf.told c.args.shelf.now) _ _ _ _ _ _
+    (answer_of c.answer-answer.result, c.answer-answer.ensures.ends, c.conclude.ensures.says)
+
+pub returns-clause-script : goal.returns-clause-script
+returns-clause-script g c =
+    told_script _ (map string_bytes c.args.words.now) (g.F.Shelf.told c.args.shelf.now) _ _ _ _ _ _ (length-map c.args.probes.now.items _)
     (answer_of c.answer-answer.result, c.answer-answer.ensures.ends, c.conclude.ensures.says)

@@ -1,0 +1,41 @@
+-- Behind files that were found.
+use Rattle.std.proofs.Common.{◌≡◌, ℕ, List, Global, Ok, inr, subst, sym}
+use Rattle.std.specs.Option.{option_map}
+use Rattle.std.specs.declared.option.Option.{Option}
+use Rattle.std.specs.declared.vec.Vec.{Vec}
+use Rattle.fw_debug.specs.Probes.{Watch}
+use Rattle.io_edge.specs.Shelf.{Told, Fetched, Fails, Long, Found, after_fetch}
+use Rattle.key_file.specs.Histories.{KeyHistory}
+use Rattle.key_file.specs.KeyFile.{history_of}
+use Rattle.layout_reader.specs.Documents.{layout_of_document}
+use Rattle.layout_reader.specs.Layouts.{KeyLayout}
+use Rattle.kbd48_app.specs.declared.kind.Kind.{Kind}
+use Rattle.kbd48_app.specs.declared.kind.Kind.TheVariants as kinds
+use Rattle.kbd48_app.specs.Answers.{MayEnd, MayFetch}
+use Rattle.kbd48_app.specs.Fetching.{IsGiven, MayGive}
+use Rattle.kbd48_app.specs.Kinds.{limit_of}
+use Rattle.kbd48_app.specs.Plans.{Answer, Plan, Fetches, history_plan, keys_next, with_history, with_layout}
+use Rattle.kbd48_app.proofs.Runs.{Following, HistoryOutcome, LayoutOutcome, plan_from}
+
+found_by : (kind : Kind) (name : List ℕ) (next : List ℕ → Plan) (shelf on after : Option Told) (answer : Answer) (probes left : List Watch) (file : Vec ℕ Global) (outcome : Fetched) → MayFetch shelf name (limit_of kind) outcome → IsGiven kind outcome (Ok file) → on ≡ option_map after_fetch shelf → MayEnd (next file.items) on answer after probes left → MayEnd (Fetches kind name next) shelf answer after probes left
+found_by kind name next shelf on after answer probes left file Fails may given fetched h = absurd given
+found_by kind name next shelf on after answer probes left file Long may given fetched h = absurd given
+found_by kind name next shelf on after answer probes left file (Found bytes) may given fetched h = (
+  Found bytes,
+  may,
+  inr (subst (λ (b : List ℕ). MayEnd (next b) (option_map after_fetch shelf) answer after probes left) given
+      (subst (λ (o : Option Told). MayEnd (next file.items) o answer after probes left) fetched h)),
+)
+
+-- behind one file
+found_so : (kind : Kind) (name : List ℕ) (next : List ℕ → Plan) (shelf on after : Option Told) (answer : Answer) (probes left : List Watch) (file : Vec ℕ Global) → MayGive kind name shelf (Ok file) → on ≡ option_map after_fetch shelf → MayEnd (next file.items) on answer after probes left → MayEnd (Fetches kind name next) shelf answer after probes left
+found_so kind name next shelf on after answer probes left file gives fetched h =
+    found_by kind name next shelf on after answer probes left file gives.0 gives.1 gives.2 fetched h
+
+-- behind a layout and a key file without a fault
+pub both_found : (first second : List ℕ) (next : Following) (shelf on on' after : Option Told) (answer : Answer) (probes left : List Watch) (file text : Vec ℕ Global) (layout : KeyLayout) (history : KeyHistory) → MayGive kinds.Layout first shelf (Ok file) → on ≡ option_map after_fetch shelf → layout_of_document file.items ≡ Ok layout → MayGive kinds.Keys second on (Ok text) → on' ≡ option_map after_fetch on → history_of layout text.items ≡ Ok history → MayEnd (next layout history) on' answer after probes left → MayEnd (history_plan next first second) shelf answer after probes left
+both_found first second next shelf on on' after answer probes left file text layout history gives fetched is gives' fetched' has h =
+    found_so kinds.Layout first (plan_from next second) shelf on after answer probes left file gives fetched
+    (subst (λ (o : LayoutOutcome). MayEnd (with_layout (keys_next next second) o) on answer after probes left) (sym is)
+    (found_so kinds.Keys second (λ t. with_history (next layout) (history_of layout t)) on on' after answer probes left text gives' fetched'
+    (subst (λ (o : HistoryOutcome). MayEnd (with_history (next layout) o) on' answer after probes left) (sym has) h)))

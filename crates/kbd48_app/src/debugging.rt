@@ -1,0 +1,68 @@
+//! `debug`: what the lines of a script say in a session over the run of a layout under a key history.
+
+ghost use Rattle.std.specs.Prelude.{◌≡◌, Err, length, map, MatchResult};
+ghost use Rattle.fw_compile.specs.Image.{image_of};
+ghost use Rattle.fw_debug.specs.Faults.{IsVerdict};
+ghost use Rattle.fw_debug.specs.Obeyed.{session_told};
+ghost use Rattle.fw_debug.specs.Scripts.{script_of};
+ghost use Rattle.joint_feed.specs.Stories.{story};
+ghost use Rattle.key_file.specs.Accepted.{IsAcceptedFor};
+ghost use Rattle.kbd48_app.specs.Answers.{MayAnswerDebug, answer_of};
+ghost use Rattle.kbd48_app.specs.Debugging.{script_refusal};
+
+use crate::refusal::Refusal;
+use fw_debug::{Probe, SessionFault, obey_script};
+use key_file::History;
+use layout_reader::Layout;
+use std::alloc::Global;
+
+/// What the lines of a script print in a session over the run of a layout's compiled image under a history.
+fn over_session(
+    alloc: Global,
+    layout: &Layout,
+    history: History,
+    script: &[u8],
+    probes: &mut Vec<Box<dyn Probe>>,
+) -> Result<Vec<u8>, Refusal>
+    requires accepted { IsAcceptedFor layout.now history }
+    ensures says { let before = map (λ b. watch b) probes.old.items in
+        let told = session_told (story (image_of layout.now) history) script.now before in
+        MatchResult result
+        (λ text. (text.items ≡ told.text) × (map (λ b. watch b) probes.new.items ≡ told.debug.probes))
+        (λ refusal. refusal ≡ Refusal.Memory) }
+{
+    match obey_script(alloc, layout, history, script, probes) {
+        Ok(text) => Ok(text),
+        Err(_memory) => Err(Refusal::Memory),
+    }
+}
+
+/// The refusal of a script, by its first fault.
+fn refusal_of(fault: SessionFault) -> Refusal
+    ensures { result ≡ script_refusal fault }
+{
+    match fault {
+        SessionFault::Line { line, number } => Refusal::Script { line, number },
+    }
+}
+
+/// Refuses a script with a fault, by the verdict on it; obeys the lines of any other.
+pub fn debug(
+    alloc: Global,
+    layout: &Layout,
+    history: History,
+    script: &[u8],
+    verdict: Result<(), SessionFault>,
+    probes: &mut Vec<Box<dyn Probe>>,
+) -> Result<Vec<u8>, Refusal>
+    requires accepted { IsAcceptedFor layout.now history }
+    ensures says { let before = map (λ b. watch b) probes.old.items in
+        IsVerdict (script_of (length probes.old.items) script.now) verdict
+        → MayAnswerDebug layout.now history script.now (answer_of result) before (map (λ b. watch b) probes.new.items) }
+    ensures unread { result ≡ Err Refusal.Read → ⊥ }
+{
+    match verdict {
+        Err(fault) => Err(refusal_of(fault)),
+        Ok(()) => over_session(alloc, layout, history, script, probes),
+    }
+}
