@@ -188,8 +188,27 @@ fn the_model_tells_of_keys(rt: HostRuntime) -> Result<(), Fail> {
 }
 
 #[test]
+fn the_model_tells_of_held_keys(rt: HostRuntime) -> Result<(), Fail> {
+    check(&rt, rt.alloc(), "expect", &HELD)?;
+    Ok(())
+}
+
+#[test]
+fn the_model_tells_of_more_keys(rt: HostRuntime) -> Result<(), Fail> {
+    check(&rt, rt.alloc(), "expect", &MORE_TYPED)?;
+    Ok(())
+}
+
+#[test]
 fn the_model_tells_of_commands(rt: HostRuntime) -> Result<(), Fail> {
     check(&rt, rt.alloc(), "expect", &COMMANDS)?;
+    Ok(())
+}
+
+#[test]
+fn the_model_tells_of_the_controller(rt: HostRuntime) -> Result<(), Fail> {
+    check(&rt, rt.alloc(), "expect", &CONTROLLED)?;
+    check(&rt, rt.alloc(), "expect", &EARLY)?;
     Ok(())
 }
 
@@ -213,7 +232,9 @@ fn the_sixteenth_word_beeps(rt: HostRuntime) -> Result<(), Fail> {
     }
     keys.push_str("492544 take\n501760 end")?;
     log.push_str("231 port 1E\n231 beep\n237 port 9E\n240 taken 1E61\n")?;
-    check(&rt, alloc, "run", &[(keys.as_str(), log.as_str())])?;
+    let row = [(keys.as_str(), log.as_str())];
+    check(&rt, alloc, "run", &row)?;
+    check(&rt, alloc, "expect", &row)?;
     Ok(())
 }
 
