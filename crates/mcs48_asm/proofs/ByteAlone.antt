@@ -11,7 +11,7 @@ use Rattle.mcs48_asm.specs.Statements.{Data, values_of, equate_of, data_of, stat
 use Rattle.mcs48_asm.proofs.Plain.{IsPlain, is_plain}
 use Rattle.mcs48_asm.proofs.Numerals.{value-numeral}
 use Rattle.mcs48_asm.proofs.Readings.{IsRead, said_at, late_fault}
-use Rattle.mcs48_asm.proofs.Alone.{is_token, token-one}
+use Rattle.mcs48_asm.proofs.Tokenized.{is_token, token-one}
 use Rattle.mcs48_asm.proofs.Shapes.{byte-suits, if_none}
 use Rattle.mcs48_asm.proofs.Entries.{shown-numeral, token-comma, one-parts}
 use Rattle.mcs48_asm.proofs.EntryLines.{word-before, good-known, good-first, plain-line}

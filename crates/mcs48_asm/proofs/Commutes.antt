@@ -1,5 +1,5 @@
 -- Keeping 65,536 for a large number, and reading on.
-use Rattle.std.proofs.Common.{◌≡◌, ℕ, Bool, true, false, ◌&&◌, List, [], ◌∷◌, map, Option, Some, None, Ok, Err, is_some, unwrap_or, refl, ap, ◌∙◌}
+use Rattle.std.proofs.Common.{◌≡◌, ℕ, Bool, true, false, ◌&&◌, List, [], ◌∷◌, map, Option, Some, None, Ok, Err, is_some, unwrap_or, refl, ap, sym, ◌∙◌}
 use Rattle.std.specs.List.{slice_split}
 use Rattle.std.specs.Option.{option_map, option_or, option_and_then, ok_or}
 use Rattle.std.specs.declared.result.Result.{Result}
@@ -7,15 +7,14 @@ use Rattle.mcs48_asm.specs.declared.flaw.Flaw.{Flaw}
 use Rattle.mcs48_asm.specs.declared.flaw.Flaw.TheVariants.{Misfit}
 use Rattle.mcs48_asm.specs.declared.rows.Row.{Row as KeptRow}
 use Rattle.mcs48_asm.specs.Characters.{is_comma}
-use Rattle.mcs48_asm.specs.Reading.Words.{trimmed, run_of, tail_of}
+use Rattle.mcs48_asm.specs.Tokens.{tokens_of, parts_of}
 use Rattle.mcs48_asm.specs.Reading.Views.{form_seen, kept_fit}
 use Rattle.mcs48_asm.specs.declared.argument.Role.{Role}
 use Rattle.mcs48_asm.specs.Capped.{value_capped, argument_capped, reading_capped, statement_capped, found_capped, line_capped}
-use Rattle.mcs48_asm.specs.Values.{Value, Number}
-use Rattle.mcs48_asm.specs.Reading.Values.{value_of}
+use Rattle.mcs48_asm.specs.Values.{Value, Number, value_of}
 use Rattle.mcs48_asm.specs.Rows.{Argument, Reading, given, joined, both, instructions}
-use Rattle.mcs48_asm.specs.Statements.{Statement, instruction_with, line_with}
-use Rattle.mcs48_asm.specs.Reading.Statements.{instruction_in, first_fit, values_of, parts_of}
+use Rattle.mcs48_asm.specs.Statements.{Statement, values_of, instruction_with, instruction_in, first_fit, line_with}
+use Rattle.mcs48_asm.proofs.Commas.{parts-tokens}
 
 pub is_some-map : {A B : Type 0} (f : A → B) (o : Option A) → is_some (option_map f o) ≡ is_some o
 is_some-map f None = refl
@@ -49,26 +48,23 @@ or-kept : (a b : Option Statement) → option_or (option_map statement_capped a)
 or-kept None b = refl
 or-kept (Some x) b = refl
 
-pub fit-capped : (rows : List KeptRow) (word operands : List ℕ) → kept_fit rows word operands ≡ option_map statement_capped (first_fit (map form_seen rows) word operands)
-fit-capped [] word operands = refl
-fit-capped (row ∷ rows) word operands =
-    ap (option_or (option_map statement_capped (instruction_in (form_seen row) word operands))) (fit-capped rows word operands)
-    ∙ or-kept (instruction_in (form_seen row) word operands) (first_fit (map form_seen rows) word operands)
+fit-capped : (rows : List KeptRow) (tokens : List (List ℕ)) → kept_fit rows tokens ≡ option_map statement_capped (first_fit (map form_seen rows) tokens)
+fit-capped [] tokens = refl
+fit-capped (row ∷ rows) tokens =
+    ap (option_or (option_map statement_capped (instruction_in (form_seen row) tokens))) (fit-capped rows tokens)
+    ∙ or-kept (instruction_in (form_seen row) tokens) (first_fit (map form_seen rows) tokens)
 
 pub found-capped : (o : Option Statement) → ok_or (option_map statement_capped o) Misfit ≡ found_capped (ok_or o Misfit)
 found-capped None = refl
 found-capped (Some x) = refl
 
--- the instruction of the program's rows, from a word and the text behind it
-pub instruction-found : (rows : List KeptRow) (text word operands : List ℕ) (found : Option Statement) → map form_seen rows ≡ instructions → word ≡ run_of text → operands ≡ tail_of text
-    → found ≡ kept_fit rows word operands → ok_or found Misfit ≡ found_capped (ok_or (first_fit instructions (run_of text) (tail_of text)) Misfit)
-instruction-found rows text word operands found forms word_is tail_is is =
-    let kept = λ (o : Option Statement). ok_or (option_map statement_capped o) Misfit in
-    ap (λ o. ok_or o Misfit) (is ∙ fit-capped rows word operands)
-    ∙ ap (λ forms. kept (first_fit forms word operands)) forms
-    ∙ ap (λ word. kept (first_fit instructions word operands)) word_is
-    ∙ ap (λ operands. kept (first_fit instructions (run_of text) operands)) tail_is
-    ∙ found-capped (first_fit instructions (run_of text) (tail_of text))
+-- the instruction of the program's rows
+pub instruction-found : (rows : List KeptRow) (tokens : List (List ℕ)) (found : Option Statement) → map form_seen rows ≡ instructions → found ≡ kept_fit rows tokens
+    → ok_or found Misfit ≡ found_capped (ok_or (first_fit instructions tokens) Misfit)
+instruction-found rows tokens found forms is =
+    ap (λ o. ok_or o Misfit) (is ∙ fit-capped rows tokens)
+    ∙ ap (λ forms. ok_or (option_map statement_capped (first_fit forms tokens)) Misfit) forms
+    ∙ found-capped (first_fit instructions tokens)
 
 pub line-capped : (label : Option (List ℕ)) (found : Result Statement Flaw) → line_with label (found_capped found) ≡ line_capped (line_with label found)
 line-capped label (Ok statement) = refl
@@ -81,17 +77,18 @@ values-some (Some v) None = refl
 values-some (Some v) (Some vs) = refl
 
 pub parts-turn : (text part more : List ℕ) → slice_split is_comma text ≡ part ∷ slice_split is_comma more
-    → is_some (values_of (parts_of text)) ≡ (is_some (value_of (trimmed part)) && is_some (values_of (parts_of more)))
+    → is_some (values_of (parts_of (tokens_of text))) ≡ (is_some (value_of (tokens_of part)) && is_some (values_of (parts_of (tokens_of more))))
 parts-turn text part more split =
-    ap (λ parts. is_some (values_of (map trimmed parts))) split
-    ∙ values-some (value_of (trimmed part)) (values_of (parts_of more))
+    ap (λ parts. is_some (values_of parts)) (parts-tokens text ∙ ap (map tokens_of) split)
+    ∙ values-some (value_of (tokens_of part)) (values_of (map tokens_of (slice_split is_comma more)))
+    ∙ ap (λ parts. is_some (value_of (tokens_of part)) && is_some (values_of parts)) (sym (parts-tokens more))
 
 and-true : (b : Bool) → (b && true) ≡ b
 and-true true = refl
 and-true false = refl
 
-pub parts-end : (text : List ℕ) → slice_split is_comma text ≡ text ∷ [] → is_some (values_of (parts_of text)) ≡ is_some (value_of (trimmed text))
+pub parts-end : (text : List ℕ) → slice_split is_comma text ≡ text ∷ [] → is_some (values_of (parts_of (tokens_of text))) ≡ is_some (value_of (tokens_of text))
 parts-end text split =
-    ap (λ parts. is_some (values_of (map trimmed parts))) split
-    ∙ values-some (value_of (trimmed text)) (Some [])
-    ∙ and-true (is_some (value_of (trimmed text)))
+    ap (λ parts. is_some (values_of parts)) (parts-tokens text ∙ ap (map tokens_of) split)
+    ∙ values-some (value_of (tokens_of text)) (Some [])
+    ∙ and-true (is_some (value_of (tokens_of text)))

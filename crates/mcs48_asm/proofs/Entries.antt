@@ -1,25 +1,22 @@
 -- The text of an instruction, as the table writes it, is read as its instruction.
-use Rattle.std.proofs.Common.{◌≡◌, ℕ, suc, ◌<◌, ◌≤◌, ◌==◌, ◌&&◌, ◌||◌, not, Bool, true, false, cond, is_some, nat_le, List, [], ◌∷◌, length, codes, Option, Some, None, refl, ap, ◌∙◌, arith}
+use Rattle.std.proofs.Common.{◌≡◌, ℕ, suc, ◌<◌, ◌≤◌, ◌==◌, ◌&&◌, ◌||◌, not, Bool, true, false, cond, is_some, nat_le, List, [], ◌∷◌, length, codes, Option, Some, None, refl, ap, sym, ◌∙◌, arith, append-nil}
 use Rattle.std.specs.List.{list_all, onto_first}
 use Rattle.std.specs.Option.{option_map}
 use Rattle.std.specs.Str.{bytes_eq}
 use Rattle.std.proofs.lemmas.Bool.{and_parts, and_from, not-true, leb-true}
-use Rattle.mcs48_asm.specs.Reading.Words.{after_run}
 use Rattle.std.proofs.lemmas.List.Splits.{slice_split-cons_no}
 use Rattle.mcs48_isa.proofs.Cases.{pointers, registers, ports}
 use Rattle.mcs48_isa.specs.Instructions.{Operand, Is, Register, Pointer, Expander, Immediate, Address, Target}
 use Rattle.mcs48_isa.specs.Text.{value, address, target, operand_text}
 use Rattle.mcs48_asm.specs.declared.argument.Role.TheVariants as role
 use Rattle.mcs48_asm.specs.Characters.{is_word_character, is_blank, is_comma}
-use Rattle.mcs48_asm.specs.Tokens.{words_of, goes_on, is_comma_token, parts_of, is_name}
+use Rattle.mcs48_asm.specs.Tokens.{words_of, is_comma_token, parts_of, is_name}
 use Rattle.mcs48_asm.specs.Values.{Number, number_of, number_or_name, value_of}
 use Rattle.mcs48_asm.specs.Rows.{Reading, fixed, given, numbered, word_read, joined, both, read, read_parts, read_all}
 use Rattle.mcs48_asm.specs.Statements.{is_known_word}
 use Rattle.mcs48_asm.proofs.Plain.{is_plain, IsPlain, all_weaker, unbroken-plain, word-unbroken}
 use Rattle.mcs48_asm.proofs.Numerals.{IsNumeral, value-numeral, address-numeral}
-use Rattle.mcs48_asm.proofs.Alone.{is_token, whole-run}
-use Rattle.mcs48_asm.proofs.SameLines.{read-nothing}
-use Rattle.mcs48_asm.proofs.Worded.{words-run}
+use Rattle.mcs48_asm.proofs.Tokenized.{is_token, words-run}
 
 -- a word as listings have it: it is a name or a number, and isn't EQU
 abbrev pub is_good_word : List ℕ → Bool
@@ -49,10 +46,8 @@ IsListed place (Immediate n) = n < 256
 IsListed place (Address a) = a < 2048
 IsListed place (Target n) = target place n < 2048
 
-pub words-whole : (text : List ℕ) → goes_on text ≡ true → list_all is_word_character text ≡ true → words_of text ≡ text ∷ []
-words-whole text goes all =
-    let run = whole-run text all in
-    words-run text goes ∙ ap (λ w. w ∷ words_of (after_run text)) run.0 ∙ ap (λ rest. text ∷ words_of rest) run.1
+words-whole : (c : ℕ) (cs : List ℕ) → list_all is_word_character (c ∷ cs) ≡ true → words_of (c ∷ cs) ≡ (c ∷ cs) ∷ []
+words-whole c cs all = ap words_of (sym (append-nil (c ∷ cs))) ∙ words-run c cs [] all refl
 
 -- numerals
 known-number : (a : Bool) (o : Option ℕ) (n : ℕ) → o ≡ Some n → (a || is_some o) ≡ true
@@ -63,7 +58,7 @@ pub shown-numeral : (numeral : List ℕ) (n : ℕ) → IsNumeral (48 ∷ numeral
 shown-numeral numeral n is =
     let digits = (and_parts (is_word_character 48) (list_all is_word_character numeral) is.word).1 in
     let plain : IsPlain numeral = all_weaker is_word_character is_plain (λ c w. unbroken-plain c (word-unbroken c w)) numeral digits in
-    let words : words_of (48 ∷ numeral) ≡ (48 ∷ numeral) ∷ [] = words-whole (48 ∷ numeral) refl is.word in
+    let words : words_of (48 ∷ numeral) ≡ (48 ∷ numeral) ∷ [] = words-whole 48 numeral is.word in
     let good : is_good_word (48 ∷ numeral) ≡ true = and_from _ _ (known-number (is_name (48 ∷ numeral)) (number_of (48 ∷ numeral)) n is.number) refl in
     let all : list_all is_good_word (words_of (48 ∷ numeral)) ≡ true = ap (list_all is_good_word) words ∙ and_from _ _ good refl in (
       and_from _ _ digits (and_from _ _ plain all),
@@ -243,6 +238,15 @@ no-first r = refl
 no-second : (r : Option Reading) → both r None ≡ None
 no-second None = refl
 no-second (Some x) = refl
+
+read-nothing : (operand : Operand) → read operand [] ≡ None
+read-nothing (Is held) = refl
+read-nothing (Register r) = refl
+read-nothing (Pointer i) = refl
+read-nothing (Expander p) = refl
+read-nothing (Immediate n) = refl
+read-nothing (Address a) = refl
+read-nothing (Target n) = refl
 
 read_all-parts : (forms : List Operand) (t : List ℕ) (ts : List (List ℕ)) → read_all forms (t ∷ ts) ≡ read_parts forms (parts_of (t ∷ ts))
 read_all-parts [] t ts = refl

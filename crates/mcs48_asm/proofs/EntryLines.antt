@@ -1,6 +1,6 @@
 -- The line of a listing that an entry of the table writes says this instruction.
-use Rattle.std.proofs.Common.{◌≡◌, ℕ, ◌==◌, ◌&&◌, not, Bool, true, false, cond, nat_le, List, [], ◌∷◌, ◌++◌, length, codes, Some, None, Ok, refl, ap, sym, ◌∙◌, append-nil}
-use Rattle.std.specs.List.{list_all, slice_split, onto_first}
+use Rattle.std.proofs.Common.{◌≡◌, ℕ, ◌==◌, ◌&&◌, not, Bool, true, false, cond, nat_le, List, [], ◌∷◌, ◌++◌, length, codes, Some, None, Ok, refl, ap, ◌∙◌, append-nil}
+use Rattle.std.specs.List.{list_all, slice_split}
 use Rattle.std.specs.Option.{option_map, option_or}
 use Rattle.std.specs.Str.{bytes_eq}
 use Rattle.std.proofs.lemmas.Bool.{and_parts, and_from, not-true, eqb-true}
@@ -8,16 +8,13 @@ use Rattle.std.proofs.lemmas.List.Folds.{list_all-append}
 use Rattle.mcs48_isa.specs.Instructions.{Operand, Is, Entry}
 use Rattle.mcs48_isa.specs.Text.{operand_text, operands_text, entry_text}
 use Rattle.mcs48_asm.specs.declared.flaw.Flaw.TheVariants.{Syntax}
-use Rattle.mcs48_asm.specs.Characters.{is_word_character, is_blank, is_comma, is_colon, is_semicolon, is_allowed}
-use Rattle.mcs48_asm.specs.Tokens.{words_of, first_of, goes_on, before_tokens, tokens_of}
+use Rattle.mcs48_asm.specs.Characters.{is_word_character, is_colon, is_semicolon, is_allowed}
+use Rattle.mcs48_asm.specs.Tokens.{words_of, first_of, goes_on, tokens_of}
 use Rattle.mcs48_asm.specs.Rows.{Form, read_all, instructions, is_instruction}
 use Rattle.mcs48_asm.specs.Statements.{Statement, instruction_with, first_fit, statement_in, statement_of, is_known_word, is_spelled, line_of_parts, line_with, flawed, line_of}
-use Rattle.mcs48_asm.specs.Reading.Words.{run_of, after_run}
 use Rattle.mcs48_asm.proofs.Plain.{is_plain, IsPlain, all_weaker, one_part, uncut, plain-allowed, plain-semicolon, plain-colon, unbroken-plain, word-unbroken}
 use Rattle.mcs48_asm.proofs.Readings.{said}
-use Rattle.mcs48_asm.proofs.Tokenized.{tokens-run, run-none, before-apart, before-joined}
-use Rattle.mcs48_asm.proofs.Worded.{words-run, words-step}
-use Rattle.mcs48_asm.proofs.Alone.{is_token, token-one}
+use Rattle.mcs48_asm.proofs.Tokenized.{is_token, token-before, token-one, word-token, before-comma, words-run, words-before}
 use Rattle.mcs48_asm.proofs.Entries.{is_good_word, is_shown, shown, all_same, any_unlike, AllListed, operand_tokens, said_all, read-same, read-unlike, too-many}
 
 -- the first form that fits has this first byte, and those before it do not fit
@@ -49,67 +46,13 @@ fit-hit place (form ∷ forms) word first operands h few all =
         ∙ more both.1
 
 -- a word before another character
-run-before : (word rest : List ℕ) → list_all is_word_character word ≡ true → goes_on rest ≡ false → (run_of (word ++ rest) ≡ word) × (after_run (word ++ rest) ≡ rest)
-run-before [] rest all ends = run-none rest ends
-run-before (c ∷ cs) rest all ends =
-    let both = and_parts (is_word_character c) (list_all is_word_character cs) all in
-    let more = run-before cs rest both.1 ends in
-    (ap (λ b. cond b (c ∷ run_of (cs ++ rest)) []) both.0 ∙ ap (λ run. c ∷ run) more.0, ap (λ b. cond b (after_run (cs ++ rest)) (c ∷ (cs ++ rest))) both.0 ∙ more.1)
-
-goes-front : (c : ℕ) (cs rest : List ℕ) → goes_on ((c ∷ cs) ++ rest) ≡ is_word_character c
-goes-front c cs rest = refl
-
 pub word-before : (c : ℕ) (cs rest : List ℕ) → list_all is_word_character (c ∷ cs) ≡ true → goes_on rest ≡ false
     → (tokens_of ((c ∷ cs) ++ rest) ≡ (c ∷ cs) ∷ tokens_of rest) × (words_of ((c ∷ cs) ++ rest) ≡ (c ∷ cs) ∷ words_of rest)
-word-before c cs rest all ends =
-    let goes = (and_parts (is_word_character c) (list_all is_word_character cs) all).0 in
-    let run = run-before (c ∷ cs) rest all ends in (
-      tokens-run ((c ∷ cs) ++ rest) goes ∙ ap (λ w. w ∷ tokens_of (after_run ((c ∷ cs) ++ rest))) run.0 ∙ ap (λ r. (c ∷ cs) ∷ tokens_of r) run.1,
-      words-run ((c ∷ cs) ++ rest) goes ∙ ap (λ w. w ∷ words_of (after_run ((c ∷ cs) ++ rest))) run.0 ∙ ap (λ r. (c ∷ cs) ∷ words_of r) run.1,
-    )
+word-before c cs rest all ends = (token-before (c ∷ cs) rest (word-token c cs all) ends, words-run c cs rest all ends)
 
 -- a token before a comma
-comma-first : (rest : List ℕ) → tokens_of (44 ∷ rest) ≡ codes "," ∷ tokens_of rest
-comma-first rest = go (goes_on rest)
-  where
-    go : (g : Bool) → before_tokens 44 g (tokens_of rest) ≡ codes "," ∷ tokens_of rest
-    go true = refl
-    go false = refl
-
-token-before : (text rest : List ℕ) → is_token text ≡ true → tokens_of (text ++ 44 ∷ rest) ≡ text ∷ codes "," ∷ tokens_of rest
-token-before [] rest h = absurd (cc)
-token-before (c ∷ []) rest h =
-    before-apart c (tokens_of (44 ∷ rest)) (not-true (is_blank c) (and_parts (not (is_blank c)) _ h).0) ∙ ap (λ ts. (c ∷ []) ∷ ts) (comma-first rest)
-token-before (c ∷ d ∷ ds) rest h =
-    let first = and_parts (not (is_blank c)) _ h in
-    let second = and_parts (not (is_comma c)) _ first.1 in
-    ap (λ g. before_tokens c g (tokens_of ((d ∷ ds) ++ 44 ∷ rest))) (and_parts (is_word_character d) (list_all is_word_character ds) second.1).0
-    ∙ before-joined c (tokens_of ((d ∷ ds) ++ 44 ∷ rest)) (not-true (is_blank c) first.0) (not-true (is_comma c) second.0)
-    ∙ ap (onto_first c) (word-before d ds (44 ∷ rest) second.1 refl).0
-    ∙ ap (λ ts. (c ∷ d ∷ ds) ∷ ts) (comma-first rest)
-
--- the words before a character that is in none
-goes-before : (text : List ℕ) (m : ℕ) (rest : List ℕ) → is_word_character m ≡ false → goes_on (text ++ m ∷ rest) ≡ goes_on text
-goes-before [] m rest h = h
-goes-before (c ∷ cs) m rest h = refl
-
-words-before : (text : List ℕ) (m : ℕ) (rest : List ℕ) → is_word_character m ≡ false → words_of (text ++ m ∷ rest) ≡ words_of text ++ words_of rest
-words-before [] m rest h = words-step m rest ∙ ap (λ b. cond b (cond (goes_on rest) (onto_first m (words_of rest)) ((m ∷ []) ∷ words_of rest)) (words_of rest)) h
-words-before (c ∷ cs) m rest h =
-    words-step c (cs ++ m ∷ rest)
-    ∙ ap (λ g. cond (is_word_character c) (cond g (onto_first c (words_of (cs ++ m ∷ rest))) ((c ∷ []) ∷ words_of (cs ++ m ∷ rest))) (words_of (cs ++ m ∷ rest))) (goes-before cs m rest h)
-    ∙ ap (λ ws. cond (is_word_character c) (cond (goes_on cs) (onto_first c ws) ((c ∷ []) ∷ ws)) ws) (words-before cs m rest h)
-    ∙ go (is_word_character c) (goes_on cs) refl
-    ∙ ap (λ ws. ws ++ words_of rest) (sym (words-step c cs))
-  where
-    put : (ws xs more : List (List ℕ)) (w : List ℕ) → ws ≡ w ∷ more → onto_first c (ws ++ xs) ≡ onto_first c ws ++ xs
-    put ws xs more w h = ap (λ ws. onto_first c (ws ++ xs)) h ∙ sym (ap (λ ws. onto_first c ws ++ xs) h)
-
-    go : (t g : Bool) → goes_on cs ≡ g → cond t (cond g (onto_first c (words_of cs ++ words_of rest)) ((c ∷ []) ∷ (words_of cs ++ words_of rest))) (words_of cs ++ words_of rest)
-        ≡ cond t (cond g (onto_first c (words_of cs)) ((c ∷ []) ∷ words_of cs)) (words_of cs) ++ words_of rest
-    go false g is = refl
-    go true false is = refl
-    go true true is = put (words_of cs) (words_of rest) (words_of (after_run cs)) (run_of cs) (words-run cs is)
+comma-behind : (text rest : List ℕ) → is_token text ≡ true → tokens_of (text ++ 44 ∷ rest) ≡ text ∷ codes "," ∷ tokens_of rest
+comma-behind text rest h = token-before text (44 ∷ rest) h refl ∙ ap (λ ts. text ∷ ts) (before-comma 44 (goes_on rest) (tokens_of rest) refl)
 
 -- the operands of an entry
 record IsTail (place : ℕ) (operands : List Operand) : Type 0 where
@@ -139,7 +82,7 @@ tail-is place (o ∷ u ∷ []) few all =
     let fourth = and_parts (list_all is_plain v) _ third.1 in
     record {
       ends = refl;
-      tokens = ap (λ x. tokens_of (t ++ 44 ∷ x)) (append-nil v) ∙ token-before t v first.0 ∙ ap (λ ts. t ∷ codes "," ∷ ts) (token-one v third.0);
+      tokens = ap (λ x. tokens_of (t ++ 44 ∷ x)) (append-nil v) ∙ comma-behind t v first.0 ∙ ap (λ ts. t ∷ codes "," ∷ ts) (token-one v third.0);
       plain = ap (λ x. list_all is_plain (t ++ 44 ∷ x)) (append-nil v) ∙ list_all-append is_plain t (44 ∷ v) ∙ and_from _ _ second.0 fourth.0;
       good = ap (λ x. list_all is_good_word (words_of (t ++ 44 ∷ x))) (append-nil v) ∙ ap (list_all is_good_word) (words-before t 44 v refl)
           ∙ list_all-append is_good_word (words_of t) (words_of v) ∙ and_from _ _ second.1 fourth.1;

@@ -6,10 +6,9 @@ use Rattle.std.specs.Str.{bytes_eq}
 use Rattle.std.specs.Map.{lookup}
 use Rattle.std.proofs.lemmas.Slice.Eq.{bytes_eq-Decides}
 use Rattle.indexmap.specs.IndexMap.{insert_entry}
-use Rattle.mcs48_asm.specs.Values.{Value, Number}
-use Rattle.mcs48_asm.specs.Reading.Values.{value_of}
-use Rattle.mcs48_asm.specs.Statements.{Data}
-use Rattle.mcs48_asm.specs.Reading.Statements.{values_of}
+use Rattle.mcs48_asm.specs.Tokens.{tokens_of}
+use Rattle.mcs48_asm.specs.Values.{Value, Number, value_of}
+use Rattle.mcs48_asm.specs.Statements.{Data, values_of}
 use Rattle.mcs48_asm.specs.Capped.{value_capped, statement_capped}
 use Rattle.mcs48_asm.specs.Reading.Views.{kept_value, kept_part}
 
@@ -61,11 +60,11 @@ some_kept (Some x) entries name h k = sym (ap is_some h)
 
 -- the parts of a text that all write values give those values
 abbrev part_of : List ℕ → Value
-part_of text = unwrap_or (value_of text) (Number 0)
+part_of text = unwrap_or (value_of (tokens_of text)) (Number 0)
 
-values_of-parts : (parts : List (List ℕ)) → is_some (values_of parts) ≡ true → values_of parts ≡ Some (map part_of parts)
+values_of-parts : (parts : List (List ℕ)) → is_some (values_of (map tokens_of parts)) ≡ true → values_of (map tokens_of parts) ≡ Some (map part_of parts)
 values_of-parts [] h = refl
-values_of-parts (part ∷ parts) h = more (value_of part) (values_of parts) (map part_of parts) h (values_of-parts parts)
+values_of-parts (part ∷ parts) h = more (value_of (tokens_of part)) (values_of (map tokens_of parts)) (map part_of parts) h (values_of-parts parts)
   where
     more : (o : Option Value) (os : Option (List Value)) (vs : List Value) → is_some (option_and_then (λ v. option_map (λ vs. v ∷ vs) os) o) ≡ true → (is_some os ≡ true → os ≡ Some vs)
         → option_and_then (λ v. option_map (λ vs. v ∷ vs) os) o ≡ Some (unwrap_or o (Number 0) ∷ vs)
@@ -77,15 +76,12 @@ kept_parts : (parts : List (List ℕ)) → map kept_part parts ≡ map value_cap
 kept_parts [] = refl
 kept_parts (part ∷ parts) = ap (λ more. kept_part part ∷ more) (kept_parts parts)
 
-none_of : (o : Option (List Value)) → is_some o ≡ false → None ≡ option_map statement_capped (option_map Data o)
-none_of None h = refl
-none_of (Some x) h = absurd (cc)
-
-pub data-kept : (parts : List (List ℕ)) → is_some (values_of parts) ≡ true
-    → Some (Data (map kept_part parts)) ≡ option_map statement_capped (option_map Data (values_of parts))
+pub data-kept : (parts : List (List ℕ)) → is_some (values_of (map tokens_of parts)) ≡ true
+    → Some (Data (map kept_part parts)) ≡ option_map statement_capped (option_map Data (values_of (map tokens_of parts)))
 data-kept parts h =
     ap (λ values. Some (Data values)) (kept_parts parts)
     ∙ sym (ap (λ values. option_map statement_capped (option_map Data values)) (values_of-parts parts h))
 
-pub data-none : (parts : List (List ℕ)) → is_some (values_of parts) ≡ false → None ≡ option_map statement_capped (option_map Data (values_of parts))
-data-none parts h = none_of (values_of parts) h
+pub data-none : (values : Option (List Value)) → is_some values ≡ false → None ≡ option_map statement_capped (option_map Data values)
+data-none None h = refl
+data-none (Some x) h = absurd (cc)

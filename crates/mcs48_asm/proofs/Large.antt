@@ -17,7 +17,6 @@ use Rattle.mcs48_asm.specs.declared.flaw.Flaw.TheVariants.{Misfit, UnknownName, 
 use Rattle.mcs48_asm.specs.Flaws.{number_of}
 use Rattle.mcs48_asm.specs.Capped.{capped, value_capped, statement_capped, line_capped, kept_places}
 use Rattle.mcs48_asm.specs.Reading.Views.{kept_line}
-use Rattle.mcs48_asm.proofs.SameLines.{same-line}
 use Rattle.mcs48_asm.proofs.Capped.{at_capped, names_capped, reserved, small-capped, placed-capped, names-capped, fault-capped}
 use Rattle.mcs48_asm.proofs.Passes.{and_true}
 
@@ -150,7 +149,7 @@ large-numbers lines =
 
 kept_lines : (ls : List (List ℕ)) → map kept_line ls ≡ map line_capped (map line_of ls)
 kept_lines [] = refl
-kept_lines (l ∷ ls) = ap (λ more. kept_line l ∷ more) (kept_lines ls) ∙ ap (λ line. line_capped line ∷ map line_capped (map line_of ls)) (sym (same-line l))
+kept_lines (l ∷ ls) = ap (λ more. kept_line l ∷ more) (kept_lines ls)
 
 -- so what the program keeps of lines gives what the lines give
 pub exact-numbers : (ls : List (List ℕ)) → answer_of (kept_places 0 (map kept_line ls)) ≡ answer_of (placed 0 (map line_of ls))

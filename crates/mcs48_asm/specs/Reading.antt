@@ -1,6 +1,2 @@
--- What the program's own functions compute while they read a line. No definition of what a source gives cites these.
-pub mod Words
-pub mod Values
-pub mod Operands
-pub mod Statements
+-- What the program keeps of a text that it reads. No definition of what a source gives cites it.
 pub mod Views

@@ -1,6 +1,7 @@
 -- The words and the tokens of a text, its letters in upper case.
 use Rattle.std.specs.Prelude.{ℕ, Bool, false, not, ◌&&◌, nat_lt, nat_le, List, [], ◌∷◌, length, filter, Some, None, if◌then◌else◌}
 use Rattle.std.specs.List.{list_all, slice_split, onto_first}
+use Rattle.std.specs.Option.{option_and_then}
 use Rattle.std.specs.declared.option.Option.{Option}
 use Rattle.mcs48_asm.specs.Characters.{is_initial, is_word_character, is_blank, is_comma}
 
@@ -44,10 +45,14 @@ is_comma_token (c ∷ cs) = is_comma c
 abbrev pub parts_of : List (List ℕ) → List (List (List ℕ))
 parts_of tokens = slice_split is_comma_token tokens
 
+-- the token that stands alone
+abbrev pub only_of : List (List ℕ) → Option (List ℕ)
+only_of (token ∷ []) = Some token
+only_of _ = None
+
 -- what a token says, where it stands alone
 abbrev pub alone : {T : Type 0} → (List ℕ → Option T) → List (List ℕ) → Option T
-alone says (token ∷ []) = says token
-alone says _ = None
+alone says tokens = option_and_then says (only_of tokens)
 
 -- a name begins with a letter or _, goes on with letters, digits and _, and has at most 31 characters
 abbrev pub is_name : List ℕ → Bool

@@ -1,11 +1,11 @@
 //! The faults of a line.
 
 ghost use Rattle.std.specs.Prelude.{◌≡◌, ◌&&◌, false, length, not, is_none, is_some, slice_index_or};
-ghost use Rattle.std.specs.List.{list_any};
+ghost use Rattle.std.specs.List.{list_any, slice_split};
+ghost use Rattle.mcs48_asm.specs.Characters.{is_comma};
 ghost use Rattle.mcs48_asm.specs.Faults.{is_above, is_past, is_too_large, arguments, is_outside, has_wrong_number, is_equate, has_labelled_equate, has_unknown_name, is_refused, is_defined_again, is_off_page, is_past_end, is_filled_again, fault_of};
 ghost use Rattle.mcs48_asm.specs.Names.{meaning, labelled, equated};
 ghost use Rattle.mcs48_asm.specs.Rows.{is_reserved};
-ghost use Rattle.mcs48_asm.specs.Reading.Statements.{parts_of};
 ghost use Rattle.mcs48_asm.specs.Reading.Views.{kept_value, kept_part, value_seen, argument_seen, statement_seen, line_seen};
 
 use crate::argument::{Argument, Role, Value};
@@ -18,7 +18,6 @@ use crate::operands::is_reserved;
 use crate::places::count_of;
 use crate::statement::Statement;
 use crate::values::part_value;
-use crate::words::trimmed;
 use text_lines::split_once;
 
 /// Whether a value means a number past this one.
@@ -61,30 +60,30 @@ fn is_outside(names: &Names<'_>, start: u32, argument: Argument<'_>) -> bool
 
 /// Whether a part of DB's text is no byte.
 fn has_large_part(names: &Names<'_>, text: &[u8]) -> bool
-    ensures { result ≡ list_any (λ part. is_above (kept_value names.now.entries) 255 (kept_part part)) (parts_of text.now) }
+    ensures { result ≡ list_any (λ part. is_above (kept_value names.now.entries) 255 (kept_part part)) (slice_split is_comma text.now) }
 {
     let mut rest = text;
     while let Some((part, more)) = split_once(b',', rest) {
-        if is_above(names, 255, part_value(trimmed(part))) {
+        if is_above(names, 255, part_value(part)) {
             return true;
         }
         rest = more;
     }
-    is_above(names, 255, part_value(trimmed(rest)))
+    is_above(names, 255, part_value(rest))
 }
 
 /// Whether a part of DB's text is a name without a meaning.
 fn has_unknown_part(names: &Names<'_>, text: &[u8]) -> bool
-    ensures { result ≡ list_any (λ part. is_none (meaning (kept_value names.now.entries) (kept_part part))) (parts_of text.now) }
+    ensures { result ≡ list_any (λ part. is_none (meaning (kept_value names.now.entries) (kept_part part))) (slice_split is_comma text.now) }
 {
     let mut rest = text;
     while let Some((part, more)) = split_once(b',', rest) {
-        if is_unknown(names, part_value(trimmed(part))) {
+        if is_unknown(names, part_value(part)) {
             return true;
         }
         rest = more;
     }
-    is_unknown(names, part_value(trimmed(rest)))
+    is_unknown(names, part_value(rest))
 }
 
 /// Whether a value of a statement is too large for its place.

@@ -1,22 +1,20 @@
 //! What a line says.
 
-ghost use Rattle.std.specs.Prelude.{◌≡◌, ◌∷◌, not, []};
+ghost use Rattle.std.specs.Prelude.{◌≡◌, ◌==◌, ◌||◌, ◌∷◌, [], length};
 ghost use Rattle.std.specs.List.{list_all, slice_split};
 ghost use Rattle.std.specs.Option.{option_map};
-ghost use Rattle.mcs48_asm.specs.Characters.{is_word_character, is_allowed, is_colon};
-ghost use Rattle.mcs48_asm.specs.Reading.Words.{trimmed};
-ghost use Rattle.mcs48_asm.specs.Reading.Statements.{statement_of, line_of_parts, is_known_word, is_spelled};
-ghost use Rattle.mcs48_asm.specs.Statements.{flawed, line_with, line_of};
+ghost use Rattle.mcs48_asm.specs.Characters.{is_allowed, is_colon};
+ghost use Rattle.mcs48_asm.specs.Tokens.{words_of};
+ghost use Rattle.mcs48_asm.specs.Statements.{statement_of, flawed, line_with, line_of_parts, is_known_word, is_spelled};
 ghost use Rattle.mcs48_asm.specs.Capped.{line_capped};
-ghost use Rattle.mcs48_asm.specs.Reading.Views.{kept_line};
-ghost use Rattle.mcs48_asm.specs.Reading.Views.{found_seen, line_seen};
+ghost use Rattle.mcs48_asm.specs.Reading.Views.{line_seen, kept_line};
 
 use crate::characters::{is_allowed, is_word_character};
 use crate::flaw::Flaw;
 use crate::pieces::before_comment;
 use crate::statement::{Statement, statement_of};
 use crate::values::number_of;
-use crate::words::{is_name, trimmed};
+use crate::words::{is_name, only_name};
 use text_lines::split_once;
 
 /// A line. Where it has a fault of form, it says nothing.
@@ -50,14 +48,14 @@ fn are_allowed(text: &[u8]) -> bool
 
 /// Whether a word is nothing, a name or a number.
 fn is_known_word(word: &[u8]) -> bool
-    ensures { result ≡ is_known_word word.now }
+    ensures { result ≡ (length word.now == 0 || is_known_word word.now) }
 {
     word.is_empty() || is_name(word) || number_of(word).is_some()
 }
 
 /// Whether each word of a text is a name or a number.
 fn are_known_words(text: &[u8]) -> bool
-    ensures { result ≡ list_all is_known_word (slice_split (λ character. not (is_word_character character)) text.now) }
+    ensures { result ≡ list_all is_known_word (words_of text.now) }
 {
     text.split(|character| !is_word_character(*character))
         .all(|word| is_known_word(word))
@@ -72,9 +70,9 @@ fn is_spelled(text: &[u8]) -> bool
 
 /// A line with this label, where it has one, and with what a statement gave.
 fn line_with<'a>(label: Option<&'a [u8]>, text: &'a [u8]) -> Line<'a>
-    ensures { line_seen result ≡ line_capped (line_with (option_map (λ name. name.now) label.entry) (statement_of (trimmed text.now))) }
+    ensures { line_seen result ≡ line_capped (line_with (option_map (λ name. name.now) label.entry) (statement_of text.now)) }
 {
-    match statement_of(trimmed(text)) {
+    match statement_of(text) {
         Ok(statement) => Line {
             flaw: None,
             label,
@@ -88,11 +86,9 @@ fn line_with<'a>(label: Option<&'a [u8]>, text: &'a [u8]) -> Line<'a>
 fn labelled<'a>(label: &'a [u8], text: &'a [u8]) -> Line<'a>
     ensures { line_seen result ≡ line_capped (line_of_parts (label.now ∷ text.now ∷ [])) }
 {
-    let name = trimmed(label);
-    if is_name(name) {
-        line_with(Some(name), text)
-    } else {
-        flawed(Flaw::Syntax)
+    match only_name(label) {
+        Some(name) => line_with(Some(name), text),
+        None => flawed(Flaw::Syntax),
     }
 }
 

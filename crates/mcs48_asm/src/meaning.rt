@@ -1,15 +1,15 @@
 //! What values mean, and the bytes of a line.
 
 ghost use Rattle.std.specs.Prelude.{◌≡◌, ◌%◌, IfOk, map};
+ghost use Rattle.std.specs.List.{slice_split};
+ghost use Rattle.mcs48_asm.specs.Characters.{is_comma};
 ghost use Rattle.mcs48_asm.specs.Names.{meaning, taken, with_value, bytes_of};
-ghost use Rattle.mcs48_asm.specs.Reading.Statements.{parts_of};
 ghost use Rattle.mcs48_asm.specs.Reading.Views.{kept_value, kept_part, value_seen, statement_seen};
 
 use crate::argument::{Role, Value};
 use crate::names::{Names, value_named};
 use crate::statement::Statement;
 use crate::values::part_value;
-use crate::words::trimmed;
 use std::alloc::{AllocError, Global};
 use text_lines::split_once;
 
@@ -44,15 +44,15 @@ pub(crate) fn with_value(opcode: u8, role: Role, number: u32) -> [u8; 2]
 
 /// The bytes of a DB line.
 fn data_bytes(alloc: Global, names: &Names<'_>, text: &[u8]) -> Result<Vec<u8>, AllocError>
-    ensures { IfOk result (λ bytes. bytes.items ≡ map (λ part. taken (kept_value names.now.entries) (kept_part part) % 256) (parts_of text.now)) }
+    ensures { IfOk result (λ bytes. bytes.items ≡ map (λ part. taken (kept_value names.now.entries) (kept_part part) % 256) (slice_split is_comma text.now)) }
 {
     let mut bytes = Vec::new(alloc);
     let mut rest = text;
     while let Some((part, more)) = split_once(b',', rest) {
-        bytes.push((taken(names, part_value(trimmed(part))) % 256) as u8)?;
+        bytes.push((taken(names, part_value(part)) % 256) as u8)?;
         rest = more;
     }
-    bytes.push((taken(names, part_value(trimmed(rest))) % 256) as u8)?;
+    bytes.push((taken(names, part_value(rest)) % 256) as u8)?;
     Ok(bytes)
 }
 

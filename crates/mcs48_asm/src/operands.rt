@@ -6,16 +6,16 @@ ghost use Rattle.std.specs.Option.{option_map, ForSome};
 ghost use Rattle.std.specs.Str.{bytes_eq};
 ghost use Rattle.mcs48_asm.specs.Characters.{is_blank};
 ghost use Rattle.mcs48_asm.specs.Rows.{instructions, is_instruction, reserved, is_reserved, fixed, given, joined, both};
-ghost use Rattle.mcs48_asm.specs.Rows.{numbered, register, pointer, expander};
-ghost use Rattle.mcs48_asm.specs.Reading.Operands.{immediate, read, read_all, operands_of};
+ghost use Rattle.mcs48_asm.specs.Rows.{numbered, register, pointer, expander, immediate, read, read_all};
+ghost use Rattle.mcs48_asm.specs.Tokens.{tokens_of};
 ghost use Rattle.mcs48_asm.specs.Capped.{value_capped, reading_capped};
 ghost use Rattle.mcs48_asm.specs.Reading.Views.{value_seen, reading_seen, spelled, operand_seen, operands_seen, form_seen};
 
 use crate::argument::{Argument, Reading, Role, Value};
 use crate::characters::is_blank;
 use crate::rows::{Operand, RESERVED, ROWS, Row, Shape};
-use crate::values::value_of;
-use crate::words::trimmed;
+use crate::values::{value_from, value_of};
+use crate::words::{next_token, only_token};
 use text_lines::split_once;
 
 /// The most characters of a word that no line defines.
@@ -121,33 +121,33 @@ fn numbered(first: u8, last: u8, digit: u8) -> Option<u8>
 }
 
 /// The number of a register, R0 to R7.
-fn register(text: &[u8]) -> Option<u8>
-    ensures number { result ≡ register text.now }
+fn register(token: &[u8]) -> Option<u8>
+    ensures number { result ≡ register token.now }
     ensures small { IfSome result (λ number. number < 8) }
 {
-    match text {
+    match token {
         [b'R', digit] => numbered(b'0', b'7', *digit),
         _ => None,
     }
 }
 
 /// The number of a pointer register, @R0 or @R1.
-fn pointer(text: &[u8]) -> Option<u8>
-    ensures number { result ≡ pointer text.now }
+fn pointer(token: &[u8]) -> Option<u8>
+    ensures number { result ≡ pointer token.now }
     ensures small { IfSome result (λ number. number < 8) }
 {
-    match text {
+    match token {
         [b'@', b'R', digit] => numbered(b'0', b'1', *digit),
         _ => None,
     }
 }
 
 /// The number of a port of the expander, P4 to P7.
-fn expander(text: &[u8]) -> Option<u8>
-    ensures number { result ≡ expander text.now }
+fn expander(token: &[u8]) -> Option<u8>
+    ensures number { result ≡ expander token.now }
     ensures small { IfSome result (λ number. number < 8) }
 {
-    match text {
+    match token {
         [b'P', digit] => numbered(b'4', b'7', *digit),
         _ => None,
     }
@@ -155,10 +155,11 @@ fn expander(text: &[u8]) -> Option<u8>
 
 /// The value behind #.
 fn immediate(text: &[u8]) -> Option<Value<'_>>
-    ensures { option_map value_seen result ≡ option_map value_capped (immediate text.now) }
+    ensures { option_map value_seen result ≡ option_map value_capped (immediate (tokens_of text.now)) }
 {
-    match text {
-        [b'#', value @ ..] => value_of(value),
+    let (first, rest) = next_token(text)?;
+    match first {
+        [b'#', word @ ..] => value_from(word, rest),
         _ => None,
     }
 }
@@ -195,14 +196,14 @@ fn given_by(role: Role, value: Option<Value<'_>>) -> Option<Reading<'_>>
 
 /// What a text says as an operand, where it is one.
 fn read(operand: Operand, text: &[u8]) -> Option<Reading<'_>>
-    ensures reading { option_map reading_seen result ≡ option_map reading_capped (read (operand_seen operand) text.now) }
+    ensures reading { option_map reading_seen result ≡ option_map reading_capped (read (operand_seen operand) (tokens_of text.now)) }
     ensures small { IfSome result (λ reading. reading.offset < 8) }
 {
     match operand {
-        Operand::Is(word) => is_spelled(&word, text).then_some(fixed(0)),
-        Operand::Register => Some(fixed(register(text)?)),
-        Operand::Pointer => Some(fixed(pointer(text)?)),
-        Operand::Expander => Some(fixed(expander(text)?)),
+        Operand::Is(word) => is_spelled(&word, only_token(text)?).then_some(fixed(0)),
+        Operand::Register => Some(fixed(register(only_token(text)?)?)),
+        Operand::Pointer => Some(fixed(pointer(only_token(text)?)?)),
+        Operand::Expander => Some(fixed(expander(only_token(text)?)?)),
         Operand::Immediate => given_by(Role::Byte, immediate(text)),
         Operand::Address => given_by(Role::Address, value_of(text)),
         Operand::Target => given_by(Role::Target, value_of(text)),
@@ -211,24 +212,20 @@ fn read(operand: Operand, text: &[u8]) -> Option<Reading<'_>>
 
 /// What a text says where no operand may stand.
 fn read_none(text: &[u8]) -> Option<Reading<'_>>
-    ensures { option_map reading_seen result ≡ option_map reading_capped (read_all [] (operands_of text.now)) }
+    ensures { option_map reading_seen result ≡ option_map reading_capped (read_all [] (tokens_of text.now)) }
 {
-    if text.is_empty() {
-        Some(fixed(0))
-    } else {
-        None
+    match next_token(text) {
+        None => Some(fixed(0)),
+        Some(_) => None,
     }
 }
 
 /// What a text says as the only operand.
 fn read_one(operand: Operand, text: &[u8]) -> Option<Reading<'_>>
-    ensures { option_map reading_seen result ≡ option_map reading_capped (read_all (operand_seen operand ∷ []) (operands_of text.now)) }
+    ensures { option_map reading_seen result ≡ option_map reading_capped (read_all (operand_seen operand ∷ []) (tokens_of text.now)) }
 {
-    if text.is_empty() {
-        return None;
-    }
     match split_once(b',', text) {
-        None => read(operand, trimmed(text)),
+        None => read(operand, text),
         Some(_) => None,
     }
 }
@@ -261,27 +258,27 @@ fn read_both<'a>(
     text: &'a [u8],
     other: &'a [u8],
 ) -> Option<Reading<'a>>
-    ensures { option_map reading_seen result ≡ option_map reading_capped (read_all (operand_seen first ∷ operand_seen second ∷ []) (text.now ∷ other.now ∷ [])) }
+    ensures { option_map reading_seen result ≡ option_map reading_capped (both (read (operand_seen first) (tokens_of text.now)) (read (operand_seen second) (tokens_of other.now))) }
 {
     both(read(first, text), read(second, other))
 }
 
 /// What a text says as two operands.
 fn read_two(first: Operand, second: Operand, text: &[u8]) -> Option<Reading<'_>>
-    ensures { option_map reading_seen result ≡ option_map reading_capped (read_all (operand_seen first ∷ operand_seen second ∷ []) (operands_of text.now)) }
+    ensures { option_map reading_seen result ≡ option_map reading_capped (read_all (operand_seen first ∷ operand_seen second ∷ []) (tokens_of text.now)) }
 {
     let Some((front, back)) = split_once(b',', text) else {
         return None;
     };
     match split_once(b',', back) {
-        None => read_both(first, second, trimmed(front), trimmed(back)),
+        None => read_both(first, second, front, back),
         Some(_) => None,
     }
 }
 
 /// What a text says as the operands of an instruction, where it is that.
 pub(crate) fn read_all(shape: Shape, text: &[u8]) -> Option<Reading<'_>>
-    ensures { option_map reading_seen result ≡ option_map reading_capped (read_all (operands_seen shape) (operands_of text.now)) }
+    ensures { option_map reading_seen result ≡ option_map reading_capped (read_all (operands_seen shape) (tokens_of text.now)) }
 {
     match shape {
         Shape::Without => read_none(text),

@@ -1,8 +1,8 @@
 //! Where the bytes of a line stand.
 
 ghost use Rattle.std.specs.Prelude.{◌≡◌, ◌+◌, ◌≤◌, ◌^◌, count_by, length};
+ghost use Rattle.std.specs.List.{slice_split};
 ghost use Rattle.mcs48_asm.specs.Characters.{is_comma};
-ghost use Rattle.mcs48_asm.specs.Reading.Statements.{parts_of};
 ghost use Rattle.mcs48_asm.specs.Capped.{capped};
 ghost use Rattle.mcs48_asm.specs.Places.{count_of, start_of};
 ghost use Rattle.mcs48_asm.specs.Reading.Views.{statement_seen};
@@ -22,7 +22,7 @@ fn commas_in(text: &[u8]) -> usize
 
 /// How many parts between commas a text has.
 fn parts_in(text: &[u8]) -> usize
-    ensures number { result ≡ length (parts_of text.now) }
+    ensures number { result ≡ length (slice_split is_comma text.now) }
     ensures fits { result ≤ 2 ^ 63 }
 {
     commas_in(text) + 1

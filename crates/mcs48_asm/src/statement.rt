@@ -1,13 +1,12 @@
 //! What a statement says.
 
-ghost use Rattle.std.specs.Prelude.{◌≡◌, is_some};
+ghost use Rattle.std.specs.Prelude.{◌≡◌, ◌∷◌, is_some};
 ghost use Rattle.std.specs.Option.{option_map, ok_or};
 ghost use Rattle.mcs48_asm.specs.declared.flaw.Flaw.TheVariants.{Misfit};
 ghost use Rattle.mcs48_asm.specs.Rows.{instructions};
-ghost use Rattle.mcs48_asm.specs.Reading.Words.{run_of, tail_of};
-ghost use Rattle.mcs48_asm.specs.Statements.{Data, instruction_with};
-ghost use Rattle.mcs48_asm.specs.Reading.Statements.{values_of, parts_of, equate_of, origin_of, data_of, instruction_in, first_fit, statement_of};
-ghost use Rattle.mcs48_asm.specs.Reading.Values.{value_of};
+ghost use Rattle.mcs48_asm.specs.Tokens.{tokens_of, parts_of};
+ghost use Rattle.mcs48_asm.specs.Values.{value_of};
+ghost use Rattle.mcs48_asm.specs.Statements.{Data, values_of, equate_of, origin_of, data_of, instruction_with, instruction_in, first_fit, statement_of};
 ghost use Rattle.mcs48_asm.specs.Capped.{statement_capped, found_capped};
 ghost use Rattle.mcs48_asm.specs.Reading.Views.{reading_seen, statement_seen, found_seen, form_seen, kept_fit};
 
@@ -15,8 +14,8 @@ use crate::argument::{Argument, Reading};
 use crate::flaw::Flaw;
 use crate::operands::{instructions, is_instruction, is_spelled, read_all};
 use crate::rows::Row;
-use crate::values::{number_of, value_of};
-use crate::words::{is_name, split_word, trimmed, two_words};
+use crate::values::{only_number, value_of};
+use crate::words::{is_name, next_token, two_words};
 use text_lines::split_once;
 
 /// The words of the statements that are no instruction.
@@ -42,49 +41,49 @@ pub(crate) enum Statement<'a> {
 
 /// Whether a text is a value.
 fn is_value(text: &[u8]) -> bool
-    ensures { result ≡ is_some (value_of text.now) }
+    ensures { result ≡ is_some (value_of (tokens_of text.now)) }
 {
     value_of(text).is_some()
 }
 
 /// Whether each part of a text between commas is a value.
 fn are_values(text: &[u8]) -> bool
-    ensures { result ≡ is_some (values_of (parts_of text.now)) }
+    ensures { result ≡ is_some (values_of (parts_of (tokens_of text.now))) }
 {
     let mut rest = text;
     while let Some((part, more)) = split_once(b',', rest) {
-        if !is_value(trimmed(part)) {
+        if !is_value(part) {
             return false;
         }
         rest = more;
     }
-    is_value(trimmed(rest))
+    is_value(rest)
 }
 
-/// A name, EQU and a number.
-fn equate_of(text: &[u8]) -> Result<Statement<'_>, Flaw>
-    ensures { found_seen result ≡ found_capped (ok_or (equate_of text.now) Misfit) }
+/// A name, EQU and a number, where a text begins with this token.
+fn equate_of<'a>(name: &'a [u8], rest: &[u8]) -> Result<Statement<'a>, Flaw>
+    ensures { found_seen result ≡ found_capped (ok_or (equate_of (name.now ∷ tokens_of rest.now)) Misfit) }
 {
-    let (name, rest) = split_word(text);
-    let (word, number) = split_word(rest);
+    let Some((word, number)) = next_token(rest) else {
+        return Err(Flaw::Misfit);
+    };
     if !is_name(name) || word != EQU {
         return Err(Flaw::Misfit);
     }
-    match number_of(number) {
+    match only_number(number) {
         Some(number) => Ok(Statement::Equate(name, number)),
         None => Err(Flaw::Misfit),
     }
 }
 
 /// ORG and a number.
-fn origin_of(text: &[u8]) -> Result<Statement<'_>, Flaw>
-    ensures { found_seen result ≡ found_capped (ok_or (origin_of text.now) Misfit) }
+fn origin_of<'a>(word: &[u8], rest: &[u8]) -> Result<Statement<'a>, Flaw>
+    ensures { found_seen result ≡ found_capped (ok_or (origin_of (word.now ∷ tokens_of rest.now)) Misfit) }
 {
-    let (word, number) = split_word(text);
     if word != ORG {
         return Err(Flaw::Misfit);
     }
-    match number_of(number) {
+    match only_number(rest) {
         Some(number) => Ok(Statement::Origin(number)),
         None => Err(Flaw::Misfit),
     }
@@ -92,7 +91,7 @@ fn origin_of(text: &[u8]) -> Result<Statement<'_>, Flaw>
 
 /// The values of a DB line.
 fn data_in(values: &[u8]) -> Result<Statement<'_>, Flaw>
-    ensures { found_seen result ≡ found_capped (ok_or (option_map Data (values_of (parts_of values.now))) Misfit) }
+    ensures { found_seen result ≡ found_capped (ok_or (option_map Data (values_of (parts_of (tokens_of values.now)))) Misfit) }
 {
     if are_values(values) {
         Ok(Statement::Data(values))
@@ -102,10 +101,9 @@ fn data_in(values: &[u8]) -> Result<Statement<'_>, Flaw>
 }
 
 /// DB and values.
-fn data_of(text: &[u8]) -> Result<Statement<'_>, Flaw>
-    ensures { found_seen result ≡ found_capped (ok_or (data_of text.now) Misfit) }
+fn data_of<'a>(word: &[u8], values: &'a [u8]) -> Result<Statement<'a>, Flaw>
+    ensures { found_seen result ≡ found_capped (ok_or (data_of (word.now ∷ tokens_of values.now)) Misfit) }
 {
-    let (word, values) = split_word(text);
     if word != DB {
         return Err(Flaw::Misfit);
     }
@@ -122,7 +120,7 @@ fn instruction_with<'a>(first: u8, said: Option<Reading<'a>>) -> Option<Statemen
 
 /// The instruction of a row whose first word and operands these are.
 fn instruction_in<'a>(row: &Row, word: &[u8], operands: &'a [u8]) -> Option<Statement<'a>>
-    ensures { option_map statement_seen result ≡ option_map statement_capped (instruction_in (form_seen row.now) word.now operands.now) }
+    ensures { option_map statement_seen result ≡ option_map statement_capped (instruction_in (form_seen row.now) (word.now ∷ tokens_of operands.now)) }
 {
     if !is_spelled(&row.0, word) {
         return None;
@@ -132,7 +130,7 @@ fn instruction_in<'a>(row: &Row, word: &[u8], operands: &'a [u8]) -> Option<Stat
 
 /// The instruction of the first row that fits.
 fn first_fit<'a>(rows: &[Row], word: &[u8], operands: &'a [u8]) -> Option<Statement<'a>>
-    ensures { option_map statement_seen result ≡ kept_fit rows.now word.now operands.now }
+    ensures { option_map statement_seen result ≡ kept_fit rows.now (word.now ∷ tokens_of operands.now) }
 {
     for row in rows {
         if let Some(statement) = instruction_in(row, word, operands) {
@@ -143,32 +141,31 @@ fn first_fit<'a>(rows: &[Row], word: &[u8], operands: &'a [u8]) -> Option<Statem
 }
 
 /// An instruction.
-fn instruction_of(text: &[u8]) -> Result<Statement<'_>, Flaw>
-    ensures { found_seen result ≡ found_capped (ok_or (first_fit instructions (run_of text.now) (tail_of text.now)) Misfit) }
+fn instruction_of<'a>(word: &[u8], operands: &'a [u8]) -> Result<Statement<'a>, Flaw>
+    ensures { found_seen result ≡ found_capped (ok_or (first_fit instructions (word.now ∷ tokens_of operands.now)) Misfit) }
 {
-    let (word, operands) = split_word(text);
     match first_fit(instructions(), word, operands) {
         Some(statement) => Ok(statement),
         None => Err(Flaw::Misfit),
     }
 }
 
-/// The statement that a text without blanks round it writes, or its flaw.
+/// The statement that a text writes, or its flaw.
 pub(crate) fn statement_of(text: &[u8]) -> Result<Statement<'_>, Flaw>
     ensures { found_seen result ≡ found_capped (statement_of text.now) }
 {
-    if text.is_empty() {
+    let Some((token, rest)) = next_token(text) else {
         return Ok(Statement::Nothing);
-    }
+    };
     let (first, second) = two_words(text);
     if second == EQU {
-        equate_of(text)
+        equate_of(token, rest)
     } else if first == ORG {
-        origin_of(text)
+        origin_of(token, rest)
     } else if first == DB {
-        data_of(text)
+        data_of(token, rest)
     } else if is_instruction(first) {
-        instruction_of(text)
+        instruction_of(token, rest)
     } else {
         Err(Flaw::NoStatement)
     }

@@ -1,15 +1,15 @@
 //! Numbers and values.
 
-ghost use Rattle.std.specs.Prelude.{◌≡◌, ◌≤◌, nat_lt};
+ghost use Rattle.std.specs.Prelude.{◌≡◌, ◌≤◌, ◌∷◌, nat_lt};
 ghost use Rattle.std.specs.List.{list_all};
 ghost use Rattle.std.specs.Option.{option_map};
-ghost use Rattle.mcs48_asm.specs.Values.{digit_value, are_digits, written, number_in, number_of};
-ghost use Rattle.mcs48_asm.specs.Reading.Values.{name_value, value_of};
+ghost use Rattle.mcs48_asm.specs.Tokens.{tokens_of, alone};
+ghost use Rattle.mcs48_asm.specs.Values.{digit_value, are_digits, written, number_in, number_of, number_or_name, low_of, value_of};
 ghost use Rattle.mcs48_asm.specs.Capped.{capped, value_capped};
 ghost use Rattle.mcs48_asm.specs.Reading.Views.{kept_part, value_seen};
 
 use crate::argument::Value;
-use crate::words::{is_name, split_word};
+use crate::words::{is_name, next_token, only_token};
 
 /// What stands for all numbers past 65,535.
 const MOST: u32 = 65_536;
@@ -74,25 +74,49 @@ pub(crate) fn number_of(word: &[u8]) -> Option<u32>
     }
 }
 
-/// What a text that is no number gives: a name, or LOW and a name.
-fn name_value(text: &[u8]) -> Option<Value<'_>>
-    ensures { option_map value_seen result ≡ option_map value_capped (name_value text.now) }
+/// The number that stands alone in a text, or 65,536 where it is more.
+pub(crate) fn only_number(text: &[u8]) -> Option<u32>
+    ensures { result ≡ option_map capped (alone number_of (tokens_of text.now)) }
 {
-    if is_name(text) {
-        return Some(Value::Named(text));
+    number_of(only_token(text)?)
+}
+
+/// The value that a token writes which stands alone: a number, or a name.
+fn number_or_name(token: &[u8]) -> Option<Value<'_>>
+    ensures { option_map value_seen result ≡ option_map value_capped (number_or_name (number_of token.now) token.now) }
+{
+    match number_of(token) {
+        Some(number) => Some(Value::Number(number)),
+        None => is_name(token).then_some(Value::Named(token)),
     }
-    let (word, name) = split_word(text);
-    (word == b"LOW".as_slice() && is_name(name)).then_some(Value::Low(name))
+}
+
+/// LOW and a name.
+fn low_of<'a>(low: &[u8], name: &'a [u8]) -> Option<Value<'a>>
+    ensures { option_map value_seen result ≡ option_map value_capped (low_of low.now name.now) }
+{
+    (low == b"LOW".as_slice() && is_name(name)).then_some(Value::Low(name))
+}
+
+/// The value that a token and the text behind it write.
+pub(crate) fn value_from<'a>(first: &'a [u8], rest: &'a [u8]) -> Option<Value<'a>>
+    ensures { option_map value_seen result ≡ option_map value_capped (value_of (first.now ∷ tokens_of rest.now)) }
+{
+    let Some((name, behind)) = next_token(rest) else {
+        return number_or_name(first);
+    };
+    match next_token(behind) {
+        None => low_of(first, name),
+        Some(_) => None,
+    }
 }
 
 /// The value that a text writes.
 pub(crate) fn value_of(text: &[u8]) -> Option<Value<'_>>
-    ensures { option_map value_seen result ≡ option_map value_capped (value_of text.now) }
+    ensures { option_map value_seen result ≡ option_map value_capped (value_of (tokens_of text.now)) }
 {
-    match number_of(text) {
-        Some(number) => Some(Value::Number(number)),
-        None => name_value(text),
-    }
+    let (first, rest) = next_token(text)?;
+    value_from(first, rest)
 }
 
 /// The value that a part of DB's text writes.

@@ -1,10 +1,10 @@
-//! Words: unbroken runs of letters, digits and _, and the blanks round them.
+//! Words and tokens: unbroken runs of letters, digits and _, the marks before them, and commas.
 
-ghost use Rattle.std.specs.Prelude.{◌≡◌};
+ghost use Rattle.std.specs.Prelude.{◌≡◌, ◌≤◌, ◌∷◌, [], true, false, length, take, drop, slice_index, MatchOption};
 ghost use Rattle.std.specs.List.{list_all};
-ghost use Rattle.mcs48_asm.specs.Characters.{is_word_character};
-ghost use Rattle.mcs48_asm.specs.Reading.Words.{unindented, trimmed_end, trimmed, run_of, after_run, tail_of, from_word, first_word, second_word};
-ghost use Rattle.mcs48_asm.specs.Tokens.{is_name};
+ghost use Rattle.std.specs.Option.{option_map};
+ghost use Rattle.mcs48_asm.specs.Characters.{is_word_character, is_blank};
+ghost use Rattle.mcs48_asm.specs.Tokens.{words_of, first_of, second_of, goes_on, tokens_of, only_of, alone, is_name, name_of};
 
 use crate::characters::{is_blank, is_initial, is_word_character};
 
@@ -13,7 +13,8 @@ const LONGEST: usize = 31;
 
 /// A text without the blanks at its start.
 fn unindented(text: &[u8]) -> &[u8]
-    ensures { result.now ≡ unindented text.now }
+    ensures tokens { tokens_of text.now ≡ tokens_of result.now }
+    ensures first { is_blank (slice_index result.now 0) ≡ false }
 {
     let mut rest = text;
     while let [first, more @ ..] = rest
@@ -24,67 +25,72 @@ fn unindented(text: &[u8]) -> &[u8]
     rest
 }
 
-/// A text without the blanks at its end.
-fn trimmed_end(text: &[u8]) -> &[u8]
-    ensures { result.now ≡ trimmed_end text.now }
-{
-    let mut rest = text;
-    while let [more @ .., last] = rest
-        && is_blank(*last)
-    {
-        rest = more;
-    }
-    rest
-}
-
-/// A text without the blanks at its start and at its end.
-pub(crate) fn trimmed(text: &[u8]) -> &[u8]
-    ensures { result.now ≡ trimmed text.now }
-{
-    trimmed_end(unindented(text))
-}
-
-/// The word that a text begins with, or nothing, and what stands behind it.
-pub(crate) fn split_run(text: &[u8]) -> (&[u8], &[u8])
-    ensures word { result.0.now ≡ run_of text.now }
-    ensures rest { result.1.now ≡ after_run text.now }
+/// How many letters, digits and _ a text begins with.
+fn run_length(text: &[u8]) -> usize
+    ensures within { result ≤ length text.now }
+    ensures run { list_all is_word_character (take result text.now) ≡ true }
+    ensures ends { goes_on (drop result text.now) ≡ false }
 {
     let mut end = 0;
     while end < text.len() && is_word_character(text[end]) {
         end += 1;
     }
-    text.split_at(end)
+    end
 }
 
-/// The word that a text begins with, or nothing, and what stands behind it and the blanks after it.
-pub(crate) fn split_word(text: &[u8]) -> (&[u8], &[u8])
-    ensures word { result.0.now ≡ run_of text.now }
-    ensures tail { result.1.now ≡ tail_of text.now }
+/// How many letters, digits and _ belong to the token that a character begins; a comma is one of its own.
+fn token_length(first: u8, behind: &[u8]) -> usize
+    requires { is_blank first ≡ false }
+    ensures within { result ≤ length behind.now }
+    ensures token { tokens_of (first ∷ behind.now) ≡ (first ∷ take result behind.now) ∷ tokens_of (drop result behind.now) }
 {
-    let (word, rest) = split_run(text);
-    (word, unindented(rest))
+    if first == b',' { 0 } else { run_length(behind) }
 }
 
-/// A text from its first word on.
-fn from_word(text: &[u8]) -> &[u8]
-    ensures { result.now ≡ from_word text.now }
+/// The first token of a text and what stands behind it; None where it has no token.
+pub(crate) fn next_token(text: &[u8]) -> Option<(&[u8], &[u8])>
+    ensures { MatchOption result (tokens_of text.now ≡ []) (λ parts. tokens_of text.now ≡ parts.0.now ∷ tokens_of parts.1.now) }
+{
+    let tokens = unindented(text);
+    let [first, behind @ ..] = tokens else {
+        return None;
+    };
+    Some(tokens.split_at(token_length(*first, behind) + 1))
+}
+
+/// The token that stands alone in a text.
+pub(crate) fn only_token(text: &[u8]) -> Option<&[u8]>
+    ensures { option_map (λ token. token.now) result ≡ only_of (tokens_of text.now) }
+{
+    let (token, rest) = next_token(text)?;
+    match next_token(rest) {
+        None => Some(token),
+        Some(_) => None,
+    }
+}
+
+/// The first word of a text, or nothing, and what stands behind it.
+fn next_word(text: &[u8]) -> (&[u8], &[u8])
+    ensures first { result.0.now ≡ first_of (words_of text.now) }
+    ensures others { first_of (words_of result.1.now) ≡ second_of (words_of text.now) }
 {
     let mut rest = text;
-    while let [first, more @ ..] = rest
-        && !is_word_character(*first)
-    {
+    while let [first, more @ ..] = rest {
+        if is_word_character(*first) {
+            return rest.split_at(run_length(rest));
+        }
         rest = more;
     }
-    rest
+    (rest, rest)
 }
 
 /// The first and the second word of a text; one that is missing is empty.
 pub(crate) fn two_words(text: &[u8]) -> (&[u8], &[u8])
-    ensures first { result.0.now ≡ first_word text.now }
-    ensures second { result.1.now ≡ second_word text.now }
+    ensures first { result.0.now ≡ first_of (words_of text.now) }
+    ensures second { result.1.now ≡ second_of (words_of text.now) }
 {
-    let (first, rest) = split_run(from_word(text));
-    let (second, _) = split_run(from_word(rest));
+    let (first, rest) = next_word(text);
+    let (second, _) = next_word(rest);
     (first, second)
 }
 
@@ -95,12 +101,20 @@ fn are_word_characters(text: &[u8]) -> bool
     text.iter().all(|character| is_word_character(*character))
 }
 
-/// Whether a text is a name.
-pub(crate) fn is_name(text: &[u8]) -> bool
-    ensures { result ≡ is_name text.now }
+/// Whether a token is a name.
+pub(crate) fn is_name(token: &[u8]) -> bool
+    ensures { result ≡ is_name token.now }
 {
-    let [first, rest @ ..] = text else {
+    let [first, rest @ ..] = token else {
         return false;
     };
-    is_initial(*first) && are_word_characters(rest) && text.len() <= LONGEST
+    is_initial(*first) && are_word_characters(rest) && token.len() <= LONGEST
+}
+
+/// The name that stands alone in a text.
+pub(crate) fn only_name(text: &[u8]) -> Option<&[u8]>
+    ensures { option_map (λ name. name.now) result ≡ alone name_of (tokens_of text.now) }
+{
+    let name = only_token(text)?;
+    is_name(name).then_some(name)
 }

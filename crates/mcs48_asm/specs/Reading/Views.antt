@@ -1,7 +1,7 @@
 -- What the program keeps of a line, with its texts as lists.
 use Rattle.std.specs.Prelude.{ℕ, List, [], ◌∷◌, Ok, Err, Some, None, map, unwrap_or, if◌then◌else◌}
 use Rattle.std.specs.Borrow.{Bor}
-use Rattle.std.specs.List.{before_first}
+use Rattle.std.specs.List.{before_first, slice_split}
 use Rattle.std.specs.Str.{bytes_eq}
 use Rattle.std.specs.declared.option.Option.{Option}
 use Rattle.std.specs.declared.result.Result.{Result}
@@ -14,8 +14,8 @@ use Rattle.mcs48_asm.specs.declared.argument.Value.TheVariants as written
 use Rattle.mcs48_asm.specs.declared.line.Line.{Line as KeptLine}
 use Rattle.mcs48_asm.specs.declared.flaw.Flaw.{Flaw}
 use Rattle.mcs48_asm.specs.declared.statement.Statement.TheVariants as statements
-use Rattle.mcs48_asm.specs.Values.{Value, Number, Named, Low}
-use Rattle.mcs48_asm.specs.Reading.Values.{value_of}
+use Rattle.mcs48_asm.specs.Tokens.{tokens_of}
+use Rattle.mcs48_asm.specs.Values.{Value, Number, Named, Low, value_of}
 use Rattle.mcs48_asm.specs.declared.rows.Operand.{Operand as KeptOperand}
 use Rattle.mcs48_asm.specs.declared.rows.Operand.TheVariants as operands
 use Rattle.mcs48_asm.specs.declared.rows.Shape.{Shape as KeptShape}
@@ -23,10 +23,9 @@ use Rattle.mcs48_asm.specs.declared.rows.Shape.TheVariants as shapes
 use Rattle.mcs48_asm.specs.declared.rows.Row.{Row as KeptRow}
 use Rattle.mcs48_isa.specs.Instructions.{Operand, Is, Register, Pointer, Expander, Immediate, Address, Target}
 use Rattle.mcs48_asm.specs.Capped.{value_capped, statement_capped, line_capped}
-use Rattle.mcs48_asm.specs.Characters.{is_blank}
+use Rattle.mcs48_asm.specs.Characters.{is_blank, is_comma}
 use Rattle.mcs48_asm.specs.Rows.{Argument, Reading, Form}
-use Rattle.mcs48_asm.specs.Statements.{Statement, Nothing, Instruction, Origin, Data, Equate, Line}
-use Rattle.mcs48_asm.specs.Reading.Statements.{parts_of, instruction_in, line_of}
+use Rattle.mcs48_asm.specs.Statements.{Statement, Nothing, Instruction, Origin, Data, Equate, instruction_in, Line, line_of}
 
 abbrev pub value_seen : KeptValue → Value
 value_seen (written.Number n) = Number n
@@ -41,13 +40,13 @@ reading_seen reading = record { offset = reading.offset; argument = option_map a
 
 -- the value that a part of DB's text writes, as the program keeps it; each is one
 abbrev pub kept_part : List ℕ → Value
-kept_part text = value_capped (unwrap_or (value_of text) (Number 0))
+kept_part text = value_capped (unwrap_or (value_of (tokens_of text)) (Number 0))
 
 abbrev pub statement_seen : KeptStatement → Statement
 statement_seen statements.Nothing = Nothing
 statement_seen (statements.Instruction opcode argument) = Instruction opcode (option_map argument_seen argument)
 statement_seen (statements.Origin place) = Origin place
-statement_seen (statements.Data values) = Data (map kept_part (parts_of values.now))
+statement_seen (statements.Data values) = Data (map kept_part (slice_split is_comma values.now))
 statement_seen (statements.Equate name number) = Equate name.now number
 
 abbrev pub found_seen : Result KeptStatement Flaw → Result Statement Flaw
@@ -90,12 +89,10 @@ abbrev pub form_seen : KeptRow → Form
 form_seen row = record { word = spelled row.0; operands = operands_seen row.1; first = row.2 }
 
 -- what the program keeps of the instruction of the first row that fits
-abbrev pub kept_fit : List KeptRow → List ℕ → List ℕ → Option Statement
-kept_fit [] word operands = None
-kept_fit (row ∷ rows) word operands =
-    option_or
-    (option_map statement_capped (instruction_in (form_seen row) word operands))
-    (kept_fit rows word operands)
+abbrev pub kept_fit : List KeptRow → List (List ℕ) → Option Statement
+kept_fit [] tokens = None
+kept_fit (row ∷ rows) tokens =
+    option_or (option_map statement_capped (instruction_in (form_seen row) tokens)) (kept_fit rows tokens)
 
 -- what the program keeps of a line
 abbrev pub kept_line : List ℕ → Line

@@ -1,6 +1,6 @@
 use Rattle.std.proofs.Common.{ap, ◌∙◌}
 use Rattle.mcs48_asm.specs.Capped.{line_capped}
-use Rattle.mcs48_asm.proofs.Texts.{line_of_parts-more}
+use Rattle.mcs48_asm.proofs.OperandParts.{line_of_parts-more}
 use Rattle.mcs48_asm.proofs.line.line_in.Goals as goal
 
 pub returns-in-Some-split_once : goal.returns-in-Some-split_once
