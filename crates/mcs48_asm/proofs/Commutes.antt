@@ -8,7 +8,7 @@ use Rattle.mcs48_asm.specs.declared.flaw.Flaw.TheVariants.{Misfit}
 use Rattle.mcs48_asm.specs.declared.rows.Row.{Row as KeptRow}
 use Rattle.mcs48_asm.specs.Characters.{is_comma}
 use Rattle.mcs48_asm.specs.Tokens.{tokens_of, parts_of}
-use Rattle.mcs48_asm.specs.Reading.Views.{form_seen, kept_fit}
+use Rattle.mcs48_asm.specs.Kept.{form_seen, kept_fit}
 use Rattle.mcs48_asm.specs.declared.argument.Role.{Role}
 use Rattle.mcs48_asm.specs.Capped.{value_capped, argument_capped, reading_capped, statement_capped, found_capped, line_capped}
 use Rattle.mcs48_asm.specs.Values.{Value, Number, value_of}

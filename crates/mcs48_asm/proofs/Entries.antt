@@ -14,7 +14,7 @@ use Rattle.mcs48_asm.specs.Tokens.{words_of, is_comma_token, parts_of, is_name}
 use Rattle.mcs48_asm.specs.Values.{Number, number_of, number_or_name, value_of}
 use Rattle.mcs48_asm.specs.Rows.{Reading, fixed, given, numbered, word_read, joined, both, read, read_parts, read_all}
 use Rattle.mcs48_asm.specs.Statements.{is_known_word}
-use Rattle.mcs48_asm.proofs.Plain.{is_plain, IsPlain, all_weaker, unbroken-plain, word-unbroken}
+use Rattle.mcs48_asm.proofs.Plain.{is_plain, IsPlain, all_weaker, word-plain}
 use Rattle.mcs48_asm.proofs.Numerals.{IsNumeral, value-numeral, address-numeral}
 use Rattle.mcs48_asm.proofs.Tokenized.{is_token, words-run}
 
@@ -57,7 +57,7 @@ known-number false o n h = ap is_some h
 pub shown-numeral : (numeral : List ℕ) (n : ℕ) → IsNumeral (48 ∷ numeral) n → (is_shown (48 ∷ numeral) ≡ true) × (is_shown (35 ∷ 48 ∷ numeral) ≡ true)
 shown-numeral numeral n is =
     let digits = (and_parts (is_word_character 48) (list_all is_word_character numeral) is.word).1 in
-    let plain : IsPlain numeral = all_weaker is_word_character is_plain (λ c w. unbroken-plain c (word-unbroken c w)) numeral digits in
+    let plain : IsPlain numeral = all_weaker is_word_character is_plain word-plain numeral digits in
     let words : words_of (48 ∷ numeral) ≡ (48 ∷ numeral) ∷ [] = words-whole 48 numeral is.word in
     let good : is_good_word (48 ∷ numeral) ≡ true = and_from _ _ (known-number (is_name (48 ∷ numeral)) (number_of (48 ∷ numeral)) n is.number) refl in
     let all : list_all is_good_word (words_of (48 ∷ numeral)) ≡ true = ap (list_all is_good_word) words ∙ and_from _ _ good refl in (
@@ -231,9 +231,6 @@ read-same place (f ∷ []) (o ∷ u ∷ us) same few all = absurd (cc (and_parts
 read-same place (f ∷ g ∷ gs) (o ∷ []) same few all = absurd (cc (and_parts (is_same f o) _ same).1)
 read-same place (f ∷ g ∷ h ∷ hs) (o ∷ u ∷ []) same few all = absurd (cc (and_parts (is_same g u) _ (and_parts (is_same f o) _ same).1).1)
 read-same place (f ∷ g ∷ gs) (o ∷ u ∷ v ∷ vs) same few all = absurd (too-many (length vs) few)
-
-no-first : (r : Option Reading) → both None r ≡ None
-no-first r = refl
 
 no-second : (r : Option Reading) → both r None ≡ None
 no-second None = refl

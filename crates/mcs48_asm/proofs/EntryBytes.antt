@@ -17,7 +17,7 @@ use Rattle.mcs48_asm.proofs.Readings.{IsRead, said}
 use Rattle.mcs48_asm.proofs.Shapes.{bare, with_number as valued, byte-suits, target-suits, target-low, target-below}
 use Rattle.mcs48_asm.proofs.Entries.{too-many, IsListed, said_by}
 use Rattle.mcs48_asm.proofs.EntryLines.{is_word_shown, is_first, is_entry, entry-line}
-use Rattle.mcs48_asm.proofs.EntryRanges.{is_fixed, is_word, has_range, Range, is_right_entry, entries, ranges}
+use Rattle.mcs48_asm.proofs.EntryRanges.{is_fixed, is_word, has_range, Range, is_right_entry, entries}
 
 -- operands without a value
 fixed-listed : (place : ℕ) (o : Operand) (os : List Operand) → is_fixed o ≡ true → is_word_shown o ≡ true → Range (o ∷ os) → IsListed place o
@@ -202,5 +202,6 @@ pub row_reads : (b : ℕ) → b < 256 → (place n : ℕ) → n < 256 → IfSome
 row_reads b low place n below =
     each_row (λ d. place + d.len ≤ 2048 → IsRead (text_of d.op place) place (take d.len (b ∷ n ∷ []))) b n
     (λ (d : Decoded) (s : IsSound b n d) fits. let e : Entry = entry_of d.op in
-    all-reads place d.len b n e.word e.first e.cycles low below fits e.operands (entries d.op s.0) (ranges d.op s.0) s.3)
+    let right = entries d.op s.0 in
+    all-reads place d.len b n e.word e.first e.cycles low below fits e.operands right.0 right.1 s.3)
     low below

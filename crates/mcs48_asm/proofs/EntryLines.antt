@@ -12,7 +12,7 @@ use Rattle.mcs48_asm.specs.Characters.{is_word_character, is_colon, is_semicolon
 use Rattle.mcs48_asm.specs.Tokens.{words_of, first_of, goes_on, tokens_of}
 use Rattle.mcs48_asm.specs.Rows.{Form, read_all, instructions, is_instruction}
 use Rattle.mcs48_asm.specs.Statements.{Statement, instruction_with, first_fit, statement_in, statement_of, is_known_word, is_spelled, line_of_parts, line_with, flawed, line_of}
-use Rattle.mcs48_asm.proofs.Plain.{is_plain, IsPlain, all_weaker, one_part, uncut, plain-allowed, plain-semicolon, plain-colon, unbroken-plain, word-unbroken}
+use Rattle.mcs48_asm.proofs.Plain.{is_plain, IsPlain, all_weaker, one_part, uncut, plain-allowed, plain-semicolon, plain-colon, word-plain}
 use Rattle.mcs48_asm.proofs.Readings.{said}
 use Rattle.mcs48_asm.proofs.Tokenized.{is_token, token-before, token-one, word-token, before-comma, words-run, words-before}
 use Rattle.mcs48_asm.proofs.Entries.{is_good_word, is_shown, shown, all_same, any_unlike, AllListed, operand_tokens, said_all, read-same, read-unlike, too-many}
@@ -140,7 +140,7 @@ word-line place (c ∷ cs) first operands h few hit all =
     let whole = word-before c cs (operands_text place operands) made.0 tail.ends in
     let plain : IsPlain text =
     list_all-append is_plain word (operands_text place operands)
-    ∙ and_from _ _ (all_weaker is_word_character is_plain (λ c w. unbroken-plain c (word-unbroken c w)) word made.0) tail.plain in
+    ∙ and_from _ _ (all_weaker is_word_character is_plain word-plain word made.0) tail.plain in
     let known : list_all is_known_word (words_of text) ≡ true =
     ap (list_all is_known_word) whole.1 ∙ and_from _ _ (and_parts (is_known_word word) _ good.0).0 (good-known (words_of (operands_text place operands)) tail.good) in (
       plain,

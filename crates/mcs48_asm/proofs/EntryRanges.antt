@@ -59,73 +59,44 @@ Range (Target n ∷ operands) = Range operands
 abbrev pub is_right_entry : Entry → Bool
 is_right_entry entry = is_entry entry && is_paired entry.operands
 
-moves : (op : MoveOp) → is_right_entry (entry_of (Moves op)) ≡ true
-unfolding instructions is_instruction
-moves (MovAN n) = refl
-moves op = refl
-
-alus : (op : AluOp) → is_right_entry (entry_of (Alu op)) ≡ true
-unfolding instructions is_instruction
-alus (AddN n) = refl
-alus op = refl
-
-unaries : (op : UnaryOp) → is_right_entry (entry_of (Unary op)) ≡ true
-unfolding instructions is_instruction
-unaries IncA = refl
-unaries op = refl
-
-flows : (op : FlowOp) → IsOp (Flow op) → is_right_entry (entry_of (Flow op)) ≡ true
-unfolding instructions is_instruction
-flows (Jb b n) within = registers (λ b. is_right_entry (entry_of (Flow (Jb b n))) ≡ true) (refl, refl, refl, refl, refl, refl, refl, refl) b within
-flows op within = refl
-
-ports_ : (op : PortOp) → is_right_entry (entry_of (PortIo op)) ≡ true
-unfolding instructions is_instruction
-ports_ InP1 = refl
-ports_ op = refl
-
-controls : (op : ControlOp) → is_right_entry (entry_of (Control op)) ≡ true
-unfolding instructions is_instruction
-controls Nop = refl
-controls op = refl
-
-pub entries : (op : Op) → IsOp op → is_right_entry (entry_of op) ≡ true
-entries (Moves op) within = moves op
-entries (Alu op) within = alus op
-entries (Unary op) within = unaries op
-entries (Flow op) within = flows op within
-entries (PortIo op) within = ports_ op
-entries (Control op) within = controls op
-
 -- and its numbers are in their ranges
-move-range : (op : MoveOp) → IsOp (Moves op) → Range (entry_of (Moves op)).operands
-move-range (MovAN n) within = within
-move-range op within = within
+abbrev pub IsRight : Entry → Type 0
+IsRight entry = (is_right_entry entry ≡ true) × Range entry.operands
 
-alu-range : (op : AluOp) → IsOp (Alu op) → Range (entry_of (Alu op)).operands
-alu-range (AddN n) within = within
-alu-range op within = within
+moves : (op : MoveOp) → IsOp (Moves op) → IsRight (entry_of (Moves op))
+unfolding instructions is_instruction
+moves (MovAN n) within = (refl, within)
+moves op within = (refl, within)
 
-unary-range : (op : UnaryOp) → IsOp (Unary op) → Range (entry_of (Unary op)).operands
-unary-range IncA within = within
-unary-range op within = within
+alus : (op : AluOp) → IsOp (Alu op) → IsRight (entry_of (Alu op))
+unfolding instructions is_instruction
+alus (AddN n) within = (refl, within)
+alus op within = (refl, within)
 
-flow-range : (op : FlowOp) → IsOp (Flow op) → Range (entry_of (Flow op)).operands
-flow-range (Jb b n) within = tt
-flow-range op within = within
+unaries : (op : UnaryOp) → IsOp (Unary op) → IsRight (entry_of (Unary op))
+unfolding instructions is_instruction
+unaries IncA within = (refl, within)
+unaries op within = (refl, within)
 
-port-range : (op : PortOp) → IsOp (PortIo op) → Range (entry_of (PortIo op)).operands
-port-range InP1 within = within
-port-range op within = within
+flows : (op : FlowOp) → IsOp (Flow op) → IsRight (entry_of (Flow op))
+unfolding instructions is_instruction
+flows (Jb b n) within = (registers (λ b. is_right_entry (entry_of (Flow (Jb b n))) ≡ true) (refl, refl, refl, refl, refl, refl, refl, refl) b within, tt)
+flows op within = (refl, within)
 
-control-range : (op : ControlOp) → Range (entry_of (Control op)).operands
-control-range Nop = tt
-control-range op = tt
+ports_ : (op : PortOp) → IsOp (PortIo op) → IsRight (entry_of (PortIo op))
+unfolding instructions is_instruction
+ports_ InP1 within = (refl, within)
+ports_ op within = (refl, within)
 
-pub ranges : (op : Op) → IsOp op → Range (entry_of op).operands
-ranges (Moves op) within = move-range op within
-ranges (Alu op) within = alu-range op within
-ranges (Unary op) within = unary-range op within
-ranges (Flow op) within = flow-range op within
-ranges (PortIo op) within = port-range op within
-ranges (Control op) within = control-range op
+controls : (op : ControlOp) → IsRight (entry_of (Control op))
+unfolding instructions is_instruction
+controls Nop = (refl, tt)
+controls op = (refl, tt)
+
+pub entries : (op : Op) → IsOp op → IsRight (entry_of op)
+entries (Moves op) within = moves op within
+entries (Alu op) within = alus op within
+entries (Unary op) within = unaries op within
+entries (Flow op) within = flows op within
+entries (PortIo op) within = ports_ op within
+entries (Control op) within = controls op

@@ -10,7 +10,7 @@ use Rattle.mcs48_asm.specs.Tokens.{tokens_of}
 use Rattle.mcs48_asm.specs.Values.{Value, Number, value_of}
 use Rattle.mcs48_asm.specs.Statements.{Data, values_of}
 use Rattle.mcs48_asm.specs.Capped.{value_capped, statement_capped}
-use Rattle.mcs48_asm.specs.Reading.Views.{kept_value, kept_part}
+use Rattle.mcs48_asm.specs.Kept.{kept_value, kept_part}
 
 pub lookup-kept : (entries : List (Bor (List ℕ) × ℕ)) (name : List ℕ) → lookup (λ (key : Bor (List ℕ)). bytes_eq name key.now) entries ≡ kept_value entries name
 lookup-kept [] name = refl

@@ -1,5 +1,5 @@
 -- What stands for large numbers and places never shows in an answer.
-use Rattle.std.proofs.Common.{◌≡◌, ℕ, zero, suc, ◌+◌, ◌≤◌, ◌&&◌, ◌||◌, Bool, true, false, cond, List, [], ◌∷◌, ◌++◌, length, map, Some, None, Option, refl, ap, sym, ◌∙◌, arith, nat_lt}
+use Rattle.std.proofs.Common.{◌≡◌, ℕ, zero, suc, ◌+◌, ◌≤◌, ◌&&◌, ◌||◌, Bool, true, false, List, [], ◌∷◌, ◌++◌, length, map, Some, None, Option, refl, ap, sym, ◌∙◌, arith, nat_lt}
 use Rattle.std.specs.List.{list_any}
 use Rattle.std.specs.Option.{option_or, option_map}
 use Rattle.std.proofs.lemmas.Bool.Decides.{nat_tests}
@@ -10,26 +10,14 @@ use Rattle.mcs48_asm.specs.Values.{Value, Number, Named, Low}
 use Rattle.mcs48_asm.specs.Statements.{Statement, Nothing, Instruction, Origin, Data, Equate, Line, line_of}
 use Rattle.mcs48_asm.specs.Places.{Placed, placed, is_filled, count_of, start_of}
 use Rattle.mcs48_asm.specs.Names.{Meanings, labelled, equated, definitions, value_named}
-use Rattle.mcs48_asm.specs.Faults.{arguments, is_past, is_too_large, has_wrong_number, has_labelled_equate, is_refused, has_unknown_name, is_defined_again, is_off_page, is_past_end, is_filled_again}
+use Rattle.mcs48_asm.specs.Faults.{arguments, is_past, is_too_large, has_wrong_number, has_labelled_equate}
 use Rattle.mcs48_asm.specs.Assembly.{fault_behind, first_fault, outcome_of, image_unless, image_of, answer_of}
 use Rattle.mcs48_asm.specs.declared.flaw.Flaw.{Flaw}
-use Rattle.mcs48_asm.specs.declared.flaw.Flaw.TheVariants.{Misfit, UnknownName, NameTaken, OffPage, PastEnd, PlaceTaken}
 use Rattle.mcs48_asm.specs.Flaws.{number_of}
 use Rattle.mcs48_asm.specs.Capped.{capped, value_capped, statement_capped, line_capped, kept_places}
-use Rattle.mcs48_asm.specs.Reading.Views.{kept_line}
+use Rattle.mcs48_asm.specs.Kept.{kept_line}
 use Rattle.mcs48_asm.proofs.Capped.{at_capped, names_capped, reserved, small-capped, placed-capped, names-capped, fault-capped}
-use Rattle.mcs48_asm.proofs.Passes.{and_true}
-
--- a line without a fault
-fits : (flaw : Option Flaw) (a b c d e f : Bool) → option_or flaw (cond a (Some Misfit) (cond b (Some UnknownName) (cond c (Some NameTaken) (cond d (Some OffPage) (cond e (Some PastEnd) (cond f (Some PlaceTaken) None)))))) ≡ None → (a ≡ false) × (e ≡ false)
-fits (Some x) a b c d e f h = absurd (cc)
-fits None true b c d e f h = absurd (cc)
-fits None false true c d e f h = absurd (cc)
-fits None false false true d e f h = absurd (cc)
-fits None false false false true e f h = absurd (cc)
-fits None false false false false true f h = absurd (cc)
-fits None false false false false false true h = absurd (cc)
-fits None false false false false false false h = (refl, refl)
+use Rattle.mcs48_asm.proofs.Passes.{and_true, sound-line}
 
 either : (a b : Bool) → (a || b) ≡ false → (a ≡ false) × (b ≡ false)
 either true b h = absurd (cc)
@@ -88,14 +76,14 @@ near : (names : Meanings) (earlier : List Placed) (place : ℕ) (line : Line) �
 near names earlier place line h none =
     let at : Placed = record { start = start_of place line.statement; line = line } in
     let seen = value_named (definitions earlier) in
-    let sound = fits line.flaw (is_refused names at) (has_unknown_name names at) (is_defined_again seen at) (is_off_page names at) (is_past_end at) (is_filled_again (is_filled earlier) at) none in
-    let numbers = two (list_any (is_too_large names) (arguments line.statement)) (has_wrong_number line.statement) (list_any reserved (labelled at)) (list_any reserved (equated line.statement)) (has_labelled_equate line) sound.0 in
+    let sound = sound-line names seen (is_filled earlier) at none in
+    let numbers = two (list_any (is_too_large names) (arguments line.statement)) (has_wrong_number line.statement) (list_any reserved (labelled at)) (list_any reserved (equated line.statement)) (has_labelled_equate line) sound.numbers in
     let begins = start-near place line.statement h numbers.1 in
     let begun : capped (start_of place line.statement) ≡ start_of place line.statement = small-capped (start_of place line.statement) (omega (arith, begins)) in
     let stated : statement_capped line.statement ≡ line.statement = same-statement names line.statement numbers.0 numbers.1 in
     record {
       same = λ i. record { start = begun i; line = record { flaw = line.flaw; label = line.label; statement = stated i } };
-      behind = counted_end (start_of place line.statement) (count_of line.statement) begins sound.1;
+      behind = counted_end (start_of place line.statement) (count_of line.statement) begins sound.within;
     }
 
 -- the first fault is the same

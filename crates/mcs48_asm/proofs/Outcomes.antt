@@ -6,7 +6,7 @@ use Rattle.mcs48_isa.specs.declared.image.Image.{Image}
 use Rattle.mcs48_asm.specs.declared.fault.AsmFault.{AsmFault}
 use Rattle.mcs48_asm.specs.Names.{Meanings, definitions, value_named}
 use Rattle.mcs48_asm.specs.Capped.{kept_places}
-use Rattle.mcs48_asm.specs.Reading.Views.{kept_line}
+use Rattle.mcs48_asm.specs.Kept.{kept_line}
 use Rattle.mcs48_asm.specs.Assembly.{outcome_of}
 use Rattle.mcs48_asm.specs.Answers.{IsOutcome}
 

@@ -4,7 +4,7 @@ use Rattle.std.specs.List.{list_any}
 use Rattle.mcs48_asm.specs.Names.{Meanings, meaning, taken, bytes_of}
 use Rattle.mcs48_asm.specs.Faults.{arguments, is_above, is_too_large, is_outside}
 use Rattle.mcs48_asm.specs.Statements.{Data}
-use Rattle.mcs48_asm.specs.Reading.Views.{kept_part}
+use Rattle.mcs48_asm.specs.Kept.{kept_part}
 
 pub large-parts : (names : Meanings) (texts : List (List ℕ)) → list_any (is_too_large names) (arguments (Data (map kept_part texts))) ≡ list_any (λ part. is_above names 255 (kept_part part)) texts
 large-parts names [] = refl

@@ -11,7 +11,7 @@ use Rattle.mcs48_asm.specs.declared.flaw.Flaw.{Flaw}
 use Rattle.mcs48_asm.specs.declared.flaw.Flaw.TheVariants.{Misfit, UnknownName, NameTaken, OffPage, PastEnd, PlaceTaken}
 use Rattle.mcs48_asm.specs.Flaws.{number_of}
 use Rattle.mcs48_asm.specs.Capped.{capped, kept_places}
-use Rattle.mcs48_asm.specs.Reading.Views.{kept_line}
+use Rattle.mcs48_asm.specs.Kept.{kept_line}
 use Rattle.mcs48_asm.specs.Statements.{Line}
 use Rattle.mcs48_asm.specs.Places.{Placed, places, covers, is_filled, count_of, start_of}
 use Rattle.mcs48_asm.specs.Faults.{fault_of, is_past_end, is_filled_again, is_refused, has_unknown_name, is_defined_again, is_off_page}
@@ -36,9 +36,7 @@ fault-alike : (names seen other : Meanings) (f g : ℕ → Bool) (at : Placed) �
     → fault_of names seen f at ≡ fault_of names other g at
 fault-alike names seen other f g at s h =
     let e : seen ≡ other = λ i q. s q i in
-    ap (λ m. fault_of names m f at) e ∙ ap (λ b. option_or at.line.flaw
-    (cond (is_refused names at) (Some Misfit) (cond (has_unknown_name names at) (Some UnknownName) (cond (is_defined_again other at) (Some NameTaken) (cond (is_off_page names at) (Some OffPage) (cond (is_past_end at) (Some PastEnd)
-    (cond b (Some PlaceTaken) None))))))) (filled_again-alike f g at h)
+    ap (λ m. fault_of names m f at) e ∙ cc (filled_again-alike f g at h)
 
 -- what the pass finds is the fault of the line behind these lines
 pub fault-behind : (names : Meanings) (all rest : List Placed) (seen : Meanings) (filled : List Bool) (bytes : List ℕ) (number : ℕ) (earlier : List Placed) (at : Placed)
@@ -46,20 +44,25 @@ pub fault-behind : (names : Meanings) (all rest : List Placed) (seen : Meanings)
 fault-behind names all rest seen filled bytes number earlier at s =
     fault-alike names seen (value_named (definitions earlier)) (λ place. slice_index_or filled place false) (is_filled earlier) at s.names_seen s.marks
 
-last_two : (flaw : Option Flaw) (a b c d e f : Bool) → option_or flaw (cond a (Some Misfit) (cond b (Some UnknownName) (cond c (Some NameTaken) (cond d (Some OffPage) (cond e (Some PastEnd) (cond f (Some PlaceTaken) None)))))) ≡ None → (e ≡ false) × (f ≡ false)
-last_two (Some x) a b c d e f h = absurd (cc)
-last_two None true b c d e f h = absurd (cc)
-last_two None false true c d e f h = absurd (cc)
-last_two None false false true d e f h = absurd (cc)
-last_two None false false false true e f h = absurd (cc)
-last_two None false false false false true f h = absurd (cc)
-last_two None false false false false false true h = absurd (cc)
-last_two None false false false false false false h = (refl, refl)
+-- a line without a fault has none of the faults by number, place and overlap
+pub record IsSound (refused past again : Bool) : Type 0 where
+  pub numbers : refused ≡ false
+  pub within : past ≡ false
+  pub apart : again ≡ false
 
--- a line without a fault has no byte past the end, and none at a place that is filled
-pub sound-line : (names seen : Meanings) (f : ℕ → Bool) (at : Placed) → fault_of names seen f at ≡ None → (is_past_end at ≡ false) × (is_filled_again f at ≡ false)
+sound : (flaw : Option Flaw) (a b c d e f : Bool) → option_or flaw (cond a (Some Misfit) (cond b (Some UnknownName) (cond c (Some NameTaken) (cond d (Some OffPage) (cond e (Some PastEnd) (cond f (Some PlaceTaken) None)))))) ≡ None → IsSound a e f
+sound (Some x) a b c d e f h = absurd (cc)
+sound None true b c d e f h = absurd (cc)
+sound None false true c d e f h = absurd (cc)
+sound None false false true d e f h = absurd (cc)
+sound None false false false true e f h = absurd (cc)
+sound None false false false false true f h = absurd (cc)
+sound None false false false false false true h = absurd (cc)
+sound None false false false false false false h = record { numbers = refl; within = refl; apart = refl }
+
+pub sound-line : (names seen : Meanings) (f : ℕ → Bool) (at : Placed) → fault_of names seen f at ≡ None → IsSound (is_refused names at) (is_past_end at) (is_filled_again f at)
 sound-line names seen f at h =
-    last_two at.line.flaw (is_refused names at) (has_unknown_name names at) (is_defined_again seen at) (is_off_page names at) (is_past_end at) (is_filled_again f at) h
+    sound at.line.flaw (is_refused names at) (has_unknown_name names at) (is_defined_again seen at) (is_off_page names at) (is_past_end at) (is_filled_again f at) h
 
 not_true : (b : Bool) → (b ≡ true → ⊥) → b ≡ false
 not_true true h = absurd (h refl)
@@ -98,14 +101,14 @@ pub next : (names : Meanings) (all : List Placed) (at : Placed) (rest : List Pla
     → ((k : ℕ) → slice_index_or filled' k false ≡ (covers at k || slice_index_or filled k false))
     → Stands names all rest seen' filled' bytes' (number + 1) (earlier ++ at ∷ [])
 next names all at rest seen seen' filled filled' bytes bytes' number earlier s none named written marked =
-    let sound = sound-line names seen (λ place. slice_index_or filled place false) at none in
+    let line = sound-line names seen (λ place. slice_index_or filled place false) at none in
     record {
       whole = s.whole ∙ sym (append_assoc earlier (at ∷ []) rest);
       count = length-append earlier (at ∷ []) ∙ ap (λ n. n + 1) s.count;
       names_seen = λ q. named q ∙ ap (λ o. option_or o (value_named (defined at) q)) (s.names_seen q) ∙ sym (names-push earlier at q);
       marks = λ k l. marked k ∙ ap (λ b. covers at k || b) (s.marks k l) ∙ or_swap (covers at k) (is_filled earlier k) ∙ sym (is_filled-push earlier at k);
       image = λ k l. written k ∙ byte-cases (covers at k) names earlier at k (slice_index bytes k) refl
-          (λ t. sym (s.marks k l) ∙ free_place (λ place. slice_index_or filled place false) at k sound.1 l t) (s.image k l);
+          (λ t. sym (s.marks k l) ∙ free_place (λ place. slice_index_or filled place false) at k line.apart l t) (s.image k l);
       faults = s.faults ∙ ap (λ o. option_or (option_map (λ flaw. (length earlier + 1, number_of flaw)) o) (first_fault names (earlier ++ at ∷ []) rest))
           (sym (fault-behind names all (at ∷ rest) seen filled bytes number earlier at s) ∙ none);
     }

@@ -5,7 +5,7 @@ use Rattle.std.specs.Char.{to_ascii_uppercase}
 use Rattle.std.proofs.lemmas.Bool.{and_parts, and_from}
 use Rattle.std.proofs.lemmas.Bool.Decides.{nat_tests}
 use Rattle.std.proofs.lemmas.List.Splits.{slice_split-cons_no, slice_split-cons_yes}
-use Rattle.mcs48_asm.specs.Characters.{is_word_character, is_blank, is_comma, is_colon, is_semicolon, is_mark, is_allowed}
+use Rattle.mcs48_asm.specs.Characters.{is_word_character, is_comma, is_colon, is_semicolon, is_mark, is_allowed}
 
 -- what the lines of a listing are made of
 abbrev pub is_plain : ℕ → Bool
@@ -13,10 +13,6 @@ is_plain c = is_word_character c || c == 32 || is_comma c || is_mark c
 
 abbrev pub IsPlain : List ℕ → Type 0
 IsPlain text = list_all is_plain text ≡ true
-
--- an operand: no blank and no comma
-abbrev pub is_unbroken : ℕ → Bool
-is_unbroken c = is_word_character c || is_mark c
 
 -- what passes one test passes a weaker one
 pub all_weaker : (p q : ℕ → Bool) → ((c : ℕ) → p c ≡ true → q c ≡ true) → (text : List ℕ) → list_all p text ≡ true → list_all q text ≡ true
@@ -66,14 +62,5 @@ plain-newline c h = grind (arith, nat_tests)
 pub plain-return : (c : ℕ) → is_plain c ≡ true → (c == 13) ≡ false
 plain-return c h = grind (arith, nat_tests)
 
-pub unbroken-plain : (c : ℕ) → is_unbroken c ≡ true → is_plain c ≡ true
-unbroken-plain c h = grind (arith, nat_tests)
-
-pub unbroken-comma : (c : ℕ) → is_unbroken c ≡ true → is_comma c ≡ false
-unbroken-comma c h = grind (arith, nat_tests)
-
-pub unbroken-blank : (c : ℕ) → is_unbroken c ≡ true → is_blank c ≡ false
-unbroken-blank c h = grind (arith, nat_tests)
-
-pub word-unbroken : (c : ℕ) → is_word_character c ≡ true → is_unbroken c ≡ true
-word-unbroken c h = grind (arith, nat_tests)
+pub word-plain : (c : ℕ) → is_word_character c ≡ true → is_plain c ≡ true
+word-plain c h = grind (arith, nat_tests)

@@ -11,9 +11,6 @@ any_range-step f n place h =
     let e : n - place ≡ suc (n - (place + 1)) = omega arith in
     ap (λ k. list_any f (range_with_len place k)) e
 
-pub any_range-true : (f : ℕ → Bool) (n place : ℕ) → place < n → f place ≡ true → list_any f (range_with_len place (n - place)) ≡ true
-any_range-true f n place h t = any_range-step f n place h ∙ ap (λ b. b || list_any f (range_with_len (place + 1) (n - (place + 1)))) t
-
 pub any_range-false : (f : ℕ → Bool) (n place : ℕ) → place < n → f place ≡ false → list_any f (range_with_len place (n - place)) ≡ list_any f (range_with_len (place + 1) (n - (place + 1)))
 any_range-false f n place h t = any_range-step f n place h ∙ ap (λ b. b || list_any f (range_with_len (place + 1) (n - (place + 1)))) t
 

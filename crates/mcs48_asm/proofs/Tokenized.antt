@@ -79,9 +79,6 @@ is_between c = not (is_word_character c)
 abbrev is_word : List ℕ → Bool
 is_word word = nat_lt 0 (length word)
 
-pub words-skip : (c : ℕ) (cs : List ℕ) → is_word_character c ≡ false → words_of (c ∷ cs) ≡ words_of cs
-words-skip c cs h = ap (filter is_word) (slice_split-cons_yes is_between c cs (ap not h))
-
 -- the parts behind the first of a text that doesn't go on with a letter
 abbrev parts_behind : List ℕ → List (List ℕ)
 parts_behind [] = []

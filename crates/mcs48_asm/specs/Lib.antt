@@ -11,4 +11,4 @@ pub mod Assembly
 pub mod Answers
 pub mod Examples
 pub mod Capped
-pub mod Reading
+pub mod Kept

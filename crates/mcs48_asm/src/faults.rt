@@ -6,7 +6,7 @@ ghost use Rattle.mcs48_asm.specs.Characters.{is_comma};
 ghost use Rattle.mcs48_asm.specs.Faults.{is_above, is_past, is_too_large, arguments, is_outside, has_wrong_number, is_equate, has_labelled_equate, has_unknown_name, is_refused, is_defined_again, is_off_page, is_past_end, is_filled_again, fault_of};
 ghost use Rattle.mcs48_asm.specs.Names.{meaning, labelled, equated};
 ghost use Rattle.mcs48_asm.specs.Rows.{is_reserved};
-ghost use Rattle.mcs48_asm.specs.Reading.Views.{kept_value, kept_part, value_seen, argument_seen, statement_seen, line_seen};
+ghost use Rattle.mcs48_asm.specs.Kept.{kept_value, kept_part, value_seen, argument_seen, statement_seen, line_seen};
 
 use crate::argument::{Argument, Role, Value};
 use crate::flaw::Flaw;

@@ -4,7 +4,7 @@ ghost use Rattle.std.specs.Prelude.{◌≡◌, ◌-◌, ◌||◌, ℕ, false, le
 ghost use Rattle.mcs48_asm.specs.Faults.{is_past_end};
 ghost use Rattle.mcs48_asm.specs.Names.{bytes_of};
 ghost use Rattle.mcs48_asm.specs.Places.{covers};
-ghost use Rattle.mcs48_asm.specs.Reading.Views.{kept_value, line_seen};
+ghost use Rattle.mcs48_asm.specs.Kept.{kept_value, line_seen};
 
 use crate::line::Line;
 use crate::meaning::bytes_of;

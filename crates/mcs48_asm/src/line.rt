@@ -7,7 +7,7 @@ ghost use Rattle.mcs48_asm.specs.Characters.{is_allowed, is_colon};
 ghost use Rattle.mcs48_asm.specs.Tokens.{words_of};
 ghost use Rattle.mcs48_asm.specs.Statements.{statement_of, flawed, line_with, line_of_parts, is_known_word, is_spelled};
 ghost use Rattle.mcs48_asm.specs.Capped.{line_capped};
-ghost use Rattle.mcs48_asm.specs.Reading.Views.{line_seen, kept_line};
+ghost use Rattle.mcs48_asm.specs.Kept.{line_seen, kept_line};
 
 use crate::characters::{is_allowed, is_word_character};
 use crate::flaw::Flaw;

@@ -4,7 +4,7 @@ ghost use Rattle.std.specs.Prelude.{◌≡◌, ◌%◌, IfOk, map};
 ghost use Rattle.std.specs.List.{slice_split};
 ghost use Rattle.mcs48_asm.specs.Characters.{is_comma};
 ghost use Rattle.mcs48_asm.specs.Names.{meaning, taken, with_value, bytes_of};
-ghost use Rattle.mcs48_asm.specs.Reading.Views.{kept_value, kept_part, value_seen, statement_seen};
+ghost use Rattle.mcs48_asm.specs.Kept.{kept_value, kept_part, value_seen, statement_seen};
 
 use crate::argument::{Role, Value};
 use crate::names::{Names, value_named};

@@ -6,9 +6,8 @@ ghost use Rattle.std.specs.Str.{bytes_eq};
 ghost use Rattle.std.specs.Str.Lines.{lines};
 ghost use Rattle.mcs48_asm.specs.Names.{value_named, defined, equated, definitions};
 ghost use Rattle.mcs48_asm.specs.Capped.{kept_places};
-ghost use Rattle.mcs48_asm.specs.Reading.Views.{kept_line};
+ghost use Rattle.mcs48_asm.specs.Kept.{kept_line, kept_value, line_seen};
 ghost use Rattle.mcs48_asm.specs.Rows.{is_reserved};
-ghost use Rattle.mcs48_asm.specs.Reading.Views.{kept_value, line_seen};
 
 use crate::line::{Line, line_of};
 use crate::operands::is_reserved;

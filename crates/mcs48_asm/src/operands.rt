@@ -9,7 +9,7 @@ ghost use Rattle.mcs48_asm.specs.Rows.{instructions, is_instruction, reserved, i
 ghost use Rattle.mcs48_asm.specs.Rows.{numbered, register, pointer, expander, immediate, read, read_all};
 ghost use Rattle.mcs48_asm.specs.Tokens.{tokens_of};
 ghost use Rattle.mcs48_asm.specs.Capped.{value_capped, reading_capped};
-ghost use Rattle.mcs48_asm.specs.Reading.Views.{value_seen, reading_seen, spelled, operand_seen, operands_seen, form_seen};
+ghost use Rattle.mcs48_asm.specs.Kept.{value_seen, reading_seen, spelled, operand_seen, operands_seen, form_seen};
 
 use crate::argument::{Argument, Reading, Role, Value};
 use crate::characters::is_blank;

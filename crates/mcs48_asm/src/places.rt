@@ -5,7 +5,7 @@ ghost use Rattle.std.specs.List.{slice_split};
 ghost use Rattle.mcs48_asm.specs.Characters.{is_comma};
 ghost use Rattle.mcs48_asm.specs.Capped.{capped};
 ghost use Rattle.mcs48_asm.specs.Places.{count_of, start_of};
-ghost use Rattle.mcs48_asm.specs.Reading.Views.{statement_seen};
+ghost use Rattle.mcs48_asm.specs.Kept.{statement_seen};
 
 use crate::statement::Statement;
 

@@ -8,7 +8,7 @@ ghost use Rattle.mcs48_asm.specs.Tokens.{tokens_of, parts_of};
 ghost use Rattle.mcs48_asm.specs.Values.{value_of};
 ghost use Rattle.mcs48_asm.specs.Statements.{Data, values_of, equate_of, origin_of, data_of, instruction_with, instruction_in, first_fit, statement_of};
 ghost use Rattle.mcs48_asm.specs.Capped.{statement_capped, found_capped};
-ghost use Rattle.mcs48_asm.specs.Reading.Views.{reading_seen, statement_seen, found_seen, form_seen, kept_fit};
+ghost use Rattle.mcs48_asm.specs.Kept.{reading_seen, statement_seen, found_seen, form_seen, kept_fit};
 
 use crate::argument::{Argument, Reading};
 use crate::flaw::Flaw;

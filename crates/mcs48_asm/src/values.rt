@@ -6,7 +6,7 @@ ghost use Rattle.std.specs.Option.{option_map};
 ghost use Rattle.mcs48_asm.specs.Tokens.{tokens_of, alone};
 ghost use Rattle.mcs48_asm.specs.Values.{digit_value, are_digits, written, number_in, number_of, number_or_name, low_of, value_of};
 ghost use Rattle.mcs48_asm.specs.Capped.{capped, value_capped};
-ghost use Rattle.mcs48_asm.specs.Reading.Views.{kept_part, value_seen};
+ghost use Rattle.mcs48_asm.specs.Kept.{kept_part, value_seen};
 
 use crate::argument::Value;
 use crate::words::{is_name, next_token, only_token};

@@ -5,8 +5,7 @@ use Rattle.mcs48_asm.specs.Answers.{IsOutcome}
 use Rattle.mcs48_asm.specs.Assembly.{outcome_of, assembly_of}
 use Rattle.mcs48_asm.specs.Names.{definitions, value_named}
 use Rattle.mcs48_asm.specs.Capped.{kept_places}
-use Rattle.mcs48_asm.specs.Reading.Views.{kept_line}
-use Rattle.mcs48_asm.specs.Reading.Views.{kept_value}
+use Rattle.mcs48_asm.specs.Kept.{kept_line, kept_value}
 use Rattle.mcs48_asm.proofs.Large.{exact-numbers}
 use Rattle.mcs48_asm.proofs.Outcomes.{same_names}
 use Rattle.mcs48_asm.proofs.RoundTrip.{round_trip}

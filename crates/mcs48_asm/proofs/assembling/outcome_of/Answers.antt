@@ -2,8 +2,7 @@ use Rattle.std.proofs.Common.{◌+◌, ◌∙◌, Err, ◌∷◌, ◌++◌, refl
 use Rattle.std.proofs.lemmas.List.{get_or-replicate, length-replicate}
 use Rattle.std.specs.Str.Lines.{lines}
 use Rattle.mcs48_asm.specs.Capped.{kept_places}
-use Rattle.mcs48_asm.specs.Reading.Views.{kept_line}
-use Rattle.mcs48_asm.specs.Reading.Views.{kept_value, line_seen}
+use Rattle.mcs48_asm.specs.Kept.{kept_line, kept_value, line_seen}
 use Rattle.mcs48_asm.proofs.Passes.{Stands, begun, next, faulty, ended, placed-turn}
 use Rattle.mcs48_asm.proofs.assembling.outcome_of.Goals as goal
 

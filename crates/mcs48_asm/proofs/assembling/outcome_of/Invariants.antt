@@ -2,8 +2,7 @@ use Rattle.std.proofs.Common.{◌≡◌, ◌+◌, ◌≤◌, List, map, length}
 use Rattle.std.specs.Str.Lines.{lines}
 use Rattle.mcs48_asm.specs.Places.{Placed}
 use Rattle.mcs48_asm.specs.Capped.{kept_places}
-use Rattle.mcs48_asm.specs.Reading.Views.{kept_line}
-use Rattle.mcs48_asm.specs.Reading.Views.{kept_value}
+use Rattle.mcs48_asm.specs.Kept.{kept_line, kept_value}
 use Rattle.mcs48_asm.proofs.Passes.{Stands}
 use Rattle.mcs48_asm.proofs.assembling.outcome_of.Given as goal
 

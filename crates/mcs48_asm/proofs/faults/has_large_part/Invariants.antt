@@ -2,7 +2,7 @@ use Rattle.std.proofs.Common.{◌≡◌, length}
 use Rattle.std.specs.List.{list_any, slice_split}
 use Rattle.mcs48_asm.specs.Faults.{is_above}
 use Rattle.mcs48_asm.specs.Characters.{is_comma}
-use Rattle.mcs48_asm.specs.Reading.Views.{kept_value, kept_part}
+use Rattle.mcs48_asm.specs.Kept.{kept_value, kept_part}
 use Rattle.mcs48_asm.proofs.faults.has_large_part.Given as goal
 
 abbrev pub invariant-loop-part : goal.invariant-loop-part

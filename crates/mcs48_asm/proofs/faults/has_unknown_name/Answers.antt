@@ -1,7 +1,7 @@
 use Rattle.std.proofs.Common.{sym, ◌∙◌}
 use Rattle.std.specs.List.{slice_split}
 use Rattle.mcs48_asm.specs.Characters.{is_comma}
-use Rattle.mcs48_asm.specs.Reading.Views.{kept_value}
+use Rattle.mcs48_asm.specs.Kept.{kept_value}
 use Rattle.mcs48_asm.proofs.Parts.{unknown-parts}
 use Rattle.mcs48_asm.proofs.faults.has_unknown_name.Goals as goal
 

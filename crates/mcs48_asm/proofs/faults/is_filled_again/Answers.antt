@@ -1,7 +1,7 @@
 use Rattle.std.proofs.Common.{◌≡◌, ◌+◌, ◌&&◌, sym, arith, false, nat_le, nat_lt, slice_index_or, ap, ◌∙◌}
 use Rattle.std.specs.List.{list_any}
 use Rattle.mcs48_asm.specs.Places.{places, count_of}
-use Rattle.mcs48_asm.specs.Reading.Views.{statement_seen}
+use Rattle.mcs48_asm.specs.Kept.{statement_seen}
 use Rattle.mcs48_asm.proofs.Ranges.{any_places, no_places}
 use Rattle.mcs48_asm.proofs.faults.is_filled_again.Goals as goal
 

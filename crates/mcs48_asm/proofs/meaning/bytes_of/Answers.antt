@@ -1,6 +1,6 @@
 use Rattle.std.specs.List.{slice_split}
 use Rattle.mcs48_asm.specs.Characters.{is_comma}
-use Rattle.mcs48_asm.specs.Reading.Views.{kept_value}
+use Rattle.mcs48_asm.specs.Kept.{kept_value}
 use Rattle.mcs48_asm.proofs.Parts.{map-parts}
 use Rattle.mcs48_asm.proofs.meaning.bytes_of.Goals as goal
 

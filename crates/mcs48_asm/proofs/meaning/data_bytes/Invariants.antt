@@ -2,7 +2,7 @@ use Rattle.std.proofs.Common.{◌≡◌, ◌%◌, ◌++◌, map, length}
 use Rattle.mcs48_asm.specs.Names.{taken}
 use Rattle.std.specs.List.{slice_split}
 use Rattle.mcs48_asm.specs.Characters.{is_comma}
-use Rattle.mcs48_asm.specs.Reading.Views.{kept_value, kept_part}
+use Rattle.mcs48_asm.specs.Kept.{kept_value, kept_part}
 use Rattle.mcs48_asm.proofs.meaning.data_bytes.Given as goal
 
 -- the bytes so far, and those of the parts that are left

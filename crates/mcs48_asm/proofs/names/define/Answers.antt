@@ -1,6 +1,6 @@
 use Rattle.std.proofs.Common.{◌≡◌, true, None, is_some, ap, ◌∙◌}
 use Rattle.std.specs.Str.{bytes_eq}
-use Rattle.mcs48_asm.specs.Reading.Views.{kept_value}
+use Rattle.mcs48_asm.specs.Kept.{kept_value}
 use Rattle.mcs48_asm.proofs.Keeps.{lookup-kept, kept_value-insert, present, same_bytes, none_kept, some_kept}
 use Rattle.mcs48_asm.proofs.names.define.Goals as goal
 

@@ -3,8 +3,7 @@ use Rattle.std.specs.Option.{option_or}
 use Rattle.std.specs.Str.Lines.{lines}
 use Rattle.mcs48_asm.specs.Names.{value_named, definitions}
 use Rattle.mcs48_asm.specs.Capped.{kept_places}
-use Rattle.mcs48_asm.specs.Reading.Views.{kept_line}
-use Rattle.mcs48_asm.specs.Reading.Views.{kept_value}
+use Rattle.mcs48_asm.specs.Kept.{kept_line, kept_value}
 use Rattle.mcs48_asm.proofs.names.names_in.Given as goal
 
 -- the names so far, and those that the rest of the text defines

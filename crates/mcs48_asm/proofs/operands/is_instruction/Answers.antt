@@ -2,7 +2,7 @@ use Rattle.std.proofs.Common.{◌∙◌, ap}
 use Rattle.std.specs.List.{list_any}
 use Rattle.std.specs.Str.{bytes_eq}
 use Rattle.mcs48_asm.specs.Rows.{Form, is_instruction}
-use Rattle.mcs48_asm.specs.Reading.Views.{form_seen}
+use Rattle.mcs48_asm.specs.Kept.{form_seen}
 use Rattle.mcs48_asm.proofs.Tables.{list_any-map}
 use Rattle.mcs48_asm.proofs.operands.is_instruction.Goals as goal
 

@@ -1,7 +1,7 @@
 use Rattle.std.proofs.Common.{◌∙◌, ap}
 use Rattle.std.specs.List.{list_any}
 use Rattle.std.specs.Str.{bytes_eq}
-use Rattle.mcs48_asm.specs.Reading.Views.{spelled}
+use Rattle.mcs48_asm.specs.Kept.{spelled}
 use Rattle.mcs48_asm.proofs.Tables.{list_any-map}
 use Rattle.mcs48_asm.proofs.operands.is_listed.Goals as goal
 

@@ -3,7 +3,7 @@ use Rattle.std.specs.Option.{option_map}
 use Rattle.mcs48_asm.specs.Capped.{reading_capped}
 use Rattle.mcs48_asm.specs.Tokens.{tokens_of}
 use Rattle.mcs48_asm.specs.Rows.{both, read}
-use Rattle.mcs48_asm.specs.Reading.Views.{reading_seen, operand_seen}
+use Rattle.mcs48_asm.specs.Kept.{reading_seen, operand_seen}
 use Rattle.mcs48_asm.proofs.Commutes.{both-capped}
 use Rattle.mcs48_asm.proofs.operands.read_both.Goals as goal
 

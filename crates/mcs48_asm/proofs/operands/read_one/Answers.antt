@@ -1,7 +1,7 @@
 use Rattle.std.proofs.Common.{ap, ◌∙◌}
 use Rattle.std.specs.Option.{option_map}
 use Rattle.mcs48_asm.specs.Capped.{reading_capped}
-use Rattle.mcs48_asm.specs.Reading.Views.{operand_seen}
+use Rattle.mcs48_asm.specs.Kept.{operand_seen}
 use Rattle.mcs48_asm.proofs.OperandParts.{read_one-one, read_one-more}
 use Rattle.mcs48_asm.proofs.operands.read_one.Goals as goal
 

@@ -4,7 +4,7 @@ use Rattle.std.specs.Str.{bytes_eq}
 use Rattle.mcs48_asm.specs.Tokens.{tokens_of}
 use Rattle.mcs48_asm.specs.Rows.{read_all}
 use Rattle.mcs48_asm.specs.Statements.{instruction_with}
-use Rattle.mcs48_asm.specs.Reading.Views.{form_seen}
+use Rattle.mcs48_asm.specs.Kept.{form_seen}
 use Rattle.mcs48_asm.proofs.Commutes.{instruction-capped}
 use Rattle.mcs48_asm.proofs.statement.instruction_in.Goals as goal
 

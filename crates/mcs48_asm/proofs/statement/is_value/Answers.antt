@@ -2,7 +2,7 @@ use Rattle.std.proofs.Common.{◌≡◌, ap, ◌∙◌, sym, is_some, rules}
 use Rattle.mcs48_asm.specs.Capped.{value_capped}
 use Rattle.mcs48_asm.specs.Tokens.{tokens_of}
 use Rattle.mcs48_asm.specs.Values.{value_of}
-use Rattle.mcs48_asm.specs.Reading.Views.{value_seen}
+use Rattle.mcs48_asm.specs.Kept.{value_seen}
 use Rattle.mcs48_asm.proofs.Commutes.{is_some-map}
 use Rattle.mcs48_asm.proofs.statement.is_value.Goals as goal
 

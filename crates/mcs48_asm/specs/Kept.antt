@@ -1,4 +1,4 @@
--- What the program keeps of a line, with its texts as lists.
+-- What the program keeps of a line, with its texts as lists. No definition of what a source gives cites it.
 use Rattle.std.specs.Prelude.{ℕ, List, [], ◌∷◌, Ok, Err, Some, None, map, unwrap_or, if◌then◌else◌}
 use Rattle.std.specs.Borrow.{Bor}
 use Rattle.std.specs.List.{before_first, slice_split}
