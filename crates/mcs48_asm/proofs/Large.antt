@@ -2,6 +2,7 @@
 use Rattle.std.proofs.Common.{◌≡◌, ℕ, zero, suc, ◌+◌, ◌≤◌, ◌&&◌, ◌||◌, Bool, true, false, List, [], ◌∷◌, ◌++◌, length, map, Some, None, Option, refl, ap, sym, ◌∙◌, arith, nat_lt}
 use Rattle.std.specs.List.{list_any}
 use Rattle.std.specs.Option.{option_or, option_map}
+use Rattle.std.proofs.lemmas.Bool.{or_parts}
 use Rattle.std.proofs.lemmas.Bool.Decides.{nat_tests}
 use Rattle.std.proofs.lemmas.List.{map-append, length-map}
 use Rattle.mcs48_asm.specs.declared.argument.Role.{Role}
@@ -18,10 +19,6 @@ use Rattle.mcs48_asm.specs.Capped.{capped, value_capped, statement_capped, line_
 use Rattle.mcs48_asm.specs.Kept.{kept_line}
 use Rattle.mcs48_asm.proofs.Capped.{at_capped, names_capped, reserved, small-capped, placed-capped, names-capped, fault-capped}
 use Rattle.mcs48_asm.proofs.Passes.{and_true, sound-line}
-
-either : (a b : Bool) → (a || b) ≡ false → (a ≡ false) × (b ≡ false)
-either true b h = absurd (cc)
-either false b h = (refl, h)
 
 two : (a b c d e : Bool) → (a || b || c || d || e) ≡ false → (a ≡ false) × (b ≡ false)
 two true b c d e h = absurd (cc)
@@ -54,14 +51,14 @@ same-value names role (Low q) h = refl
 same-data : (names : Meanings) (vs : List Value) → list_any (is_too_large names) (arguments (Data vs)) ≡ false → map value_capped vs ≡ vs
 same-data names [] h = refl
 same-data names (v ∷ vs) h =
-    let parts = either (is_past names Byte v) (list_any (is_too_large names) (arguments (Data vs))) h in
+    let parts = or_parts (is_past names Byte v) (list_any (is_too_large names) (arguments (Data vs))) h in
     rw (same-value names Byte v parts.0) (ap (λ more. v ∷ more) (same-data names vs parts.1))
 
 same-statement : (names : Meanings) (s : Statement) → list_any (is_too_large names) (arguments s) ≡ false → has_wrong_number s ≡ false → statement_capped s ≡ s
 same-statement names Nothing h w = refl
 same-statement names (Instruction opcode None) h w = refl
 same-statement names (Instruction opcode (Some a)) h w =
-    ap (λ v. Instruction opcode (Some (record { role = a.role; value = v }))) (same-value names a.role a.value (either (is_past names a.role a.value) false h).0)
+    ap (λ v. Instruction opcode (Some (record { role = a.role; value = v }))) (same-value names a.role a.value (or_parts (is_past names a.role a.value) false h).0)
 same-statement names (Origin n) h w = ap Origin (small-capped n (let l : n ≤ 2048 = not_past 2048 n w in omega arith))
 same-statement names (Data vs) h w = ap Data (same-data names vs h)
 same-statement names (Equate q n) h w = ap (Equate q) (small-capped n (let l : n ≤ 65535 = not_past 65535 n w in omega arith))

@@ -2,6 +2,7 @@
 use Rattle.std.proofs.Common.{◌≡◌, ℕ, ◌+◌, ◌-◌, ◌<◌, ◌&&◌, ◌||◌, Bool, true, false, cond, List, [], ◌∷◌, ◌++◌, length, map, Some, None, Ok, Err, Option, refl, ap, sym, ◌∙◌, slice_index, slice_index_or, append-nil, append_assoc, zero-add}
 use Rattle.std.specs.List.{list_any, range_with_len}
 use Rattle.std.specs.Option.{option_or, option_map}
+use Rattle.std.proofs.lemmas.Bool.{false_from_ne_true}
 use Rattle.std.proofs.lemmas.List.FromFn.{fill_by_all, get_or-range_with_len, length-range_with_len}
 use Rattle.std.proofs.lemmas.List.{length-append}
 use Rattle.std.proofs.lemmas.List.Folds.{list_any_at}
@@ -64,14 +65,10 @@ pub sound-line : (names seen : Meanings) (f : ℕ → Bool) (at : Placed) → fa
 sound-line names seen f at h =
     sound at.line.flaw (is_refused names at) (has_unknown_name names at) (is_defined_again seen at) (is_off_page names at) (is_past_end at) (is_filled_again f at) h
 
-not_true : (b : Bool) → (b ≡ true → ⊥) → b ≡ false
-not_true true h = absurd (h refl)
-not_true false h = refl
-
 places-none : (f : ℕ → Bool) (k : ℕ) → list_any f places ≡ false → k < 2048 → f k ≡ false
 unfolding places
 places-none f k h l =
-    not_true (f k) (λ t. let found : list_any f places ≡ true = list_any_at f places k 0 (rw (length-range_with_len 0 2048) l) (ap f (get_or-range_with_len 0 2048 k 0 l ∙ zero-add k) ∙ t) in absurd (cc))
+    false_from_ne_true (f k) (λ t. let found : list_any f places ≡ true = list_any_at f places k 0 (rw (length-range_with_len 0 2048) l) (ap f (get_or-range_with_len 0 2048 k 0 l ∙ zero-add k) ∙ t) in absurd (cc))
 
 pub and_true : (a b : Bool) → (a && b) ≡ false → a ≡ true → b ≡ false
 and_true true b h t = h

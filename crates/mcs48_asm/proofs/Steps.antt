@@ -3,6 +3,7 @@ use Rattle.std.proofs.Common.{◌≡◌, ℕ, ◌-◌, ◌||◌, Bool, true, fal
 use Rattle.std.specs.List.{find}
 use Rattle.std.specs.Option.{option_or, option_map}
 use Rattle.std.specs.Str.{bytes_eq}
+use Rattle.std.proofs.lemmas.Bool.{or_parts}
 use Rattle.std.proofs.lemmas.Grind.{flat_map-append}
 use Rattle.mcs48_asm.specs.Names.{Definition, Meanings, defined, definitions, value_named, bytes_of}
 use Rattle.mcs48_asm.specs.Places.{Placed, covers, is_filled}
@@ -46,14 +47,10 @@ pub byte_at-kept : (names : Meanings) (xs : List Placed) (at : Placed) (place : 
 byte_at-kept names [] at place h = rw h refl
 byte_at-kept names (x ∷ xs) at place h = ap (cond (covers x place) (slice_index (bytes_of names x.line.statement) (place - x.start))) (byte_at-kept names xs at place h)
 
-no_other : (a b : Bool) → (a || b) ≡ false → (a ≡ false) × (b ≡ false)
-no_other true b h = absurd (cc)
-no_other false b h = (refl, h)
-
 -- and a place that is not filled takes the byte of the line
 pub byte_at-new : (names : Meanings) (xs : List Placed) (at : Placed) (place : ℕ) → is_filled xs place ≡ false → covers at place ≡ true
     → byte_at names (xs ++ at ∷ []) place ≡ slice_index (bytes_of names at.line.statement) (place - at.start)
 byte_at-new names [] at place f h = rw h refl
 byte_at-new names (x ∷ xs) at place f h =
-    let none = no_other (covers x place) (is_filled xs place) f in
+    let none = or_parts (covers x place) (is_filled xs place) f in
     rw none.0 (byte_at-new names xs at place none.1 h)
