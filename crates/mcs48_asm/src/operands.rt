@@ -153,7 +153,7 @@ fn expander(token: &[u8]) -> Option<u8>
     }
 }
 
-/// The value behind #.
+/// # and a value.
 fn immediate(text: &[u8]) -> Option<Value<'_>>
     ensures { option_map value_seen result ≡ option_map value_capped (immediate (tokens_of text.now)) }
 {

@@ -60,7 +60,7 @@ fn are_values(text: &[u8]) -> bool
     is_value(rest)
 }
 
-/// A name, EQU and a number, where a text begins with this token.
+/// A name, EQU and a number, from the first token and the text behind it.
 fn equate_of<'a>(name: &'a [u8], rest: &[u8]) -> Result<Statement<'a>, Flaw>
     ensures { found_seen result ≡ found_capped (ok_or (equate_of (name.now ∷ tokens_of rest.now)) Misfit) }
 {
@@ -76,7 +76,7 @@ fn equate_of<'a>(name: &'a [u8], rest: &[u8]) -> Result<Statement<'a>, Flaw>
     }
 }
 
-/// ORG and a number.
+/// ORG and a number, from the first token and the text behind it.
 fn origin_of<'a>(word: &[u8], rest: &[u8]) -> Result<Statement<'a>, Flaw>
     ensures { found_seen result ≡ found_capped (ok_or (origin_of (word.now ∷ tokens_of rest.now)) Misfit) }
 {
@@ -100,7 +100,7 @@ fn data_in(values: &[u8]) -> Result<Statement<'_>, Flaw>
     }
 }
 
-/// DB and values.
+/// DB and values, from the first token and the text behind it.
 fn data_of<'a>(word: &[u8], values: &'a [u8]) -> Result<Statement<'a>, Flaw>
     ensures { found_seen result ≡ found_capped (ok_or (data_of (word.now ∷ tokens_of values.now)) Misfit) }
 {
@@ -140,7 +140,7 @@ fn first_fit<'a>(rows: &[Row], word: &[u8], operands: &'a [u8]) -> Option<Statem
     None
 }
 
-/// An instruction.
+/// An instruction, from the first token and the text behind it.
 fn instruction_of<'a>(word: &[u8], operands: &'a [u8]) -> Result<Statement<'a>, Flaw>
     ensures { found_seen result ≡ found_capped (ok_or (first_fit instructions (word.now ∷ tokens_of operands.now)) Misfit) }
 {
