@@ -13,9 +13,6 @@ read_seam f old zero d = refl
 read_seam f [] (suc i) d = refl
 read_seam f (w ∷ ws) (suc i) d = read_seam f ws i d
 
-or_met_some : (b : Bool) (n number : ℕ) → or_met (Some n) b number ≡ Some n
-or_met_some b n number = refl
-
 -- with one probe more
 met_more : (m : Cpu) (n i : ℕ) (ws : List Watch) (d : Watch) → i < length ws
     → or_met (first_met n m (take i ws)) (meets m (get_or ws i d)) (n + i) ≡ first_met n m (take (suc i) ws)
@@ -32,7 +29,7 @@ met_more m n (suc i) (w ∷ ws) d l =
 -- the probe that is looked at next, as it is seen, is the next one of those before the loop
 pub hit_more : {X : Type 0} (see : X → Watch) (m : Cpu) (f : Watch → Watch) (old now : List X) (i : ℕ) (x : X) (met : Bool) (hit : Option ℕ)
     → i < length now → length now ≡ length old → map see now ≡ map f (take i (map see old)) ++ drop i (map see old) → x ≡ get_or now i x
-    → met ≡ meets m (see x) → hit ≡ first_met 0 m (take i (map see old)) → or_met hit met i ≡ first_met 0 m (take (i + 1) (map see old))
+    → met ≡ meets m (see (get_or now i x)) → hit ≡ first_met 0 m (take i (map see old)) → or_met hit met i ≡ first_met 0 m (take (i + 1) (map see old))
 hit_more see m f old now i x met hit l n inv is looks before =
     let here : see x ≡ get_or (map see old) i (see x) =
     read_map see now i x l is ∙ ap (λ v. get_or v i (see x)) inv ∙ read_seam f (map see old) i (see x) in
@@ -40,7 +37,7 @@ hit_more see m f old now i x met hit l n inv is looks before =
     let plus : i + 1 ≡ suc i = omega arith in
     let from_none : i ≡ 0 + i = omega arith in
     ap (λ o. or_met o met i) before
-    ∙ ap (λ b. or_met (first_met 0 m (take i (map see old))) b i) (looks ∙ ap (meets m) here)
+    ∙ ap (λ b. or_met (first_met 0 m (take i (map see old))) b i) (looks ∙ ap (λ b. meets m (see b)) (sym is) ∙ ap (meets m) here)
     ∙ ap (λ (k : ℕ). or_met (first_met 0 m (take i (map see old))) (meets m (get_or (map see old) i (see x))) k) from_none
     ∙ met_more m 0 i (map see old) (see x) within
     ∙ sym (ap (λ (k : ℕ). first_met 0 m (take k (map see old))) plus)

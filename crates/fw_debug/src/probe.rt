@@ -56,9 +56,11 @@ pub fn look_all(probes: &mut Vec<Box<dyn Probe>>, step: u64, joint: &Joint) -> O
     ensures hit { result ≡ first_met 0 joint.now.mcu (map (λ b. watch b) probes.old.items) }
 {
     let mut hit = None;
-    for i in 0..probes.len() {
-        let met = look_one(&mut probes[i], step, joint);
-        hit = or_met(hit, met, i);
+    let mut number = 0;
+    for probe in probes.iter_mut() {
+        let met = look_one(probe, step, joint);
+        hit = or_met(hit, met, number);
+        number += 1;
     }
     hit
 }

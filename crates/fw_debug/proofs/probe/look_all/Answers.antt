@@ -1,21 +1,26 @@
-use Rattle.std.proofs.Common.{◌∙◌, arith}
-use Rattle.fw_debug.specs.Probes.{looked}
+use Rattle.std.proofs.Common.{◌≡◌, ◌≤◌, ◌<◌, ◌+◌, length, ap, ◌∙◌, arith}
+use Rattle.fw_debug.specs.Probes.{looked, or_met}
 use Rattle.fw_debug.proofs.Hits.{hit_more}
-use Rattle.fw_debug.proofs.Over.{over_more, over_all}
+use Rattle.fw_debug.proofs.Over.{over_more, over_all_of}
 use Rattle.fw_debug.proofs.probe.look_all.Goals as goal
 
-pub loop-i-preserved : goal.loop-i-preserved
-loop-i-preserved g c =
+pub loop-probe-preserved : goal.loop-probe-preserved
+loop-probe-preserved g c =
     let m = c.args.joint.now.mcu in
-    let inv = c.loop-i.invariant in
-    let len = inv.long in
+    let l = c.loop-probe in
+    let inv = c.loop-probe.invariant in
+    let all : length l.probe-items ≡ length c.args.probes.now.items = omega (arith, l.auto.probe-items, c.args.probes.now.ok.0, c.deref_mut-probe-items.ensures.len) in
+    let within : l.probe-index < length l.probe-items = omega (arith, c.loop-probe-test.true, l.auto.probe-items) in
     record {
-      long = len;
-      so_far = over_more _ (looked c.args.step m) c.args.probes.now.items c.loop-i.probes.items c.loop-i.i c.index_mut.result.now _
-          (omega (arith, c.loop-i.probes.ok.0, len)) (omega (arith, c.loop-i.probes.ok.0, c.args.probes.now.ok.0, len)) inv.so_far c.index_mut.ensures.value c.look_one-met.ensures.looked;
-      hit = c.or_met-hit.ensures ∙ hit_more _ m (looked c.args.step m) c.args.probes.now.items c.loop-i.probes.items c.loop-i.i c.index_mut.result.now c.look_one-met.result c.loop-i.hit
-          (omega (arith, c.loop-i.probes.ok.0, len)) (omega (arith, c.loop-i.probes.ok.0, c.args.probes.now.ok.0, len)) inv.so_far c.index_mut.ensures.value c.look_one-met.ensures.hit inv.hit;
+      number = ap (λ n. n + 1) inv.number;
+      so_far = over_more _ (looked c.args.step m) c.args.probes.now.items l.probe-items l.probe-index c.probe-item.result _ within all inv.so_far c.probe-item.is c.look_one-met.ensures.looked;
+      hit = c.or_met-hit.ensures ∙ ap (or_met l.hit c.look_one-met.result) inv.number
+          ∙ hit_more _ m (looked c.args.step m) c.args.probes.now.items l.probe-items l.probe-index c.probe-item.result c.look_one-met.result l.hit within all inv.so_far c.probe-item.is c.look_one-met.ensures.hit inv.hit;
     }
 
 pub returns-clause-looked : goal.returns-clause-looked
-returns-clause-looked g c = over_all _ (looked c.args.step c.args.joint.now.mcu) c.args.probes.now.items c.loop-i.probes.items c.loop-i.i (omega (arith, c.args.probes.now.ok.0)) c.loop-i.invariant.so_far
+returns-clause-looked g c =
+    let l = c.loop-probe in
+    let len : c.args.probes.now.len ≡ length l.probe-items = omega (arith, l.auto.probe-items, c.args.probes.now.ok.0, c.deref_mut-probe-items.ensures.len) in
+    let done : length c.args.probes.now.items ≤ l.probe-index = omega (arith, c.loop-probe-test.false, l.auto.probe-items, c.args.probes.now.ok.0, c.deref_mut-probe-items.ensures.len) in
+    over_all_of _ (looked c.args.step c.args.joint.now.mcu) c.args.probes.now.items l.probe-items _ c.args.probes.now.len l.probe-index len done l.invariant.so_far
