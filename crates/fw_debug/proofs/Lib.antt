@@ -8,4 +8,5 @@ pub mod Making
 pub mod Obeyed
 pub mod Printed
 pub mod Over
+pub mod Right
 pub mod Standing

@@ -1,43 +1,149 @@
 -- The lines of a script in a session, one after another.
-use Rattle.std.proofs.Common.{◌≡◌, ℕ, List, [], ◌∷◌, ◌++◌, Global, ap, sym, subst, ◌∙◌}
+use Rattle.std.proofs.Common.{◌≡◌, ℕ, List, [], ◌∷◌, ◌++◌, length, take, Ok, Err, refl, ap, sym, subst, ◌∙◌}
 use Rattle.std.proofs.lemmas.List.{append_assoc, append-nil}
+use Rattle.std.proofs.Math.Seq.{take-append_seam}
 use Rattle.std.specs.Prelude.{MatchResult}
+use Rattle.std.specs.Result.{IsErrAnd}
 use Rattle.std.specs.Str.Lines.{lines}
 use Rattle.std.specs.declared.result.Result.{Result}
-use Rattle.std.specs.declared.vec.Vec.{Vec}
+use Rattle.first_fault.specs.FirstFault.{and_then}
 use Rattle.joint_feed.specs.Stories.{Story}
 use Rattle.fw_debug.specs.declared.rule.LineFault.{LineFault}
 use Rattle.fw_debug.specs.declared.rule.LineFault.TheVariants.{Memory}
-use Rattle.fw_debug.specs.Obeyed.{behind, lines_told, session_told, told_or}
+use Rattle.fw_debug.specs.declared.rule.Rule.{Rule}
+use Rattle.fw_debug.specs.Lines.{IsLine}
+use Rattle.fw_debug.specs.Obeyed.{IsObeyed, IsObeyedInPart, behind, begun, lines_told}
 use Rattle.fw_debug.specs.Probes.{Watch}
-use Rattle.fw_debug.specs.Sessions.{Debug, Sitting, debug}
+use Rattle.fw_debug.specs.Sessions.{Debug, Sitting}
 use Rattle.fw_debug.specs.Told.{Told, line_told, told}
 
--- a line's text stands behind what was printed
-abbrev pub IsObeyed : Debug → List ℕ → Told → Debug → List ℕ → Type 0
-IsObeyed d text t d' text' = (d' ≡ t.debug) × (text' ≡ text ++ t.text)
+abbrev Outcome : Type 0
+Outcome = Result Told Rule
 
--- the other lines come, with what was printed so far, to what all come to
-pub goes_on : (s s' : Story) (rest : List (List ℕ)) (line : List ℕ) (others : List (List ℕ)) (d d' : Debug) (text text' : List ℕ) (all : Told) → s' ≡ s → rest ≡ line ∷ others → IsObeyed d text (told_or d (line_told s' line d)) d' text' → behind text (lines_told s rest d) ≡ all → behind text' (lines_told s others d') ≡ all
-goes_on s s' rest line others d d' text text' all one first obeyed so_far =
-    let t : Told = told_or d (line_told s line d) in
-    let same : told_or d (line_told s' line d) ≡ t = ap (λ (r : Story). told_or d (line_told r line d)) one in
-    let after : Told = lines_told s others t.debug in
-    let now : d' ≡ t.debug = obeyed.0 ∙ ap (λ (x : Told). x.debug) same in
-    let said : text' ≡ text ++ t.text = obeyed.1 ∙ ap (λ (x : Told). text ++ x.text) same in
-    let before : behind text (lines_told s (line ∷ others) d) ≡ all = ap (λ (r : List (List ℕ)). behind text (lines_told s r d)) (sym first) ∙ so_far in
-    ap (λ (x : Debug). behind text' (lines_told s others x)) now
-    ∙ (ap (λ (x : List ℕ). told after.debug (x ++ after.text)) said
-    ∙ (ap (told after.debug) (append_assoc text t.text after.text) ∙ before))
+abbrev before_all : List ℕ → Outcome → Outcome
+before_all text r = and_then r (λ u. Ok (behind text u))
 
--- behind the last line nothing is left
-pub all_told : (s : Story) (rest : List (List ℕ)) (d : Debug) (text : List ℕ) (all : Told) → rest ≡ [] → behind text (lines_told s rest d) ≡ all → (text ≡ all.text) × (d.probes ≡ all.debug.probes)
-all_told s rest d text all none so_far =
-    let is : told d (text ++ []) ≡ all = ap (λ (r : List (List ℕ)). behind text (lines_told s r d)) (sym none) ∙ so_far in
-    (sym (append-nil text) ∙ ap (λ (t : Told). t.text) is, ap (λ (t : Told). t.debug.probes) is)
+abbrev and_lines : Story → List (List ℕ) → Outcome → Outcome
+and_lines s ys r = and_then r (λ t. before_all t.text (lines_told s ys t.debug))
 
--- a session at its start
-pub begun_so : (s : Story) (sitting : Sitting) (script : List ℕ) (probes left : List Watch) (result : Result (Vec ℕ Global) LineFault) → sitting ≡ record { story = s; steps = 0 } → MatchResult result (λ text. (text.items ≡ (lines_told sitting.story (lines script) (debug sitting probes)).text) × (left ≡ (lines_told sitting.story (lines script) (debug sitting probes)).debug.probes)) (λ fault. fault ≡ Memory)
-    → MatchResult result (λ text. (text.items ≡ (session_told s script probes).text) × (left ≡ (session_told s script probes).debug.probes)) (λ fault. fault ≡ Memory)
-begun_so s sitting script probes left result is h =
-    subst (λ (x : Sitting). MatchResult result (λ text. (text.items ≡ (lines_told x.story (lines script) (debug x probes)).text) × (left ≡ (lines_told x.story (lines script) (debug x probes)).debug.probes)) (λ fault. fault ≡ Memory)) is h
+behind_none : (r : Outcome) → r ≡ before_all [] r
+behind_none (Ok t) = refl
+behind_none (Err rule) = refl
+
+behind_twice : (a b : List ℕ) (r : Outcome) → before_all a (before_all b r) ≡ before_all (a ++ b) r
+behind_twice a b (Ok t) = ap (λ (x : List ℕ). Ok (told t.debug x)) (sym (append_assoc a b t.text))
+behind_twice a b (Err rule) = refl
+
+-- behind a line come its others and then more
+others_both : (s : Story) (ys : List (List ℕ)) (text : List ℕ) (r : Outcome) → before_all text (and_lines s ys r) ≡ and_lines s ys (before_all text r)
+others_both s ys text (Ok t) = behind_twice text t.text (lines_told s ys t.debug)
+others_both s ys text (Err rule) = refl
+
+first_both : (s : Story) (xs ys : List (List ℕ)) (r : Outcome) → ((d : Debug) → lines_told s (xs ++ ys) d ≡ and_lines s ys (lines_told s xs d))
+    → and_lines s (xs ++ ys) r ≡ and_lines s ys (and_lines s xs r)
+first_both s xs ys (Ok t) h = ap (before_all t.text) (h t.debug) ∙ others_both s ys t.text (lines_told s xs t.debug)
+first_both s xs ys (Err rule) h = refl
+
+-- some lines, and then others
+told_both : (s : Story) (xs ys : List (List ℕ)) (d : Debug) → lines_told s (xs ++ ys) d ≡ and_lines s ys (lines_told s xs d)
+told_both s [] ys d = behind_none (lines_told s ys d)
+told_both s (x ∷ xs) ys d = first_both s xs ys (line_told s x d) (told_both s xs ys)
+
+-- the first lines of all are obeyed, and these are left
+pub record AreDone (s : Story) (all : List (List ℕ)) (d : Debug) (rest : List (List ℕ)) (now : Debug) (text : List ℕ) : Type 0 where
+  pub first : List (List ℕ)
+  pub all_so : all ≡ first ++ rest
+  pub told : lines_told s first d ≡ Ok (told now text)
+
+-- none is obeyed yet
+pub none_done : (s : Story) (all : List (List ℕ)) (d : Debug) → AreDone s all d all d []
+none_done s all d = record { first = []; all_so = refl; told = refl }
+
+right_by : (s : Story) (others : List (List ℕ)) (text : List ℕ) (end : Told) (r : Outcome) → before_all text (and_lines s others r) ≡ Ok end → (t : Told) × (r ≡ Ok t)
+right_by s others text end (Ok t) e = (t, refl)
+right_by s others text end (Err rule) e = absurd (cc e)
+
+module _ (s : Story) (all : List (List ℕ)) (d : Debug) (line : List ℕ) (others : List (List ℕ)) (now : Debug) (text : List ℕ) where
+  -- where all lines come to an end, so does the next one
+  pub next_right : (end : Told) → lines_told s all d ≡ Ok end → AreDone s all d (line ∷ others) now text → (t : Told) × (line_told s line now ≡ Ok t)
+  next_right end right done =
+      let e : and_lines s (line ∷ others) (Ok (told now text)) ≡ Ok end =
+      sym (ap (and_lines s (line ∷ others)) done.told) ∙ sym (told_both s done.first (line ∷ others) d) ∙ sym (ap (λ ls. lines_told s ls d) done.all_so) ∙ right in
+      right_by s others text end (line_told s line now) e
+
+  -- with one line more
+  pub one_more : (t : Told) → line_told s line now ≡ Ok t → AreDone s all d (line ∷ others) now text → AreDone s all d others t.debug (text ++ t.text)
+  one_more t is done =
+      let one : lines_told s (line ∷ []) now ≡ Ok (told t.debug (t.text ++ [])) = ap (and_lines s []) is in
+      record {
+        first = done.first ++ (line ∷ []);
+        all_so = done.all_so ∙ sym (append_assoc done.first (line ∷ []) others);
+        told =
+            told_both s done.first (line ∷ []) d ∙ ap (and_lines s (line ∷ [])) done.told ∙ ap (before_all text) one
+            ∙ ap (λ (x : List ℕ). Ok (told t.debug (text ++ x))) (append-nil t.text);
+      }
+
+line_is : (t : Told) (r : Outcome) (now new : Debug) (text text' : List ℕ) → r ≡ Ok t → IsLine r now text (Ok tt) new text' → (t.debug ≡ new) × (text' ≡ text ++ t.text)
+line_is t r now new text text' is h = subst (λ (o : Outcome). IsLine o now text (Ok tt) new text') is h
+
+line_lacks : (t : Told) (r : Outcome) (now new : Debug) (text text' : List ℕ) (fault : LineFault) → r ≡ Ok t → IsLine r now text (Err fault) new text' → (fault ≡ Memory) × (t.debug ≡ new)
+line_lacks t r now new text text' fault is h =
+    let so : IsLine (Ok t) now text (Err fault) new text' = subst (λ (o : Outcome). IsLine o now text (Err fault) new text') is h in (so.0, so.1)
+
+module _ (s s' : Story) (all : List (List ℕ)) (d : Debug) (rest : List (List ℕ)) (line : List ℕ) (others : List (List ℕ)) (now new : Debug) (text text' : List ℕ) (end : Told)
+    (same : s' ≡ s) (right : lines_told s all d ≡ Ok end) (next : rest ≡ line ∷ others) (done : AreDone s all d rest now text) where
+  before : AreDone s all d (line ∷ others) now text
+  before = subst (λ ls. AreDone s all d ls now text) next done
+
+  pub asked : (t : Told) × (line_told s' line now ≡ Ok t)
+  asked = subst (λ (r : Story). (t : Told) × (line_told r line now ≡ Ok t)) (sym same) (next_right s all d line others now text end right before)
+
+  after : AreDone s all d others asked.0.debug (text ++ asked.0.text)
+  after = one_more s all d line others now text asked.0 (subst (λ (r : Story). line_told r line now ≡ Ok asked.0) same asked.1) before
+
+  -- the next line is obeyed
+  pub goes_on : IsLine (line_told s' line now) now text (Ok tt) new text' → AreDone s all d others new text'
+  goes_on h =
+      let is : (asked.0.debug ≡ new) × (text' ≡ text ++ asked.0.text) = line_is asked.0 (line_told s' line now) now new text text' asked.1 h in
+      subst (λ x. AreDone s all d others new x) (sym is.1) (subst (λ (x : Debug). AreDone s all d others x (text ++ asked.0.text)) is.0 after)
+
+  -- or memory was wanting for its text
+  pub stops : (fault : LineFault) → IsLine (line_told s' line now) now text (Err fault) new text' → (fault ≡ Memory) × AreDone s all d others new (text ++ asked.0.text)
+  stops fault h =
+      let is : (fault ≡ Memory) × (asked.0.debug ≡ new) = line_lacks asked.0 (line_told s' line now) now new text text' fault asked.1 h in
+      (is.0, subst (λ (x : Debug). AreDone s all d others x (text ++ asked.0.text)) is.1 after)
+
+module _ (s : Story) (script : List ℕ) (probes : List Watch) (rest : List (List ℕ)) (now : Debug) (text : List ℕ) (done : AreDone s (lines script) (begun probes) rest now text) where
+  -- behind the last line all are obeyed
+  pub all_done : rest ≡ [] → IsObeyed s script probes text now.probes
+  all_done none = record {
+    steps = now.steps;
+    told = ap (λ ls. lines_told s ls (begun probes)) (done.all_so ∙ ap (λ ls. done.first ++ ls) none ∙ append-nil done.first) ∙ done.told;
+  }
+
+  pub part_done : IsObeyedInPart s script probes now.probes
+  part_done = (
+    length done.first,
+    text,
+    record {
+      steps = now.steps;
+      told = ap (λ ls. lines_told s ls (begun probes)) (ap (take (length done.first)) done.all_so ∙ take-append_seam done.first rest) ∙ done.told;
+    },
+  )
+
+-- want of memory is answered
+pub lacks : {X : Type 0} (result : Result X LineFault) (fault : LineFault) (P : X → Type 0) → IsErrAnd result (λ e. e ≡ fault) → fault ≡ Memory → MatchResult result P (λ e. e ≡ Memory)
+lacks (Ok x) fault P is memory = absurd is
+lacks (Err e) fault P is memory = is ∙ memory
+
+-- a session at its start is over this run
+pub said_by : {X : Type 0} (items : X → List ℕ) (result : Result X LineFault) (sitting : Sitting) (s : Story) (script : List ℕ) (probes left : List Watch) → sitting ≡ record { story = s; steps = 0 }
+    → MatchResult result (λ x. IsObeyed sitting.story script probes (items x) left) (λ e. e ≡ Memory) → MatchResult result (λ x. IsObeyed s script probes (items x) left) (λ e. e ≡ Memory)
+said_by items result sitting s script probes left is h = subst (λ (x : Sitting). MatchResult result (λ y. IsObeyed x.story script probes (items y) left) (λ e. e ≡ Memory)) is h
+
+pub part_by : (sitting : Sitting) (s : Story) (script : List ℕ) (probes left : List Watch) → sitting ≡ record { story = s; steps = 0 } → IsObeyedInPart sitting.story script probes left → IsObeyedInPart s script probes left
+part_by sitting s script probes left is h = subst (λ (x : Sitting). IsObeyedInPart x.story script probes left) is h
+
+-- no line is obeyed yet
+pub none_obeyed : (s : Story) (script : List ℕ) (probes : List Watch) → IsObeyedInPart s script probes probes
+none_obeyed s script probes = (0, [], record { steps = 0; told = refl })

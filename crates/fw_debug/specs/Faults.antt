@@ -1,5 +1,5 @@
 -- What is answered where a line has a fault.
-use Rattle.std.specs.Prelude.{◌≡◌, ℕ, Result, Ok, Err}
+use Rattle.std.specs.Prelude.{◌≡◌, ℕ, List, Result, Ok, Err}
 use Rattle.first_fault.specs.FirstFault.{Fault}
 use Rattle.fw_debug.specs.declared.rule.Rule.{Rule}
 use Rattle.fw_debug.specs.declared.rule.Rule.TheVariants.{Form, Probe}
@@ -7,7 +7,7 @@ use Rattle.fw_debug.specs.declared.rule.LineFault.{LineFault}
 use Rattle.fw_debug.specs.declared.rule.LineFault.TheVariants.{Bad, NoProbe}
 use Rattle.fw_debug.specs.declared.rule.SessionFault.{SessionFault}
 use Rattle.fw_debug.specs.declared.rule.SessionFault.TheVariants.{Line}
-use Rattle.fw_debug.specs.Scripts.{number_of}
+use Rattle.fw_debug.specs.Scripts.{number_of, script_of}
 
 -- a rule that is broken at a line of a script
 abbrev pub at_line : ℕ → Rule → SessionFault
@@ -24,3 +24,7 @@ IsVerdict (Ok left) (Ok done) = Unit {0}
 IsVerdict (Ok left) (Err fault) = ⊥
 IsVerdict (Err first) (Ok done) = ⊥
 IsVerdict (Err first) (Err fault) = fault ≡ at_line first.item first.rule
+
+-- a script is right where there are so many probes
+abbrev pub IsRight : ℕ → List ℕ → Type 0
+IsRight probes text = IsVerdict (script_of probes text) (Ok tt)

@@ -7,7 +7,7 @@ ghost use Rattle.fw_debug.specs.Commands.{HasCell};
 ghost use Rattle.fw_debug.specs.Lines.{IsLine};
 ghost use Rattle.fw_debug.specs.Scripts.{missing};
 ghost use Rattle.fw_debug.specs.Sessions.{debug};
-ghost use Rattle.fw_debug.specs.Told.{steps_text, shown, cell_shown, told, obeyed, line_told};
+ghost use Rattle.fw_debug.specs.Told.{steps_text, shown, cell_shown, obeyed, line_told};
 
 use crate::command::Command;
 use crate::listed::{arm_at, drop_at, tally_at};
@@ -59,7 +59,8 @@ impl Session {
         ram_text(alloc, cell, mcu.ram[cell as usize])
     }
 
-    /// Does what a line asks for, of which the probe is there, and gives what it prints.
+    /// Does what a line asks for, of which the probe is there, and gives what it prints. It is done where memory is
+    /// wanting for that text, too.
     fn obey(
         &mut self,
         alloc: Global,
@@ -69,9 +70,11 @@ impl Session {
         requires there { missing (length probes.old.items) command ≡ None }
         requires cell { HasCell command }
         ensures story { self.new.story ≡ self.old.story }
-        ensures told { let before = debug self.old (map (λ b. watch b) probes.old.items) in
+        ensures obeyed { let before = debug self.old (map (λ b. watch b) probes.old.items) in
             let after = debug self.new (map (λ b. watch b) probes.new.items) in
-            IfOk result (λ text. obeyed self.old.story command before ≡ told after text.items) }
+            (obeyed self.old.story command before).debug ≡ after }
+        ensures text { let before = debug self.old (map (λ b. watch b) probes.old.items) in
+            IfOk result (λ text. text.items ≡ (obeyed self.old.story command before).text) }
     {
         match command {
             Command::Step(count) => {
@@ -100,7 +103,7 @@ impl Session {
     }
 
     /// Obeys a line of a script, and puts what it prints behind `out`. A blank line does nothing. A line that breaks
-    /// a rule changes nothing. Where memory is wanting the session is still in a state of its run, and `out` is as it
+    /// a rule changes nothing. Where memory is wanting for what it prints it is obeyed all the same, and `out` is as it
     /// was.
     pub fn line(
         &mut self,

@@ -3,8 +3,7 @@ use Rattle.std.proofs.Common.{◌≡◌, ℕ, Bool, true, false, List, length, S
 use Rattle.std.specs.declared.option.Option.{Option}
 use Rattle.fw_compile.specs.Image.{image_of}
 use Rattle.fw_debug.specs.Probes.{Watch}
-use Rattle.fw_debug.specs.Told.{Told as Session}
-use Rattle.joint_feed.specs.Stories.{story}
+use Rattle.joint_feed.specs.Stories.{Story, story}
 use Rattle.io_edge.specs.Shelf.{Told, Fetched, Fails, Long, Found, after_fetch, fetched}
 use Rattle.kbd48_app.specs.declared.exit.Exit.{Exit}
 use Rattle.kbd48_app.specs.declared.exit.Exit.TheVariants as exits
@@ -12,7 +11,6 @@ use Rattle.kbd48_app.specs.declared.kind.Kind.{Kind}
 use Rattle.kbd48_app.specs.declared.refusal.Refusal.TheVariants.{Read, TooLong, Memory}
 use Rattle.kbd48_app.specs.declared.words.Command.{Command}
 use Rattle.kbd48_app.specs.Answers.{OnFetched, MayAnswerSession, MayEnd, MayEndAs, MayAnswer}
-use Rattle.fw_debug.specs.Obeyed.{session_told}
 use Rattle.kbd48_app.specs.Debugging.{script_fault}
 use Rattle.kbd48_app.specs.Kinds.{limit_of}
 use Rattle.kbd48_app.specs.Plans.{Answer, Plan, Gives, Runs, Debugs, Fetches, plan, plan_of}
@@ -45,16 +43,16 @@ after_fetched kind on exit end answer goes (Found bytes) h = elim h [ inl memory
 weaker : (exit : Exit) (lack : Bool) (answer : Answer) → IsLed exit lack answer → IsLed exit true answer
 weaker exit lack answer h = elim h [ inl same ↦ inl same | inr memory ↦ inr (memory.0, refl) ]
 
-session_led : (first : Option (ℕ × ℕ)) (session : Session) (answer : Answer) (probes left : List Watch) → MayAnswerSession first session answer probes left → IsLed (script_exit first) true answer
-session_led None session answer probes left h = elim h [ inl memory ↦ inr (memory, refl) | inr said ↦ inl (ap exit_said said.0) ]
-session_led (Some fault) session answer probes left h = inl (ap exit_said h.0)
+session_led : (first : Option (ℕ × ℕ)) (s : Story) (script : List ℕ) (answer : Answer) (probes left : List Watch) → MayAnswerSession first s script answer probes left → IsLed (script_exit first) true answer
+session_led None s script answer probes left h = elim h [ inl memory ↦ inr (memory.0, refl) | inr said ↦ inl (ap exit_said said.2) ]
+session_led (Some fault) s script answer probes left h = inl (ap exit_said h.0)
 
 pub ends_so : (p : Plan) (shelf : Told) (answer : Answer) (after : Option Told) (probes left : List Watch) → MayEnd p (Some shelf) answer after probes left → IsLed (leads (length probes) p shelf) (may_lack p shelf) answer
 ends_so (Gives said) shelf answer after probes left h = elim h.0 [ inl memory ↦ inr (memory, refl) | inr same ↦ inl (ap exit_said same) ]
 ends_so (Runs command layout history) shelf answer after probes left h =
     elim h.0 [ inl memory ↦ inr (memory.0, refl) | inr said ↦ inl (ap exit_said said.2) ]
 ends_so (Debugs layout history script) shelf answer after probes left h =
-    session_led (script_fault (length probes) script) (session_told (story (image_of layout) history) script probes) answer probes left h.0
+    session_led (script_fault (length probes) script) (story (image_of layout) history) script answer probes left h.0
 ends_so (Fetches kind name next) shelf answer after probes left h =
     let on : List ℕ → Type 0 = λ bytes. MayEnd (next bytes) (Some (after_fetch shelf)) answer after probes left in
     let exit : List ℕ → Exit = λ bytes. leads (length probes) (next bytes) (after_fetch shelf) in

@@ -1,5 +1,5 @@
 -- Behind files that were found.
-use Rattle.std.proofs.Common.{◌≡◌, ℕ, List, Global, Ok, inr, subst, sym}
+use Rattle.std.proofs.Common.{◌≡◌, ℕ, List, Global, Ok, inr, refl, subst, sym}
 use Rattle.std.specs.Option.{option_map}
 use Rattle.std.specs.declared.option.Option.{Option}
 use Rattle.std.specs.declared.vec.Vec.{Vec}
@@ -11,10 +11,10 @@ use Rattle.layout_reader.specs.Documents.{layout_of_document}
 use Rattle.layout_reader.specs.Layouts.{KeyLayout}
 use Rattle.kbd48_app.specs.declared.kind.Kind.{Kind}
 use Rattle.kbd48_app.specs.declared.kind.Kind.TheVariants as kinds
-use Rattle.kbd48_app.specs.Answers.{MayEnd, MayFetch}
+use Rattle.kbd48_app.specs.Answers.{MayAnswerDebug, MayEnd, MayFetch}
 use Rattle.kbd48_app.specs.Fetching.{IsGiven, MayGive}
 use Rattle.kbd48_app.specs.Kinds.{limit_of}
-use Rattle.kbd48_app.specs.Plans.{Answer, Plan, Fetches, history_plan, keys_next, with_history, with_layout}
+use Rattle.kbd48_app.specs.Plans.{Answer, Plan, Debugs, Fetches, history_plan, keys_next, with_history, with_layout}
 use Rattle.kbd48_app.proofs.Runs.{Following, HistoryOutcome, LayoutOutcome, plan_from}
 
 found_by : (kind : Kind) (name : List ℕ) (next : List ℕ → Plan) (shelf on after : Option Told) (answer : Answer) (probes left : List Watch) (file : Vec ℕ Global) (outcome : Fetched) → MayFetch shelf name (limit_of kind) outcome → IsGiven kind outcome (Ok file) → on ≡ option_map after_fetch shelf → MayEnd (next file.items) on answer after probes left → MayEnd (Fetches kind name next) shelf answer after probes left
@@ -28,7 +28,7 @@ found_by kind name next shelf on after answer probes left file (Found bytes) may
 )
 
 -- behind one file
-found_so : (kind : Kind) (name : List ℕ) (next : List ℕ → Plan) (shelf on after : Option Told) (answer : Answer) (probes left : List Watch) (file : Vec ℕ Global) → MayGive kind name shelf (Ok file) → on ≡ option_map after_fetch shelf → MayEnd (next file.items) on answer after probes left → MayEnd (Fetches kind name next) shelf answer after probes left
+pub found_so : (kind : Kind) (name : List ℕ) (next : List ℕ → Plan) (shelf on after : Option Told) (answer : Answer) (probes left : List Watch) (file : Vec ℕ Global) → MayGive kind name shelf (Ok file) → on ≡ option_map after_fetch shelf → MayEnd (next file.items) on answer after probes left → MayEnd (Fetches kind name next) shelf answer after probes left
 found_so kind name next shelf on after answer probes left file gives fetched h =
     found_by kind name next shelf on after answer probes left file gives.0 gives.1 gives.2 fetched h
 
@@ -39,3 +39,7 @@ both_found first second next shelf on on' after answer probes left file text lay
     (subst (λ (o : LayoutOutcome). MayEnd (with_layout (keys_next next second) o) on answer after probes left) (sym is)
     (found_so kinds.Keys second (λ t. with_history (next layout) (history_of layout t)) on on' after answer probes left text gives' fetched'
     (subst (λ (o : HistoryOutcome). MayEnd (with_history (next layout) o) on' answer after probes left) (sym has) h)))
+
+-- a script is obeyed, and no file is fetched behind it
+pub debugged : (layout : KeyLayout) (history : KeyHistory) (text script : List ℕ) (answer : Answer) (probes left : List Watch) (shelf : Option Told) → text ≡ script → MayAnswerDebug layout history text answer probes left → MayEnd (Debugs layout history script) shelf answer shelf probes left
+debugged layout history text script answer probes left shelf is h = (subst (λ (t : List ℕ). MayAnswerDebug layout history t answer probes left) is h, refl)

@@ -11,9 +11,8 @@ use Rattle.layout_reader.specs.Documents.{layout_of_document}
 use Rattle.layout_reader.specs.Faults.{Refusal as LayoutRefusal}
 use Rattle.layout_reader.specs.Layouts.{KeyLayout}
 use Rattle.fw_debug.specs.Probes.{Watch}
-use Rattle.fw_debug.specs.Told.{Told as Session}
 use Rattle.fw_compile.specs.Image.{image_of}
-use Rattle.joint_feed.specs.Stories.{story}
+use Rattle.joint_feed.specs.Stories.{Story, story}
 use Rattle.io_edge.specs.Shelf.{Told, Fetched, Fails, Long, Found, after_fetch}
 use Rattle.kbd48_app.specs.declared.exit.Exit.{Exit}
 use Rattle.kbd48_app.specs.declared.exit.Exit.TheVariants as exits
@@ -24,7 +23,6 @@ use Rattle.kbd48_app.specs.declared.words.PairCommand.TheVariants.{Certify, Over
 use Rattle.kbd48_app.specs.declared.words.FileCommand.{FileCommand}
 use Rattle.std.specs.Option.{option_map}
 use Rattle.kbd48_app.specs.Answers.{OnFetched, MayAnswerOf, MayAnswerSession, MayAnswer, MayEnd, MayEndAs}
-use Rattle.fw_debug.specs.Obeyed.{session_told}
 use Rattle.kbd48_app.specs.Debugging.{script_fault}
 use Rattle.kbd48_app.specs.declared.kind.Kind.{Kind}
 use Rattle.kbd48_app.specs.Plans.{Answer, Plan, Gives, Runs, Debugs, Fetches, cert_next, cert_said, file_said, keys_next, plan_of, script_next, with_history, with_image, with_layout}
@@ -64,12 +62,12 @@ never_by kind answer end on goes (Found bytes) h is =
       | inr more ↦ goes bytes more is
     ]
 
-never_session : (first : Option (ℕ × ℕ)) (session : Session) (answer : Answer) (probes left : List Watch) → MayAnswerSession first session answer probes left → exit_said answer ≡ exits.Words → ⊥
-never_session (Some fault) session answer probes left h is = let e : exits.Input ≡ exits.Words = sym (ap exit_said h.0) ∙ is in cc
-never_session None session answer probes left h is =
+never_session : (first : Option (ℕ × ℕ)) (s : Story) (script : List ℕ) (answer : Answer) (probes left : List Watch) → MayAnswerSession first s script answer probes left → exit_said answer ≡ exits.Words → ⊥
+never_session (Some fault) s script answer probes left h is = let e : exits.Input ≡ exits.Words = sym (ap exit_said h.0) ∙ is in cc
+never_session None s script answer probes left h is =
     elim h [
-      | inl memory ↦ let e : exits.Memory ≡ exits.Words = sym (ap exit_said memory) ∙ is in cc
-      | inr said ↦ let e : exits.Done ≡ exits.Words = sym (ap exit_said said.0) ∙ is in cc
+      | inl memory ↦ let e : exits.Memory ≡ exits.Words = sym (ap exit_said memory.0) ∙ is in cc
+      | inr said ↦ let e : exits.Done ≡ exits.Words = sym (ap exit_said said.2) ∙ is in cc
     ]
 
 never_ends : (p : Plan) → Never p → (shelf after : Option Told) (answer : Answer) (probes left : List Watch) → MayEnd p shelf answer after probes left → exit_said answer ≡ exits.Words → ⊥
@@ -80,7 +78,7 @@ never_ends (Runs command layout history) never shelf after answer probes left h 
       | inr said ↦ let e : exits.Done ≡ exits.Words = sym (ap exit_said said.2) ∙ is in cc
     ]
 never_ends (Debugs layout history script) never shelf after answer probes left h is =
-    never_session (script_fault (length probes) script) (session_told (story (image_of layout) history) script probes) answer probes left h.0 is
+    never_session (script_fault (length probes) script) (story (image_of layout) history) script answer probes left h.0 is
 never_ends (Fetches kind name next) never shelf after answer probes left h is =
     never_by kind answer ((after ≡ option_map after_fetch shelf) × (left ≡ probes)) (λ bytes. MayEnd (next bytes) (option_map after_fetch shelf) answer after probes left)
     (λ bytes more. never_ends (next bytes) (never bytes) (option_map after_fetch shelf) after answer probes left more) h.0 h.2 is

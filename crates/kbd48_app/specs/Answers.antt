@@ -7,8 +7,7 @@ use Rattle.std.specs.declared.result.Result.{Result}
 use Rattle.std.specs.declared.vec.Vec.{Vec}
 use Rattle.fw_compile.specs.Image.{image_of}
 use Rattle.fw_debug.specs.Probes.{Watch}
-use Rattle.fw_debug.specs.Told.{Told as Session}
-use Rattle.joint_feed.specs.Stories.{story}
+use Rattle.joint_feed.specs.Stories.{Story, story}
 use Rattle.io_edge.specs.Shelf.{Told, Fetched, Fails, Long, Found, after_fetch, fetched}
 use Rattle.kbd48_app.specs.declared.refusal.Refusal.{Refusal}
 use Rattle.kbd48_app.specs.declared.refusal.Refusal.TheVariants.{Words, Read, TooLong, Script, Memory}
@@ -16,7 +15,7 @@ use Rattle.kbd48_app.specs.declared.words.Command.{Command}
 use Rattle.kbd48_app.specs.declared.words.RunCommand.{RunCommand}
 use Rattle.key_file.specs.Histories.{KeyHistory}
 use Rattle.layout_reader.specs.Layouts.{KeyLayout}
-use Rattle.fw_debug.specs.Obeyed.{session_told}
+use Rattle.fw_debug.specs.Obeyed.{IsObeyed, IsObeyedInPart}
 use Rattle.kbd48_app.specs.Debugging.{script_fault}
 use Rattle.kbd48_app.specs.Kinds.{limit_of}
 use Rattle.kbd48_app.specs.Plans.{Answer, Plan, Gives, Runs, Debugs, Fetches, plan_of}
@@ -44,18 +43,19 @@ MayAnswerRun command layout history answer probes left =
     ((answer ≡ Err Memory) × HaveLooked layout history probes left)
     ⊎ ((text : List ℕ) × IsRunText command layout history text probes left × (answer ≡ Ok text))
 
--- the same of a session: a script with a fault is refused before a line of it is obeyed
-abbrev pub MayAnswerSession : Option (ℕ × ℕ) → Session → Answer → List Watch → List Watch → Type 0
-MayAnswerSession (Some fault) session answer probes left =
+-- the same of a script over a run: one with a fault is refused before a line of it is obeyed; of any other the lines
+-- are obeyed, or, where memory was wanting, the first ones, however many
+abbrev pub MayAnswerSession : Option (ℕ × ℕ) → Story → List ℕ → Answer → List Watch → List Watch → Type 0
+MayAnswerSession (Some fault) s script answer probes left =
     (answer ≡ Err (Script fault.0 fault.1)) × (left ≡ probes)
-MayAnswerSession None session answer probes left =
-    (answer ≡ Err Memory) ⊎ ((answer ≡ Ok session.text) × (left ≡ session.debug.probes))
+MayAnswerSession None s script answer probes left =
+    ((answer ≡ Err Memory) × IsObeyedInPart s script probes left)
+    ⊎ ((text : List ℕ) × IsObeyed s script probes text left × (answer ≡ Ok text))
 
 -- the same of a script over the run of a layout under a history
 abbrev pub MayAnswerDebug : KeyLayout → KeyHistory → List ℕ → Answer → List Watch → List Watch → Type 0
 MayAnswerDebug layout history script answer probes left =
-    MayAnswerSession (script_fault (length probes) script)
-    (session_told (story (image_of layout) history) script probes) answer probes left
+    MayAnswerSession (script_fault (length probes) script) (story (image_of layout) history) script answer probes left
 
 -- a case for each thing that a fetch may come to
 abbrev pub OnFetched : Type 0 → Type 0 → (List ℕ → Type 0) → Fetched → Type 0

@@ -2,8 +2,8 @@
 
 ghost use Rattle.std.specs.Prelude.{◌≡◌, Err, length, map, MatchResult};
 ghost use Rattle.fw_compile.specs.Image.{image_of};
-ghost use Rattle.fw_debug.specs.Faults.{IsVerdict};
-ghost use Rattle.fw_debug.specs.Obeyed.{session_told};
+ghost use Rattle.fw_debug.specs.Faults.{IsRight, IsVerdict};
+ghost use Rattle.fw_debug.specs.Obeyed.{IsObeyed, IsObeyedInPart};
 ghost use Rattle.fw_debug.specs.Scripts.{script_of};
 ghost use Rattle.joint_feed.specs.Stories.{story};
 ghost use Rattle.key_file.specs.Accepted.{IsAcceptedFor};
@@ -16,7 +16,8 @@ use key_file::History;
 use layout_reader::Layout;
 use std::alloc::Global;
 
-/// What the lines of a script print in a session over the run of a layout's compiled image under a history.
+/// What the lines of a script that is right for these probes print in a session over the run of a layout's compiled
+/// image under a history.
 fn over_session(
     alloc: Global,
     layout: &Layout,
@@ -25,11 +26,15 @@ fn over_session(
     probes: &mut Vec<Box<dyn Probe>>,
 ) -> Result<Vec<u8>, Refusal>
     requires accepted { IsAcceptedFor layout.now history }
-    ensures says { let before = map (λ b. watch b) probes.old.items in
-        let told = session_told (story (image_of layout.now) history) script.now before in
+    requires right { IsRight (length probes.old.items) script.now }
+    ensures says { let s = story (image_of layout.now) history in
+        let before = map (λ b. watch b) probes.old.items in
         MatchResult result
-        (λ text. (text.items ≡ told.text) × (map (λ b. watch b) probes.new.items ≡ told.debug.probes))
+        (λ text. IsObeyed s script.now before text.items (map (λ b. watch b) probes.new.items))
         (λ refusal. refusal ≡ Refusal.Memory) }
+    ensures obeyed_so_far { let s = story (image_of layout.now) history in
+        let before = map (λ b. watch b) probes.old.items in
+        IsObeyedInPart s script.now before (map (λ b. watch b) probes.new.items) }
 {
     match obey_script(alloc, layout, history, script, probes) {
         Ok(text) => Ok(text),
@@ -56,9 +61,9 @@ pub fn debug(
     probes: &mut Vec<Box<dyn Probe>>,
 ) -> Result<Vec<u8>, Refusal>
     requires accepted { IsAcceptedFor layout.now history }
+    requires judged { IsVerdict (script_of (length probes.old.items) script.now) verdict }
     ensures says { let before = map (λ b. watch b) probes.old.items in
-        IsVerdict (script_of (length probes.old.items) script.now) verdict
-        → MayAnswerDebug layout.now history script.now (answer_of result) before (map (λ b. watch b) probes.new.items) }
+        MayAnswerDebug layout.now history script.now (answer_of result) before (map (λ b. watch b) probes.new.items) }
     ensures unread { result ≡ Err Refusal.Read → ⊥ }
 {
     match verdict {
