@@ -89,7 +89,7 @@ answers_left words (Some (OverPair Certify)) (Some shelf) after answer probes le
     let p = plan_of (Some (OverPair Certify)) words in
     let h = faultless in
     answer_left (OverPair Certify) (leads (length probes) p shelf) answer (may_lack p shelf)
-    (inl (cert_done (length probes) (name_in words) (second_in words) h.0 h.2 h.4 h.6 shelf h.1 h.3 h.5 h.7))
+    (inl (cert_done (length probes) (name_in words) (second_in words) shelf h.0 h.2 h.4 h.6 h.1 h.3 h.5 h.7))
     (ends_so p shelf answer after probes left may)
 answers_left words (Some (OverPair (OverRun command))) (Some shelf) after answer probes left faultless may =
     let p = plan_of (Some (OverPair (OverRun command))) words in

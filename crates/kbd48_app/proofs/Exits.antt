@@ -1,7 +1,7 @@
 -- The exits that a call may have, and what each of them tells.
 use Rattle.std.proofs.Common.{◌≡◌, ℕ, Bool, true, List, Some, None, IfSome, inl, inr, refl, ap, sym, subst, ◌∙◌, ◌⊎◌}
 use Rattle.std.specs.declared.option.Option.{Option}
-use Rattle.io_edge.specs.Shelf.{Told, Fetched, Fails, Long, Found, fetched}
+use Rattle.io_edge.specs.Shelf.{Told}
 use Rattle.kbd48_app.specs.declared.exit.Exit.{Exit}
 use Rattle.kbd48_app.specs.declared.exit.Exit.TheVariants as exits
 use Rattle.kbd48_app.specs.declared.kind.Kind.{Kind}
@@ -10,11 +10,10 @@ use Rattle.kbd48_app.specs.declared.words.Command.{Command}
 use Rattle.kbd48_app.specs.declared.words.Command.TheVariants.{OverFile, OverPair, Debug, Feed}
 use Rattle.kbd48_app.specs.declared.words.PairCommand.TheVariants.{Certify, OverRun}
 use Rattle.kbd48_app.specs.declared.words.FileCommand.{FileCommand}
-use Rattle.kbd48_app.specs.Answers.{OnFetched}
 use Rattle.kbd48_app.specs.Causes.{HasFileFault, IsStuck, IsUntimely, MayExit}
-use Rattle.kbd48_app.specs.Kinds.{kind_of, limit_of}
-use Rattle.kbd48_app.specs.Plans.{Answer, Plan, file_said, plan_of}
-use Rattle.kbd48_app.specs.Reached.{on_fetched, may_lack, IsUnserved}
+use Rattle.kbd48_app.specs.Kinds.{kind_of}
+use Rattle.kbd48_app.specs.Plans.{Answer, Plan, Gives, file_said, plan_of}
+use Rattle.kbd48_app.specs.Reached.{may_lack, IsUnserved, Reads}
 use Rattle.kbd48_app.specs.Says.{exit_said}
 use Rattle.kbd48_app.specs.Words.{name_in, second_in, third_in}
 use Rattle.kbd48_app.proofs.Caused.{IsCaused, caused_as}
@@ -22,17 +21,17 @@ use Rattle.kbd48_app.proofs.CertExits.{cert_caused}
 use Rattle.kbd48_app.proofs.Ends.{leads, IsExit}
 use Rattle.kbd48_app.proofs.FileExits.{Exits, file_exits}
 use Rattle.kbd48_app.proofs.RunExits.{run_caused, debug_caused}
-
--- the file of a command over one file is read
-abbrev ReadsHere : FileCommand → Kind → List ℕ → Fetched → Type 0
-ReadsHere command read file outcome = OnFetched ⊥ ⊥ (λ bytes. ((kind_of command ≡ read) × (bytes ≡ file)) ⊎ ⊥) outcome
+use Rattle.kbd48_app.proofs.Within.{fetch_caused, whole}
 
 module _ (n : ℕ) where
-  found_exit : (command : FileCommand) (words : List (List ℕ)) (shelf : Told) (bytes : List ℕ) (said : Answer) → fetched shelf (name_in words) (limit_of (kind_of command)) ≡ Found bytes → Exits command bytes said → IsCaused n (Some (OverFile command)) (plan_of (Some (OverFile command)) words) shelf (exit_said said)
-  found_exit command words shelf bytes said is exit =
-      let outcome = fetched shelf (name_in words) (limit_of (kind_of command)) in
-      let here : (kind : Kind) → kind_of command ≡ kind → ReadsHere command kind bytes outcome = λ kind same. subst (λ (o : Fetched). ReadsHere command kind bytes o) (sym is) (inl (same, refl)) in
-      let so = caused_as n (Some (OverFile command)) (plan_of (Some (OverFile command)) words) shelf (exit_said said) in
+  -- behind the file of a command over one file
+  found_exit : (command : FileCommand) (plan : Plan) (shelf : Told) (bytes : List ℕ) (said : Answer)
+      → Reads (kind_of command) bytes plan shelf → Exits command bytes said
+      → IsCaused n (Some (OverFile command)) plan shelf (exit_said said)
+  found_exit command plan shelf bytes said read exit =
+      let here : (kind : Kind) → kind_of command ≡ kind → Reads kind bytes plan shelf =
+          λ kind same. subst (λ (k : Kind). Reads k bytes plan shelf) same read in
+      let so = caused_as n (Some (OverFile command)) plan shelf (exit_said said) in
       elim exit [
         | inl done ↦ so exits.Done done tt
         | inr more ↦
@@ -44,28 +43,31 @@ module _ (n : ℕ) where
                     | inr others ↦
                         elim others [
                           | inl asm ↦ inr (inr (inl (asm.0, (bytes, here kinds.Asm asm.1, asm.2))))
-                          | inr layout ↦ inr (inr (inr (inl (layout.0, (bytes, here kinds.Layout layout.1, layout.2)))))
+                          | inr layout ↦
+                              inr (inr (inr (inl (layout.0, (bytes, here kinds.Layout layout.1, layout.2)))))
                         ]
                   ])
               | inr stops ↦
                   let h = stops.1 in
-                  so exits.Stuck stops.0
-                  (h.0, ap (λ (c : FileCommand). let k : Option Command = Some (OverFile c) in k) h.1, bytes, here kinds.Hex (ap kind_of h.1), h.2, h.3, h.4, h.5)
+                  let is = ap (λ (c : FileCommand). let k : Option Command = Some (OverFile c) in k) h.1 in
+                  so exits.Stuck stops.0 (h.0, is, bytes, here kinds.Hex (ap kind_of h.1), h.2, h.3, h.4, h.5)
             ]
       ]
 
-  over_file : (command : FileCommand) (words : List (List ℕ)) (shelf : Told) (outcome : Fetched) → fetched shelf (name_in words) (limit_of (kind_of command)) ≡ outcome → IsCaused n (Some (OverFile command)) (plan_of (Some (OverFile command)) words) shelf (on_fetched exits.Read exits.Input (λ bytes. exit_said (file_said command bytes)) outcome)
-  over_file command words shelf Fails is = subst (λ (o : Fetched). OnFetched (Unit {0}) ⊥ (λ bytes. ⊥) o) (sym is) tt
-  over_file command words shelf Long is =
-      inl (kind_of command, subst (λ (o : Fetched). OnFetched ⊥ (kind_of command ≡ kind_of command) (λ bytes. ⊥) o) (sym is) refl)
-  over_file command words shelf (Found bytes) is =
-      found_exit command words shelf bytes (file_said command bytes) is (file_exits command bytes)
+  over_file : (command : FileCommand) (words : List (List ℕ)) (shelf : Told)
+      → IsCaused n (Some (OverFile command)) (plan_of (Some (OverFile command)) words) shelf
+      (leads n (plan_of (Some (OverFile command)) words) shelf)
+  over_file command words shelf =
+      let plan = plan_of (Some (OverFile command)) words in
+      fetch_caused n (Some (OverFile command)) plan shelf (kind_of command) (name_in words)
+      (λ bytes. Gives (file_said command bytes)) shelf (whole plan shelf)
+      (λ bytes read within.
+          found_exit command plan shelf bytes (file_said command bytes) read (file_exits command bytes))
 
   pub caused : (command : Option Command) (words : List (List ℕ)) (shelf : Told) → IsCaused n command (plan_of command words) shelf (leads n (plan_of command words) shelf)
   caused None words shelf = refl
   caused (Some (Feed bytes)) words shelf = tt
-  caused (Some (OverFile command)) words shelf =
-      over_file command words shelf (fetched shelf (name_in words) (limit_of (kind_of command))) refl
+  caused (Some (OverFile command)) words shelf = over_file command words shelf
   caused (Some (OverPair Certify)) words shelf =
       cert_caused n (Some (OverPair Certify)) (name_in words) (second_in words) shelf
   caused (Some (OverPair (OverRun command))) words shelf =

@@ -8,6 +8,9 @@ pub mod Named
 pub mod Ends
 pub mod FileExits
 pub mod Causes
+pub mod Faults
+pub mod Reaching
+pub mod Within
 pub mod Exits
 pub mod Made
 pub mod Refused

@@ -1,23 +1,22 @@
 -- The causes of the exits, of a shelf that may tell its files.
 use Rattle.std.proofs.Common.{◌≡◌, ℕ, true, List, length, Some, None, IfSome, subst, sym}
 use Rattle.std.specs.declared.option.Option.{Option}
-use Rattle.hexfile.specs.declared.fault.HexFault.{HexFault}
-use Rattle.layout_reader.specs.Faults.{Refusal as LayoutRefusal}
-use Rattle.key_file.specs.declared.fault.KeyFault.TheVariants.{Input, Timing}
+use Rattle.key_file.specs.declared.fault.KeyFault.TheVariants.{Timing}
 use Rattle.fw_debug.specs.Probes.{Watch}
 use Rattle.io_edge.specs.Shelf.{Told}
 use Rattle.kbd48_app.specs.declared.exit.Exit.{Exit}
 use Rattle.kbd48_app.specs.declared.exit.Exit.TheVariants as exits
 use Rattle.kbd48_app.specs.declared.kind.Kind.{Kind}
 use Rattle.kbd48_app.specs.Answers.{MayAnswer}
-use Rattle.kbd48_app.specs.Causes.{HasAsmFault, HasCertFault, HasFileFault, HasHexFault, HasKeysFault, HasLayoutFault, HasScriptFault, HasTimingFault, IsStuck, IsUntimely, MayExit}
+use Rattle.kbd48_app.specs.Causes.{HasFileFault, HasTimingFault, IsStuck, IsUntimely, MayExit}
 use Rattle.kbd48_app.specs.Plans.{Answer, plan}
 use Rattle.kbd48_app.specs.Reached.{IsTooLong, IsUnserved, Makes, fetches_of, may_lack}
 use Rattle.kbd48_app.specs.Says.{Says}
 use Rattle.kbd48_app.specs.Words.{command_of}
-use Rattle.kbd48_app.proofs.Causes.{unserved, too_long, hex_fault, asm_fault, layout_fault, cert_fault, key_fault, script_fault_led, stuck}
+use Rattle.kbd48_app.proofs.Causes.{unserved, too_long, fault_led, stuck}
 use Rattle.kbd48_app.proofs.Ends.{exits_so}
 use Rattle.kbd48_app.proofs.Exits.{Ended, ended, read_only, input_only, timing_only, stuck_only, memory_only, may_exit}
+use Rattle.kbd48_app.proofs.Faults.{Fault, InKeys, HasFault, exit_at}
 use Rattle.kbd48_app.proofs.Made.{makes}
 
 -- a call has ended so
@@ -42,40 +41,22 @@ told_too_long words None after probes left taken taken' exit h = tt
 told_too_long words (Some shelf) after probes left taken taken' exit h =
     λ kind cause. may_exit _ _ exits.Input exit (too_long (length probes) kind (plan words) shelf cause) (exits_so words shelf taken taken' exit after probes left h)
 
-pub told_hex : (words : List (List ℕ)) (shelf after : Option Told) (probes left : List Watch) (taken taken' : Option (List ℕ)) (exit : Exit) → Ending words shelf after probes left taken taken' exit → IfSome shelf (λ told. (fault : HexFault) → HasHexFault fault (plan words) told → MayExit exits.Input exit)
-told_hex words None after probes left taken taken' exit h = tt
-told_hex words (Some shelf) after probes left taken taken' exit h =
-    λ fault cause. may_exit _ _ exits.Input exit (hex_fault (length probes) (command_of words) words shelf fault cause) (exits_so words shelf taken taken' exit after probes left h)
-
-pub told_asm : (words : List (List ℕ)) (shelf after : Option Told) (probes left : List Watch) (taken taken' : Option (List ℕ)) (exit : Exit) → Ending words shelf after probes left taken taken' exit → IfSome shelf (λ told. (fault : ℕ × ℕ) → HasAsmFault fault (plan words) told → MayExit exits.Input exit)
-told_asm words None after probes left taken taken' exit h = tt
-told_asm words (Some shelf) after probes left taken taken' exit h =
-    λ fault cause. may_exit _ _ exits.Input exit (asm_fault (length probes) (command_of words) words shelf fault cause) (exits_so words shelf taken taken' exit after probes left h)
-
-pub told_layout : (words : List (List ℕ)) (shelf after : Option Told) (probes left : List Watch) (taken taken' : Option (List ℕ)) (exit : Exit) → Ending words shelf after probes left taken taken' exit → IfSome shelf (λ told. (fault : LayoutRefusal) → HasLayoutFault fault (plan words) told → MayExit exits.Input exit)
-told_layout words None after probes left taken taken' exit h = tt
-told_layout words (Some shelf) after probes left taken taken' exit h =
-    λ fault cause. may_exit _ _ exits.Input exit (layout_fault (length probes) (command_of words) words shelf fault cause) (exits_so words shelf taken taken' exit after probes left h)
-
-pub told_cert : (words : List (List ℕ)) (shelf after : Option Told) (probes left : List Watch) (taken taken' : Option (List ℕ)) (exit : Exit) → Ending words shelf after probes left taken taken' exit → IfSome shelf (λ told. (fault : ℕ × ℕ) → HasCertFault fault (plan words) told → MayExit exits.Input exit)
-told_cert words None after probes left taken taken' exit h = tt
-told_cert words (Some shelf) after probes left taken taken' exit h =
-    λ fault cause. may_exit _ _ exits.Input exit (cert_fault (length probes) (command_of words) words shelf fault cause) (exits_so words shelf taken taken' exit after probes left h)
-
-pub told_keys : (words : List (List ℕ)) (shelf after : Option Told) (probes left : List Watch) (taken taken' : Option (List ℕ)) (exit : Exit) → Ending words shelf after probes left taken taken' exit → IfSome shelf (λ told. (fault : ℕ × ℕ) → HasKeysFault fault (plan words) told → MayExit exits.Input exit)
-told_keys words None after probes left taken taken' exit h = tt
-told_keys words (Some shelf) after probes left taken taken' exit h =
-    λ fault cause. may_exit _ _ exits.Input exit (key_fault (length probes) (command_of words) words shelf (Input fault.0 fault.1) cause) (exits_so words shelf taken taken' exit after probes left h)
-
-pub told_script : (n : ℕ) (words : List (List ℕ)) (shelf after : Option Told) (probes left : List Watch) (taken taken' : Option (List ℕ)) (exit : Exit) → length probes ≡ n → Ending words shelf after probes left taken taken' exit → IfSome shelf (λ told. (fault : ℕ × ℕ) → HasScriptFault n fault (plan words) told → MayExit exits.Input exit)
-told_script n words None after probes left taken taken' exit same h = tt
-told_script n words (Some shelf) after probes left taken taken' exit same h =
-    λ fault cause. may_exit _ _ exits.Input exit (script_fault_led (length probes) (command_of words) words shelf fault (subst (λ (k : ℕ). HasScriptFault k fault (plan words) shelf) (sym same) cause)) (exits_so words shelf taken taken' exit after probes left h)
+-- a fault of a file, where the probes are so many
+pub told_fault : {A : Type 0} (of : A → Fault) (n : ℕ) (words : List (List ℕ)) (shelf after : Option Told)
+    (probes left : List Watch) (taken taken' : Option (List ℕ)) (exit : Exit) → length probes ≡ n
+    → Ending words shelf after probes left taken taken' exit
+    → IfSome shelf (λ told. (fault : A) → HasFault n (of fault) (plan words) told → MayExit (exit_at (of fault)) exit)
+told_fault of n words None after probes left taken taken' exit same h = tt
+told_fault of n words (Some shelf) after probes left taken taken' exit same h =
+    λ fault cause. may_exit _ _ (exit_at (of fault)) exit
+    (fault_led (length probes) (of fault) (command_of words) words shelf
+    (subst (λ (k : ℕ). HasFault k (of fault) (plan words) shelf) (sym same) cause))
+    (exits_so words shelf taken taken' exit after probes left h)
 
 pub told_timing : (words : List (List ℕ)) (shelf after : Option Told) (probes left : List Watch) (taken taken' : Option (List ℕ)) (exit : Exit) → Ending words shelf after probes left taken taken' exit → IfSome shelf (λ told. (fault : ℕ × ℕ) (stamps : ℕ × ℕ) → HasTimingFault fault stamps (plan words) told → MayExit exits.Timing exit)
 told_timing words None after probes left taken taken' exit h = tt
 told_timing words (Some shelf) after probes left taken taken' exit h =
-    λ fault stamps cause. may_exit _ _ exits.Timing exit (key_fault (length probes) (command_of words) words shelf (Timing fault.0 fault.1 stamps.0 stamps.1) cause) (exits_so words shelf taken taken' exit after probes left h)
+    λ fault stamps cause. may_exit _ _ exits.Timing exit (fault_led (length probes) (InKeys (Timing fault.0 fault.1 stamps.0 stamps.1)) (command_of words) words shelf cause) (exits_so words shelf taken taken' exit after probes left h)
 
 pub told_timing_only : (words : List (List ℕ)) (shelf after : Option Told) (probes left : List Watch) (taken taken' : Option (List ℕ)) (exit : Exit) → Ending words shelf after probes left taken taken' exit → IfSome shelf (λ told. exit ≡ exits.Timing → IsUntimely (plan words) told)
 told_timing_only words None after probes left taken taken' exit h = tt

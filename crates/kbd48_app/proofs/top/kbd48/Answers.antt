@@ -1,9 +1,11 @@
-use Rattle.std.proofs.Common.{map, string_bytes}
+use Rattle.std.proofs.Common.{map, refl, string_bytes}
 use Rattle.std.proofs.lemmas.List.{length-map}
+use Rattle.key_file.specs.declared.fault.KeyFault.TheVariants.{Input}
 use Rattle.kbd48_app.specs.Answers.{answer_of}
 use Rattle.kbd48_app.proofs.Complete.{left}
+use Rattle.kbd48_app.proofs.Faults.{InHex, InAsm, InLayout, InCert, InKeys, InScript}
 use Rattle.kbd48_app.proofs.Refused.{words_only, words_refused}
-use Rattle.kbd48_app.proofs.Told.{told_unserved, told_unserved_only, told_too_long, told_hex, told_asm, told_layout, told_cert, told_keys, told_script, told_timing, told_timing_only, told_input_only, told_stuck, told_stuck_only, told_memory, told_fetches}
+use Rattle.kbd48_app.proofs.Told.{told_unserved, told_unserved_only, told_too_long, told_fault, told_timing, told_timing_only, told_input_only, told_stuck, told_stuck_only, told_memory, told_fetches}
 use Rattle.kbd48_app.proofs.top.kbd48.Goals as goal
 
 pub returns-clause-complete : goal.returns-clause-complete
@@ -39,22 +41,22 @@ returns-clause-too_long g c =
 
 pub returns-clause-hex : goal.returns-clause-hex
 returns-clause-hex g c =
-    told_hex (map string_bytes c.args.words.now) (g.F.Shelf.told c.args.shelf.now) _ _ _ _ _ _
+    told_fault InHex _ (map string_bytes c.args.words.now) (g.F.Shelf.told c.args.shelf.now) _ _ _ _ _ _ refl
     (answer_of c.answer-answer.result, c.answer-answer.ensures.ends, c.conclude.ensures.says)
 
 pub returns-clause-asm : goal.returns-clause-asm
 returns-clause-asm g c =
-    told_asm (map string_bytes c.args.words.now) (g.F.Shelf.told c.args.shelf.now) _ _ _ _ _ _
+    told_fault InAsm _ (map string_bytes c.args.words.now) (g.F.Shelf.told c.args.shelf.now) _ _ _ _ _ _ refl
     (answer_of c.answer-answer.result, c.answer-answer.ensures.ends, c.conclude.ensures.says)
 
 pub returns-clause-layout : goal.returns-clause-layout
 returns-clause-layout g c =
-    told_layout (map string_bytes c.args.words.now) (g.F.Shelf.told c.args.shelf.now) _ _ _ _ _ _
+    told_fault InLayout _ (map string_bytes c.args.words.now) (g.F.Shelf.told c.args.shelf.now) _ _ _ _ _ _ refl
     (answer_of c.answer-answer.result, c.answer-answer.ensures.ends, c.conclude.ensures.says)
 
 pub returns-clause-cert : goal.returns-clause-cert
 returns-clause-cert g c =
-    told_cert (map string_bytes c.args.words.now) (g.F.Shelf.told c.args.shelf.now) _ _ _ _ _ _
+    told_fault InCert _ (map string_bytes c.args.words.now) (g.F.Shelf.told c.args.shelf.now) _ _ _ _ _ _ refl
     (answer_of c.answer-answer.result, c.answer-answer.ensures.ends, c.conclude.ensures.says)
 
 pub returns-clause-input_only : goal.returns-clause-input_only
@@ -84,7 +86,7 @@ returns-clause-fetches g c =
 
 pub returns-clause-keys : goal.returns-clause-keys
 returns-clause-keys g c =
-    told_keys (map string_bytes c.args.words.now) (g.F.Shelf.told c.args.shelf.now) _ _ _ _ _ _
+    told_fault (λ fault. InKeys (Input fault.0 fault.1)) _ (map string_bytes c.args.words.now) (g.F.Shelf.told c.args.shelf.now) _ _ _ _ _ _ refl
     (answer_of c.answer-answer.result, c.answer-answer.ensures.ends, c.conclude.ensures.says)
 
 pub returns-clause-timing : goal.returns-clause-timing
@@ -99,5 +101,5 @@ returns-clause-timing_only g c =
 
 pub returns-clause-script : goal.returns-clause-script
 returns-clause-script g c =
-    told_script _ (map string_bytes c.args.words.now) (g.F.Shelf.told c.args.shelf.now) _ _ _ _ _ _ (length-map c.args.probes.now.items _)
+    told_fault InScript _ (map string_bytes c.args.words.now) (g.F.Shelf.told c.args.shelf.now) _ _ _ _ _ _ (length-map c.args.probes.now.items _)
     (answer_of c.answer-answer.result, c.answer-answer.ensures.ends, c.conclude.ensures.says)
