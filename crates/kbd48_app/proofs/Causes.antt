@@ -20,14 +20,16 @@ use Rattle.kbd48_app.specs.Says.{exit_said}
 use Rattle.kbd48_app.specs.Words.{name_in, second_in, third_in}
 use Rattle.kbd48_app.proofs.Certs.{fault_led_by_cert}
 use Rattle.kbd48_app.proofs.Ends.{leads, script_exit}
-use Rattle.kbd48_app.proofs.Faults.{Fault, InHex, InAsm, InLayout, InCert, InKeys, InScript, HasFault, exit_at, faulty_file}
+use Rattle.kbd48_app.proofs.Faults.{Fault, InHex, InAsm, InLayout, InCert, InKeys, InScript, HasFault, exit_at}
+use Rattle.kbd48_app.proofs.Faults.{faulty_file}
 use Rattle.kbd48_app.proofs.FileExits.{hex_answered, asm_answered, layout_answered, stop_answered}
 use Rattle.kbd48_app.proofs.Reaching.{fetch_read, leads_found}
 use Rattle.kbd48_app.proofs.Runs.{IsReadThird, IsScriptLed, fault_led_by_run}
 
 -- the exit of a fetch, by what the fetch comes to
 fetch_led : (fails long : Type 0) (on : List ℕ → Type 0) (exit : List ℕ → Exit) (wanted : Exit)
-    → (fails → exits.Read ≡ wanted) → (long → exits.Input ≡ wanted) → ((bytes : List ℕ) → on bytes → exit bytes ≡ wanted)
+    → (fails → exits.Read ≡ wanted) → (long → exits.Input ≡ wanted)
+    → ((bytes : List ℕ) → on bytes → exit bytes ≡ wanted)
     → (outcome : Fetched) → OnFetched fails long on outcome → on_fetched exits.Read exits.Input exit outcome ≡ wanted
 fetch_led fails long on exit wanted read input behind Fails h = read h
 fetch_led fails long on exit wanted read input behind Long h = input h
@@ -134,11 +136,12 @@ module _ (n : ℕ) where
       (name_in words) (second_in words) shelf fault h
 
   -- a run that stops
-  pub stuck : (command : Option Command) (words : List (List ℕ)) (shelf : Told) → IsStuck command (plan_of command words) shelf
+  pub stuck : (command : Option Command) (words : List (List ℕ)) (shelf : Told)
+      → IsStuck command (plan_of command words) shelf
       → leads n (plan_of command words) shelf ≡ exits.Stuck
   stuck command words shelf h =
       let step : Option Command = Some (OverFile (Step h.0)) in
       let read : Reads kinds.Hex h.2 (plan_of step words) shelf =
-          subst (λ (c : Option Command). Reads kinds.Hex h.2 (plan_of c words) shelf) h.1 h.3 in
+      subst (λ (c : Option Command). Reads kinds.Hex h.2 (plan_of c words) shelf) h.1 h.3 in
       ap (λ (c : Option Command). leads n (plan_of c words) shelf) h.1
       ∙ ((file_read (Step h.0) words shelf kinds.Hex h.2 read).1 ∙ stop_answered h.0 h.2 h.4 h.6 h.5 h.7)

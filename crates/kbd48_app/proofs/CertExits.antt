@@ -43,4 +43,4 @@ cert_caused n command first second shelf =
     fetch_caused n command plan shelf kinds.Hex first (λ bytes. with_image (cert_next second) (hex_of bytes)) shelf
     (whole plan shelf)
     (λ bytes read within.
-        image_exit n command plan shelf second bytes (after_fetch shelf) (hex_of bytes) refl read within)
+    image_exit n command plan shelf second bytes (after_fetch shelf) (hex_of bytes) refl read within)

@@ -30,7 +30,7 @@ module _ (n : ℕ) where
       → IsCaused n (Some (OverFile command)) plan shelf (exit_said said)
   found_exit command plan shelf bytes said read exit =
       let here : (kind : Kind) → kind_of command ≡ kind → Reads kind bytes plan shelf =
-          λ kind same. subst (λ (k : Kind). Reads k bytes plan shelf) same read in
+      λ kind same. subst (λ (k : Kind). Reads k bytes plan shelf) same read in
       let so = caused_as n (Some (OverFile command)) plan shelf (exit_said said) in
       elim exit [
         | inl done ↦ so exits.Done done tt
@@ -62,9 +62,10 @@ module _ (n : ℕ) where
       fetch_caused n (Some (OverFile command)) plan shelf (kind_of command) (name_in words)
       (λ bytes. Gives (file_said command bytes)) shelf (whole plan shelf)
       (λ bytes read within.
-          found_exit command plan shelf bytes (file_said command bytes) read (file_exits command bytes))
+      found_exit command plan shelf bytes (file_said command bytes) read (file_exits command bytes))
 
-  pub caused : (command : Option Command) (words : List (List ℕ)) (shelf : Told) → IsCaused n command (plan_of command words) shelf (leads n (plan_of command words) shelf)
+  pub caused : (command : Option Command) (words : List (List ℕ)) (shelf : Told)
+      → IsCaused n command (plan_of command words) shelf (leads n (plan_of command words) shelf)
   caused None words shelf = refl
   caused (Some (Feed bytes)) words shelf = tt
   caused (Some (OverFile command)) words shelf = over_file command words shelf
@@ -80,42 +81,59 @@ module _ (n : ℕ) where
   Ended command plan shelf exit =
       IsCaused n command plan shelf exit ⊎ ((exit ≡ exits.Memory) × (may_lack plan shelf ≡ true)) ⊎ (exit ≡ exits.Write)
 
-  pub ended : (command : Option Command) (words : List (List ℕ)) (shelf : Told) (exit : Exit) → IsExit (leads n (plan_of command words) shelf) (may_lack (plan_of command words) shelf) exit → Ended command (plan_of command words) shelf exit
+  pub ended : (command : Option Command) (words : List (List ℕ)) (shelf : Told) (exit : Exit)
+      → IsExit (leads n (plan_of command words) shelf) (may_lack (plan_of command words) shelf) exit
+      → Ended command (plan_of command words) shelf exit
   ended command words shelf exit h =
       elim h [
-        | inl same ↦ inl (caused_as n command (plan_of command words) shelf exit (leads n (plan_of command words) shelf) same (caused command words shelf))
+        | inl same ↦ inl (caused_as n command (plan_of command words) shelf exit
+            (leads n (plan_of command words) shelf) same (caused command words shelf))
         | inr other ↦ inr other
       ]
 
   -- an exit has its cause, where it is neither that of want of memory nor that of a sink that fails
-  cause_of : (command : Option Command) (plan : Plan) (shelf : Told) (exit wanted : Exit) → (wanted ≡ exits.Memory → ⊥) → (wanted ≡ exits.Write → ⊥) → Ended command plan shelf exit → exit ≡ wanted → IsCaused n command plan shelf wanted
+  cause_of : (command : Option Command) (plan : Plan) (shelf : Told) (exit wanted : Exit)
+      → (wanted ≡ exits.Memory → ⊥) → (wanted ≡ exits.Write → ⊥) → Ended command plan shelf exit → exit ≡ wanted
+      → IsCaused n command plan shelf wanted
   cause_of command plan shelf exit wanted memory write h is =
       elim h [
         | inl cause ↦ caused_as n command plan shelf wanted exit (sym is) cause
-        | inr other ↦ elim other [ inl lack ↦ absurd (memory (sym is ∙ lack.0)) | inr failed ↦ absurd (write (sym is ∙ failed)) ]
+        | inr other ↦ elim other [
+          | inl lack ↦ absurd (memory (sym is ∙ lack.0))
+          | inr failed ↦ absurd (write (sym is ∙ failed))
+        ]
       ]
 
-  pub read_only : (command : Option Command) (plan : Plan) (shelf : Told) (exit : Exit) → Ended command plan shelf exit → exit ≡ exits.Read → IsUnserved plan shelf
+  pub read_only : (command : Option Command) (plan : Plan) (shelf : Told) (exit : Exit)
+      → Ended command plan shelf exit → exit ≡ exits.Read → IsUnserved plan shelf
   read_only command plan shelf exit h is = cause_of command plan shelf exit exits.Read (λ e. cc) (λ e. cc) h is
 
-  pub input_only : (command : Option Command) (plan : Plan) (shelf : Told) (exit : Exit) → Ended command plan shelf exit → exit ≡ exits.Input → HasFileFault n plan shelf
+  pub input_only : (command : Option Command) (plan : Plan) (shelf : Told) (exit : Exit)
+      → Ended command plan shelf exit → exit ≡ exits.Input → HasFileFault n plan shelf
   input_only command plan shelf exit h is = cause_of command plan shelf exit exits.Input (λ e. cc) (λ e. cc) h is
 
-  pub timing_only : (command : Option Command) (plan : Plan) (shelf : Told) (exit : Exit) → Ended command plan shelf exit → exit ≡ exits.Timing → IsUntimely plan shelf
+  pub timing_only : (command : Option Command) (plan : Plan) (shelf : Told) (exit : Exit)
+      → Ended command plan shelf exit → exit ≡ exits.Timing → IsUntimely plan shelf
   timing_only command plan shelf exit h is = cause_of command plan shelf exit exits.Timing (λ e. cc) (λ e. cc) h is
 
-  pub stuck_only : (command : Option Command) (plan : Plan) (shelf : Told) (exit : Exit) → Ended command plan shelf exit → exit ≡ exits.Stuck → IsStuck command plan shelf
+  pub stuck_only : (command : Option Command) (plan : Plan) (shelf : Told) (exit : Exit)
+      → Ended command plan shelf exit → exit ≡ exits.Stuck → IsStuck command plan shelf
   stuck_only command plan shelf exit h is = cause_of command plan shelf exit exits.Stuck (λ e. cc) (λ e. cc) h is
 
-  pub memory_only : (command : Option Command) (plan : Plan) (shelf : Told) (exit : Exit) → Ended command plan shelf exit → exit ≡ exits.Memory → may_lack plan shelf ≡ true
+  pub memory_only : (command : Option Command) (plan : Plan) (shelf : Told) (exit : Exit)
+      → Ended command plan shelf exit → exit ≡ exits.Memory → may_lack plan shelf ≡ true
   memory_only command plan shelf exit h is =
       elim h [
         | inl cause ↦ caused_as n command plan shelf exits.Memory exit (sym is) cause
-        | inr other ↦ elim other [ inl lack ↦ lack.1 | inr failed ↦ let e : exits.Memory ≡ exits.Write = sym is ∙ failed in absurd cc ]
+        | inr other ↦ elim other [
+          | inl lack ↦ lack.1
+          | inr failed ↦ let e : exits.Memory ≡ exits.Write = sym is ∙ failed in absurd cc
+        ]
       ]
 
 -- a cause gives its exit
-pub may_exit : (led : Exit) (lack : Bool) (exit result : Exit) → led ≡ exit → IsExit led lack result → MayExit exit result
+pub may_exit : (led : Exit) (lack : Bool) (exit result : Exit) → led ≡ exit → IsExit led lack result
+    → MayExit exit result
 may_exit led lack exit result is h =
     elim h [ inl same ↦ inl (same ∙ is) | inr m ↦ inr (elim m [ inl memory ↦ inl memory.0 | inr write ↦ inr write ]) ]
 

@@ -1,10 +1,10 @@
 -- A text, line by line.
-use Rattle.std.proofs.Common.{◌≡◌, ℕ, suc, ◌+◌, ◌-◌, ◌<◌, ◌≤◌, Bool, true, false, ◌==◌, List, [], ◌∷◌, length, take, drop, cond, ltb, not, Some, None, refl, ap, sym, subst, ◌∙◌, arith}
+use Rattle.std.proofs.Common.{◌≡◌, ℕ, suc, ◌+◌, ◌-◌, ◌<◌, ◌≤◌, Bool, true, false, ◌==◌, List, [], ◌∷◌, length}
+use Rattle.std.proofs.Common.{take, drop, cond, not, Some, None, refl, ap, sym, subst, ◌∙◌, arith}
 use Rattle.std.specs.Prelude.{position, if◌then◌else◌}
 use Rattle.std.specs.List.{position_or_len}
-use Rattle.std.proofs.lemmas.Bool.{ltb-false}
 use Rattle.std.proofs.lemmas.List.{take_all, length-drop}
-use borrow.Author.Tests.{ltb-true}
+use Rattle.text_lines.proofs.Splits.{place_is, none_passes}
 use Rattle.kbd48_app.specs.Said.{line_length, lines_in, onto_first}
 
 abbrev pub is_lf : ℕ → Bool
@@ -22,24 +22,15 @@ ends_at : (text : List ℕ) → EndsAt (position_or_len is_lf text) (length text
 ends_at [] = (λ below. absurd (omega arith), λ above. refl)
 ends_at (byte ∷ text) = ends_on (byte == 10) (position_or_len is_lf text) (length text) (line_length text) (ends_at text)
 
-some_of : (b : Bool) (x i : ℕ) → cond b (Some x) None ≡ Some i → (b ≡ true) × (x ≡ i)
-some_of true x i h = (refl, cc)
-some_of false x i h = absurd (cc)
-
-none_of : (b : Bool) (x : ℕ) → cond b (Some x) None ≡ None → b ≡ false
-none_of true x h = absurd (cc)
-none_of false x h = refl
-
 -- where there is an LF
 pub length_some : (text : List ℕ) (i : ℕ) → position is_lf text ≡ Some i → line_length text ≡ i + 1
 length_some text i h =
-    let both = some_of (ltb (position_or_len is_lf text) (length text)) (position_or_len is_lf text) i h in
-    (ends_at text).0 (ltb-true (position_or_len is_lf text) (length text) both.0) ∙ ap (λ n. n + 1) both.1
+    let at = place_is is_lf text i h in
+    (ends_at text).0 at.0 ∙ ap (λ n. n + 1) at.1
 
 -- where there is none
 pub length_none : (text : List ℕ) → position is_lf text ≡ None → line_length text ≡ length text
-length_none text h =
-    (ends_at text).1 (ltb-false (position_or_len is_lf text) (length text) (none_of (ltb (position_or_len is_lf text) (length text)) (position_or_len is_lf text) h))
+length_none text h = (ends_at text).1 (none_passes is_lf text h)
 
 -- the first line, and those behind it
 abbrev IsParted : List ℕ → List (List ℕ) → ℕ → Type 0

@@ -12,7 +12,8 @@ use Rattle.kbd48_app.specs.declared.words.Command.{Command}
 use Rattle.kbd48_app.specs.declared.words.PairCommand.TheVariants.{OverRun}
 use Rattle.kbd48_app.specs.declared.words.RunCommand.{RunCommand}
 use Rattle.kbd48_app.specs.Debugging.{script_fault}
-use Rattle.kbd48_app.specs.Plans.{Plan, Debugs, Runs, debug_plan, history_plan, keys_next, pair_plan, script_next, with_history, with_layout}
+use Rattle.kbd48_app.specs.Plans.{Plan, Debugs, Runs, debug_plan, history_plan, keys_next, pair_plan}
+use Rattle.kbd48_app.specs.Plans.{script_next, with_history, with_layout}
 use Rattle.kbd48_app.specs.Reached.{Reads}
 use Rattle.kbd48_app.proofs.Caused.{IsCaused}
 use Rattle.kbd48_app.proofs.Ends.{leads, script_exit}
@@ -51,7 +52,7 @@ module _ (n : ℕ) (command : Option Command) (plan : Plan) (shelf : Told) where
         fetch_caused n command plan shelf kinds.Keys second
         (λ text. with_history (next layout) (history_of layout text)) after within
         (λ text read' more.
-            keys_exit bytes text layout (after_fetch after) (history_of layout text) has refl read read' more)
+        keys_exit bytes text layout (after_fetch after) (history_of layout text) has refl read read' more)
     layout_exit second bytes after (Err fault) has read within =
         inr (inr (inr (inl (fault, (bytes, read, has)))))
 
@@ -73,8 +74,8 @@ history_caused n command next first second shelf third =
     let plan = history_plan next first second in
     fetch_caused n command plan shelf kinds.Layout first (plan_from next second) shelf (whole plan shelf)
     (λ bytes read within.
-        layout_exit n command plan shelf next third second bytes (after_fetch shelf) (layout_of_document bytes)
-        refl read within)
+    layout_exit n command plan shelf next third second bytes (after_fetch shelf) (layout_of_document bytes)
+    refl read within)
 
 pub run_caused : (n : ℕ) (command : Option Command) (over : RunCommand) (first second : List ℕ) (shelf : Told)
     → IsCaused n command (pair_plan (OverRun over) first second) shelf

@@ -53,10 +53,12 @@ second_read : (read : Kind) (file : List ℕ) (next : Following) (second : List 
     → Reads read file (keys_next next second layout) shelf
     → IsReadSecond read file next layout (after_fetch shelf) (fetched shelf second (limit_of kinds.Keys))
 second_read read file next second layout shelf h =
-    elim (fetch_read read file kinds.Keys second (λ text. with_history (next layout) (history_of layout text)) shelf h) [
+    elim (fetch_read read file kinds.Keys second
+    (λ text. with_history (next layout) (history_of layout text)) shelf h) [
       | inl this ↦ inl this
       | inr more ↦
-          let b = behind_history read file more.0 next layout (after_fetch shelf) (history_of layout more.0) refl more.2 in
+          let b = behind_history read file more.0 next layout (after_fetch shelf)
+          (history_of layout more.0) refl more.2 in
           inr (more.0, more.1, b.0, b.1, b.2)
     ]
 
@@ -82,7 +84,8 @@ is_read read file next first second shelf h =
     elim (fetch_read read file kinds.Layout first (plan_from next second) shelf h) [
       | inl this ↦ inl this
       | inr more ↦
-          let b = behind_layout read file more.0 second next (after_fetch shelf) (layout_of_document more.0) refl more.2 in
+          let b = behind_layout read file more.0 second next (after_fetch shelf)
+          (layout_of_document more.0) refl more.2 in
           inr (more.0, more.1, b.0, b.1, b.2)
     ]
 
@@ -171,7 +174,7 @@ module _ (n : ℕ) (next : Following) where
             | inl this ↦ let other : kinds.Keys ≡ kinds.Layout = this.0 in absurd cc
             | inr behind ↦
                 let other : kinds.Script ≡ kinds.Layout =
-                    third kinds.Layout bytes more.2 behind.2 (after_fetch (after_fetch shelf)) behind.4 in absurd cc
+                third kinds.Layout bytes more.2 behind.2 (after_fetch (after_fetch shelf)) behind.4 in absurd cc
           ]
         ]
 
@@ -185,7 +188,7 @@ module _ (n : ℕ) (next : Following) where
             | inl this ↦ this.1
             | inr behind ↦
                 let other : kinds.Script ≡ kinds.Keys =
-                    third kinds.Keys text more.2 behind.2 (after_fetch (after_fetch shelf)) behind.4 in absurd cc
+                third kinds.Keys text more.2 behind.2 (after_fetch (after_fetch shelf)) behind.4 in absurd cc
           ]
         ]
 
