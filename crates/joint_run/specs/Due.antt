@@ -63,6 +63,15 @@ outside_of s = record {
 abbrev pub passed : ℕ → ℕ → ℕ → List HostEvent → Outside → Beside
 passed cycles now p2 events o = ticks cycles now (joint_cycle events p2) (beside o 0 [])
 
+-- the cycles of a step have passed: what stands outside then, what was said, and the answer: how many of the host's events
+-- were done, and the wires after the first and after the last cycle
+pub record HasPassed (cycles now p2 : ℕ) (events : List HostEvent) (old new : Outside) (said : List Stamped) (answer : ℕ × Lines × Lines) : Type 0 where
+  pub outside : new ≡ outside_of (passed cycles now p2 events old)
+  pub items : said ≡ (passed cycles now p2 events old).pc.side.log
+  pub done : answer.0 ≡ (passed cycles now p2 events old).pc.side.done
+  pub first : answer.1 ≡ wires (latch_of p2) (passed 1 now p2 events old).pc
+  pub last : answer.2 ≡ wires (latch_of p2) (passed cycles now p2 events old).pc
+
 -- the edges that are made in a step: the first ones, up to one whose stamp isn't reached
 abbrev pub made_first : ℕ → List Edge → List Edge
 made_first cycle [] = []

@@ -6,8 +6,7 @@ ghost use Rattle.ctl_wire.specs.Wire.{drive, edge_at};
 ghost use Rattle.int09.specs.Bios.{start};
 ghost use Rattle.host_turn.specs.Cycle.{cycled};
 ghost use Rattle.host_turn.specs.Run.{lights_said, stamped};
-ghost use Rattle.joint_run.specs.Due.{outside_at_start, outside_of, passed};
-ghost use Rattle.pc_wires.specs.Wires.{wires};
+ghost use Rattle.joint_run.specs.Due.{HasPassed, outside_at_start};
 ghost use Rattle.joint_run.specs.Joint.{lights_of, latch_of};
 ghost use Rattle.joint_run.specs.Cycle.{is_quiet, looked_outside, outside_cycle, outside_wires};
 
@@ -233,11 +232,7 @@ impl Outside {
         requires few { cycles < 3 }
         requires empty { IsEmptyUnlessHeld self.old.desk.port }
         requires none { items.old.items ≡ [] }
-        ensures outside { self.new ≡ outside_of (passed cycles now p2 host.now self.old) }
-        ensures done { result.0 ≡ (passed cycles now p2 host.now self.old).pc.side.done }
-        ensures items { items.new.items ≡ (passed cycles now p2 host.now self.old).pc.side.log }
-        ensures first { result.1 ≡ wires (latch_of p2) (passed 1 now p2 host.now self.old).pc }
-        ensures last { result.2 ≡ wires (latch_of p2) (passed cycles now p2 host.now self.old).pc }
+        ensures passed { HasPassed cycles now p2 host.now self.old self.new items.new.items result }
         ensures empty { IsEmptyUnlessHeld self.new.desk.port }
     {
         let first_done = self.cycle(now, p2, next_of(host, 0), items) as u8;
@@ -264,11 +259,7 @@ impl Outside {
         requires few { cycles < 3 }
         requires empty { IsEmptyUnlessHeld self.old.desk.port }
         requires none { items.old.items ≡ [] }
-        ensures outside { self.new ≡ outside_of (passed cycles now p2 host.now self.old) }
-        ensures done { result.0 ≡ (passed cycles now p2 host.now self.old).pc.side.done }
-        ensures items { items.new.items ≡ (passed cycles now p2 host.now self.old).pc.side.log }
-        ensures first { result.1 ≡ wires (latch_of p2) (passed 1 now p2 host.now self.old).pc }
-        ensures last { result.2 ≡ wires (latch_of p2) (passed cycles now p2 host.now self.old).pc }
+        ensures passed { HasPassed cycles now p2 host.now self.old self.new items.new.items result }
         ensures empty { IsEmptyUnlessHeld self.new.desk.port }
     {
         let last = now + cycles as u64 - 1;

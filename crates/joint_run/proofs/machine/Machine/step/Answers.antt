@@ -29,21 +29,21 @@ returns-clause-step c =
     ap (λ p. passed 1 m.cycle p c.as_slice-2.result.now m.outside) c.port_2-p2.ensures
     ∙ ap (λ (es : List HostEvent). passed 1 m.cycle cpu.p2 es m.outside) events in
     let first : c.pass-host.result.1 ≡ wires (latch_of cpu.p2) (passed 1 m.cycle cpu.p2 due.host.items m.outside).pc =
-    c.pass-host.ensures.first ∙ ap (λ p. wires (latch_of p) (passed 1 m.cycle c.port_2-p2.result c.as_slice-2.result.now m.outside).pc) c.port_2-p2.ensures
+    c.pass-host.ensures.passed.first ∙ ap (λ p. wires (latch_of p) (passed 1 m.cycle c.port_2-p2.result c.as_slice-2.result.now m.outside).pc) c.port_2-p2.ensures
     ∙ ap (λ (s : Beside). wires (latch_of cpu.p2) s.pc) first_to in
     let last : c.pass-host.result.2 ≡ wires (latch_of cpu.p2) (passed cycles m.cycle cpu.p2 due.host.items m.outside).pc =
-    c.pass-host.ensures.last ∙ ap (λ p. wires (latch_of p) (passed cycles m.cycle c.port_2-p2.result c.as_slice-2.result.now m.outside).pc) c.port_2-p2.ensures
+    c.pass-host.ensures.passed.last ∙ ap (λ p. wires (latch_of p) (passed cycles m.cycle c.port_2-p2.result c.as_slice-2.result.now m.outside).pc) c.port_2-p2.ensures
     ∙ ap (λ (s : Beside). wires (latch_of cpu.p2) s.pc) came_to in
     by_step due m
     (record { cycles = cycles; edges = c.make_edges-edges.result; host = c.pass-host.result.0; items = c.pass-host.new.items; lines = c.pass-host.result.1 ∷ c.pass-host.result.2 ∷ [] })
     (record { image = m.image; matrix = c.make_edges-edges.new.matrix; mcu = cpu; outside = c.pass-host.new.self; cycle = m.cycle + cycles; steps = m.steps + 1 })
     cpu c.pins-given.result given c.in_ok-cycles.ensures.step
     (ap (λ k. record (machine_after due m (came due m cycles cpu)) { matrix = k; outside = c.pass-host.new.self }) keys
-    ∙ ap (λ o. record (machine_after due m (came due m cycles cpu)) { outside = o }) (c.pass-host.ensures.outside ∙ ap outside_of came_to))
+    ∙ ap (λ o. record (machine_after due m (came due m cycles cpu)) { outside = o }) (c.pass-host.ensures.passed.outside ∙ ap outside_of came_to))
     (record {
       cycles = refl;
       edges = count;
-      host = c.pass-host.ensures.done ∙ ap (λ (s : Beside). s.pc.side.done) came_to;
-      items = c.pass-host.ensures.items ∙ ap (λ (s : Beside). s.pc.side.log) came_to;
+      host = c.pass-host.ensures.passed.done ∙ ap (λ (s : Beside). s.pc.side.done) came_to;
+      items = c.pass-host.ensures.passed.items ∙ ap (λ (s : Beside). s.pc.side.log) came_to;
       lines = ap (λ l. l ∷ c.pass-host.result.2 ∷ []) first ∙ ap (λ l. wires (latch_of cpu.p2) (passed 1 m.cycle cpu.p2 due.host.items m.outside).pc ∷ l ∷ []) last;
     })

@@ -24,10 +24,12 @@ returns-then-is_quiet c =
     let line : c.latch-line.result ≡ wires (latch_of p2) (beside (noted p2 o) 0 []).pc =
     c.latch-line.ensures ∙ sym (wires_free (latch_of p2) o.desk.port.link (link_free last p2 (slice_get events 0) o q)) in
     record {
-      outside = ap (λ (l : Lines). record o { clock = l.clk }) c.latch-line.ensures ∙ ap outside_of (sym all);
-      done = ap (λ (s : Beside). s.pc.side.done) (sym all);
-      items = c.requires.none ∙ ap (λ (s : Beside). s.pc.side.log) (sym all);
-      first = line ∙ ap (λ (s : Beside). wires (latch_of p2) s.pc) (sym one);
-      last = line ∙ ap (λ (s : Beside). wires (latch_of p2) s.pc) (sym all);
+      passed = record {
+        outside = ap (λ (l : Lines). record o { clock = l.clk }) c.latch-line.ensures ∙ ap outside_of (sym all);
+        items = c.requires.none ∙ ap (λ (s : Beside). s.pc.side.log) (sym all);
+        done = ap (λ (s : Beside). s.pc.side.done) (sym all);
+        first = line ∙ ap (λ (s : Beside). wires (latch_of p2) s.pc) (sym one);
+        last = line ∙ ap (λ (s : Beside). wires (latch_of p2) s.pc) (sym all);
+      };
       empty = c.requires.empty;
     }

@@ -12,11 +12,13 @@ returns-then-cycles-eq1 c =
     c.cycle-first_done.ensures.outside c.cycle-first_done.ensures.done c.cycle-first_done.ensures.items in
     let all = ap (λ k. passed k c.args.now c.args.p2 c.args.host.now c.args.self.now) c.if-cycles-eq1.true ∙ one in
     record {
-      outside = ap outside_of (sym all);
-      done = ap (λ (s : Beside). s.pc.side.done) (sym all);
-      items = ap (λ (s : Beside). s.pc.side.log) (sym all);
-      first = c.wires-first.ensures ∙ ap (λ (s : Beside). wires (latch_of c.args.p2) s.pc) (sym one);
-      last = c.wires-first.ensures ∙ ap (λ (s : Beside). wires (latch_of c.args.p2) s.pc) (sym all);
+      passed = record {
+        outside = ap outside_of (sym all);
+        items = ap (λ (s : Beside). s.pc.side.log) (sym all);
+        done = ap (λ (s : Beside). s.pc.side.done) (sym all);
+        first = c.wires-first.ensures ∙ ap (λ (s : Beside). wires (latch_of c.args.p2) s.pc) (sym one);
+        last = c.wires-first.ensures ∙ ap (λ (s : Beside). wires (latch_of c.args.p2) s.pc) (sym all);
+      };
       empty = c.cycle-first_done.ensures.empty;
     }
 
@@ -33,10 +35,12 @@ returns c =
     let count : c.args.cycles ≡ 2 = omega (arith, c.requires.some, c.requires.few, c.if-cycles-eq1.false) in
     let all = ap (λ k. passed k c.args.now c.args.p2 c.args.host.now c.args.self.now) count ∙ two in
     record {
-      outside = ap outside_of (sym all);
-      done = ap (λ (s : Beside). s.pc.side.done) (sym all);
-      items = ap (λ (s : Beside). s.pc.side.log) (sym all);
-      first = c.wires-first.ensures ∙ ap (λ (s : Beside). wires (latch_of c.args.p2) s.pc) (sym one);
-      last = c.wires-last.ensures ∙ ap (λ (s : Beside). wires (latch_of c.args.p2) s.pc) (sym all);
+      passed = record {
+        outside = ap outside_of (sym all);
+        items = ap (λ (s : Beside). s.pc.side.log) (sym all);
+        done = ap (λ (s : Beside). s.pc.side.done) (sym all);
+        first = c.wires-first.ensures ∙ ap (λ (s : Beside). wires (latch_of c.args.p2) s.pc) (sym one);
+        last = c.wires-last.ensures ∙ ap (λ (s : Beside). wires (latch_of c.args.p2) s.pc) (sym all);
+      };
       empty = c.cycle-last_done.ensures.empty;
     }
