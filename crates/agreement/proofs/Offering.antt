@@ -1,5 +1,6 @@
 -- What a tick start offers is a byte, and the latch of port 2 from its lights on leaves both wires alone.
-use Rattle.std.proofs.Common.{◌≡◌, ◌<◌, ℕ, suc, zero, ◌+◌, ◌-◌, ◌*◌, ◌/◌, ◌%◌, ◌==◌, List, Bool, true, false, Some, None, drop, length, slice_index, refl, ap, sym, ◌∙◌, subst, arith}
+use Rattle.std.proofs.Common.{◌≡◌, ◌<◌, ℕ, suc, zero, ◌+◌, ◌-◌, ◌*◌, ◌/◌, ◌%◌, ◌==◌, List, Bool, true, false}
+use Rattle.std.proofs.Common.{Some, None, drop, length, slice_index, refl, ap, sym, ◌∙◌, subst, arith}
 use Rattle.std.specs.declared.option.Option.{Option}
 use Rattle.std.proofs.lemmas.List.Elements.{All-get_or}
 use Rattle.board_lines.specs.declared.event.Edge.{Edge}

@@ -53,7 +53,13 @@ module _ (layout : KeyLayout) (history : KeyHistory) (fine : IsKeyLayout layout)
       comes_as (joint_board edges events) TICK bytes
       (λ e. IsOnTime 0 e × Ties e (at_first (keyboard layout) events e.cycle))
       (λ e. IsOnTime 0 e × Tied e (at_first (keyboard layout) events e.cycle)) joint_start
-      (λ e h. (h.0, record { ties = h.1; in_bytes = first_in_bytes events ok.written Keyboard (keyboard layout) e.cycle }))
+      (λ e h. (
+        h.0,
+        record {
+          ties = h.1;
+          in_bytes = first_in_bytes events ok.written Keyboard (keyboard layout) e.cycle;
+        },
+      ))
       (begins edges events bytes (has_kernel layout) (are_bytes layout fine) (bus_low edges events) layout
       (has_rate layout))
 

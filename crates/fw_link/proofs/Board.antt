@@ -1,5 +1,6 @@
 -- The joint run's board under a frame's latch: the cycles at the wires, and what the looks see.
-use Rattle.std.proofs.Common.{◌≡◌, ◌≤◌, ◌<◌, ℕ, suc, zero, ◌+◌, List, [], ◌++◌, true, ◌&&◌, ◌==◌, refl, ap, sym, ◌∙◌, arith}
+use Rattle.std.proofs.Common.{◌≡◌, ◌≤◌, ◌<◌, ℕ, suc, zero, ◌+◌, List, [], ◌++◌, true, ◌&&◌, ◌==◌, refl, ap, sym}
+use Rattle.std.proofs.Common.{◌∙◌, arith}
 use Rattle.std.proofs.lemmas.Bool.Decides.{nat_tests}
 use Rattle.std.proofs.lemmas.List.{append-nil}
 use Rattle.board_lines.specs.declared.event.Edge.{Edge}
@@ -25,7 +26,10 @@ unfolding joint_cycle
 one_cycle events p2 now s e =
     let said : s.pc.side.log ++ lights_said now s.shown (lights_of p2) ≡ s.pc.side.log =
     ap (λ l. s.pc.side.log ++ l) (none_said now s.shown (lights_of p2) e) ∙ append-nil s.pc.side.log in
-    ap (λ l. record { pc = board_cycle events now (latch_of p2) (record s.pc { side = record s.pc.side { log = l } }); shown = lights_of p2 }) said
+    ap (λ l. record {
+      pc = board_cycle events now (latch_of p2) (record s.pc { side = record s.pc.side { log = l } });
+      shown = lights_of p2;
+    }) said
     ∙ ap (λ z. record { pc = board_cycle events now (latch_of p2) s.pc; shown = z }) e
 
 -- cycles over a latch that leaves the lights as they are
@@ -47,7 +51,10 @@ at_wires edges events x latch lines (suc n) from s lit is =
     ∙ at_wires edges events x latch lines n (from + 1)
     (record { pc = board_cycle events (x + from) (lines (x + from)) s.pc; shown = s.shown })
     (λ o a b. lit o (omega (arith, a)) (omega (arith, b))) (λ o a b. is o (omega (arith, a)) (omega (arith, b)))
-    ∙ ap (λ c. record { pc = board_cycles events lines n c (board_cycle events (x + from) (lines (x + from)) s.pc); shown = s.shown }) next
+    ∙ ap (λ c. record {
+      pc = board_cycles events lines n c (board_cycle events (x + from) (lines (x + from)) s.pc);
+      shown = s.shown;
+    }) next
 
 -- what a look sees is what both sides drive
 pub clock_is : (edges : List Edge) (events : List HostEvent) (p1 p2 cycle : ℕ) (s : Beside)

@@ -1,5 +1,6 @@
 -- One cell of a sent frame, 32 cycles, with the number of cells left as a number; and the same cut.
-use Rattle.std.proofs.Common.{◌≡◌, ◌<◌, ℕ, suc, ◌+◌, ◌*◌, ◌/◌, ◌%◌, List, [], ◌∷◌, Bool, true, false, not, ◌==◌, if◌then◌else◌}
+use Rattle.std.proofs.Common.{◌≡◌, ◌<◌, ℕ, suc, ◌+◌, ◌*◌, ◌/◌, ◌%◌, List, [], ◌∷◌, Bool, true, false, not, ◌==◌}
+use Rattle.std.proofs.Common.{if◌then◌else◌}
 use Rattle.std.proofs.Common.{bit_and, bit_or, refl, ap, ◌∙◌, arith}
 use Rattle.mcs48_core.specs.Cpu.{Cpu}
 use Rattle.mcs48_core.specs.Status.{bit, digit}
@@ -97,10 +98,14 @@ module _ (d : Board) (bytes : List ℕ) (has : HasKernel bytes) (y : ℕ) (m : C
       go true left =
           sound d (kernel_in true bytes) (has_rows true bytes has) y
           (Until 111 ∷ Acc v ∷ Until 118 ∷ Go false ∷ Until 125 ∷ Go true ∷ Ram (memory (turned f m.c n) ring) ∷ [])
-          (Celled v n S_CELL) (begin_at d S_CELL f ring m board)
-          (next_bit b (bit 0 (f 30)) (f 26) v low value, (ap not high, (asks (f 27) n less true left, (cells, (refl, refl, refl, refl))))) free
+          (Celled v n S_CELL) (begin_at d S_CELL f ring m board) (
+            next_bit b (bit 0 (f 30)) (f 26) v low value,
+            (ap not high, (asks (f 27) n less true left, (cells, (refl, refl, refl, refl)))),
+          ) free
       go false left =
           sound d (kernel_in true bytes) (has_rows true bytes has) y
           (Until 111 ∷ Acc v ∷ Until 118 ∷ Go false ∷ Until 125 ∷ Go false ∷ Ram (memory (turned f m.c n) ring) ∷ [])
-          (Celled v n S_STOP) (begin_at d S_CELL f ring m board)
-          (next_bit b (bit 0 (f 30)) (f 26) v low value, (ap not high, (asks (f 27) n less false left, (cells, (refl, refl, refl, refl))))) free
+          (Celled v n S_STOP) (begin_at d S_CELL f ring m board) (
+            next_bit b (bit 0 (f 30)) (f 26) v low value,
+            (ap not high, (asks (f 27) n less false left, (cells, (refl, refl, refl, refl)))),
+          ) free

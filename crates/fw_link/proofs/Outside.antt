@@ -1,5 +1,6 @@
 -- Outside frames the latch of port 2 leaves both wires alone; and the lines of a whole tick.
-use Rattle.std.proofs.Common.{◌≡◌, ◌≤◌, ◌<◌, ℕ, suc, zero, ◌+◌, ◌-◌, List, Bool, true, false, nat_lt, refl, ap, sym, ◌∙◌, arith}
+use Rattle.std.proofs.Common.{◌≡◌, ◌≤◌, ◌<◌, ℕ, suc, zero, ◌+◌, ◌-◌, List, Bool, true, false, nat_lt, refl, ap}
+use Rattle.std.proofs.Common.{sym, ◌∙◌, arith}
 use Rattle.std.proofs.lemmas.Bool.Decides.{nat_tests}
 use Rattle.board_lines.specs.declared.event.Edge.{Edge}
 use Rattle.board_lines.specs.declared.event.HostEvent.{HostEvent}
@@ -38,7 +39,12 @@ still_wires edges events lines (suc n) y v s lit is =
 -- a cycle in which the lights may change: they are said first
 pub lit_cycle : (events : List HostEvent) (p2 now : ℕ) (s : Beside)
     → joint_cycle events p2 now s
-    ≡ record { pc = board_cycle events now (latch_of p2) (record s.pc { side = says_lights now s.shown (lights_of p2) s.pc.side }); shown = lights_of p2 }
+    ≡ record {
+      pc = board_cycle events now (latch_of p2) (record s.pc {
+        side = says_lights now s.shown (lights_of p2) s.pc.side;
+      });
+      shown = lights_of p2;
+    }
 unfolding joint_cycle
 lit_cycle events p2 now s = refl
 
@@ -46,7 +52,10 @@ lit_cycle events p2 now s = refl
 pub lit_wires : (edges : List Edge) (events : List HostEvent) (lines : ℕ → Lines) (n y v : ℕ) (s : Beside)
     → ((o : ℕ) → y ≤ o → o < y + suc n → lines o ≡ latch_of v)
     → ticks (suc n) y ((joint_board edges events).tick v) s
-    ≡ record { pc = board_cycles events lines (suc n) y (record s.pc { side = says_lights y s.shown (lights_of v) s.pc.side }); shown = lights_of v }
+    ≡ record {
+      pc = board_cycles events lines (suc n) y (record s.pc { side = says_lights y s.shown (lights_of v) s.pc.side });
+      shown = lights_of v;
+    }
 lit_wires edges events lines n y v s is =
     let said : Pc = record s.pc { side = says_lights y s.shown (lights_of v) s.pc.side } in
     let first : joint_cycle events v y s ≡ record { pc = board_cycle events y (lines y) said; shown = lights_of v } =

@@ -1,5 +1,6 @@
 -- The cells of a received frame, one by one: a data bit, the parity bit, the stop bit, and the fall that ends it.
-use Rattle.std.proofs.Common.{◌≡◌, ◌<◌, ℕ, suc, ◌+◌, ◌-◌, ◌*◌, ◌/◌, ◌%◌, List, [], ◌∷◌, Bool, true, false, not, ◌==◌, if◌then◌else◌}
+use Rattle.std.proofs.Common.{◌≡◌, ◌<◌, ℕ, suc, ◌+◌, ◌-◌, ◌*◌, ◌/◌, ◌%◌, List, [], ◌∷◌, Bool, true, false, not}
+use Rattle.std.proofs.Common.{◌==◌, if◌then◌else◌}
 use Rattle.std.proofs.Common.{bit_and, bit_or, refl, ap}
 use Rattle.mcs48_core.specs.Cpu.{Cpu}
 use Rattle.mcs48_core.specs.Status.{bit, digit}
@@ -91,14 +92,34 @@ module _ (d : Board) (bytes : List ℕ) (has : HasKernel bytes) (y : ℕ) (m : C
           sound d (kernel_in true bytes) (has_rows true bytes has) y
           (Until 267 ∷ Acc (m.a / 2) ∷ Until 274 ∷ Fork 280 (looked 280 (λ a b. if b then bit_or a 128 else a)) ∷ Acc
           (m.a / 2 + 128 * digit bit_seen) ∷ Until 284 ∷ Go true ∷ Ram (memory (put (put f 24 0) 27 n) ring) ∷ [])
-          (TakesBit n R_CELL) (begin_at d R_CELL f ring m board)
-          (turned_down m.a small, (refl, (refl, refl, refl, λ e. (bit_in m.a bit_seen small, (asks (f 27) n less true left, (cells, (refl, refl, refl, refl))))))) free
+          (TakesBit n R_CELL) (begin_at d R_CELL f ring m board) (
+            turned_down m.a small,
+            (
+              refl,
+              (
+                refl,
+                refl,
+                refl,
+                λ e. (bit_in m.a bit_seen small, (asks (f 27) n less true left, (cells, (refl, refl, refl, refl)))),
+              ),
+            ),
+          ) free
       go false left =
           sound d (kernel_in true bytes) (has_rows true bytes has) y
           (Until 267 ∷ Acc (m.a / 2) ∷ Until 274 ∷ Fork 280 (looked 280 (λ a b. if b then bit_or a 128 else a)) ∷ Acc
           (m.a / 2 + 128 * digit bit_seen) ∷ Until 284 ∷ Go false ∷ Ram (memory (put (put f 24 0) 27 n) ring) ∷ [])
-          (TakesBit n R_PARITY) (begin_at d R_CELL f ring m board)
-          (turned_down m.a small, (refl, (refl, refl, refl, λ e. (bit_in m.a bit_seen small, (asks (f 27) n less false left, (cells, (refl, refl, refl, refl))))))) free
+          (TakesBit n R_PARITY) (begin_at d R_CELL f ring m board) (
+            turned_down m.a small,
+            (
+              refl,
+              (
+                refl,
+                refl,
+                refl,
+                λ e. (bit_in m.a bit_seen small, (asks (f 27) n less false left, (cells, (refl, refl, refl, refl)))),
+              ),
+            ),
+          ) free
 
   -- the parity bit: R4 is the byte, R5 is 255 where the bit is right and else 0
   abbrev pub with_parity : ℕ → ℕ

@@ -18,8 +18,10 @@ use Rattle.fw_logic.proofs.Short.{has_rows}
 use Rattle.fw_logic.proofs.Sound.{chain, weaken}
 use Rattle.fw_link.specs.Latch.{wired, driven, received_latch}
 use Rattle.fw_link.proofs.Ends.{in_quarters}
-use Rattle.fw_link.proofs.Receive.{awaits, Awaits, is_parity, takes_parity, with_parity, takes_stop, acks, board_behind_bit, board_acked}
-use Rattle.fw_link.proofs.Taking.{taken, taken_is, taken_small, read_bits, InBits, one_bit, bit_read, risen_is, cell_span, look_is, in_cell, before_cells}
+use Rattle.fw_link.proofs.Receive.{awaits, Awaits, is_parity, takes_parity, with_parity, takes_stop, acks}
+use Rattle.fw_link.proofs.Receive.{board_behind_bit, board_acked}
+use Rattle.fw_link.proofs.Taking.{taken, taken_is, taken_small, read_bits, InBits, one_bit, bit_read, risen_is}
+use Rattle.fw_link.proofs.Taking.{cell_span, look_is, in_cell, before_cells}
 use Rattle.fw_link.proofs.Wired.{IsReleased, both_high, restores, spans}
 use Rattle.joint_run.specs.Run.{Board, ticks}
 

@@ -1,5 +1,6 @@
 -- What a received frame is told by: the bits that were read, the board under its latch, and its data cells.
-use Rattle.std.proofs.Common.{◌≡◌, ◌≤◌, ◌<◌, ℕ, suc, zero, ◌+◌, ◌-◌, ◌*◌, ◌/◌, ◌%◌, List, [], ◌∷◌, Bool, true, false, not, ◌==◌, nat_le, nat_lt, if◌then◌else◌}
+use Rattle.std.proofs.Common.{◌≡◌, ◌≤◌, ◌<◌, ℕ, suc, zero, ◌+◌, ◌-◌, ◌*◌, ◌/◌, ◌%◌, List, [], ◌∷◌, Bool, true}
+use Rattle.std.proofs.Common.{false, not, ◌==◌, nat_le, nat_lt, if◌then◌else◌}
 use Rattle.std.proofs.Common.{bit_and, bit_or, refl, ap, sym, ◌∙◌, subst, arith}
 use Rattle.std.proofs.lemmas.Bool.Decides.{nat_tests}
 use Rattle.mcs48_core.specs.Cpu.{Cpu}

@@ -1,5 +1,6 @@
 -- Facts of the latch of port 2, and of boards that are driven by a latch that is a function of the offset.
-use Rattle.std.proofs.Common.{◌≡◌, ◌<◌, ℕ, suc, zero, ◌+◌, ◌-◌, ◌*◌, ◌/◌, ◌%◌, Bool, true, false, ◌==◌, ◌&&◌, nat_le, nat_lt}
+use Rattle.std.proofs.Common.{◌≡◌, ◌<◌, ℕ, suc, zero, ◌+◌, ◌-◌, ◌*◌, ◌/◌, ◌%◌, Bool, true, false, ◌==◌, ◌&&◌}
+use Rattle.std.proofs.Common.{nat_le, nat_lt}
 use Rattle.std.proofs.Common.{if◌then◌else◌, bit_and, bit_or, refl, ap, sym, ◌∙◌, arith}
 use Rattle.std.proofs.lemmas.Bool.Decides.{nat_tests}
 use Rattle.mcs48_core.specs.Status.{bit, digit}

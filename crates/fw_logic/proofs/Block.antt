@@ -21,7 +21,20 @@ memory f ring = before f 0 112 ring
 -- the carries and the timer
 abbrev pub scratched : Cpu → ℕ → List ℕ → Cpu → Cpu
 scratched m pc ram e =
-    record m { pc = pc; rb = true; mb = false; ram = ram; a = e.a; c = e.c; ac = e.ac; t = e.t; pre = e.pre; tf = e.tf; rq = e.rq; last_t1 = e.last_t1 }
+    record m {
+      pc = pc;
+      rb = true;
+      mb = false;
+      ram = ram;
+      a = e.a;
+      c = e.c;
+      ac = e.ac;
+      t = e.t;
+      pre = e.pre;
+      tf = e.tf;
+      rq = e.rq;
+      last_t1 = e.last_t1;
+    }
 
 abbrev pub begin_at : (d : Board) → ℕ → (ℕ → ℕ) → List ℕ → Cpu → d.State → Stage d.State
 begin_at d pc f ring m board = record { cpu = scratched m pc (memory f ring) m; board = board; off = 0 }

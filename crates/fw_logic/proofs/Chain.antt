@@ -38,9 +38,21 @@ stepped_is bytes pins m r free row =
     let next : Stepped =
     record { cpu = after_timer m.run r.cycles pins (effect r.op bytes pins (past m)); cycles = r.cycles } in
     subst (λ x. (elim x as (λ v. Option
-    Stepped) [ true ↦ Some (entered 3 pins m) | false ↦ elim (takes_timer m) as (λ v. Option Stepped) [ true ↦ Some (entered 7 pins (record m { rq = false })) | false ↦ executed (row_at bytes m.pc) bytes pins m ] ]) ≡ Some next) (sym (not_external pins m free))
+    Stepped) [
+      | true ↦ Some (entered 3 pins m)
+      | false ↦ elim (takes_timer m) as
+          (λ v. Option Stepped) [
+            | true ↦ Some (entered 7 pins (record m { rq = false }))
+            | false ↦ executed
+                (row_at bytes m.pc) bytes pins m
+          ]
+    ]) ≡ Some next) (sym (not_external pins m free))
     (subst (λ x. (elim x as (λ v. Option
-    Stepped) [ true ↦ Some (entered 7 pins (record m { rq = false })) | false ↦ executed (row_at bytes m.pc) bytes pins m ]) ≡ Some next) (sym (not_timer m free))
+    Stepped) [
+      | true ↦ Some (entered 7 pins (record m { rq = false }))
+      | false ↦ executed
+          (row_at bytes m.pc) bytes pins m
+    ]) ≡ Some next) (sym (not_timer m free))
     (ap (λ o. executed o bytes pins m) row))
 
 -- offsets are cycles from x on
@@ -91,12 +103,28 @@ module _ (d : Board) (code : Code) (has : HasRows code) (x : ℕ) where
 
   pub stay : (Q : Stage d.State → Type 0) (s : Stage d.State) → Q s → IsFree s.cpu → Leads d code x s Q
   stay Q s h free =
-      record { steps = 0; end = s; run = refl; goal = h; free = free; order = omega arith; clock = λ timed timing room. record { count = refl; timing = timing; tf = refl; rq = refl; tim_on = refl } }
+      record {
+        steps = 0;
+        end = s;
+        run = refl;
+        goal = h;
+        free = free;
+        order = omega arith;
+        clock = λ timed timing room. record { count = refl; timing = timing; tf = refl; rq = refl; tim_on = refl };
+      }
 
   pub weaken : (Q R : Stage d.State → Type 0) (s : Stage d.State) → ((e : Stage d.State) → Q e → R e)
       → Leads d code x s Q → Leads d code x s R
   weaken Q R s f h =
-      record { steps = h.steps; end = h.end; run = h.run; goal = f h.end h.goal; free = h.free; order = h.order; clock = h.clock }
+      record {
+        steps = h.steps;
+        end = h.end;
+        run = h.run;
+        goal = f h.end h.goal;
+        free = h.free;
+        order = h.order;
+        clock = h.clock;
+      }
 
   -- a stage comes to one of the set
   abbrev pub To : Stage d.State → (Stage d.State → Type 0) → Type 0
@@ -116,7 +144,11 @@ module _ (d : Board) (code : Code) (has : HasRows code) (x : ℕ) where
       let m = left d code x r s in
       let next : Stage d.State = moved d x r.cycles m s in
       let step : joint_step d code.bytes w
-      ≡ Some (record { cpu = m; board = ticks r.cycles (x + s.off) (d.tick m.p2) s.board; cycle = x + s.off + r.cycles }) =
+      ≡ Some (record {
+        cpu = m;
+        board = ticks r.cycles (x + s.off) (d.tick m.p2) s.board;
+        cycle = x + s.off + r.cycles;
+      }) =
       ap (λ o. after_step d w o) (stepped_is code.bytes (pins_at d x s) s.cpu r free row) in
       let sum : x + s.off + r.cycles ≡ x + (s.off + r.cycles) = omega arith in
       let one : joint_step d code.bytes w ≡ Some (world_at x next) =

@@ -14,7 +14,11 @@ module _ (d : Board) (tick : ℕ) (bytes : List ℕ) (b : All IsByte bytes)
   next_fine w e h None step is = absurd cc
   next_fine w e h (Some n) step is =
       let f = stepped_fine bytes (seen d w) w.cpu n b (levels w.cpu.p1 w.cpu.p2 w.cycle w.board) h step in
-      let same : record { cpu = n.cpu; board = ticks n.cycles w.cycle (d.tick n.cpu.p2) w.board; cycle = w.cycle + n.cycles } ≡ e =
+      let same : record {
+        cpu = n.cpu;
+        board = ticks n.cycles w.cycle (d.tick n.cpu.p2) w.board;
+        cycle = w.cycle + n.cycles;
+      } ≡ e =
       cc in
       subst (λ v. IsFine v.cpu) same f
 

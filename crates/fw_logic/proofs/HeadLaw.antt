@@ -1,5 +1,6 @@
 -- The tick's head at any working processor: the timer is written, and counts on.
-use Rattle.std.proofs.Common.{◌≡◌, ◌≤◌, ◌<◌, ℕ, ◌+◌, ◌*◌, List, [], ◌∷◌, Bool, true, false, not, ◌&&◌, ◌||◌, ◌==◌, nat_le, Some}
+use Rattle.std.proofs.Common.{◌≡◌, ◌≤◌, ◌<◌, ℕ, ◌+◌, ◌*◌, List, [], ◌∷◌, Bool, true, false, not, ◌&&◌, ◌||◌}
+use Rattle.std.proofs.Common.{◌==◌, nat_le, Some}
 use Rattle.std.proofs.Common.{length, drop, slice_index, refl, ap, sym, ◌∙◌, subst, arith}
 use Rattle.std.proofs.lemmas.Bool.Decides.{nat_tests}
 use Rattle.mcs48_isa.specs.declared.operation.Op.TheVariants.{Moves}
@@ -54,7 +55,11 @@ module _ (d : Board) (bytes : List ℕ) (has : HasKernel bytes) (x : ℕ) (k : C
 
   abbrev second : Bool → Stage d.State
   second last =
-      record { cpu = record at_cpu { pc = 9; a = 192; pre = k.pre + 2; last_t1 = last }; board = ticks 2 x (d.tick k.p2) board; off = 2 }
+      record {
+        cpu = record at_cpu { pc = 9; a = 192; pre = k.pre + 2; last_t1 = last };
+        board = ticks 2 x (d.tick k.p2) board;
+        off = 2;
+      }
 
   abbrev third : Bool → Cpu
   third last = record at_cpu { pc = 10; a = 192; t = 192; pre = k.pre + 2 + 1; last_t1 = last }
@@ -178,7 +183,12 @@ module _ (d : Board) (bytes : List ℕ) (has : HasKernel bytes) (x : ℕ) (k : C
             (record { steps = set.steps; end = world_at x e; run = set.run; goal = refl })
             (λ w is.
             subst (λ u. Comes d TICK bytes u (Heads d start)) (sym (is ∙ same))
-            (record { steps = h.steps; end = world_at x v; run = h.run; goal = heads last v h.goal h.free (t, counted) }));
+            (record {
+              steps = h.steps;
+              end = world_at x v;
+              run = h.run;
+              goal = heads last v h.goal h.free (t, counted);
+            }));
       }
 
 -- from a state of the run

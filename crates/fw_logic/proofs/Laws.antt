@@ -31,7 +31,12 @@ module _ (d : Board) (tick : ℕ) (bytes : List ℕ) where
       → ((e : World d.State) → Q e → Comes d tick bytes e R) → Comes d tick bytes w R
   comes_then Q R w first rest =
       let r = rest first.end first.goal in
-      record { steps = first.steps + r.steps; end = r.end; run = add first.steps r.steps w first.end first.run ∙ r.run; goal = r.goal }
+      record {
+        steps = first.steps + r.steps;
+        end = r.end;
+        run = add first.steps r.steps w first.end first.run ∙ r.run;
+        goal = r.goal;
+      }
 
   pub comes_here : (Q : World d.State → Type 0) (w : World d.State) → Q w → Comes d tick bytes w Q
   comes_here Q w h = record { steps = 0; end = w; run = refl; goal = h }
@@ -44,15 +49,29 @@ module _ (d : Board) (tick : ℕ) (bytes : List ℕ) where
   pub comes_by : (Q : World d.State → Type 0) (w : World d.State) (next : Stepped) → at_tick d tick w ≡ false
       → stepped bytes (seen d w) w.cpu ≡ Some next
       → Comes d tick bytes
-      (record { cpu = next.cpu; board = ticks next.cycles w.cycle (d.tick next.cpu.p2) w.board; cycle = w.cycle + next.cycles }) Q
+      (record {
+        cpu = next.cpu;
+        board = ticks next.cycles w.cycle (d.tick next.cpu.p2) w.board;
+        cycle = w.cycle + next.cycles;
+      }) Q
       → Comes d tick bytes w Q
   comes_by Q w next off step rest =
       let e : World d.State =
-      record { cpu = next.cpu; board = ticks next.cycles w.cycle (d.tick next.cpu.p2) w.board; cycle = w.cycle + next.cycles } in
+      record {
+        cpu = next.cpu;
+        board = ticks next.cycles w.cycle (d.tick next.cpu.p2) w.board;
+        cycle = w.cycle + next.cycles;
+      } in
       let one : calm_step d tick bytes w ≡ Some e =
       ap (λ b. elim b as (λ v. Option (World d.State)) [ true ↦ None | false ↦ joint_step d bytes w ]) off ∙ ap
       (λ o. after_step d w o) step in
-      record { steps = suc rest.steps; end = rest.end; run = ap (λ o. elim o as (λ v. Option (World d.State)) [ None ↦ None | Some t ↦ calm d tick bytes rest.steps t ]) one ∙ rest.run; goal = rest.goal }
+      record {
+        steps = suc rest.steps;
+        end = rest.end;
+        run = ap (λ o. elim o as (λ v. Option
+            (World d.State)) [ None ↦ None | Some t ↦ calm d tick bytes rest.steps t ]) one ∙ rest.run;
+        goal = rest.goal;
+      }
 
 -- the same between stages of a code
 module _ (d : Board) (code : Code) (has : HasRows code) (x : ℕ) where

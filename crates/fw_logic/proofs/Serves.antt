@@ -61,7 +61,11 @@ module _ (d : Board) (bytes : List ℕ) (has : HasKernel bytes) where
   -- the first instruction
   abbrev second : ℕ → ℕ → Bool → Bool → (ℕ → ℕ) → List ℕ → Cpu → d.State → Stage d.State
   second x late tf last f ring m board =
-      record { cpu = record (begun late tf last f ring m) { pc = 9; a = 192; pre = late + 4 }; board = ticks 2 x (d.tick m.p2) board; off = 2 }
+      record {
+        cpu = record (begun late tf last f ring m) { pc = 9; a = 192; pre = late + 4 };
+        board = ticks 2 x (d.tick m.p2) board;
+        off = 2;
+      }
 
   first_step : (x late : ℕ) → late ≤ 1 → (tf last : Bool) (f : ℕ → ℕ) (ring : List ℕ) (m : Cpu) (board : d.State)
       → joint_step d bytes (record { cpu = begun late tf last f ring m; board = board; cycle = x })

@@ -8,5 +8,9 @@ use Rattle.fw_logic.proofs.Kernel.{byte_in, kernel_in}
 use Rattle.fw_logic.proofs.Image.{row_is, guarded_some}
 
 pub has_rows : (timed : Bool) (bytes : List ℕ) → HasKernel bytes → HasRows (kernel_in timed bytes)
-has_rows timed bytes has pc r h =
-    (row_is bytes has pc r h, (row_timed (byte_in (pc % 2048)) (byte_in ((pc + 1) % 2048)) r (guarded_some (not (is_table (pc % 2048)) && not (is_table ((pc + 1) % 2048))) (row_of (byte_in (pc % 2048)) (byte_in ((pc + 1) % 2048))) r h).1).1)
+has_rows timed bytes has pc r h = (
+  row_is bytes has pc r h,
+  (row_timed (byte_in (pc % 2048)) (byte_in ((pc + 1) % 2048)) r
+      (guarded_some (not (is_table (pc % 2048)) && not (is_table ((pc + 1) % 2048)))
+      (row_of (byte_in (pc % 2048)) (byte_in ((pc + 1) % 2048))) r h).1).1,
+)

@@ -92,7 +92,11 @@ module _ (d : Board) (code : Code) (has : HasRows code) (x : ℕ) where
       → (s.cpu.pc % 2048 == code.tick) ≡ false
       → (c : Bool) → is_taken code.timed (Flow op) ≡ c
       → (elim c as (λ v.
-      Type 0) [ true ↦ Is (condition op (pins_at d x s) (past s.cpu)) b (K (moved d x cycles (after_timer s.cpu.run cycles (pins_at d x s) (answered op b (past s.cpu))) s)) | false ↦ ⊥ ])
+      Type 0) [
+        | true ↦ Is (condition op (pins_at d x s) (past s.cpu)) b
+            (K (moved d x cycles (after_timer s.cpu.run cycles (pins_at d x s) (answered op b (past s.cpu))) s))
+        | false ↦ ⊥
+      ])
       → To s K
   jumps_as b K s len cycles op row off false taken h = absurd h
   jumps_as b K s len cycles op row off true taken h =

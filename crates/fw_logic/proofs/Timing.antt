@@ -27,7 +27,13 @@ pub counted_later : (k : Clock) (c : ℕ) → IsTiming k → c ≤ 2 → total k
     → nat_le 32 (k.pre + c) ≡ b → IsLater k (counted b c k) 0 c
 counted_later k c h few room false is =
     let l : k.pre < 32 = h.pre in
-    record { count = omega arith; timing = record { run = refl; pre = grind (arith, nat_tests, is); t = h.t }; tf = refl; rq = refl; tim_on = refl }
+    record {
+      count = omega arith;
+      timing = record { run = refl; pre = grind (arith, nat_tests, is); t = h.t };
+      tf = refl;
+      rq = refl;
+      tim_on = refl;
+    }
 counted_later k c h few room true is =
     let l : k.pre < 32 = h.pre in
     let le : 32 ≤ k.pre + c = grind (arith, nat_tests, is) in
@@ -54,11 +60,24 @@ step_later k m c pins start e h few room =
     let short : total (clock_of m) + c < 8192 = omega (arith, room) in
     let l = counted_later (clock_of m) c h few short (nat_le 32 (m.pre + c)) refl in
     subst (λ j. IsLater (clock_of m) j start (start + c)) (sym (timer_clock m c pins run))
-    (record { count = (let n : total (counted (nat_le 32 (m.pre + c)) c (clock_of m)) + 0 ≡ total (clock_of m) + c = l.count in omega (arith, n)); timing = l.timing; tf = l.tf; rq = l.rq; tim_on = l.tim_on }))
+    (record {
+      count = (let n : total (counted (nat_le 32 (m.pre + c)) c (clock_of m)) + 0 ≡ total
+          (clock_of m) + c = l.count in omega (arith, n));
+      timing = l.timing;
+      tf = l.tf;
+      rq = l.rq;
+      tim_on = l.tim_on;
+    }))
     h room
 
 pub later_then : (k e f : Clock) (a b c : ℕ) → IsLater k e a b → IsLater e f b c → IsLater k f a c
 later_then k e f a b c h g =
     let l1 : total e + a ≡ total k + b = h.count in
     let l2 : total f + b ≡ total e + c = g.count in
-    record { count = omega (arith, l1, l2); timing = g.timing; tf = g.tf ∙ h.tf; rq = g.rq ∙ h.rq; tim_on = g.tim_on ∙ h.tim_on }
+    record {
+      count = omega (arith, l1, l2);
+      timing = g.timing;
+      tf = g.tf ∙ h.tf;
+      rq = g.rq ∙ h.rq;
+      tim_on = g.tim_on ∙ h.tim_on;
+    }
