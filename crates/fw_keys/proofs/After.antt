@@ -2,16 +2,14 @@
 use Rattle.fw_keys.proofs.Patch.{Keeps}
 use Rattle.fw_keys.proofs.Scan.{keyed}
 use Rattle.std.proofs.Common.{◌≡◌, ◌≤◌, ◌<◌, ℕ, ◌+◌, ◌%◌, List, All, Bool, true, ap, ◌∙◌, subst, arith}
-use Rattle.std.proofs.lemmas.Bool.Decides.{nat_tests}
 use Rattle.mcs48_core.specs.Cpu.{Cpu}
 use Rattle.fw_keys.proofs.Blocks.{recast}
 use Rattle.fw_keys.proofs.Blocks.{seq_f0}
-use Rattle.fw_keys.proofs.Columns.{wide}
+use Rattle.fw_keys.proofs.Columns.{wide, kept_helds}
 use Rattle.fw_keys.proofs.Scan.{Scanned, scan_law, edges_most}
 use Rattle.fw_kernel.specs.Places.{HasKernel}
 use Rattle.fw_kernel.specs.declared.labels.TheConstants.{DONE, SCAN}
 use Rattle.fw_keys.proofs.Block.{Ends, Safe}
-use Rattle.fw_keys.proofs.Patch.{Patch}
 use Rattle.fw_keys.specs.Edges.{image_keys}
 use Rattle.fw_keys.specs.State.{Inv, kbd_of}
 use Rattle.fw_logic.proofs.Block.{begin_at, memory}
@@ -22,9 +20,6 @@ use Rattle.mcs48_ranges.specs.Sizes.{IsByte}
 use Rattle.joint_run.specs.Run.{Board}
 use Rattle.kbd_model.specs.Keyboard.{Keyboard}
 use Rattle.kbd_model.specs.Tick.{is_scanning}
-
-wide_helds : (f : ℕ → ℕ) (r0 r7 : ℕ) (p : Patch) (i : ℕ) → i < 12 → wide f r0 r7 p (32 + i) ≡ f (32 + i)
-wide_helds f r0 r7 p i l = grind (arith, nat_tests, l)
 
 module _ (d : Board) (bytes : List ℕ) (hk : HasKernel bytes) (small : All IsByte bytes)
     (low : (p1 p2 c : ℕ) (s : d.State) → (d.pins p1 p2 c s).bus < 256) (held : List Bool) where
@@ -65,8 +60,15 @@ module _ (d : Board) (bytes : List ℕ) (hk : HasKernel bytes) (small : All IsBy
         facts = record {
           kbd = s.kbd ∙ ap (λ b. keyed (image_keys bytes) b ch hd (kbd_of held g r)) inh
               ∙ ap (λ k. keyed (image_keys bytes) m.f1 ch hd k) q.kbd;
-          downs = λ i l. wide_helds g s.r0 s.r7 s.p i l ∙ q.cells (32 + i) (omega arith) (omega (arith, l)) ∙ helds i l;
-          inv = record { most = s.most; started = q.inv.started; some = (let u : g 68 ≤ g 66 % 128 = q.inv.some in let v : g 66 % 128 ≤ s.p.count % 128 = s.more in omega (arith, u, v)); mode = q.inv.mode; lamps = q.inv.lamps };
+          downs = λ i l. kept_helds g s.r0 s.r7 s.p i l ∙ q.cells (32 + i) (omega arith) (omega (arith, l)) ∙ helds i l;
+          inv = record {
+            most = s.most;
+            started = q.inv.started;
+            some = (let u : g 68 ≤ g 66 % 128 = q.inv.some in let v : g 66 % 128 ≤ s.p.count % 128 = s.more in omega
+                (arith, u, v));
+            mode = q.inv.mode;
+            lamps = q.inv.lamps;
+          };
           stack = q.stack;
         };
       })

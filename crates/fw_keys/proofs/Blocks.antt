@@ -1,5 +1,6 @@
 -- Blocks one after another; what the machine keeps small is small at each block's start.
-use Rattle.std.proofs.Common.{◌≡◌, ◌≤◌, ◌<◌, ℕ, suc, zero, ◌+◌, List, Bool, All, length, get_or, refl, ap, sym, ◌∙◌, subst, arith, add-zero}
+use Rattle.std.proofs.Common.{◌≡◌, ◌≤◌, ◌<◌, ℕ, suc, zero, ◌+◌, List, Bool, All, length, get_or, refl, ap, sym}
+use Rattle.std.proofs.Common.{◌∙◌, subst, arith, add-zero}
 use Rattle.std.proofs.lemmas.List.Elements.{All-get_or}
 use Rattle.mcs48_core.specs.Cpu.{Cpu}
 use Rattle.fw_logic.proofs.Sound.{chain}
@@ -76,7 +77,18 @@ module _ (d : Board) (code : Code) (has : HasRows code) (small : All IsByte code
       → Leads d code x s (Ends d x m board to (max + more) N)
   seq x m board pc max to more M N s fine first rest =
       chain d code has x (λ e. Ends d x m board pc max M e × IsFine e.cpu) (Ends d x m board to (max + more) N) s
-      (record { steps = first.steps; end = first.end; run = first.run; goal = (first.goal, calm_fine d code.tick code.bytes small low first.steps (world_at x s) (world_at x first.end) fine first.run); free = first.free; order = first.order; clock = first.clock })
+      (record {
+        steps = first.steps;
+        end = first.end;
+        run = first.run;
+        goal = (
+          first.goal,
+          calm_fine d code.tick code.bytes small low first.steps (world_at x s) (world_at x first.end) fine first.run,
+        );
+        free = first.free;
+        order = first.order;
+        clock = first.clock;
+      })
       (λ e af free.
       let a = af.0 in
       let o = e.off in
@@ -111,7 +123,14 @@ module _ (d : Board) (code : Code) (has : HasRows code) (small : All IsByte code
       → Leads d code x s (Ends d x m board to max M) → Leads d code x s (Ends d x m board to max' N)
   relax x m board to max max' M N s l f h =
       weaken d code has x (Ends d x m board to max M) (Ends d x m board to max' N) s
-      (λ e a. record { now = a.now; ring = a.ring; cpu = a.cpu; short = (let k : e.off ≤ max = a.short in omega (arith, k, l)); board_now = a.board_now; facts = f e.cpu.a a.now a.ring a.facts }) h
+      (λ e a. record {
+        now = a.now;
+        ring = a.ring;
+        cpu = a.cpu;
+        short = (let k : e.off ≤ max = a.short in omega (arith, k, l));
+        board_now = a.board_now;
+        facts = f e.cpu.a a.now a.ring a.facts;
+      }) h
 
   -- a block that is a path; it may leave other flags than it found (n for m)
   pub leaf : (M : ℕ → (ℕ → ℕ) → List ℕ → Type 0) (plan : List Note) (from to max : ℕ) (g : ℕ → ℕ) (r : List ℕ) (x : ℕ)
@@ -163,7 +182,14 @@ module _ (d : Board) (code : Code) (has : HasRows code) (small : All IsByte code
   recast x m board to max max' M N s l f h =
       weaken d code has x (Ends d x m board to max M) (Ends d x m board to max' N) s
       (λ e a. let q = f e.cpu.a a.now a.ring a.facts in
-      record { now = q.cells; ring = a.ring; cpu = a.cpu ∙ ap (λ k. scratched m to k e.cpu) q.same; short = (let k : e.off ≤ max = a.short in omega (arith, k, l)); board_now = a.board_now; facts = q.facts }) h
+      record {
+        now = q.cells;
+        ring = a.ring;
+        cpu = a.cpu ∙ ap (λ k. scratched m to k e.cpu) q.same;
+        short = (let k : e.off ≤ max = a.short in omega (arith, k, l));
+        board_now = a.board_now;
+        facts = q.facts;
+      }) h
 
   -- nothing to do
   pub here : (M : ℕ → (ℕ → ℕ) → List ℕ → Type 0) (x pc : ℕ) (m : Cpu) (board : d.State) (f : ℕ → ℕ) (ring : List ℕ)
@@ -225,7 +251,18 @@ module _ (d : Board) (code : Code) (has : HasRows code) (small : All IsByte code
   pub fine_end : (x : ℕ) (s : Stage d.State) (Q : Stage d.State → Type 0) → IsFine s.cpu → Leads d code x s Q
       → Leads d code x s (λ e. Q e × IsFine e.cpu)
   fine_end x s Q fine h =
-      record { steps = h.steps; end = h.end; run = h.run; goal = (h.goal, calm_fine d code.tick code.bytes small low h.steps (world_at x s) (world_at x h.end) fine h.run); free = h.free; order = h.order; clock = h.clock }
+      record {
+        steps = h.steps;
+        end = h.end;
+        run = h.run;
+        goal = (
+          h.goal,
+          calm_fine d code.tick code.bytes small low h.steps (world_at x s) (world_at x h.end) fine h.run,
+        );
+        free = h.free;
+        order = h.order;
+        clock = h.clock;
+      }
 
   -- as seq, where the second block sets flag 0
   pub seq_f0 : (v : Bool) (x : ℕ) (m : Cpu) (board : d.State) (pc max to more : ℕ) (M N : ℕ → (ℕ → ℕ) → List ℕ → Type 0)

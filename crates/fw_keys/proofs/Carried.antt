@@ -1,5 +1,6 @@
 -- The layout's keys in place of the image's: a tick asks for the codes of places below 96 and for the rate alone.
-use Rattle.std.proofs.Common.{◌≡◌, ◌<◌, ℕ, suc, zero, ◌+◌, ◌-◌, ◌*◌, ◌==◌, not, ◌&&◌, Bool, true, false, if◌then◌else◌, List, [], ◌∷◌, ◌++◌, Some, None, refl, ap, sym, ◌∙◌, subst, arith}
+use Rattle.std.proofs.Common.{◌≡◌, ◌<◌, ℕ, suc, zero, ◌+◌, ◌-◌, ◌*◌, ◌==◌, not, ◌&&◌, Bool, true, false}
+use Rattle.std.proofs.Common.{if◌then◌else◌, List, [], ◌∷◌, ◌++◌, Some, None, refl, ap, sym, ◌∙◌, subst, arith}
 use Rattle.std.specs.declared.option.Option.{Option}
 use Rattle.mcs48_core.specs.Status.{bit}
 use Rattle.kbd_model.specs.declared.meeting.Meeting.{Meeting}
@@ -13,7 +14,8 @@ use Rattle.kbd_model.specs.Queue.{enter}
 use Rattle.kbd_model.specs.Typematic.{delay, period}
 use Rattle.kbd_model.specs.Keyboard.{Keyboard, offer}
 use Rattle.kbd_model.specs.Commands.{obeyed, obeyed_in, commanded}
-use Rattle.kbd_model.specs.Tick.{met, sent_byte, without_offered, tested_if, repeated, repeated_if, edge_if, edges_if, ended_at, is_scanning, is_inhibited, scanned, ticked}
+use Rattle.kbd_model.specs.Tick.{met, sent_byte, without_offered, tested_if, repeated, repeated_if, edge_if}
+use Rattle.kbd_model.specs.Tick.{edges_if, ended_at, is_scanning, is_inhibited, scanned, ticked}
 use Rattle.board_lines.specs.Matrix.{turned}
 use Rattle.fw_keys.specs.Edges.{row_edges, column_edges, tick_edges}
 
@@ -79,10 +81,18 @@ module _ (a b : Keys) (same : SameKeys a b) where
       → edge_if on a place down k ≡ edge_if on b place down k
   one_edge true place true k l =
       ap (λ (c : ℕ).
-      record k { held = turned place true k.held; queue = enter (make c) k.queue; repeats = Some (record { place = place; count = delay k.rate }) }) (same.code place l)
+      record k {
+        held = turned place true k.held;
+        queue = enter (make c) k.queue;
+        repeats = Some (record { place = place; count = delay k.rate });
+      }) (same.code place l)
   one_edge true place false k l =
       ap (λ (c : ℕ).
-      record k { held = turned place false k.held; queue = enter (release c) k.queue; repeats = ended_at place k.repeats }) (same.code place l)
+      record k {
+        held = turned place false k.held;
+        queue = enter (release c) k.queue;
+        repeats = ended_at place k.repeats;
+      }) (same.code place l)
   one_edge false place down k l = refl
 
   edges : (on : Bool) (es : List (ℕ × Bool)) (k : Keyboard) → low_edges es → edges_if on a es k ≡ edges_if on b es k

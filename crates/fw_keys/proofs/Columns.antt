@@ -1,10 +1,13 @@
 -- The loop over the columns: step 5 whole.
 use Rattle.fw_keys.proofs.Fold.{columns, edge, rows}
-use Rattle.std.proofs.Common.{◌≡◌, ◌≤◌, ◌<◌, ℕ, suc, zero, ◌+◌, ◌*◌, ◌%◌, List, [], ◌∷◌, All, Bool, true, false, not, ◌==◌, if◌then◌else◌, bit_and, bit_xor, refl, ap, sym, ◌∙◌, subst, arith, slice_index}
+use Rattle.std.proofs.Common.{◌≡◌, ◌≤◌, ◌<◌, ℕ, suc, zero, ◌+◌, ◌*◌, ◌%◌, List, [], ◌∷◌, All, Bool, true, false}
+use Rattle.std.proofs.Common.{not, ◌==◌, if◌then◌else◌, bit_and, bit_xor, refl, ap, sym, ◌∙◌, subst, arith}
+use Rattle.std.proofs.Common.{slice_index}
 use Rattle.std.proofs.lemmas.Bool.Decides.{nat_tests}
 use Rattle.mcs48_core.specs.Cpu.{Cpu}
 use Rattle.mcs48_core.specs.Status.{bit, digit}
-use Rattle.fw_keys.proofs.Blocks.{Just, JustA, leaf_a, leaf, here, seq, seq_just, seq_just_a, recast, relax, bytes_of, cell-get}
+use Rattle.fw_keys.proofs.Blocks.{Just, JustA, leaf_a, leaf, here, seq, seq_just, seq_just_a, recast, relax}
+use Rattle.fw_keys.proofs.Blocks.{bytes_of, cell-get}
 use Rattle.fw_keys.proofs.Rows.{marks, rows_time, self, AfterRows, rows_law}
 use Rattle.fw_kernel.specs.Places.{HasKernel}
 use Rattle.fw_kernel.specs.declared.labels.TheConstants.{COLUMN, DONE, FOOT, MORE, ROW}
@@ -28,7 +31,7 @@ wide f r0 r7 p = put (put (over f p) 24 r0) 31 r7
 kept_changes : (f : ℕ → ℕ) (r0 r7 : ℕ) (p : Patch) (i : ℕ) → i < 12 → wide f r0 r7 p (48 + i) ≡ f (48 + i)
 kept_changes f r0 r7 p i l = grind (arith, nat_tests, l)
 
-kept_helds : (f : ℕ → ℕ) (r0 r7 : ℕ) (p : Patch) (i : ℕ) → i < 12 → wide f r0 r7 p (32 + i) ≡ f (32 + i)
+pub kept_helds : (f : ℕ → ℕ) (r0 r7 : ℕ) (p : Patch) (i : ℕ) → i < 12 → wide f r0 r7 p (32 + i) ≡ f (32 + i)
 kept_helds f r0 r7 p i l = grind (arith, nat_tests, l)
 
 -- the cell that a register points to
@@ -106,7 +109,16 @@ module _ (d : Board) (bytes : List ℕ) (hk : HasKernel bytes) (small : All IsBy
       (leaf d (kernel_in true bytes) (has_rows true bytes hk) small low (AfterColumns c 1 f ring)
       (Run 1 ∷ Acc (ch c) ∷ Go false ∷ Run 1 ∷ []) COLUMN MORE 4 (wide f ((f 24 + 1) % 256) (f 31) p) ring x m m board f
       ring safe.0
-      (λ a. record { r0 = (f 24 + 1) % 256; r7 = f 31; p = p; now = refl; r0_is = omega (arith, pointer, l); kbd = sym (ap (λ v. rows (edge (image_keys bytes) on) (8 * c) 0 8 v (hd c) (kbd_of held f ring)) zero_is); most = col.most; more = omega arith })
+      (λ a. record {
+        r0 = (f 24 + 1) % 256;
+        r7 = f 31;
+        p = p;
+        now = refl;
+        r0_is = omega (arith, pointer, l);
+        kbd = sym (ap (λ v. rows (edge (image_keys bytes) on) (8 * c) 0 8 v (hd c) (kbd_of held f ring)) zero_is);
+        most = col.most;
+        more = omega arith;
+      })
       (cell_at f ring (f 24) (48 + c) pointer (omega (arith, l)) ∙ col.changes c l, (ap not none, (refl, refl, refl))))
   column false c x m board f ring l col safe some =
       let pointer : f 24 ≡ 48 + c = col.pointer in
@@ -130,7 +142,10 @@ module _ (d : Board) (bytes : List ℕ) (hk : HasKernel bytes) (small : All IsBy
             (
               cell_at (put (put f 28 (ch c)) 25 (32 + c)) ring (32 + c) (32 + c) refl (omega (arith, l))
                   ∙ kept_first f (ch c) (32 + c) c l ∙ col.helds c l,
-              (ap (λ v. bit_and (left_once (left_once (left_once v))) 120) pointer ∙ first_row c l, ((refl, refl, refl), refl)),
+              (
+                ap (λ v. bit_and (left_once (left_once (left_once v))) 120) pointer ∙ first_row c l,
+                ((refl, refl, refl), refl),
+              ),
             ),
           ),
         ),
@@ -140,7 +155,15 @@ module _ (d : Board) (bytes : List ℕ) (hk : HasKernel bytes) (small : All IsBy
       (AfterRows d bytes hk small low held on (ch c) (hd c) (8 * c) lc (omega (arith, l)) 0 8 g1 ring)
       (AfterColumns c 1 f ring) (begin_at d ROW g1 ring m1 board1) safe1.1
       (rows_law d bytes hk small low held on (ch c) (hd c) (8 * c) lc (omega (arith, l)) 8 0 x1 m1 board1 g1 ring
-      (record { sum = refl; a = a1; flag = ap (λ k. k.f0) same1 ∙ col.flag; left = refl; at = omega arith; downs = refl; most = col.most }) safe1)
+      (record {
+        sum = refl;
+        a = a1;
+        flag = ap (λ k. k.f0) same1 ∙ col.flag;
+        left = refl;
+        at = omega arith;
+        downs = refl;
+        most = col.most;
+      }) safe1)
       (λ x2 m2 board2 g last same2 q safe2.
       let r0 : ℕ = (f 24 + 1) % 256 in
       subst (λ t. Safe m2 FOOT t last → Leads d (kernel_in true bytes) x2 (begin_at d FOOT t last m2 board2)
@@ -148,7 +171,16 @@ module _ (d : Board) (bytes : List ℕ) (hk : HasKernel bytes) (small : All IsBy
       (λ safe3.
       leaf d (kernel_in true bytes) (has_rows true bytes hk) small low (AfterColumns c 1 f ring) (Until MORE ∷ []) FOOT
       MORE 3 (wide f r0 (hd c) q.p) last x2 m2 m2 board2 (over g1 q.p) last safe3.0
-      (λ a. record { r0 = r0; r7 = hd c; p = q.p; now = refl; r0_is = omega (arith, pointer, l); kbd = q.is.kbd; most = q.is.most; more = q.is.more })
+      (λ a. record {
+        r0 = r0;
+        r7 = hd c;
+        p = q.p;
+        now = refl;
+        r0_is = omega (arith, pointer, l);
+        kbd = q.is.kbd;
+        most = q.is.most;
+        more = q.is.more;
+      })
       (refl, refl, refl)) safe2)))
 
   abbrev goal_place : ℕ → ℕ
@@ -183,7 +215,20 @@ module _ (d : Board) (bytes : List ℕ) (hk : HasKernel bytes) (small : All IsBy
       recast d (kernel_in true bytes) (has_rows true bytes hk) small low x m board DONE 0 0 (JustA m.a f ring)
       (AfterColumns c 0 f ring) (begin_at d DONE f ring m board) (omega arith)
       (λ a g rg h.
-      record { cells = wide f (f 24) (f 31) (self f); same = ap (λ t. memory t rg) h.1; facts = record { r0 = f 24; r7 = f 31; p = self f; now = refl; r0_is = omega (arith, pointer); kbd = ap (λ t. kbd_of held f t) h.2; most = col.most; more = omega arith } })
+      record {
+        cells = wide f (f 24) (f 31) (self f);
+        same = ap (λ t. memory t rg) h.1;
+        facts = record {
+          r0 = f 24;
+          r7 = f 31;
+          p = self f;
+          now = refl;
+          r0_is = omega (arith, pointer);
+          kbd = ap (λ t. kbd_of held f t) h.2;
+          most = col.most;
+          more = omega arith;
+        };
+      })
       (here d (kernel_in true bytes) (has_rows true bytes hk) small low (JustA m.a f ring) x DONE m board f ring safe.0
       (refl, refl, refl))
   columns_law (suc n) c x m board f ring sum col safe =
@@ -215,7 +260,22 @@ module _ (d : Board) (bytes : List ℕ) (hk : HasKernel bytes) (small : All IsBy
       record {
         cells = wide f h.r0 h.r7 h.p;
         same = ap (λ t. memory t rg) h.now;
-        facts = record { r0 = h.r0; r7 = h.r7; p = h.p; now = refl; r0_is = omega (arith, at); kbd = h.kbd ∙ ap (λ k. columns (edge (image_keys bytes) on) (suc c) n ch hd k) q.kbd; most = h.most; more = omega (arith, up, up2) };
+        facts = record {
+          r0 = h.r0;
+          r7 = h.r7;
+          p = h.p;
+          now = refl;
+          r0_is = omega (arith, at);
+          kbd = h.kbd ∙ ap (λ k. columns (edge (image_keys bytes) on) (suc c) n ch hd k) q.kbd;
+          most = h.most;
+          more = omega (arith, up, up2);
+        };
       })
       (columns_law n (suc c) x2 m2 board2 g1 last (omega (arith, sum))
-      (record { pointer = omega (arith, pointer); flag = ap (λ k. k.f0) same2 ∙ ap (λ k. k.f0) same1 ∙ col.flag; most = q.most; changes = λ i l. kept_changes f q.r0 q.r7 q.p i l ∙ col.changes i l; helds = λ i l. kept_helds f q.r0 q.r7 q.p i l ∙ col.helds i l }) safe3))) safe1))
+      (record {
+        pointer = omega (arith, pointer);
+        flag = ap (λ k. k.f0) same2 ∙ ap (λ k. k.f0) same1 ∙ col.flag;
+        most = q.most;
+        changes = λ i l. kept_changes f q.r0 q.r7 q.p i l ∙ col.changes i l;
+        helds = λ i l. kept_helds f q.r0 q.r7 q.p i l ∙ col.helds i l;
+      }) safe3))) safe1))

@@ -1,7 +1,8 @@
 -- Step 2: a byte that was received, in every mode.
 use Rattle.fw_keys.proofs.Patch.{Keeps}
 use Rattle.kbd_model.specs.Commands.{acknowledges}
-use Rattle.std.proofs.Common.{◌≡◌, ◌≤◌, ◌<◌, ℕ, ◌+◌, ◌*◌, ◌%◌, ◌/◌, List, [], ◌∷◌, All, Bool, true, false, not, ◌==◌, nat_le, if◌then◌else◌, bit_and, refl, ap, sym, ◌∙◌, arith}
+use Rattle.std.proofs.Common.{◌≡◌, ◌≤◌, ◌<◌, ℕ, ◌+◌, ◌*◌, ◌%◌, ◌/◌, List, [], ◌∷◌, All, Bool, true, false, not}
+use Rattle.std.proofs.Common.{◌==◌, nat_le, if◌then◌else◌, bit_and, refl, ap, sym, ◌∙◌, arith}
 use Rattle.std.proofs.lemmas.Bool.Decides.{nat_tests}
 use Rattle.mcs48_core.specs.Cpu.{Cpu}
 use Rattle.mcs48_core.specs.Status.{bit}
@@ -56,7 +57,18 @@ module _ (d : Board) (bytes : List ℕ) (hk : HasKernel bytes) (small : All IsBy
       → kbd_of held g ring ≡ obeyed (image_keys bytes) (f 28) (not (f 29 == 0)) (kbd_of held f ring) → (a : ℕ)
       → Keeps held (obeyed (image_keys bytes) (f 28) (not (f 29 == 0))) f ring a g ring
   facts_of g e66 e68 e70 e77 cells stack kbd a =
-      record { kbd = kbd; cells = cells; stack = stack; inv = record { most = (let l : f 66 % 128 ≤ 16 = inv.most in rw e66 l); started = (let l : f 68 ≤ 1 = inv.started in rw e68 l); some = (let l : f 68 ≤ f 66 % 128 = inv.some in rw (e66, e68) l); mode = e70; lamps = e77 } }
+      record {
+        kbd = kbd;
+        cells = cells;
+        stack = stack;
+        inv = record {
+          most = (let l : f 66 % 128 ≤ 16 = inv.most in rw e66 l);
+          started = (let l : f 68 ≤ 1 = inv.started in rw e68 l);
+          some = (let l : f 68 ≤ f 66 % 128 = inv.some in rw (e66, e68) l);
+          mode = e70;
+          lamps = e77;
+        };
+      }
 
   wrong : Safe m COMMAND f ring → (f 29 == 0) ≡ true → Obeys
   wrong safe e =
@@ -73,7 +85,13 @@ module _ (d : Board) (bytes : List ℕ) (hk : HasKernel bytes) (small : All IsBy
       (Keeps held (obeyed (image_keys bytes) (f 28) (not (f 29 == 0))) f ring) (begin_at d COMMAND f ring m board)
       (omega arith)
       (λ a g rg q.
-      record { kbd = q.kbd ∙ sym (ap (λ b. obeyed (image_keys bytes) (f 28) (not b) (kbd_of held f ring)) right ∙ ap (λ b. obeyed_in (if b then Ready else if f 70 == 1 then WantRate else WantLights) (image_keys bytes) (f 28) (kbd_of held f ring)) mode); inv = q.inv; cells = λ i k u. q.cells i k u; stack = q.stack })
+      record {
+        kbd = q.kbd
+            ∙ sym (ap (λ b. obeyed (image_keys bytes) (f 28) (not b) (kbd_of held f ring)) right ∙ ap (λ b. obeyed_in (if b then Ready else if f 70 == 1 then WantRate else WantLights) (image_keys bytes) (f 28) (kbd_of held f ring)) mode);
+        inv = q.inv;
+        cells = λ i k u. q.cells i k u;
+        stack = q.stack;
+      })
       (seq_just d (kernel_in true bytes) (has_rows true bytes hk) small low x m board READY 16 SCAN 43 (based 70 f) ring
       (Keeps held (commanded (image_keys bytes) (f 28)) f ring) (begin_at d COMMAND f ring m board) safe.1
       (leaf d (kernel_in true bytes) (has_rows true bytes hk) small low (Just (based 70 f) ring)
@@ -92,8 +110,16 @@ module _ (d : Board) (bytes : List ℕ) (hk : HasKernel bytes) (small : All IsBy
       (Until 347 ∷ Go false ∷ Until 352 ∷ Go false ∷ Until 355 ∷ Go false ∷ Until 360 ∷ Go true ∷ Until SCAN ∷ [])
       COMMAND SCAN 68 g ring x m m board f ring safe.0
       (facts_of g refl refl (omega arith) inv.lamps (λ i k u. grind (arith, nat_tests, k, u)) (refl, refl)
-      (rw (right, mode, w, small_byte) refl))
-      (right, (mode, (high (f 28) (h.cell 28 (omega arith)) ∙ ap not small_byte, (odd_mode (f 70) (omega (arith, most)) ∙ w, (refl, refl, refl)))))
+      (rw (right, mode, w, small_byte) refl)) (
+        right,
+        (
+          mode,
+          (
+            high (f 28) (h.cell 28 (omega arith)) ∙ ap not small_byte,
+            (odd_mode (f 70) (omega (arith, most)) ∙ w, (refl, refl, refl)),
+          ),
+        ),
+      )
   sets false w safe right mode small_byte =
       let h = bytes_of m COMMAND f ring safe in
       let most : f 70 ≤ 2 = inv.mode in
@@ -106,8 +132,16 @@ module _ (d : Board) (bytes : List ℕ) (hk : HasKernel bytes) (small : All IsBy
       (facts_of g refl refl (omega arith) (three_alone (f 28) (h.cell 28 (omega arith)))
       (λ i k u. grind (arith, nat_tests, k, u)) (refl, refl)
       (ap (λ v. record (kbd_of held g ring) { lights = v }) (three_lights (f 28) (h.cell 28 (omega arith)))
-      ∙ rw (right, mode, w, small_byte) refl))
-      (right, (mode, (high (f 28) (h.cell 28 (omega arith)) ∙ ap not small_byte, (odd_mode (f 70) (omega (arith, most)) ∙ w, (refl, refl, refl)))))
+      ∙ rw (right, mode, w, small_byte) refl)) (
+        right,
+        (
+          mode,
+          (
+            high (f 28) (h.cell 28 (omega arith)) ∙ ap not small_byte,
+            (odd_mode (f 70) (omega (arith, most)) ∙ w, (refl, refl, refl)),
+          ),
+        ),
+      )
 
   asks_on : (w : Bool) → (f 70 == 1) ≡ w → Safe m COMMAND f ring → (f 29 == 0) ≡ false → (f 70 == 0) ≡ false
       → nat_lt (f 28) 128 ≡ false → nat_lt (f 28) 237 ≡ true → Obeys
@@ -118,8 +152,16 @@ module _ (d : Board) (bytes : List ℕ) (hk : HasKernel bytes) (small : All IsBy
       (Keeps held (obeyed (image_keys bytes) (f 28) (not (f 29 == 0))) f ring)
       (Until 347 ∷ Go false ∷ Until 352 ∷ Go false ∷ Until 355 ∷ Go true ∷ Until 379 ∷ Go true ∷ Until SCAN ∷ [])
       COMMAND SCAN 68 g ring x m m board f ring safe.0
-      (facts_of g refl refl inv.mode inv.lamps (λ i k u. grind (arith, nat_tests, k, u)) (refl, refl) (by_w w e))
-      (right, (mode, (high (f 28) (h.cell 28 (omega arith)) ∙ ap not big, (refused (f 28) (h.cell 28 (omega arith)) ∙ between, (refl, refl, refl)))))
+      (facts_of g refl refl inv.mode inv.lamps (λ i k u. grind (arith, nat_tests, k, u)) (refl, refl) (by_w w e)) (
+        right,
+        (
+          mode,
+          (
+            high (f 28) (h.cell 28 (omega arith)) ∙ ap not big,
+            (refused (f 28) (h.cell 28 (omega arith)) ∙ between, (refl, refl, refl)),
+          ),
+        ),
+      )
     where
       by_w : (w : Bool) → (f 70 == 1) ≡ w → kbd_of held (put (put (put f 64 1) 75 254) 25 75) ring
           ≡ obeyed (image_keys bytes) (f 28) (not (f 29 == 0)) (kbd_of held f ring)
@@ -136,13 +178,26 @@ module _ (d : Board) (bytes : List ℕ) (hk : HasKernel bytes) (small : All IsBy
       (Keeps held (obeyed (image_keys bytes) (f 28) (not (f 29 == 0))) f ring) (begin_at d COMMAND f ring m board)
       (omega arith)
       (λ a g rg q.
-      record { kbd = q.kbd ∙ sym (by_w w e); inv = q.inv; cells = λ i k u. q.cells i k u ∙ mode_kept f i k u; stack = q.stack })
+      record {
+        kbd = q.kbd ∙ sym (by_w w e);
+        inv = q.inv;
+        cells = λ i k u. q.cells i k u ∙ mode_kept f i k u;
+        stack = q.stack;
+      })
       (seq_just d (kernel_in true bytes) (has_rows true bytes hk) small low x m board READY 25 SCAN 43 (based 70 f0)
       ring (Keeps held (commanded (image_keys bytes) (f 28)) f0 ring) (begin_at d COMMAND f ring m board) safe.1
       (leaf d (kernel_in true bytes) (has_rows true bytes hk) small low (Just (based 70 f0) ring)
       (Until 347 ∷ Go false ∷ Until 352 ∷ Go false ∷ Until 355 ∷ Go true ∷ Until 379 ∷ Go false ∷ Until READY ∷ [])
-      COMMAND READY 25 (based 70 f0) ring x m m board f ring safe.0 (λ a. (refl, refl))
-      (right, (mode, (high (f 28) (h.cell 28 (omega arith)) ∙ ap not big, (refused (f 28) (h.cell 28 (omega arith)) ∙ command, (refl, refl, refl))))))
+      COMMAND READY 25 (based 70 f0) ring x m m board f ring safe.0 (λ a. (refl, refl)) (
+        right,
+        (
+          mode,
+          (
+            high (f 28) (h.cell 28 (omega arith)) ∙ ap not big,
+            (refused (f 28) (h.cell 28 (omega arith)) ∙ command, (refl, refl, refl)),
+          ),
+        ),
+      ))
       (λ x1 m1 board1 same1 safe1. ready_law d bytes hk small low held x1 m1 board1 f0 ring
       (record { most = inv.most; started = inv.started; some = inv.some; mode = omega arith; lamps = inv.lamps }) 70
       safe1))

@@ -1,74 +1,29 @@
 -- The edge of a row: a press, a release, or nothing where scanning is off.
 use Rattle.fw_keys.proofs.Fold.{edge}
-use Rattle.std.proofs.Common.{◌≡◌, ◌≤◌, ◌<◌, ℕ, suc, ◌+◌, ◌-◌, ◌*◌, ◌^◌, ◌%◌, ◌/◌, List, [], ◌∷◌, All, Bool, true, false, not, ◌==◌, bit_and, bit_xor, if◌then◌else◌, Some, None, refl, ap, sym, ◌∙◌, arith, slice_index}
-use Rattle.mcs48_isa.proofs.Cases.{from_each}
+use Rattle.std.proofs.Common.{◌≡◌, ◌≤◌, ◌<◌, ℕ, suc, ◌+◌, ◌-◌, ◌^◌, ◌%◌, ◌/◌, List, [], ◌∷◌, All, Bool}
+use Rattle.std.proofs.Common.{true, false, not, ◌==◌, bit_and, refl, ap}
+use Rattle.std.proofs.Common.{sym, ◌∙◌, arith, slice_index}
 use Rattle.mcs48_core.specs.Cpu.{Cpu}
-use Rattle.mcs48_core.specs.Status.{bit, digit}
+use Rattle.mcs48_core.specs.Status.{bit}
 use Rattle.fw_keys.proofs.Blocks.{Just, leaf, seq_just, recast, bytes_of}
 use Rattle.fw_keys.proofs.Enter.{Entered, enters}
 use Rattle.fw_keys.proofs.Enter2.{enters_two}
-use Rattle.fw_kernel.specs.Places.{HasKernel, is_table}
+use Rattle.fw_kernel.specs.Places.{HasKernel}
 use Rattle.fw_kernel.specs.declared.labels.TheConstants.{EDGE, ENTER, ENTER2, ENTERED}
 use Rattle.fw_keys.proofs.Block.{Ends, Safe}
 use Rattle.fw_keys.proofs.Patch.{AfterEdge, Patch, over}
 use Rattle.fw_keys.specs.Edges.{image_keys}
-use Rattle.fw_keys.specs.State.{kbd_of, queue_of, repeat_of}
+use Rattle.fw_keys.specs.State.{kbd_of, queue_of}
 use Rattle.fw_logic.proofs.Block.{begin_at, memory, put}
-use Rattle.bits.proofs.Every.{by_byte, pair_tests, tests_by}
-use Rattle.fw_logic.proofs.Image.{byte_is}
-use Rattle.fw_logic.proofs.Kernel.{byte_in, kernel_in}
+use Rattle.fw_logic.proofs.Kernel.{kernel_in}
 use Rattle.fw_logic.proofs.Leads.{Leads}
 use Rattle.fw_logic.proofs.Path.{Acc, Go, Run, Until}
 use Rattle.fw_logic.proofs.Short.{has_rows}
 use Rattle.mcs48_ranges.specs.Sizes.{IsByte}
 use Rattle.joint_run.specs.Run.{Board}
 use Rattle.kbd_model.specs.Queue.{enter}
-use Rattle.kbd_model.specs.Tick.{ended_at}
 use Rattle.kbd_model.specs.Typematic.{delay}
-
--- the bit of row r, by the rows left
-pub row_bit : (bytes : List ℕ) → HasKernel bytes → (k : ℕ) → k < 8 → slice_index bytes ((1024 + suc k) % 2048)
-    ≡ 2 ^ (7 - k)
-row_bit bytes hk k l = from_each (λ k. slice_index bytes ((1024 + suc k) % 2048) ≡ 2 ^ (7 - k)) 0 8
-    ((hk 1025 refl, (hk 1026 refl, (hk 1027 refl, (hk 1028 refl, (hk 1029 refl, (hk 1030 refl, (hk 1031 refl, (hk 1032 refl, tt))))))))) k (omega arith) l
-
--- the test of a bit
-pub bit_test : (r b : ℕ) → r < 8 → b < 256 → (bit_and (2 ^ r) b == 0) ≡ not (bit r b)
-bit_test = pair_tests 8 256 (λ r b. bit_and (2 ^ r) b == 0) (λ r b. not (bit r b)) refl
-
-delay_place : (b : ℕ) → b < 256
-    → (bit_and (128 * digit (bit 0 (b % 16 * 16 + b / 16)) + (b % 16 * 16 + b / 16) / 2) 3 + 206) % 256
-    ≡ 206 + b / 32 % 4
-delay_place = by_byte (λ b. (bit_and (128 * digit (bit 0 (b % 16 * 16 + b / 16)) + (b % 16 * 16 + b / 16) / 2)
-    3 + 206) % 256) (λ b. 206 + b / 32 % 4) refl
-
-pub delay_in : (b : ℕ) → b < 256 → byte_in (974 + b / 32 % 4) ≡ delay b
-delay_in = by_byte (λ b. byte_in (974 + b / 32 % 4)) delay refl
-
-pub delay_read : (bytes : List ℕ) → HasKernel bytes → (b : ℕ) → b < 256 → slice_index bytes (768 + (206 + b / 32 % 4))
-    ≡ delay b
-delay_read bytes hk b l =
-    let e : 768 + (206 + b / 32 % 4) ≡ 974 + b / 32 % 4 = omega arith in
-    let low : b / 32 % 4 < 4 = omega arith in
-    rw e (hk (974 + b / 32 % 4) (from_each (λ k. is_table (974 + k) ≡ false) 0 4 (refl, (refl, (refl, (refl, tt))))
-    (b / 32 % 4) (omega arith) low) ∙ sym (byte_is (974 + b / 32 % 4) (omega (arith, low))) ∙ delay_in b l)
-
-xor_test : (a b : ℕ) → a < 256 → b < 256 → not (bit_xor a b == 0) ≡ not (b == a)
-xor_test = pair_tests 256 256 (λ a b. not (bit_xor a b == 0)) (λ a b. not (b == a)) refl
-
-stops : (count place p : ℕ) (b : Bool) → (place == p) ≡ b → (n : Bool) → (count == 0) ≡ n
-    → ended_at p (repeat_of count place) ≡ (if b then None else repeat_of count place)
-stops count place p true e true n = rw n refl
-stops count place p true e false n = rw (n, e) refl
-stops count place p false e true n = rw n refl
-stops count place p false e false n = rw (n, e) refl
-
--- a delay is never 0
-some_delay : (place rate : ℕ) → rate < 256
-    → repeat_of (delay rate) place ≡ Some (record { place = place; count = delay rate })
-some_delay place rate l = let h : (delay rate == 0) ≡ false =
-    tests_by 256 (λ b. delay b == 0) (λ b. false) refl rate l in
-    ap (λ b. if b then None else Some (record { place = place; count = delay rate })) h
+use Rattle.fw_keys.proofs.EdgeTests.{row_bit, bit_test, delay_place, delay_read, xor_test, stops, some_delay}
 
 module _ (d : Board) (bytes : List ℕ) (hk : HasKernel bytes) (small : All IsByte bytes)
     (low : (p1 p2 c : ℕ) (s : d.State) → (d.pins p1 p2 c s).bus < 256) (held : List Bool) where
@@ -98,8 +53,19 @@ module _ (d : Board) (bytes : List ℕ) (hk : HasKernel bytes) (small : All IsBy
         leaf d (kernel_in true bytes) (has_rows true bytes hk) small low (Just (pressed m.a f) ring)
         (Until 1085 ∷ Acc (2 ^ (7 - k)) ∷ Until 1087 ∷ Go false ∷ Until 1092 ∷ Go true ∷ Until 1120 ∷ Acc
         (206 + f 73 / 32 % 4) ∷ Run 1 ∷ Acc (delay (f 73)) ∷ Until ENTER ∷ [])
-        EDGE ENTER 32 (pressed m.a f) ring x m m board f ring safe.0 (λ a. (refl, refl))
-        (bit_read, (tests_row true down, (on, (delay_place (f 73) ((bytes_of m EDGE f ring safe).cell 73 (omega arith)), (delay_read bytes hk (f 73) ((bytes_of m EDGE f ring safe).cell 73 (omega arith)), (refl, refl, refl))))))
+        EDGE ENTER 32 (pressed m.a f) ring x m m board f ring safe.0 (λ a. (refl, refl)) (
+          bit_read,
+          (
+            tests_row true down,
+            (
+              on,
+              (
+                delay_place (f 73) ((bytes_of m EDGE f ring safe).cell 73 (omega arith)),
+                (delay_read bytes hk (f 73) ((bytes_of m EDGE f ring safe).cell 73 (omega arith)), (refl, refl, refl)),
+              ),
+            ),
+          ),
+        )
 
     releases : (b : Bool) → (f 72 == f 30) ≡ b → bit (7 - k) (f 31) ≡ false → m.f0 ≡ true
         → Leads d (kernel_in true bytes) x (begin_at d EDGE f ring m board)
@@ -109,15 +75,37 @@ module _ (d : Board) (bytes : List ℕ) (hk : HasKernel bytes) (small : All IsBy
         leaf d (kernel_in true bytes) (has_rows true bytes hk) small low (Just (released true m.a f) ring)
         (Until 1085 ∷ Acc (2 ^ (7 - k)) ∷ Until 1087 ∷ Go true ∷ Until 1161 ∷ Go true ∷ Until 1179 ∷ Go false ∷ Until
         ENTER2 ∷ [])
-        EDGE ENTER2 26 (released true m.a f) ring x m m board f ring safe.0 (λ a. (refl, refl))
-        (bit_read, (tests_row false down, (on, (xor_test (f 30) (f 72) (h.cell 30 (omega arith)) (h.cell 72 (omega arith)) ∙ ap not same, (refl, refl, refl)))))
+        EDGE ENTER2 26 (released true m.a f) ring x m m board f ring safe.0 (λ a. (refl, refl)) (
+          bit_read,
+          (
+            tests_row false down,
+            (
+              on,
+              (
+                xor_test (f 30) (f 72) (h.cell 30 (omega arith)) (h.cell 72 (omega arith)) ∙ ap not same,
+                (refl, refl, refl),
+              ),
+            ),
+          ),
+        )
     releases false same down on =
         let h = bytes_of m EDGE f ring safe in
         leaf d (kernel_in true bytes) (has_rows true bytes hk) small low (Just (released false m.a f) ring)
         (Until 1085 ∷ Acc (2 ^ (7 - k)) ∷ Until 1087 ∷ Go true ∷ Until 1161 ∷ Go true ∷ Until 1179 ∷ Go true ∷ Until
         ENTER2 ∷ [])
-        EDGE ENTER2 26 (released false m.a f) ring x m m board f ring safe.0 (λ a. (refl, refl))
-        (bit_read, (tests_row false down, (on, (xor_test (f 30) (f 72) (h.cell 30 (omega arith)) (h.cell 72 (omega arith)) ∙ ap not same, (refl, refl, refl)))))
+        EDGE ENTER2 26 (released false m.a f) ring x m m board f ring safe.0 (λ a. (refl, refl)) (
+          bit_read,
+          (
+            tests_row false down,
+            (
+              on,
+              (
+                xor_test (f 30) (f 72) (h.cell 30 (omega arith)) (h.cell 72 (omega arith)) ∙ ap not same,
+                (refl, refl, refl),
+              ),
+            ),
+          ),
+        )
 
     abbrev pub unseen : ℕ → ℕ
     unseen = put (put f 28 m.a) 26 (f 30)
@@ -146,10 +134,25 @@ module _ (d : Board) (bytes : List ℕ) (hk : HasKernel bytes) (small : All IsBy
         (λ acc. AfterEdge held (edge (image_keys bytes) false (f 30) down) m.a f ring) (begin_at d EDGE f ring m board)
         (omega arith)
         (λ a g r q. let p :
-        Patch = record { r1 = f 25; r2 = f 30; r3 = f 27; r4 = m.a; r6 = f 30; count = f 66; place = f 72; left = f 74 } in record {
+        Patch = record {
+          r1 = f 25;
+          r2 = f 30;
+          r3 = f 27;
+          r4 = m.a;
+          r6 = f 30;
+          count = f 66;
+          place = f 72;
+          left = f 74;
+        } in record {
           cells = over f p;
           same = ap (λ t. memory t r) q.0;
-          facts = record { p = p; is = record { now = refl; kbd = ap (λ t. kbd_of held f t) q.1; most = most; more = omega arith }; r3 = refl; r4 = refl; r6 = refl };
+          facts = record {
+            p = p;
+            is = record { now = refl; kbd = ap (λ t. kbd_of held f t) q.1; most = most; more = omega arith };
+            r3 = refl;
+            r4 = refl;
+            r6 = refl;
+          };
         })
         (ignores down is off)
     edge_by true true on is most =
@@ -162,10 +165,34 @@ module _ (d : Board) (bytes : List ℕ) (hk : HasKernel bytes) (small : All IsBy
         (λ acc. AfterEdge held (edge (image_keys bytes) true (f 30) true) m.a f ring)
         (begin_at d ENTER (pressed m.a f) ring m' board') (omega arith)
         (λ a g r q. let p :
-        Patch = record { r1 = q.pointer; r2 = code_at (f 30); r3 = f 27; r4 = m.a; r6 = f 30; count = q.count; place = f 30; left = delay (f 73) } in record {
+        Patch = record {
+          r1 = q.pointer;
+          r2 = code_at (f 30);
+          r3 = f 27;
+          r4 = m.a;
+          r6 = f 30;
+          count = q.count;
+          place = f 30;
+          left = delay (f 73);
+        } in record {
           cells = over f p;
           same = ap (λ t. memory t r) q.now;
-          facts = record { p = p; is = record { now = refl; kbd = ap (λ t. record (kbd_of held (over f p) r) { queue = t }) q.queue ∙ ap (λ t. record (kbd_of held f ring) { queue = enter (code_at (f 30) ∷ []) (queue_of f ring); repeats = t }) (some_delay (f 30) (f 73) ((bytes_of m EDGE f ring safe).cell 73 (omega arith))); most = q.most; more = q.more }; r3 = refl; r4 = refl; r6 = refl };
+          facts = record {
+            p = p;
+            is = record {
+              now = refl;
+              kbd = ap (λ t. record (kbd_of held (over f p) r) { queue = t }) q.queue
+                  ∙ ap (λ t. record (kbd_of held f ring) {
+                    queue = enter (code_at (f 30) ∷ []) (queue_of f ring);
+                    repeats = t;
+                  }) (some_delay (f 30) (f 73) ((bytes_of m EDGE f ring safe).cell 73 (omega arith)));
+              most = q.most;
+              more = q.more;
+            };
+            r3 = refl;
+            r4 = refl;
+            r6 = refl;
+          };
         })
         (enters d bytes hk small low held x' m' board' (pressed m.a f) ring safe' most))
     edge_by true false on is most =
@@ -186,10 +213,34 @@ module _ (d : Board) (bytes : List ℕ) (hk : HasKernel bytes) (small : All IsBy
             (λ acc. AfterEdge held (edge (image_keys bytes) true (f 30) false) m.a f ring)
             (begin_at d ENTER2 (released true m.a f) ring m' board') (omega arith)
             (λ a g r q. let p :
-            Patch = record { r1 = q.pointer; r2 = code_at (f 30); r3 = f 27; r4 = m.a; r6 = f 30; count = q.count; place = f 72; left = 0 } in record {
+            Patch = record {
+              r1 = q.pointer;
+              r2 = code_at (f 30);
+              r3 = f 27;
+              r4 = m.a;
+              r6 = f 30;
+              count = q.count;
+              place = f 72;
+              left = 0;
+            } in record {
               cells = over f p;
               same = ap (λ t. memory t r) q.now;
-              facts = record { p = p; is = record { now = refl; kbd = ap (λ t. record (kbd_of held (over f p) r) { queue = t }) q.queue ∙ ap (λ t. record (kbd_of held f ring) { queue = enter (240 ∷ code_at (f 30) ∷ []) (queue_of f ring); repeats = t }) (sym (stops (f 74) (f 72) (f 30) true e (f 74 == 0) refl)); most = q.most; more = q.more }; r3 = refl; r4 = refl; r6 = refl };
+              facts = record {
+                p = p;
+                is = record {
+                  now = refl;
+                  kbd = ap (λ t. record (kbd_of held (over f p) r) { queue = t }) q.queue
+                      ∙ ap (λ t. record (kbd_of held f ring) {
+                        queue = enter (240 ∷ code_at (f 30) ∷ []) (queue_of f ring);
+                        repeats = t;
+                      }) (sym (stops (f 74) (f 72) (f 30) true e (f 74 == 0) refl));
+                  most = q.most;
+                  more = q.more;
+                };
+                r3 = refl;
+                r4 = refl;
+                r6 = refl;
+              };
             })
             (enters_two d bytes hk small low held x' m' board' (released true m.a f) ring safe' most)
         finish x' m' board' false e safe' =
@@ -198,10 +249,34 @@ module _ (d : Board) (bytes : List ℕ) (hk : HasKernel bytes) (small : All IsBy
             (λ acc. AfterEdge held (edge (image_keys bytes) true (f 30) false) m.a f ring)
             (begin_at d ENTER2 (released false m.a f) ring m' board') (omega arith)
             (λ a g r q. let p :
-            Patch = record { r1 = q.pointer; r2 = code_at (f 30); r3 = f 27; r4 = m.a; r6 = f 30; count = q.count; place = f 72; left = f 74 } in record {
+            Patch = record {
+              r1 = q.pointer;
+              r2 = code_at (f 30);
+              r3 = f 27;
+              r4 = m.a;
+              r6 = f 30;
+              count = q.count;
+              place = f 72;
+              left = f 74;
+            } in record {
               cells = over f p;
               same = ap (λ t. memory t r) q.now;
-              facts = record { p = p; is = record { now = refl; kbd = ap (λ t. record (kbd_of held (over f p) r) { queue = t }) q.queue ∙ ap (λ t. record (kbd_of held f ring) { queue = enter (240 ∷ code_at (f 30) ∷ []) (queue_of f ring); repeats = t }) (sym (stops (f 74) (f 72) (f 30) false e (f 74 == 0) refl)); most = q.most; more = q.more }; r3 = refl; r4 = refl; r6 = refl };
+              facts = record {
+                p = p;
+                is = record {
+                  now = refl;
+                  kbd = ap (λ t. record (kbd_of held (over f p) r) { queue = t }) q.queue
+                      ∙ ap (λ t. record (kbd_of held f ring) {
+                        queue = enter (240 ∷ code_at (f 30) ∷ []) (queue_of f ring);
+                        repeats = t;
+                      }) (sym (stops (f 74) (f 72) (f 30) false e (f 74 == 0) refl));
+                  most = q.most;
+                  more = q.more;
+                };
+                r3 = refl;
+                r4 = refl;
+                r6 = refl;
+              };
             })
             (enters_two d bytes hk small low held x' m' board' (released false m.a f) ring safe' most)
 

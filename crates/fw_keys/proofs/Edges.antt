@@ -1,6 +1,7 @@
 -- The edges of a tick as a list: what bytes of columns show, one edge after another, and the held keys.
 use Rattle.fw_keys.proofs.Fold.{edge, rows, columns, turned_all}
-use Rattle.std.proofs.Common.{◌≡◌, ℕ, suc, zero, ◌+◌, ◌*◌, ◌==◌, not, Bool, true, false, if◌then◌else◌, List, [], ◌∷◌, ◌++◌, refl, ap, sym, ◌∙◌}
+use Rattle.std.proofs.Common.{◌≡◌, ℕ, suc, zero, ◌+◌, ◌*◌, ◌==◌, not, Bool, true, false, if◌then◌else◌, List}
+use Rattle.std.proofs.Common.{[], ◌∷◌, ◌++◌, refl, ap, sym, ◌∙◌}
 use Rattle.mcs48_core.specs.Status.{bit}
 use Rattle.board_lines.specs.Matrix.{turned}
 use Rattle.kbd_model.specs.declared.meeting.Meeting.{Meeting}
@@ -10,7 +11,7 @@ use Rattle.kbd_model.specs.Tick.{edge_if, edges_if, is_scanning, met, tested_if,
 use Rattle.fw_keys.specs.Edges.{row_edges, column_edges, tick_edges}
 use Rattle.fw_keys.proofs.Typematic.{repeating}
 use Rattle.fw_keys.proofs.Scan.{keyed}
-use Rattle.fw_keys.proofs.Tick.{keyed_tick}
+use Rattle.fw_keys.proofs.KeyedTick.{keyed_tick}
 
 -- one edge after another
 abbrev pub each : (ℕ → Bool → Keyboard → Keyboard) → List (ℕ × Bool) → Keyboard → Keyboard

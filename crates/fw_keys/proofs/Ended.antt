@@ -1,5 +1,6 @@
 -- Where the work of a tick ends, with or without a frame.
-use Rattle.std.proofs.Common.{◌≡◌, ◌≤◌, ◌<◌, ℕ, ◌+◌, ◌-◌, List, All, Bool, true, false, ◌==◌, refl, ap, sym, ◌∙◌, arith, None}
+use Rattle.std.proofs.Common.{◌≡◌, ◌≤◌, ◌<◌, ℕ, ◌+◌, ◌-◌, List, All, Bool, true, false, ◌==◌, refl, ap, sym}
+use Rattle.std.proofs.Common.{◌∙◌, arith, None}
 use Rattle.mcs48_core.specs.Cpu.{Cpu}
 use Rattle.fw_kernel.specs.declared.labels.TheConstants.{DONE}
 use Rattle.fw_kernel.specs.Places.{HasKernel}
@@ -19,7 +20,9 @@ use Rattle.fw_keys.specs.State.{kbd_of, Inv}
 use Rattle.fw_keys.specs.Edges.{image_keys}
 use Rattle.fw_keys.proofs.Block.{Safe}
 use Rattle.fw_keys.proofs.Scan.{edges_most, keyed}
-use Rattle.fw_keys.proofs.Tick.{keyed_tick, down, changed, begun, lit, shining, Ticked, TickLaw, idle_tick, inhibited_tick, test_tick, IsFreeAt, same_kbd}
+use Rattle.fw_keys.proofs.Tick.{down, changed, begun, lit, shining, Ticked, TickLaw, idle_tick}
+use Rattle.fw_keys.proofs.KeyedTick.{keyed_tick}
+use Rattle.fw_keys.proofs.Tick.{inhibited_tick, test_tick, IsFreeAt, same_kbd}
 
 module _ (d : Board) (bytes : List ℕ) (hk : HasKernel bytes) (small : All IsByte bytes)
     (low : (p1 p2 c : ℕ) (s : d.State) → (d.pins p1 p2 c s).bus < 256) (held : List Bool)

@@ -1,5 +1,6 @@
 -- The code that enters a make, or the two bytes of a break.
-use Rattle.std.proofs.Common.{◌≡◌, ◌≤◌, ◌<◌, ℕ, suc, ◌+◌, ◌%◌, List, [], ◌∷◌, All, length, Bool, true, false, ◌||◌, nat_le, bit_or, refl, ap, sym, ◌∙◌, arith, slice_set, slice_index}
+use Rattle.std.proofs.Common.{◌≡◌, ◌≤◌, ◌<◌, ℕ, suc, ◌+◌, ◌%◌, List, [], ◌∷◌, All, length, Bool, true, false}
+use Rattle.std.proofs.Common.{◌||◌, nat_le, bit_or, refl, ap, sym, ◌∙◌, arith, slice_set, slice_index}
 use Rattle.std.proofs.lemmas.Bool.Decides.{nat_tests}
 use Rattle.mcs48_core.specs.Cpu.{Cpu}
 use Rattle.mcs48_core.specs.Status.{bit}
@@ -66,7 +67,12 @@ entered_over code f ring v byte most over = record {
   pointer = v;
   count = bit_or (f 66) 128;
   now = refl;
-  queue = rw (marked (f 66) byte, length_kept (f 66) byte, made-length (λ i. slice_index ring ((f 67 + i) % 16)) (f 66 % 128), over) refl;
+  queue = rw (
+    marked (f 66) byte,
+    length_kept (f 66) byte,
+    made-length (λ i. slice_index ring ((f 67 + i) % 16)) (f 66 % 128),
+    over,
+  ) refl;
   most = rw (length_kept (f 66) byte) most;
   more = rw (length_kept (f 66) byte) (omega arith);
 }
@@ -85,7 +91,16 @@ entered_one b f ring v size below =
       pointer = v;
       count = (f 66 + 1) % 256;
       now = refl;
-      queue = rw (n, n2, o, m1, m2, appended ring (f 67) (f 66) b size below, made-length (λ i. slice_index ring ((f 67 + i) % 16)) (f 66), le) refl;
+      queue = rw (
+        n,
+        n2,
+        o,
+        m1,
+        m2,
+        appended ring (f 67) (f 66) b size below,
+        made-length (λ i. slice_index ring ((f 67 + i) % 16)) (f 66),
+        le,
+      ) refl;
       most = omega (arith, n, below);
       more = omega (arith, n, below);
     }
@@ -108,7 +123,16 @@ entered_two b f ring v size below =
       pointer = v;
       count = ((f 66 + 1) % 256 + 1) % 256;
       now = refl;
-      queue = rw (n, n2, o, m1, m2, appended2 ring (f 67) (f 66) 240 b size below, made-length (λ i. slice_index ring ((f 67 + i) % 16)) (f 66), le) refl;
+      queue = rw (
+        n,
+        n2,
+        o,
+        m1,
+        m2,
+        appended2 ring (f 67) (f 66) 240 b size below,
+        made-length (λ i. slice_index ring ((f 67 + i) % 16)) (f 66),
+        le,
+      ) refl;
       most = omega (arith, n, below);
       more = omega (arith, n, below);
     }

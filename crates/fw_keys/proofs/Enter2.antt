@@ -1,8 +1,10 @@
 -- The two bytes of a break; the byte of a key that repeats.
-use Rattle.std.proofs.Common.{◌≡◌, ◌≤◌, ◌<◌, ℕ, suc, ◌+◌, ◌%◌, List, [], ◌∷◌, All, Bool, true, false, nat_le, bit_or, refl, ap, sym, ◌∙◌, arith, slice_set}
+use Rattle.std.proofs.Common.{◌≡◌, ◌≤◌, ◌<◌, ℕ, suc, ◌+◌, ◌%◌, List, [], ◌∷◌, All, Bool, true, false, nat_le}
+use Rattle.std.proofs.Common.{bit_or, refl, ap, sym, ◌∙◌, arith, slice_set}
 use Rattle.mcs48_core.specs.Cpu.{Cpu}
 use Rattle.fw_keys.proofs.Blocks.{leaf, bytes_of}
-use Rattle.fw_keys.proofs.Enter.{Entered, in_ring, next_place, over_one, over_two, entered_over, entered_one, entered_two, not_over}
+use Rattle.fw_keys.proofs.Enter.{Entered, in_ring, next_place, over_one, over_two, entered_over, entered_one}
+use Rattle.fw_keys.proofs.Enter.{entered_two, not_over}
 use Rattle.fw_kernel.specs.Places.{HasKernel}
 use Rattle.fw_kernel.specs.declared.labels.TheConstants.{AGAIN, EDGES, ENTER2, ENTERED}
 use Rattle.fw_keys.proofs.Block.{Ends, Safe}
@@ -49,7 +51,12 @@ module _ (d : Board) (bytes : List ℕ) (hk : HasKernel bytes) (small : All IsBy
         is,
         (
           in_ring g1 ring z (f 67 + f 66) 240 (omega arith) j,
-          (ap (λ p. slice_set (memory g2 half) p (f 26)) (next_place z (omega arith) ∙ ap (λ k. (112 + k) % 128) j2) ∙ ring-set g2 half ((f 67 + suc (f 66)) % 16) (f 26) (omega arith), (refl, refl, refl)),
+          (
+            ap (λ p. slice_set (memory g2 half) p (f 26))
+                (next_place z (omega arith) ∙ ap (λ k. (112 + k) % 128) j2)
+                ∙ ring-set g2 half ((f 67 + suc (f 66)) % 16) (f 26) (omega arith),
+            (refl, refl, refl),
+          ),
         ),
       )
 

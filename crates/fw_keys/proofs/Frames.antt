@@ -1,7 +1,7 @@
 -- A tick with a frame: what it needs of the frame, and what follows.
 use Rattle.fw_keys.proofs.Patch.{Keeps}
-use Rattle.std.proofs.Common.{◌≡◌, ◌≤◌, ◌<◌, ℕ, ◌+◌, List, All, Bool, true, false, not, ◌==◌, nat_le, nat_lt, refl, ap, sym, ◌∙◌, subst, arith, Some}
-use Rattle.std.proofs.lemmas.Bool.Decides.{nat_tests}
+use Rattle.std.proofs.Common.{◌≡◌, ◌≤◌, ◌<◌, ℕ, ◌+◌, List, All, Bool, true, false, not, ◌==◌}
+use Rattle.std.proofs.Common.{refl, ap, sym, ◌∙◌, subst, arith, Some}
 use Rattle.mcs48_core.specs.Cpu.{Cpu}
 use Rattle.fw_kernel.specs.declared.labels.TheConstants.{DONE, SCAN, TESTED, SENT, COMMAND}
 use Rattle.fw_kernel.specs.Places.{HasKernel}
@@ -25,54 +25,14 @@ use Rattle.fw_keys.specs.Edges.{image_keys}
 use Rattle.fw_keys.proofs.Block.{Ends, Safe}
 use Rattle.fw_keys.proofs.Blocks.{bytes_of, fine_end, from_stage, safe_at, here}
 use Rattle.fw_keys.proofs.Scan.{edges_most, keyed}
-use Rattle.fw_keys.proofs.Head.{headed, head_changes, head_helds, offered_in, Headed, head_law}
+use Rattle.fw_keys.proofs.Head.{head_changes, head_helds, offered_in, Headed, head_law}
 use Rattle.fw_keys.proofs.Tick.{begun, shining, headed_by}
 use Rattle.fw_keys.proofs.After.{Over, tail_law}
 use Rattle.fw_keys.proofs.Sent.{sent_law}
 use Rattle.fw_keys.proofs.Command.{command_law}
 use Rattle.fw_keys.proofs.Offered.{offered_byte, first_of_law, code_law}
 use Rattle.fw_keys.proofs.Ended.{downs_now, changes_now, lights_on, Ended, Works}
-
--- the keyboard is a matter of the cells 64 to 77
-pub same_cells : (held : List Bool) (g f : ℕ → ℕ) (ring : List ℕ) → ((i : ℕ) → 64 ≤ i → i < 78 → g i ≡ f i)
-    → kbd_of held g ring ≡ kbd_of held f ring
-same_cells held g f ring e =
-    let a : g 64 ≡ f 64 = e 64 (omega arith) (omega arith) in
-    let b : g 65 ≡ f 65 = e 65 (omega arith) (omega arith) in
-    let c : g 66 ≡ f 66 = e 66 (omega arith) (omega arith) in
-    let h : g 67 ≡ f 67 = e 67 (omega arith) (omega arith) in
-    let i : g 68 ≡ f 68 = e 68 (omega arith) (omega arith) in
-    let j : g 69 ≡ f 69 = e 69 (omega arith) (omega arith) in
-    let k : g 70 ≡ f 70 = e 70 (omega arith) (omega arith) in
-    let l : g 71 ≡ f 71 = e 71 (omega arith) (omega arith) in
-    let m : g 72 ≡ f 72 = e 72 (omega arith) (omega arith) in
-    let n : g 73 ≡ f 73 = e 73 (omega arith) (omega arith) in
-    let o : g 74 ≡ f 74 = e 74 (omega arith) (omega arith) in
-    let p : g 75 ≡ f 75 = e 75 (omega arith) (omega arith) in
-    let q : g 76 ≡ f 76 = e 76 (omega arith) (omega arith) in
-    let r : g 77 ≡ f 77 = e 77 (omega arith) (omega arith) in
-    rw (a, b, c, h, i, j, k, l, m, n, o, p, q, r) refl
-
-pub same_inv : (g f : ℕ → ℕ) → ((i : ℕ) → 64 ≤ i → i < 78 → g i ≡ f i) → Inv f → Inv g
-same_inv g f e inv =
-    let c : g 66 ≡ f 66 = e 66 (omega arith) (omega arith) in
-    let i : g 68 ≡ f 68 = e 68 (omega arith) (omega arith) in
-    let k : g 70 ≡ f 70 = e 70 (omega arith) (omega arith) in
-    let u : g 77 ≡ f 77 = e 77 (omega arith) (omega arith) in
-    record { most = rw c inv.most; started = rw i inv.started; some = rw (c, i) inv.some; mode = rw k inv.mode; lamps = rw u inv.lamps }
-
-head_keeps : (look f : ℕ → ℕ) (r4 r5 i : ℕ) → 60 ≤ i → headed look f r4 r5 i ≡ f i
-head_keeps look f r4 r5 i l =
-    let a : nat_le 32 i ≡ true = (let u : 32 ≤ i = omega (arith, l) in grind (arith, nat_tests, u)) in
-    let b : nat_lt i 44 ≡ false = (let u : 44 ≤ i = omega (arith, l) in grind (arith, nat_tests, u)) in
-    let c : nat_le 48 i ≡ true = (let u : 48 ≤ i = omega (arith, l) in grind (arith, nat_tests, u)) in
-    let h : nat_lt i 60 ≡ false = grind (arith, nat_tests, l) in
-    let r0 : (i == 24) ≡ false = (let u : 24 < i = omega (arith, l) in grind (arith, nat_tests, u)) in
-    let r1 : (i == 25) ≡ false = (let u : 25 < i = omega (arith, l) in grind (arith, nat_tests, u)) in
-    let r3 : (i == 27) ≡ false = (let u : 27 < i = omega (arith, l) in grind (arith, nat_tests, u)) in
-    let p4 : (i == 28) ≡ false = (let u : 28 < i = omega (arith, l) in grind (arith, nat_tests, u)) in
-    let p5 : (i == 29) ≡ false = (let u : 29 < i = omega (arith, l) in grind (arith, nat_tests, u)) in
-    rw (a, b, c, h, p5, p4, r3, r1, r0) refl
+use Rattle.fw_keys.proofs.SameCells.{same_cells, same_inv, head_keeps}
 
 module _ (d : Board) (bytes : List ℕ) (hk : HasKernel bytes) (small : All IsByte bytes)
     (low : (p1 p2 c : ℕ) (s : d.State) → (d.pins p1 p2 c s).bus < 256) (held : List Bool)

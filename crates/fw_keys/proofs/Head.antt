@@ -1,6 +1,7 @@
 -- The head of a tick: the columns, the offer, the lights; always 234 cycles.
 use Rattle.fw_logic.proofs.Block.{begin_at}
-use Rattle.std.proofs.Common.{◌≡◌, ◌<◌, ℕ, suc, zero, ◌+◌, ◌-◌, ◌*◌, ◌%◌, List, [], ◌∷◌, All, Bool, true, false, not, ◌==◌, nat_le, if◌then◌else◌, bit_xor, refl, ap, sym, ◌∙◌, arith, slice_index}
+use Rattle.std.proofs.Common.{◌≡◌, ◌<◌, ℕ, suc, zero, ◌+◌, ◌-◌, ◌*◌, ◌%◌, List, [], ◌∷◌, All, Bool, true, false}
+use Rattle.std.proofs.Common.{not, ◌==◌, nat_le, if◌then◌else◌, bit_xor, refl, ap, sym, ◌∙◌, arith, slice_index}
 use Rattle.std.proofs.lemmas.Bool.Decides.{nat_tests}
 use Rattle.mcs48_core.specs.Cpu.{Cpu}
 use Rattle.mcs48_core.specs.Status.{bit}
@@ -14,7 +15,7 @@ use Rattle.fw_kernel.specs.declared.labels.TheConstants.{TESTED}
 use Rattle.fw_keys.proofs.Block.{Bytes}
 use Rattle.fw_keys.specs.State.{kbd_of, made}
 use Rattle.fw_logic.proofs.Block.{memory, put, scratched}
-use Rattle.bits.proofs.Every.{by_byte, pair_tests, tests_by}
+use Rattle.bits.proofs.Every.{by_byte, tests_by}
 use Rattle.fw_logic.proofs.Clock.{IsFree}
 use Rattle.fw_logic.proofs.Kernel.{kernel_in}
 use Rattle.fw_logic.proofs.Leads.{Leads}
@@ -24,6 +25,7 @@ use Rattle.mcs48_ranges.specs.Sizes.{IsByte}
 use Rattle.joint_run.specs.Run.{Board, ticks}
 use Rattle.kbd_model.specs.Keyboard.{offer}
 use Rattle.kbd_model.specs.Queue.{first_of}
+use Rattle.fw_keys.proofs.Bytes.{or_none, twice}
 
 -- the keys of column c that are down: it is read 13 + 16 c cycles behind
 abbrev pub shown : (d : Board) → ℕ → ℕ → d.State → ℕ → ℕ
@@ -54,12 +56,6 @@ head_helds look f r4 r5 i l =
     let b : nat_lt (32 + i) 44 ≡ true = grind (arith, nat_tests, l) in
     let v : 32 + i - 32 ≡ i = omega arith in
     rw (a, b, v) refl
-
-or_none : (a b : ℕ) → a < 256 → b < 256 → (bit_or a b == 0) ≡ ((a == 0) && (b == 0))
-or_none = pair_tests 256 256 (λ a b. bit_or a b == 0) (λ a b. (a == 0) && (b == 0)) refl
-
-twice : (c : ℕ) → c < 256 → ((c + c) % 256 == 0) ≡ (c % 128 == 0)
-twice = tests_by 256 (λ c. (c + c) % 256 == 0) (λ c. c % 128 == 0) refl
 
 mark_only : (c : ℕ) → c < 256 → (if c % 128 == 0 then bit 7 c else not (c == 0)) ≡ not (c == 0)
 mark_only = tests_by 256 (λ c. if c % 128 == 0 then bit 7 c else not (c == 0)) (λ c. not (c == 0)) refl
@@ -152,8 +148,17 @@ module _ (d : Board) (bytes : List ℕ) (hk : HasKernel bytes) (small : All IsBy
         let at : f 67 % 16 ≡ (f 67 + 0) % 16 = omega arith in
         by_plan (Until 41 ∷ Go false ∷ Until 47 ∷ Go false ∷ Until 55 ∷ Acc first ∷ Until TESTED ∷ []) first (f 66) free
         (left ∙ ap (λ n. first_of (made (λ i. slice_index ring ((f 67 + i) % 16)) n) (bit 7 (f 66))) (sym en)
-        ∙ sym (rw (e64, e65) refl))
-        (ap not none, (twice (f 66) l66 ∙ e66, (ap (λ p. slice_index (memory mid ring) p) (ring_place (f 67) l67) ∙ ring-get mid 0 112 ring (f 67 % 16) ∙ ap (λ k. slice_index ring k) at, (refl, refl, refl))))
+        ∙ sym (rw (e64, e65) refl)) (
+          ap not none,
+          (
+            twice (f 66) l66 ∙ e66,
+            (
+              ap (λ p. slice_index (memory mid ring) p) (ring_place (f 67) l67)
+                  ∙ ring-get mid 0 112 ring (f 67 % 16) ∙ ap (λ k. slice_index ring k) at,
+              (refl, refl, refl),
+            ),
+          ),
+        )
 
     pub head_law : Bytes f ring → IsFree m → Leads d (kernel_in true bytes) y started Headed
     head_law h = head_by (f 64 == 0) (f 65 == 0) (f 66 % 128 == 0) refl refl refl (h.cell 64 (omega arith))

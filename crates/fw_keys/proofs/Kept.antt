@@ -1,5 +1,6 @@
 -- What a tick keeps: codes are whole in the queue, and what repeats has a place below 96.
-use Rattle.std.proofs.Common.{◌≡◌, ◌<◌, ℕ, ◌%◌, ◌==◌, not, ◌&&◌, Bool, true, false, if◌then◌else◌, List, [], ◌∷◌, Some, None, nat_le, nat_lt}
+use Rattle.std.proofs.Common.{◌≡◌, ◌<◌, ℕ, ◌%◌, ◌==◌, not, ◌&&◌, Bool, true, false, if◌then◌else◌, List, []}
+use Rattle.std.proofs.Common.{◌∷◌, Some, None, nat_le, nat_lt}
 use Rattle.std.specs.declared.option.Option.{Option}
 use Rattle.kbd_model.specs.declared.meeting.Meeting.{Meeting}
 use Rattle.kbd_model.specs.declared.meeting.Meeting.TheVariants.{Idle, Inhibited, Sent, Cut, Got}
@@ -11,7 +12,8 @@ use Rattle.kbd_model.specs.Codes.{Keys, make, release}
 use Rattle.kbd_model.specs.Queue.{KeyQueue, enter, clear, drop_first}
 use Rattle.kbd_model.specs.Keyboard.{Keyboard, offer}
 use Rattle.kbd_model.specs.Commands.{obeyed, obeyed_in, parameter, commanded}
-use Rattle.kbd_model.specs.Tick.{met, sent_byte, without_offered, tested_if, repeated, repeated_if, edge_if, edges_if, ended_at, is_scanning, is_inhibited, ticked}
+use Rattle.kbd_model.specs.Tick.{met, sent_byte, without_offered, tested_if, repeated, repeated_if, edge_if}
+use Rattle.kbd_model.specs.Tick.{edges_if, ended_at, is_scanning, is_inhibited, ticked}
 use Rattle.kbd_model.proofs.Whole.{IsWhole, entered_whole, make_whole, release_whole, dropped_whole, cleared_whole}
 use Rattle.fw_keys.proofs.Carried.{low_repeat, low_edges}
 
@@ -33,7 +35,19 @@ module _ (keys : Keys) (codes : NoPrefix keys) where
   goes (Some r) k s = goes_by r.resets
     where
       goes_by : (b : Bool) → Sound
-          (if b then record { test = 64; enabled = true; mode = Ready; reply = None; aa_due = false; last = 0xAA; queue = clear k.queue; repeats = None; rate = keys.rate; lights = 0; held = k.held } else record k { reply = None })
+          (if b then record {
+            test = 64;
+            enabled = true;
+            mode = Ready;
+            reply = None;
+            aa_due = false;
+            last = 0xAA;
+            queue = clear k.queue;
+            repeats = None;
+            rate = keys.rate;
+            lights = 0;
+            held = k.held;
+          } else record k { reply = None })
       goes_by true = record { codes = cleared_whole k.queue s.codes; place = tt }
       goes_by false = record { codes = s.codes; place = s.place }
 
@@ -51,9 +65,25 @@ module _ (keys : Keys) (codes : NoPrefix keys) where
       by : (b0 b1 b2 b3 b4 b5 b6 b7 b8 : Bool) → IsWhole (clear k.queue) → Sound (
           if b0 then record k { reply = Some (record { byte = 0xFA; resets = true }) }
           else if b1 then record k { reply = Some (record { byte = k.last; resets = false }) }
-          else if b2 then record k { reply = Some (record { byte = 0xFA; resets = false }); queue = clear k.queue; rate = keys.rate; repeats = None }
-          else if b3 then record k { reply = Some (record { byte = 0xFA; resets = false }); queue = clear k.queue; rate = keys.rate; repeats = None; enabled = false }
-          else if b4 then record k { reply = Some (record { byte = 0xFA; resets = false }); queue = clear k.queue; repeats = None; enabled = true }
+          else if b2 then record k {
+            reply = Some (record { byte = 0xFA; resets = false });
+            queue = clear k.queue;
+            rate = keys.rate;
+            repeats = None;
+          }
+          else if b3 then record k {
+            reply = Some (record { byte = 0xFA; resets = false });
+            queue = clear k.queue;
+            rate = keys.rate;
+            repeats = None;
+            enabled = false;
+          }
+          else if b4 then record k {
+            reply = Some (record { byte = 0xFA; resets = false });
+            queue = clear k.queue;
+            repeats = None;
+            enabled = true;
+          }
           else if b5 then record k { reply = Some (record { byte = 0xFA; resets = false }); mode = WantRate }
           else if b6 then record k { reply = Some (record { byte = 0xFA; resets = false }); mode = WantLights }
           else if b7 then record k { reply = Some (record { byte = 0xEE; resets = false }) }
@@ -135,9 +165,16 @@ module _ (keys : Keys) (codes : NoPrefix keys) where
   one_edge : (on : Bool) (place : ℕ) (down : Bool) (k : Keyboard) → place < 96 → Sound k
       → Sound (edge_if on keys place down k)
   one_edge true place true k l s =
-      record { codes = entered_whole (make (keys.code place)) k.queue (make_whole (keys.code place) (codes place l)) s.codes; place = l }
+      record {
+        codes = entered_whole (make (keys.code place)) k.queue (make_whole (keys.code place) (codes place l)) s.codes;
+        place = l;
+      }
   one_edge true place false k l s =
-      record { codes = entered_whole (release (keys.code place)) k.queue (release_whole (keys.code place) (codes place l)) s.codes; place = ended place k.repeats s.place }
+      record {
+        codes = entered_whole (release (keys.code place)) k.queue
+            (release_whole (keys.code place) (codes place l)) s.codes;
+        place = ended place k.repeats s.place;
+      }
   one_edge false place down k l s = record { codes = s.codes; place = s.place }
 
   edges : (on : Bool) (es : List (ℕ × Bool)) (k : Keyboard) → low_edges es → Sound k → Sound (edges_if on keys es k)

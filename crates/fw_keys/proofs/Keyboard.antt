@@ -7,7 +7,7 @@ use Rattle.kbd_model.specs.Keyboard.{Keyboard}
 use Rattle.kbd_model.specs.Tick.{ticked}
 use Rattle.fw_keys.specs.State.{kbd_of, held_by, keyboard_of}
 use Rattle.fw_keys.specs.Edges.{tick_edges}
-use Rattle.fw_keys.proofs.Tick.{keyed_tick}
+use Rattle.fw_keys.proofs.KeyedTick.{keyed_tick}
 use Rattle.fw_keys.proofs.Edges.{ticked_is}
 use Rattle.fw_keys.proofs.Held.{held_turns, held_same}
 

@@ -30,3 +30,10 @@ pub mod PowerOn
 pub mod Carried
 pub mod Kept
 pub mod Bare
+pub mod CommandTests
+pub mod Dropped
+pub mod EdgeTests
+pub mod Begun
+pub mod SameCells
+pub mod Bytes
+pub mod KeyedTick

@@ -2,7 +2,8 @@
 use Rattle.kbd_model.specs.Laws.{whole}
 use Rattle.kbd_model.proofs.Whole.{IsWhole, code_behind}
 use Rattle.std.proofs.Common.{Bool}
-use Rattle.std.proofs.Common.{◌≡◌, ◌<◌, ℕ, suc, zero, ◌+◌, ◌%◌, List, length, true, false, not, ◌==◌, Some, None, refl, ap, sym, ◌∙◌, arith, slice_index}
+use Rattle.std.proofs.Common.{◌≡◌, ◌<◌, ℕ, suc, zero, ◌+◌, ◌%◌, List, length, true, false, not, ◌==◌, Some}
+use Rattle.std.proofs.Common.{None, refl, ap, sym, ◌∙◌, arith, slice_index}
 use Rattle.std.specs.declared.option.Option.{Option}
 use Rattle.mcs48_core.specs.Status.{bit}
 use Rattle.fw_keys.proofs.Head.{offered_in}

@@ -14,13 +14,24 @@ use Rattle.fw_logic.proofs.Service.{begun}
 use Rattle.fw_logic.proofs.Laws.{comes_as}
 use Rattle.fw_logic.proofs.Starting.{IsFirst, first_start, powered, empty_ring}
 use Rattle.fw_keys.specs.Quiet.{IsStarted, FromPowerOn, shown_by}
-use Rattle.fw_keys.proofs.QuietTick.{started_is}
+use Rattle.fw_keys.proofs.Begun.{started_is}
 
 module _ (d : Board) (bytes : List ℕ) (hk : HasKernel bytes) (small : All IsByte bytes)
     (low : (p1 p2 c : ℕ) (s : d.State) → (d.pins p1 p2 c s).bus < 256) (board : d.State) where
   reset_fine : IsFine reset_cpu
   reset_fine =
-      record { pc = omega arith; a = omega arith; ram = All-replicate IsByte 128 0 (omega arith); long = refl; t = omega arith; pre = omega arith; p1 = omega arith; p2 = omega arith; bus = omega arith; sp = omega arith }
+      record {
+        pc = omega arith;
+        a = omega arith;
+        ram = All-replicate IsByte 128 0 (omega arith);
+        long = refl;
+        t = omega arith;
+        pre = omega arith;
+        p1 = omega arith;
+        p2 = omega arith;
+        bus = omega arith;
+        sp = omega arith;
+      }
 
   -- the first tick start, with what stands beside the processor there
   pub first_started : Comes d TICK bytes (power_on d board) (λ w. IsFirst d bytes board w × FromPowerOn bytes w.cpu)
@@ -41,7 +52,13 @@ module _ (d : Board) (bytes : List ℕ) (hk : HasKernel bytes) (small : All IsBy
             started = subst (λ c. IsStarted c) (sym cpu)
                 (started_is a.late a.most a.tf a.last (powered bytes) empty_ring (record reset_cpu { a = 130 })
                 (subst (λ c. IsFine c) cpu fine)
-                (record { most = omega arith; started = omega arith; some = omega arith; mode = omega arith; lamps = omega arith }));
+                (record {
+                  most = omega arith;
+                  started = omega arith;
+                  some = omega arith;
+                  mode = omega arith;
+                  lamps = omega arith;
+                }));
             keyboard = ap (λ (c : Cpu). shown_by c.ram) cpu;
             latch = ap (λ (c : Cpu). c.p2) cpu;
           },

@@ -1,133 +1,34 @@
 -- Ticks without a frame in the words of the joint run.
-use Rattle.std.proofs.Common.{◌≡◌, ◌≤◌, ◌<◌, ℕ, suc, zero, ◌+◌, ◌-◌, ◌*◌, Bool, true, false, if◌then◌else◌, List, [], ◌∷◌, ◌++◌, All, length, drop, bit_xor, refl, ap, sym, ◌∙◌, subst, arith, inl, inr}
+use Rattle.std.proofs.Common.{◌≡◌, ◌≤◌, ◌<◌, ℕ, ◌+◌, ◌-◌, ◌*◌, Bool}
+use Rattle.std.proofs.Common.{List, All, length, drop, bit_xor, refl, ap, sym, ◌∙◌, subst, arith}
+use Rattle.std.proofs.Common.{inl, inr}
 use Rattle.mcs48_core.specs.Cpu.{Cpu}
-use Rattle.mcs48_core.specs.Status.{bit, digit}
-use Rattle.mcs48_core.specs.declared.processor.Count.TheVariants.{Timer}
-use Rattle.fw_kernel.specs.declared.labels.TheConstants.{TICK, WAIT, DONE}
+use Rattle.fw_kernel.specs.declared.labels.TheConstants.{TICK, DONE}
 use Rattle.fw_kernel.specs.Places.{HasKernel}
 use Rattle.joint_run.specs.Run.{Board, World, ticks}
 use Rattle.joint_run.specs.Starts.{Tick}
 use Rattle.mcs48_ranges.specs.Sizes.{IsByte, IsFine}
 use Rattle.fw_logic.specs.Scan.{in_tick, levels_in}
 use Rattle.fw_logic.proofs.Path.{Stage}
-use Rattle.fw_logic.proofs.Block.{memory, put}
+use Rattle.fw_logic.proofs.Block.{memory}
 use Rattle.fw_logic.proofs.Blocks.{absolute, joined}
 use Rattle.fw_logic.proofs.Chain.{ticks_from}
 use Rattle.fw_logic.proofs.Laws.{comes_as}
-use Rattle.fw_logic.proofs.Memory.{memory_is}
 use Rattle.fw_logic.proofs.Service.{serving, stacked, begun}
 use Rattle.fw_logic.proofs.Serves.{Next}
 use Rattle.kbd_model.specs.declared.meeting.Meeting.{Meeting}
 use Rattle.kbd_model.specs.declared.meeting.Meeting.TheVariants.{Idle, Inhibited, Sent, Cut, Got}
 use Rattle.kbd_model.specs.Tick.{ticked}
 use Rattle.fw_keys.specs.State.{keyboard_of, Inv}
-use Rattle.fw_keys.specs.Edges.{image_keys, row_edges, column_edges, tick_edges}
-use Rattle.fw_keys.specs.Quiet.{cells_in, shown_by, IsStarted, down_now, changed_now, edges_now, latch_now, IsQuiet, GoesOn}
-use Rattle.fw_keys.proofs.Rows.{marks}
+use Rattle.fw_keys.specs.Edges.{image_keys, tick_edges}
+use Rattle.fw_keys.specs.Quiet.{cells_in, shown_by, IsStarted, down_now, changed_now, edges_now, latch_now}
+use Rattle.fw_keys.specs.Quiet.{IsQuiet, GoesOn}
 use Rattle.fw_keys.proofs.Step5.{all_edges}
 use Rattle.fw_keys.proofs.Scan.{edges_most}
 use Rattle.fw_keys.proofs.Ended.{AtHead, idle_works, inhibited_works, test_works}
-use Rattle.std.proofs.lemmas.Nat.{xor_of_8}
 use Rattle.std.proofs.lemmas.List.Elements.{All-get_or}
 use Rattle.fw_keys.proofs.Serve.{kept_on, down, changed, held, first, first_board, fit, Goes, Work, tick, four_edges}
-
--- edges by the twelve columns' bytes
-columns_same : (ch ch' dn dn' : ℕ → ℕ) (c n : ℕ) → c + n ≡ 12 → ((i : ℕ) → i < 12 → ch i ≡ ch' i)
-    → ((i : ℕ) → i < 12 → dn i ≡ dn' i) → column_edges c n ch dn ≡ column_edges c n ch' dn'
-columns_same ch ch' dn dn' c zero sum a b = refl
-columns_same ch ch' dn dn' c (suc n) sum a b =
-    let l : c < 12 = omega (arith, sum) in
-    ap (λ v. row_edges (8 * c) 0 8 v (dn c) ++ column_edges (suc c) n ch dn) (a c l)
-    ∙ ap (λ v. row_edges (8 * c) 0 8 (ch' c) v ++ column_edges (suc c) n ch dn) (b c l)
-    ∙ ap (λ t. row_edges (8 * c) 0 8 (ch' c) (dn' c) ++ t)
-    (columns_same ch ch' dn dn' (suc c) n (omega (arith, sum)) a b)
-
-row_count : (place r n c dn : ℕ) → (b : Bool) → bit r c ≡ b → length (row_edges place (suc r) n c dn)
-    ≡ marks (suc r) n c → length (row_edges place r (suc n) c dn) ≡ marks r (suc n) c
-row_count place r n c dn true e ih =
-    ap (λ b. length (if b then (place + r, bit r dn) ∷ row_edges place (suc r) n c dn else row_edges place (suc r) n c
-    dn)) e ∙ ap suc ih
-    ∙ (let one : suc (marks (suc r) n c) ≡ 1 + marks (suc r) n c = omega arith in one)
-    ∙ sym (ap (λ b. digit b + marks (suc r) n c) e)
-row_count place r n c dn false e ih =
-    ap (λ b. length (if b then (place + r, bit r dn) ∷ row_edges place (suc r) n c dn else row_edges place (suc r) n c
-    dn)) e ∙ ih
-    ∙ (let none : marks (suc r) n c ≡ 0 + marks (suc r) n c = omega arith in none)
-    ∙ sym (ap (λ b. digit b + marks (suc r) n c) e)
-
-rows_count : (place r n c dn : ℕ) → length (row_edges place r n c dn) ≡ marks r n c
-rows_count place r zero c dn = refl
-rows_count place r (suc n) c dn = row_count place r n c dn (bit r c) refl (rows_count place (suc r) n c dn)
-
-both_long : (xs ys : List (ℕ × Bool)) → length (xs ++ ys) ≡ length xs + length ys
-both_long [] ys = let e : length ys ≡ 0 + length ys = omega arith in e
-both_long (x ∷ xs) ys = let h : length (xs ++ ys) ≡ length xs + length ys = both_long xs ys in omega (arith, h)
-
-columns_count : (ch dn : ℕ → ℕ) (c n : ℕ) → length (column_edges c n ch dn) ≡ all_edges ch c n
-columns_count ch dn c zero = refl
-columns_count ch dn c (suc n) =
-    both_long (row_edges (8 * c) 0 8 (ch c) (dn c)) (column_edges (suc c) n ch dn)
-    ∙ ap (λ k. k + length (column_edges (suc c) n ch dn)) (rows_count (8 * c) 0 8 (ch c) (dn c))
-    ∙ ap (λ k. marks 0 8 (ch c) + k) (columns_count ch dn (suc c) n)
-
--- memory with the way back on the stack
-pub way_back : (f : ℕ → ℕ) (ring : List ℕ) → f 8 ≡ WAIT → f 9 ≡ 16 → memory f ring ≡ memory (stacked f) ring
-way_back f ring low high = ap (λ u. memory (put f 8 u) ring) low ∙ ap (λ u. memory (put (put f 8 WAIT) 9 u) ring) high
-
--- a started processor is one that was begun
-pub begun_is : (m : Cpu) → IsStarted m → m ≡ begun (m.pre - 2) m.tf m.last_t1 (cells_in m.ram) (drop 112 m.ram) m
-begun_is m s =
-    let pre : m.pre ≡ m.pre - 2 + 2 = (let l : 2 ≤ m.pre = s.early in omega (arith, l)) in
-    let ram : m.ram ≡ memory (stacked (cells_in m.ram)) (drop 112 m.ram) =
-    memory_is m.ram s.fine.long ∙ way_back (cells_in m.ram) (drop 112 m.ram) s.back s.status in
-    ap (λ v. record m { pc = v }) s.pc
-    ∙ ap (λ v. record m { pc = TICK; rb = v }) s.bank
-    ∙ ap (λ v. record m { pc = TICK; rb = true; sp = v }) s.depth
-    ∙ ap (λ v. record m { pc = TICK; rb = true; sp = 1; mb = v }) s.lower
-    ∙ ap (λ v. record m { pc = TICK; rb = true; sp = 1; mb = false; ext_on = v }) s.external
-    ∙ ap (λ v. record m { pc = TICK; rb = true; sp = 1; mb = false; ext_on = false; tim_on = v }) s.enabled
-    ∙ ap (λ v. record m { pc = TICK; rb = true; sp = 1; mb = false; ext_on = false; tim_on = true; svc = v }) s.serves
-    ∙ ap (λ v. record m { pc = TICK; rb = true; sp = 1; mb = false; ext_on = false; tim_on = true; svc = true; ram = v }) ram
-    ∙ ap (λ v. record (serving TICK (stacked (cells_in m.ram)) (drop 112 m.ram) m) { c = v }) s.carry
-    ∙ ap (λ v. record (serving TICK (stacked (cells_in m.ram)) (drop 112 m.ram) m) { c = false; ac = v }) s.half
-    ∙ ap (λ v. record (serving TICK (stacked (cells_in m.ram)) (drop 112 m.ram) m) { c = false; ac = false; f0 = v })
-    s.flag
-    ∙ ap (λ v. record (serving TICK (stacked (cells_in m.ram)) (drop 112 m.ram)
-    m) { c = false; ac = false; f0 = false; run = v }) s.run
-    ∙ ap (λ v. record (serving TICK (stacked (cells_in m.ram)) (drop 112 m.ram)
-    m) { c = false; ac = false; f0 = false; run = Timer; t = v }) s.t
-    ∙ ap (λ v. record (serving TICK (stacked (cells_in m.ram)) (drop 112 m.ram)
-    m) { c = false; ac = false; f0 = false; run = Timer; t = 0; pre = v }) pre
-    ∙ ap (λ v. record (serving TICK (stacked (cells_in m.ram)) (drop 112 m.ram)
-    m) { c = false; ac = false; f0 = false; run = Timer; t = 0; pre = m.pre - 2 + 2; rq = v }) s.clear
-
--- and the other way round
-pub started_is : (late : ℕ) → late ≤ 1 → (tf last : Bool) (now : ℕ → ℕ) (ring : List ℕ) (m : Cpu)
-    → IsFine (begun late tf last now ring m) → Inv now → IsStarted (begun late tf last now ring m)
-started_is late few tf last now ring m fine inv = record {
-  pc = refl;
-  bank = refl;
-  depth = refl;
-  lower = refl;
-  external = refl;
-  enabled = refl;
-  serves = refl;
-  carry = refl;
-  half = refl;
-  flag = refl;
-  run = refl;
-  t = refl;
-  early = omega arith;
-  late = omega (arith, few);
-  clear = refl;
-  back = refl;
-  status = refl;
-  fine = fine;
-  inv = record { most = inv.most; started = inv.started; some = inv.some; mode = inv.mode; lamps = inv.lamps };
-}
-
-xor_small : (a b : ℕ) → a < 256 → b < 256 → bit_xor a b < 256
-xor_small a b l m = xor_of_8 a b l m
+use Rattle.fw_keys.proofs.Begun.{columns_same, columns_count, way_back, begun_is, started_is, xor_small}
 
 module _ (d : Board) (bytes : List ℕ) (hk : HasKernel bytes) (small : All IsByte bytes)
     (low : (p1 p2 c : ℕ) (s : d.State) → (d.pins p1 p2 c s).bus < 256)
@@ -235,12 +136,27 @@ module _ (d : Board) (bytes : List ℕ) (hk : HasKernel bytes) (small : All IsBy
   works : (meeting : Meeting) → IsQuiet d w meeting
       → (max : ℕ) × (max ≤ 36) × ((l : Bool) → Work d bytes hk small low w.cycle late soon m.tf m.last_t1 f ring m
       w.board l meeting (231 + (max + (56 + (2 + edges_most C)))) (F l))
-  works Idle (inl runs) =
-      (36, omega arith, λ l. test_works d bytes hk small low H (w.cycle + 3) (k l) board3 (stacked f) ring inv runs (fit d bytes hk small low w.cycle late soon m.tf m.last_t1 f ring m w.board l fine))
-  works Idle (inr q) =
-      (31, omega arith, λ l. idle_works d bytes hk small low H (w.cycle + 3) (k l) board3 (stacked f) ring inv q.0 q.3 (ap (λ p. p.t0) (look_is 22) ∙ q.1, ap (λ p. p.t1) (look_is 24) ∙ q.2) (fit d bytes hk small low w.cycle late soon m.tf m.last_t1 f ring m w.board l fine))
-  works Inhibited q =
-      (31, omega arith, λ l. inhibited_works d bytes hk small low H (w.cycle + 3) (k l) board3 (stacked f) ring inv q.0 (ap (λ p. p.t0) (look_is 22) ∙ q.1) (fit d bytes hk small low w.cycle late soon m.tf m.last_t1 f ring m w.board l fine))
+  works Idle (inl runs) = (
+    36,
+    omega arith,
+    λ l. test_works d bytes hk small low H (w.cycle + 3) (k l) board3 (stacked f) ring inv runs
+        (fit d bytes hk small low w.cycle late soon m.tf m.last_t1 f ring m w.board l fine),
+  )
+  works Idle (inr q) = (
+    31,
+    omega arith,
+    λ l. idle_works d bytes hk small low H (w.cycle + 3) (k l) board3 (stacked f) ring inv q.0 q.3 (
+      ap (λ p. p.t0) (look_is 22) ∙ q.1,
+      ap (λ p. p.t1) (look_is 24) ∙ q.2,
+    ) (fit d bytes hk small low w.cycle late soon m.tf m.last_t1 f ring m w.board l fine),
+  )
+  works Inhibited q = (
+    31,
+    omega arith,
+    λ l. inhibited_works d bytes hk small low H (w.cycle + 3) (k l) board3 (stacked f) ring inv q.0
+        (ap (λ p. p.t0) (look_is 22)
+        ∙ q.1) (fit d bytes hk small low w.cycle late soon m.tf m.last_t1 f ring m w.board l fine),
+  )
   works (Got byte good) q = elim q [ ]
   works Sent q = elim q [ ]
   works Cut q = elim q [ ]
@@ -295,7 +211,13 @@ module _ (d : Board) (bytes : List ℕ) (hk : HasKernel bytes) (small : All IsBy
       record {
         started = subst (λ c. IsStarted c) (sym vcpu)
             (started_is n.late' n.most n.tf n.last n.now n.ring e.cpu fineB
-            (record { most = g.inv.most; started = g.inv.started; some = g.inv.some; mode = g.inv.mode; lamps = g.inv.lamps }));
+            (record {
+              most = g.inv.most;
+              started = g.inv.started;
+              some = g.inv.some;
+              mode = g.inv.mode;
+              lamps = g.inv.lamps;
+            }));
         time = omega (arith, cycle, time, pre, early);
         keyboard =
             ap (λ (c : Cpu). shown_by c.ram) vcpu ∙ g.kbd

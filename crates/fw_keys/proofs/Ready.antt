@@ -1,6 +1,7 @@
 -- Step 2: a command in mode Ready, when FA is already due.
 use Rattle.fw_keys.proofs.Patch.{Keeps}
-use Rattle.std.proofs.Common.{◌≡◌, ◌≤◌, ◌<◌, ℕ, ◌+◌, ◌%◌, List, [], ◌∷◌, All, Bool, true, false, not, ◌==◌, nat_le, nat_lt, refl, ap, sym, ◌∙◌, arith, slice_index}
+use Rattle.std.proofs.Common.{◌≡◌, ◌≤◌, ◌<◌, ℕ, ◌%◌, List, [], ◌∷◌, All, Bool, true, false, ◌==◌}
+use Rattle.std.proofs.Common.{nat_lt, refl, ap, sym, ◌∙◌, arith, slice_index}
 use Rattle.std.proofs.lemmas.Bool.Decides.{nat_tests}
 use Rattle.mcs48_core.specs.Cpu.{Cpu}
 use Rattle.fw_kernel.specs.declared.labels.TheConstants.{READY, SCAN}
@@ -10,7 +11,6 @@ use Rattle.mcs48_ranges.specs.Sizes.{IsByte}
 use Rattle.fw_logic.proofs.Path.{Until, Go}
 use Rattle.fw_logic.proofs.Leads.{Leads}
 use Rattle.fw_logic.proofs.Block.{begin_at, put}
-use Rattle.bits.proofs.Every.{tests_by}
 use Rattle.fw_logic.proofs.Kernel.{kernel_in}
 use Rattle.fw_logic.proofs.Short.{has_rows}
 use Rattle.kbd_model.specs.Keyboard.{Keyboard}
@@ -19,53 +19,11 @@ use Rattle.fw_keys.specs.State.{kbd_of, Inv}
 use Rattle.fw_keys.specs.Edges.{image_keys}
 use Rattle.fw_keys.proofs.Block.{Ends, Safe}
 use Rattle.fw_keys.proofs.Blocks.{leaf, bytes_of}
-use Rattle.fw_keys.proofs.Sent.{cleared}
+use Rattle.fw_keys.proofs.Dropped.{cleared}
+use Rattle.fw_keys.proofs.CommandTests.{other, below, the_rest, is0, is1, is2, is3, is4, is5, is6, is7, is8}
 
 abbrev pub based : ℕ → (ℕ → ℕ) → ℕ → ℕ
 based v f = put (put (put f 64 1) 75 250) 25 v
-
-other : (k b : ℕ) → 237 ≤ k → nat_lt b 237 ≡ true → (b == k) ≡ false
-other k b l h = grind (arith, nat_tests, l, h)
-
-below : (b : ℕ) → nat_lt b 237 ≡ true → nat_le 239 b ≡ false
-below b h = grind (arith, nat_tests, h)
-
-the_rest : (b : ℕ) → nat_lt b 237 ≡ false → (b == 237) ≡ false → (b == 238) ≡ false → nat_le 239 b ≡ true
-the_rest b h i j = grind (arith, nat_tests, h, i, j)
-
-is0 : (b : ℕ) → b < 256 → (not (nat_le 256 (b + 19))) ≡ (nat_lt b 237)
-is0 = tests_by 256 (λ b. not (nat_le 256 (b + 19))) (λ b. nat_lt b 237) refl
-
-is1 : (b : ℕ) → b < 256 → ((b + 19) % 256 == 0) ≡ (b == 237)
-is1 = tests_by 256 (λ b. (b + 19) % 256 == 0) (λ b. b == 237) refl
-
-is2 : (b : ℕ) → b < 256 → (((b + 19) % 256 + 255) % 256 == 0) ≡ (b == 238)
-is2 = tests_by 256 (λ b. ((b + 19) % 256 + 255) % 256 == 0) (λ b. b == 238) refl
-
-is3 : (b : ℕ) → b < 256 → ((((b + 19) % 256 + 255) % 256 + 251) % 256 == 0) ≡ (b == 243)
-is3 = tests_by 256 (λ b. (((b + 19) % 256 + 255) % 256 + 251) % 256 == 0) (λ b. b == 243) refl
-
-is4 : (b : ℕ) → b < 256 → (((((b + 19) % 256 + 255) % 256 + 251) % 256 + 255) % 256 == 0) ≡ (b == 244)
-is4 = tests_by 256 (λ b. ((((b + 19) % 256 + 255) % 256 + 251) % 256 + 255) % 256 == 0) (λ b. b == 244) refl
-
-is5 : (b : ℕ) → b < 256 → ((((((b + 19) % 256 + 255) % 256 + 251) % 256 + 255) % 256 + 255) % 256 == 0) ≡ (b == 245)
-is5 = tests_by 256 (λ b. (((((b + 19) % 256 + 255) % 256 + 251) % 256 + 255) % 256 + 255) % 256 == 0) (λ b. b == 245)
-    refl
-
-is6 : (b : ℕ) → b < 256 → (((((((b + 19) % 256 + 255) % 256 + 251) % 256 + 255) % 256 + 255) % 256 + 255) % 256 == 0)
-    ≡ (b == 246)
-is6 = tests_by 256 (λ b. ((((((b + 19) % 256 + 255) % 256 + 251) % 256 + 255) % 256 + 255) % 256 + 255) % 256 == 0)
-    (λ b. b == 246) refl
-
-is7 : (b : ℕ) → b < 256 → ((((((((b + 19) % 256 + 255) % 256 + 251) % 256 + 255) % 256 + 255) % 256 + 255) % 256 + 248)
-    % 256 == 0) ≡ (b == 254)
-is7 = tests_by 256 (λ b. (((((((b + 19) % 256 + 255) % 256 + 251) % 256 + 255) % 256 + 255) % 256 + 255) % 256 + 248)
-    % 256 == 0) (λ b. b == 254) refl
-
-is8 : (b : ℕ) → b < 256 → (((((((((b + 19) % 256 + 255) % 256 + 251) % 256 + 255) % 256 + 255) % 256 + 255) % 256 + 248)
-    % 256 + 255) % 256 == 0) ≡ (b == 255)
-is8 = tests_by 256 (λ b. ((((((((b + 19) % 256 + 255) % 256 + 251) % 256 + 255) % 256 + 255) % 256 + 255) % 256 + 248)
-    % 256 + 255) % 256 == 0) (λ b. b == 255) refl
 
 module _ (d : Board) (bytes : List ℕ) (hk : HasKernel bytes) (small : All IsByte bytes)
     (low : (p1 p2 c : ℕ) (s : d.State) → (d.pins p1 p2 c s).bus < 256) (held : List Bool)
@@ -85,7 +43,22 @@ module _ (d : Board) (bytes : List ℕ) (hk : HasKernel bytes) (small : All IsBy
       leaf d (kernel_in true bytes) (has_rows true bytes hk) small low
       (Keeps held (commanded (image_keys bytes) (f 28)) f ring) (Until 386 ∷ Go true ∷ Until SCAN ∷ []) READY SCAN 43
       (put (put (based v f) 25 75) 75 254) ring x m m board (based v f) ring safe.0
-      (λ a. record { kbd = rw (other 255 (f 28) (omega arith) e0, other 254 (f 28) (omega arith) e0, other 246 (f 28) (omega arith) e0, other 245 (f 28) (omega arith) e0, other 244 (f 28) (omega arith) e0, other 243 (f 28) (omega arith) e0, other 237 (f 28) (omega arith) e0, other 238 (f 28) (omega arith) e0, below (f 28) e0) refl; inv = record { most = inv.most; started = inv.started; some = inv.some; mode = inv.mode; lamps = inv.lamps }; cells = λ i k u. grind (arith, nat_tests, k, u); stack = (refl, refl) })
+      (λ a. record {
+        kbd = rw (
+          other 255 (f 28) (omega arith) e0,
+          other 254 (f 28) (omega arith) e0,
+          other 246 (f 28) (omega arith) e0,
+          other 245 (f 28) (omega arith) e0,
+          other 244 (f 28) (omega arith) e0,
+          other 243 (f 28) (omega arith) e0,
+          other 237 (f 28) (omega arith) e0,
+          other 238 (f 28) (omega arith) e0,
+          below (f 28) e0,
+        ) refl;
+        inv = record { most = inv.most; started = inv.started; some = inv.some; mode = inv.mode; lamps = inv.lamps };
+        cells = λ i k u. grind (arith, nat_tests, k, u);
+        stack = (refl, refl);
+      })
       (is0 (f 28) l ∙ e0, (refl, refl, refl))
   ready_by false true c2 c3 c4 c5 c6 c7 c8 e0 e1 e2 e3 e4 e5 e6 e7 e8 safe =
       let l : f 28 < 256 = (bytes_of m READY (based v f) ring safe).cell 28 (omega arith) in
@@ -94,7 +67,12 @@ module _ (d : Board) (bytes : List ℕ) (hk : HasKernel bytes) (small : All IsBy
       (Keeps held (commanded (image_keys bytes) (f 28)) f ring)
       (Until 386 ∷ Go false ∷ Until 388 ∷ Go true ∷ Until SCAN ∷ []) READY SCAN 43
       (put (put (based v f) 25 70) 70 2) ring x m m board (based v f) ring safe.0
-      (λ a. record { kbd = sym (ap (λ b. commanded (image_keys bytes) b keyboard) code); inv = record { most = inv.most; started = inv.started; some = inv.some; mode = omega arith; lamps = inv.lamps }; cells = λ i k u. grind (arith, nat_tests, k, u); stack = (refl, refl) })
+      (λ a. record {
+        kbd = sym (ap (λ b. commanded (image_keys bytes) b keyboard) code);
+        inv = record { most = inv.most; started = inv.started; some = inv.some; mode = omega arith; lamps = inv.lamps };
+        cells = λ i k u. grind (arith, nat_tests, k, u);
+        stack = (refl, refl);
+      })
       (is0 (f 28) l ∙ e0, (is1 (f 28) l ∙ e1, (refl, refl, refl)))
   ready_by false false true c3 c4 c5 c6 c7 c8 e0 e1 e2 e3 e4 e5 e6 e7 e8 safe =
       let l : f 28 < 256 = (bytes_of m READY (based v f) ring safe).cell 28 (omega arith) in
@@ -103,7 +81,12 @@ module _ (d : Board) (bytes : List ℕ) (hk : HasKernel bytes) (small : All IsBy
       (Keeps held (commanded (image_keys bytes) (f 28)) f ring)
       (Until 386 ∷ Go false ∷ Until 388 ∷ Go false ∷ Until 391 ∷ Go true ∷ Until SCAN ∷ []) READY SCAN 43
       (put (put (based v f) 25 75) 75 238) ring x m m board (based v f) ring safe.0
-      (λ a. record { kbd = sym (ap (λ b. commanded (image_keys bytes) b keyboard) code); inv = record { most = inv.most; started = inv.started; some = inv.some; mode = inv.mode; lamps = inv.lamps }; cells = λ i k u. grind (arith, nat_tests, k, u); stack = (refl, refl) })
+      (λ a. record {
+        kbd = sym (ap (λ b. commanded (image_keys bytes) b keyboard) code);
+        inv = record { most = inv.most; started = inv.started; some = inv.some; mode = inv.mode; lamps = inv.lamps };
+        cells = λ i k u. grind (arith, nat_tests, k, u);
+        stack = (refl, refl);
+      })
       (is0 (f 28) l ∙ e0, (is1 (f 28) l ∙ e1, (is2 (f 28) l ∙ e2, (refl, refl, refl))))
   ready_by false false false true c4 c5 c6 c7 c8 e0 e1 e2 e3 e4 e5 e6 e7 e8 safe =
       let l : f 28 < 256 = (bytes_of m READY (based v f) ring safe).cell 28 (omega arith) in
@@ -113,74 +96,180 @@ module _ (d : Board) (bytes : List ℕ) (hk : HasKernel bytes) (small : All IsBy
       (Until 386 ∷ Go false ∷ Until 388 ∷ Go false ∷ Until 391 ∷ Go false ∷ Until 395 ∷ Go true ∷ Until SCAN ∷ []) READY
       SCAN 43
       (put (put (based v f) 25 70) 70 1) ring x m m board (based v f) ring safe.0
-      (λ a. record { kbd = sym (ap (λ b. commanded (image_keys bytes) b keyboard) code); inv = record { most = inv.most; started = inv.started; some = inv.some; mode = omega arith; lamps = inv.lamps }; cells = λ i k u. grind (arith, nat_tests, k, u); stack = (refl, refl) })
+      (λ a. record {
+        kbd = sym (ap (λ b. commanded (image_keys bytes) b keyboard) code);
+        inv = record { most = inv.most; started = inv.started; some = inv.some; mode = omega arith; lamps = inv.lamps };
+        cells = λ i k u. grind (arith, nat_tests, k, u);
+        stack = (refl, refl);
+      })
       (is0 (f 28) l ∙ e0, (is1 (f 28) l ∙ e1, (is2 (f 28) l ∙ e2, (is3 (f 28) l ∙ e3, (refl, refl, refl)))))
   ready_by false false false false true c5 c6 c7 c8 e0 e1 e2 e3 e4 e5 e6 e7 e8 safe =
       let l : f 28 < 256 = (bytes_of m READY (based v f) ring safe).cell 28 (omega arith) in
       let started : f 68 ≤ 1 = inv.started in
       let code : f 28 ≡ 244 = grind (arith, nat_tests, e4) in
+      let t0 = is0 (f 28) l ∙ e0 in
+      let t1 = is1 (f 28) l ∙ e1 in
+      let t2 = is2 (f 28) l ∙ e2 in
+      let t3 = is3 (f 28) l ∙ e3 in
+      let t4 = is4 (f 28) l ∙ e4 in
       leaf d (kernel_in true bytes) (has_rows true bytes hk) small low
       (Keeps held (commanded (image_keys bytes) (f 28)) f ring)
       (Until 386 ∷ Go false ∷ Until 388 ∷ Go false ∷ Until 391 ∷ Go false ∷ Until 395 ∷ Go false ∷ Until 398 ∷ Go
       true ∷ Until SCAN ∷ []) READY SCAN 43
       (put (put (put (put (based v f) 71 0) 74 0) 66 (f 68)) 25 66) ring x m m board (based v f) ring safe.0
-      (λ a. record { kbd = ap (λ q. record (kbd_of held (put (put (put (put (based v f) 71 0) 74 0) 66 (f 68)) 25 66) ring) { queue = q }) (cleared f ring (f 68) (f 66 % 128) refl refl inv.started inv.some) ∙ sym (ap (λ b. commanded (image_keys bytes) b keyboard) code); inv = record { most = omega (arith, started); started = inv.started; some = omega (arith, started); mode = inv.mode; lamps = inv.lamps }; cells = λ i k u. grind (arith, nat_tests, k, u); stack = (refl, refl) })
-      (is0 (f 28) l ∙ e0, (is1 (f 28) l ∙ e1, (is2 (f 28) l ∙ e2, (is3 (f 28) l ∙ e3, (is4 (f 28) l ∙ e4, (refl, refl, refl))))))
+      (λ a. record {
+        kbd = ap (λ q. record (kbd_of held
+            (put (put (put (put (based v f) 71 0) 74 0) 66 (f 68)) 25 66) ring) { queue = q })
+            (cleared f ring (f 68) (f 66 % 128) refl refl inv.started inv.some)
+            ∙ sym (ap (λ b. commanded (image_keys bytes) b keyboard) code);
+        inv = record {
+          most = omega (arith, started);
+          started = inv.started;
+          some = omega (arith, started);
+          mode = inv.mode;
+          lamps = inv.lamps;
+        };
+        cells = λ i k u. grind (arith, nat_tests, k, u);
+        stack = (refl, refl);
+      })
+      (t0, (t1, (t2, (t3, (t4, (refl, refl, refl))))))
   ready_by false false false false false true c6 c7 c8 e0 e1 e2 e3 e4 e5 e6 e7 e8 safe =
       let l : f 28 < 256 = (bytes_of m READY (based v f) ring safe).cell 28 (omega arith) in
       let started : f 68 ≤ 1 = inv.started in
       let code : f 28 ≡ 245 = grind (arith, nat_tests, e5) in
+      let t0 = is0 (f 28) l ∙ e0 in
+      let t1 = is1 (f 28) l ∙ e1 in
+      let t2 = is2 (f 28) l ∙ e2 in
+      let t3 = is3 (f 28) l ∙ e3 in
+      let t4 = is4 (f 28) l ∙ e4 in
+      let t5 = is5 (f 28) l ∙ e5 in
       leaf d (kernel_in true bytes) (has_rows true bytes hk) small low
       (Keeps held (commanded (image_keys bytes) (f 28)) f ring)
       (Until 386 ∷ Go false ∷ Until 388 ∷ Go false ∷ Until 391 ∷ Go false ∷ Until 395 ∷ Go false ∷ Until 398 ∷ Go
       false ∷ Until 401 ∷ Go true ∷ Until SCAN ∷ []) READY SCAN 43
       (put (put (put (put (put (based v f) 71 1) 73 (slice_index bytes 864)) 74 0) 66 (f 68)) 25 66) ring x m m board
       (based v f) ring safe.0
-      (λ a. record { kbd = ap (λ q. record (kbd_of held (put (put (put (put (put (based v f) 71 1) 73 (slice_index bytes 864)) 74 0) 66 (f 68)) 25 66) ring) { queue = q }) (cleared f ring (f 68) (f 66 % 128) refl refl inv.started inv.some) ∙ sym (ap (λ b. commanded (image_keys bytes) b keyboard) code); inv = record { most = omega (arith, started); started = inv.started; some = omega (arith, started); mode = inv.mode; lamps = inv.lamps }; cells = λ i k u. grind (arith, nat_tests, k, u); stack = (refl, refl) })
-      (is0 (f 28) l ∙ e0, (is1 (f 28) l ∙ e1, (is2 (f 28) l ∙ e2, (is3 (f 28) l ∙ e3, (is4 (f 28) l ∙ e4, (is5 (f 28) l ∙ e5, (refl, refl, refl)))))))
+      (λ a. record {
+        kbd = ap (λ q. record (kbd_of held
+            (put (put (put (put (put (based v f) 71 1) 73 (slice_index bytes 864)) 74 0) 66
+            (f 68)) 25 66) ring) { queue = q }) (cleared f ring (f 68) (f 66 % 128) refl refl inv.started inv.some)
+            ∙ sym (ap (λ b. commanded (image_keys bytes) b keyboard) code);
+        inv = record {
+          most = omega (arith, started);
+          started = inv.started;
+          some = omega (arith, started);
+          mode = inv.mode;
+          lamps = inv.lamps;
+        };
+        cells = λ i k u. grind (arith, nat_tests, k, u);
+        stack = (refl, refl);
+      })
+      (t0, (t1, (t2, (t3, (t4, (t5, (refl, refl, refl)))))))
   ready_by false false false false false false true c7 c8 e0 e1 e2 e3 e4 e5 e6 e7 e8 safe =
       let l : f 28 < 256 = (bytes_of m READY (based v f) ring safe).cell 28 (omega arith) in
       let started : f 68 ≤ 1 = inv.started in
       let code : f 28 ≡ 246 = grind (arith, nat_tests, e6) in
+      let t0 = is0 (f 28) l ∙ e0 in
+      let t1 = is1 (f 28) l ∙ e1 in
+      let t2 = is2 (f 28) l ∙ e2 in
+      let t3 = is3 (f 28) l ∙ e3 in
+      let t4 = is4 (f 28) l ∙ e4 in
+      let t5 = is5 (f 28) l ∙ e5 in
+      let t6 = is6 (f 28) l ∙ e6 in
       leaf d (kernel_in true bytes) (has_rows true bytes hk) small low
       (Keeps held (commanded (image_keys bytes) (f 28)) f ring)
       (Until 386 ∷ Go false ∷ Until 388 ∷ Go false ∷ Until 391 ∷ Go false ∷ Until 395 ∷ Go false ∷ Until 398 ∷ Go
       false ∷ Until 401 ∷ Go false ∷ Until 404 ∷ Go true ∷ Until SCAN ∷ []) READY SCAN 43
       (put (put (put (put (based v f) 73 (slice_index bytes 864)) 74 0) 66 (f 68)) 25 66) ring x m m board (based v f)
       ring safe.0
-      (λ a. record { kbd = ap (λ q. record (kbd_of held (put (put (put (put (based v f) 73 (slice_index bytes 864)) 74 0) 66 (f 68)) 25 66) ring) { queue = q }) (cleared f ring (f 68) (f 66 % 128) refl refl inv.started inv.some) ∙ sym (ap (λ b. commanded (image_keys bytes) b keyboard) code); inv = record { most = omega (arith, started); started = inv.started; some = omega (arith, started); mode = inv.mode; lamps = inv.lamps }; cells = λ i k u. grind (arith, nat_tests, k, u); stack = (refl, refl) })
-      (is0 (f 28) l ∙ e0, (is1 (f 28) l ∙ e1, (is2 (f 28) l ∙ e2, (is3 (f 28) l ∙ e3, (is4 (f 28) l ∙ e4, (is5 (f 28) l ∙ e5, (is6 (f 28) l ∙ e6, (refl, refl, refl))))))))
+      (λ a. record {
+        kbd = ap (λ q. record (kbd_of held
+            (put (put (put (put (based v f) 73 (slice_index bytes 864)) 74 0) 66 (f 68)) 25 66) ring) { queue = q })
+            (cleared f ring (f 68) (f 66 % 128) refl refl inv.started inv.some)
+            ∙ sym (ap (λ b. commanded (image_keys bytes) b keyboard) code);
+        inv = record {
+          most = omega (arith, started);
+          started = inv.started;
+          some = omega (arith, started);
+          mode = inv.mode;
+          lamps = inv.lamps;
+        };
+        cells = λ i k u. grind (arith, nat_tests, k, u);
+        stack = (refl, refl);
+      })
+      (t0, (t1, (t2, (t3, (t4, (t5, (t6, (refl, refl, refl))))))))
   ready_by false false false false false false false true c8 e0 e1 e2 e3 e4 e5 e6 e7 e8 safe =
       let l : f 28 < 256 = (bytes_of m READY (based v f) ring safe).cell 28 (omega arith) in
       let code : f 28 ≡ 254 = grind (arith, nat_tests, e7) in
+      let t0 = is0 (f 28) l ∙ e0 in
+      let t1 = is1 (f 28) l ∙ e1 in
+      let t2 = is2 (f 28) l ∙ e2 in
+      let t3 = is3 (f 28) l ∙ e3 in
+      let t4 = is4 (f 28) l ∙ e4 in
+      let t5 = is5 (f 28) l ∙ e5 in
+      let t6 = is6 (f 28) l ∙ e6 in
+      let t7 = is7 (f 28) l ∙ e7 in
       leaf d (kernel_in true bytes) (has_rows true bytes hk) small low
       (Keeps held (commanded (image_keys bytes) (f 28)) f ring)
       (Until 386 ∷ Go false ∷ Until 388 ∷ Go false ∷ Until 391 ∷ Go false ∷ Until 395 ∷ Go false ∷ Until 398 ∷ Go
       false ∷ Until 401 ∷ Go false ∷ Until 404 ∷ Go false ∷ Until 408 ∷ Go true ∷ Until SCAN ∷ []) READY SCAN 43
       (put (put (based v f) 75 (f 76)) 25 75) ring x m m board (based v f) ring safe.0
-      (λ a. record { kbd = sym (ap (λ b. commanded (image_keys bytes) b keyboard) code); inv = record { most = inv.most; started = inv.started; some = inv.some; mode = inv.mode; lamps = inv.lamps }; cells = λ i k u. grind (arith, nat_tests, k, u); stack = (refl, refl) })
-      (is0 (f 28) l ∙ e0, (is1 (f 28) l ∙ e1, (is2 (f 28) l ∙ e2, (is3 (f 28) l ∙ e3, (is4 (f 28) l ∙ e4, (is5 (f 28) l ∙ e5, (is6 (f 28) l ∙ e6, (is7 (f 28) l ∙ e7, (refl, refl, refl)))))))))
+      (λ a. record {
+        kbd = sym (ap (λ b. commanded (image_keys bytes) b keyboard) code);
+        inv = record { most = inv.most; started = inv.started; some = inv.some; mode = inv.mode; lamps = inv.lamps };
+        cells = λ i k u. grind (arith, nat_tests, k, u);
+        stack = (refl, refl);
+      })
+      (t0, (t1, (t2, (t3, (t4, (t5, (t6, (t7, (refl, refl, refl)))))))))
   ready_by false false false false false false false false true e0 e1 e2 e3 e4 e5 e6 e7 e8 safe =
       let l : f 28 < 256 = (bytes_of m READY (based v f) ring safe).cell 28 (omega arith) in
       let code : f 28 ≡ 255 = grind (arith, nat_tests, e8) in
+      let t0 = is0 (f 28) l ∙ e0 in
+      let t1 = is1 (f 28) l ∙ e1 in
+      let t2 = is2 (f 28) l ∙ e2 in
+      let t3 = is3 (f 28) l ∙ e3 in
+      let t4 = is4 (f 28) l ∙ e4 in
+      let t5 = is5 (f 28) l ∙ e5 in
+      let t6 = is6 (f 28) l ∙ e6 in
+      let t7 = is7 (f 28) l ∙ e7 in
+      let t8 = is8 (f 28) l ∙ e8 in
       leaf d (kernel_in true bytes) (has_rows true bytes hk) small low
       (Keeps held (commanded (image_keys bytes) (f 28)) f ring)
       (Until 386 ∷ Go false ∷ Until 388 ∷ Go false ∷ Until 391 ∷ Go false ∷ Until 395 ∷ Go false ∷ Until 398 ∷ Go
       false ∷ Until 401 ∷ Go false ∷ Until 404 ∷ Go false ∷ Until 408 ∷ Go false ∷ Until 411 ∷ Go true ∷ Until
       SCAN ∷ []) READY SCAN 43
       (put (put (based v f) 64 3) 25 64) ring x m m board (based v f) ring safe.0
-      (λ a. record { kbd = sym (ap (λ b. commanded (image_keys bytes) b keyboard) code); inv = record { most = inv.most; started = inv.started; some = inv.some; mode = inv.mode; lamps = inv.lamps }; cells = λ i k u. grind (arith, nat_tests, k, u); stack = (refl, refl) })
-      (is0 (f 28) l ∙ e0, (is1 (f 28) l ∙ e1, (is2 (f 28) l ∙ e2, (is3 (f 28) l ∙ e3, (is4 (f 28) l ∙ e4, (is5 (f 28) l ∙ e5, (is6 (f 28) l ∙ e6, (is7 (f 28) l ∙ e7, (is8 (f 28) l ∙ e8, (refl, refl, refl))))))))))
+      (λ a. record {
+        kbd = sym (ap (λ b. commanded (image_keys bytes) b keyboard) code);
+        inv = record { most = inv.most; started = inv.started; some = inv.some; mode = inv.mode; lamps = inv.lamps };
+        cells = λ i k u. grind (arith, nat_tests, k, u);
+        stack = (refl, refl);
+      })
+      (t0, (t1, (t2, (t3, (t4, (t5, (t6, (t7, (t8, (refl, refl, refl))))))))))
   ready_by false false false false false false false false false e0 e1 e2 e3 e4 e5 e6 e7 e8 safe =
       let l : f 28 < 256 = (bytes_of m READY (based v f) ring safe).cell 28 (omega arith) in
+      let t0 = is0 (f 28) l ∙ e0 in
+      let t1 = is1 (f 28) l ∙ e1 in
+      let t2 = is2 (f 28) l ∙ e2 in
+      let t3 = is3 (f 28) l ∙ e3 in
+      let t4 = is4 (f 28) l ∙ e4 in
+      let t5 = is5 (f 28) l ∙ e5 in
+      let t6 = is6 (f 28) l ∙ e6 in
+      let t7 = is7 (f 28) l ∙ e7 in
+      let t8 = is8 (f 28) l ∙ e8 in
       leaf d (kernel_in true bytes) (has_rows true bytes hk) small low
       (Keeps held (commanded (image_keys bytes) (f 28)) f ring)
       (Until 386 ∷ Go false ∷ Until 388 ∷ Go false ∷ Until 391 ∷ Go false ∷ Until 395 ∷ Go false ∷ Until 398 ∷ Go
       false ∷ Until 401 ∷ Go false ∷ Until 404 ∷ Go false ∷ Until 408 ∷ Go false ∷ Until 411 ∷ Go false ∷ Until
       SCAN ∷ []) READY SCAN 43
       (based v f) ring x m m board (based v f) ring safe.0
-      (λ a. record { kbd = rw (e8, e7, e6, e5, e4, e3, e1, e2, the_rest (f 28) e0 e1 e2) refl; inv = record { most = inv.most; started = inv.started; some = inv.some; mode = inv.mode; lamps = inv.lamps }; cells = λ i k u. grind (arith, nat_tests, k, u); stack = (refl, refl) })
-      (is0 (f 28) l ∙ e0, (is1 (f 28) l ∙ e1, (is2 (f 28) l ∙ e2, (is3 (f 28) l ∙ e3, (is4 (f 28) l ∙ e4, (is5 (f 28) l ∙ e5, (is6 (f 28) l ∙ e6, (is7 (f 28) l ∙ e7, (is8 (f 28) l ∙ e8, (refl, refl, refl))))))))))
+      (λ a. record {
+        kbd = rw (e8, e7, e6, e5, e4, e3, e1, e2, the_rest (f 28) e0 e1 e2) refl;
+        inv = record { most = inv.most; started = inv.started; some = inv.some; mode = inv.mode; lamps = inv.lamps };
+        cells = λ i k u. grind (arith, nat_tests, k, u);
+        stack = (refl, refl);
+      })
+      (t0, (t1, (t2, (t3, (t4, (t5, (t6, (t7, (t8, (refl, refl, refl))))))))))
 
   pub ready_law : Safe m READY (based v f) ring → Obeys
   ready_law = ready_by (nat_lt (f 28) 237) (f 28 == 237) (f 28 == 238) (f 28 == 243) (f 28 == 244) (f 28 == 245)

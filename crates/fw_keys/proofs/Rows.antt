@@ -1,6 +1,7 @@
 -- The loop over the rows of a changed column.
 use Rattle.fw_keys.proofs.Fold.{edge, rows}
-use Rattle.std.proofs.Common.{◌≡◌, ◌≤◌, ◌<◌, ℕ, suc, zero, ◌+◌, ◌-◌, ◌*◌, ◌%◌, ◌/◌, List, [], ◌∷◌, All, Bool, true, false, not, ◌==◌, if◌then◌else◌, refl, ap, sym, ◌∙◌, subst, arith}
+use Rattle.std.proofs.Common.{◌≡◌, ◌≤◌, ◌<◌, ℕ, suc, zero, ◌+◌, ◌-◌, ◌*◌, ◌%◌, ◌/◌, List, [], ◌∷◌, All, Bool}
+use Rattle.std.proofs.Common.{true, false, not, ◌==◌, if◌then◌else◌, refl, ap, sym, ◌∙◌, subst, arith}
 use Rattle.std.proofs.lemmas.Bool.Decides.{nat_tests}
 use Rattle.mcs48_core.specs.Cpu.{Cpu}
 use Rattle.mcs48_core.specs.Status.{bit, digit}
@@ -84,7 +85,16 @@ module _ (d : Board) (bytes : List ℕ) (hk : HasKernel bytes) (small : All IsBy
       (leaf d (kernel_in true bytes) (has_rows true bytes hk) small low (AfterRows r 1 f ring)
       (Run 1 ∷ Acc (turned (suc r) c) ∷ Go false ∷ Run 1 ∷ Go false ∷ Until FOOT ∷ []) ROW FOOT 8 (over f p) ring x m m
       board f ring safe.0
-      (λ a. record { p = p; is = record { now = refl; kbd = sym (ap (λ b. if b then edge (image_keys bytes) on (p0 + r) (bit r down) (kbd_of held f ring) else kbd_of held f ring) is); most = row.most; more = omega arith } })
+      (λ a. record {
+        p = p;
+        is = record {
+          now = refl;
+          kbd = sym (ap (λ b. if b then edge (image_keys bytes) on (p0 + r) (bit r down)
+              (kbd_of held f ring) else kbd_of held f ring) is);
+          most = row.most;
+          more = omega arith;
+        };
+      })
       (ap (λ a. 128 * digit (bit 0 a) + a / 2) row.a, (bit_turned r c l lc ∙ is, (stop, (refl, refl, refl)))))
   skips (suc k) r x m board f ring ih row safe is =
       let sum : r + suc (suc k) ≡ 8 = row.sum in
@@ -112,10 +122,27 @@ module _ (d : Board) (bytes : List ℕ) (hk : HasKernel bytes) (small : All IsBy
       (λ a g rg h. record {
         cells = over f h.p;
         same = ap (λ t. memory t rg) h.is.now;
-        facts = record { p = h.p; is = record { now = refl; kbd = h.is.kbd ∙ sym (ap (λ b. step (if b then edge (image_keys bytes) on (p0 + r) (bit r down) (kbd_of held f ring) else kbd_of held f ring)) is); most = h.is.most; more = h.is.more } };
+        facts = record {
+          p = h.p;
+          is = record {
+            now = refl;
+            kbd = h.is.kbd
+                ∙ sym (ap (λ b. step (if b then edge (image_keys bytes) on (p0 + r) (bit r down) (kbd_of held f ring) else kbd_of held f ring)) is);
+            most = h.is.most;
+            more = h.is.more;
+          };
+        };
       })
       (ih (suc r) x' m' board' (over f p) ring
-      (record { sum = omega (arith, sum); a = a; flag = ap (λ k. k.f0) same ∙ row.flag; left = less; at = omega (arith, at, lp, sum); downs = row.downs; most = row.most }) safe')))
+      (record {
+        sum = omega (arith, sum);
+        a = a;
+        flag = ap (λ k. k.f0) same ∙ row.flag;
+        left = less;
+        at = omega (arith, at, lp, sum);
+        downs = row.downs;
+        most = row.most;
+      }) safe')))
 
   -- after an edge, the next row or the column's end
   enters_next : (k x : ℕ) (m : Cpu) (board : d.State) (f : ℕ → ℕ) (ring : List ℕ) (v : ℕ) → Safe m ENTERED f ring
@@ -162,10 +189,21 @@ module _ (d : Board) (bytes : List ℕ) (hk : HasKernel bytes) (small : All IsBy
       record {
         cells = over f h.p;
         same = ap (λ t. memory t rg) h.is.now;
-        facts = record { p = h.p; is = record { now = refl; kbd = h.is.kbd ∙ ap step kbd; most = h.is.most; more = omega (arith, up, more) } };
+        facts = record {
+          p = h.p;
+          is = record { now = refl; kbd = h.is.kbd ∙ ap step kbd; most = h.is.most; more = omega (arith, up, more) };
+        };
       })
       (ih (suc r) x' m' board' g2 last
-      (record { sum = omega (arith, sum); a = a; flag = ap (λ k. k.f0) same ∙ flag; left = less; at = omega (arith, r6, lp, sum); downs = downs; most = most }) safe'))
+      (record {
+        sum = omega (arith, sum);
+        a = a;
+        flag = ap (λ k. k.f0) same ∙ flag;
+        left = less;
+        at = omega (arith, r6, lp, sum);
+        downs = downs;
+        most = most;
+      }) safe'))
 
   -- a row with an edge
   changes : (k r x : ℕ) (m : Cpu) (board : d.State) (f : ℕ → ℕ) (ring : List ℕ) → RowsLaw k → Row r (suc k) m f
@@ -220,7 +258,14 @@ module _ (d : Board) (bytes : List ℕ) (hk : HasKernel bytes) (small : All IsBy
       recast d (kernel_in true bytes) (has_rows true bytes hk) small low x m board FOOT 0 (rows_time r 0 c)
       (JustA m.a f ring) (AfterRows r 0 f ring) (begin_at d FOOT f ring m board) (omega arith)
       (λ a g rg h.
-      record { cells = over f (self f); same = ap (λ t. memory t rg) h.1; facts = record { p = self f; is = record { now = refl; kbd = ap (λ t. kbd_of held f t) h.2; most = row.most; more = omega arith } } })
+      record {
+        cells = over f (self f);
+        same = ap (λ t. memory t rg) h.1;
+        facts = record {
+          p = self f;
+          is = record { now = refl; kbd = ap (λ t. kbd_of held f t) h.2; most = row.most; more = omega arith };
+        };
+      })
       (here d (kernel_in true bytes) (has_rows true bytes hk) small low (JustA m.a f ring) x FOOT m board f ring safe.0
       (refl, refl, refl))
   rows_law (suc k) r x m board f ring row safe = by_bit k (rows_law k) r x m board f ring row safe (bit r c) refl

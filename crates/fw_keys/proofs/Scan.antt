@@ -74,7 +74,17 @@ module _ (d : Board) (bytes : List ℕ) (hk : HasKernel bytes) (small : All IsBy
       (λ a g2 rg h. let up2 : q.p.count % 128 ≤ h.p.count % 128 = h.more in record {
         cells = wide f h.r0 h.r7 h.p;
         same = ap (λ t. memory t rg) h.now;
-        facts = record { r0 = h.r0; r7 = h.r7; p = h.p; now = refl; kbd = h.kbd ∙ ap (λ b. columns (edge keys b) 0 12 ch hd (kbd_of held (over f q.p) last)) (ap (λ k. k.f0) same1) ∙ ap (λ k. columns (edge keys on) 0 12 ch hd k) q.is.kbd; most = h.most; more = omega (arith, up, up2) };
+        facts = record {
+          r0 = h.r0;
+          r7 = h.r7;
+          p = h.p;
+          now = refl;
+          kbd = h.kbd
+              ∙ ap (λ b. columns (edge keys b) 0 12 ch hd (kbd_of held (over f q.p) last)) (ap (λ k. k.f0) same1)
+              ∙ ap (λ k. columns (edge keys on) 0 12 ch hd k) q.is.kbd;
+          most = h.most;
+          more = omega (arith, up, up2);
+        };
       })
       (edges_law d bytes hk small low held ch hd x1 m1 board1 (over f q.p) last q.is.most safe2
       (λ i l. kept_changes f q.p i l ∙ changes i l) (λ i l. kept_helds f q.p i l ∙ helds i l))) safe1)

@@ -1,7 +1,8 @@
 -- Step 1 of a tick: what was sent goes; and step 3.
 use Rattle.fw_keys.proofs.Patch.{Keeps}
 use Rattle.std.proofs.Common.{Some}
-use Rattle.std.proofs.Common.{◌≡◌, ◌≤◌, ◌<◌, ℕ, suc, zero, ◌+◌, ◌-◌, ◌%◌, List, [], ◌∷◌, All, Bool, true, false, not, ◌==◌, if◌then◌else◌, bit_xor, refl, ap, sym, ◌∙◌, arith, slice_index}
+use Rattle.std.proofs.Common.{◌≡◌, ◌≤◌, ◌<◌, ℕ, suc, zero, ◌+◌, ◌-◌, ◌%◌, List, [], ◌∷◌, All, Bool, true, false}
+use Rattle.std.proofs.Common.{not, ◌==◌, if◌then◌else◌, bit_xor, refl, ap, sym, ◌∙◌, arith, slice_index}
 use Rattle.std.proofs.lemmas.Bool.Decides.{nat_tests}
 use Rattle.mcs48_core.specs.Cpu.{Cpu}
 use Rattle.mcs48_core.specs.Status.{bit}
@@ -10,73 +11,19 @@ use Rattle.std.proofs.Common.{◌&&◌}
 use Rattle.fw_kernel.specs.Places.{HasKernel}
 use Rattle.fw_kernel.specs.declared.labels.TheConstants.{DROP, SCAN, SENT}
 use Rattle.fw_keys.proofs.Block.{Ends, Safe}
-use Rattle.fw_keys.proofs.Ring.{made-same}
 use Rattle.fw_keys.specs.Edges.{image_keys}
-use Rattle.fw_keys.specs.State.{Inv, kbd_of, made, queue_by, queue_of, reply_of}
+use Rattle.fw_keys.specs.State.{Inv, kbd_of, made, reply_of}
 use Rattle.fw_logic.proofs.Block.{Shape, begin_at, put}
-use Rattle.bits.proofs.Every.{by_below, pair_tests, tests_by}
+use Rattle.bits.proofs.Every.{by_below, tests_by}
 use Rattle.fw_logic.proofs.Kernel.{kernel_in}
 use Rattle.fw_logic.proofs.Leads.{Leads}
 use Rattle.fw_logic.proofs.Path.{Go, Note, Path, Until}
 use Rattle.fw_logic.proofs.Short.{has_rows}
 use Rattle.mcs48_ranges.specs.Sizes.{IsByte}
 use Rattle.joint_run.specs.Run.{Board}
-use Rattle.kbd_model.specs.Queue.{clear, drop_first}
 use Rattle.kbd_model.specs.Tick.{sent_byte, without_offered}
-
--- the queue cleared: its length is that of a started break
-pub cleared : (f : ℕ → ℕ) (ring : List ℕ) (s n : ℕ) → f 68 ≡ s → f 66 % 128 ≡ n → s ≤ 1 → s ≤ n
-    → queue_by (f 68) (f 67) (f 68) ring ≡ clear (queue_of f ring)
-cleared f ring zero n es en l k = rw es refl
-cleared f ring (suc zero) (suc n) es en l k = rw (es, en) refl
-cleared f ring (suc zero) zero es en l k = absurd (omega (arith, k))
-cleared f ring (suc (suc s)) n es en l k = absurd (omega (arith, l))
-
--- the queue without its first byte
-less_count : (c : ℕ) → c < 256 → (c % 128 == 0) ≡ false → (c + 255) % 256 % 128 ≡ c % 128 - 1
-less_count c l some =
-    let p : 0 < c % 128 = grind (arith, nat_tests, some) in
-    omega (arith, l, p)
-
-same_mark : (c : ℕ) → c < 256 → (c % 128 == 0) ≡ false → bit 7 ((c + 255) % 256) ≡ bit 7 c
-same_mark c l some = let h : (if c % 128 == 0 then bit 7 c else bit 7 ((c + 255) % 256)) ≡ bit 7 c =
-    tests_by 256 (λ c. if c % 128 == 0 then bit 7 c else bit 7 ((c + 255) % 256)) (λ c. bit 7 c) refl c l in
-    ap (λ b. if b then bit 7 c else bit 7 ((c + 255) % 256)) (sym some) ∙ h
-
-dropped : (f : ℕ → ℕ) (ring : List ℕ) (n s : ℕ) → f 66 < 256 → f 66 % 128 ≡ suc n
-    → (not (s == 0)) ≡ ((slice_index ring ((f 67 + 0) % 16) == 240) && not (not (f 68 == 0)))
-    → queue_by ((f 66 + 255) % 256) ((f 67 + 1) % 256) s ring ≡ drop_first (queue_of f ring)
-dropped f ring n s byte count is =
-    let some : (f 66 % 128 == 0) ≡ false = grind (arith, nat_tests, count) in
-    let less : (f 66 + 255) % 256 % 128 ≡ n = less_count (f 66) byte some ∙ (omega (arith, count)) in
-    let bytes : made (λ i. slice_index ring (((f 67 + 1) % 256 + i) % 16)) n
-    ≡ made (λ i. slice_index ring ((f 67 + suc i) % 16)) n =
-    made-same (λ i. slice_index ring (((f 67 + 1) % 256 + i) % 16)) (λ i. slice_index ring ((f 67 + suc i) % 16)) n
-    (λ i m. let e : ((f 67 + 1) % 256 + i) % 16 ≡ (f 67 + suc i) % 16 = omega arith in
-    ap (λ k. slice_index ring k) e) in
-    let right : drop_first (queue_of f ring)
-    ≡ record { bytes = made (λ i. slice_index ring ((f 67 + suc i) % 16)) n; overrun = bit 7 (f 66); break_started = (slice_index ring ((f 67 + 0) % 16) == 240) && not (not (f 68 == 0)) } =
-    ap (λ k. drop_first
-    (record { bytes = made (λ i. slice_index ring ((f 67 + i) % 16)) k; overrun = bit 7 (f 66); break_started = not (f 68 == 0) })) count in
-    ap (λ k. record { bytes = made (λ i. slice_index ring (((f 67 + 1) % 256 + i) % 16)) k; overrun = bit 7 ((f 66 + 255) % 256); break_started = not (s == 0) }) less
-    ∙ ap (λ t. record { bytes = t; overrun = bit 7 ((f 66 + 255) % 256); break_started = not (s == 0) }) bytes
-    ∙ ap (λ t. record { bytes = made (λ i. slice_index ring ((f 67 + suc i) % 16)) n; overrun = t; break_started = not (s == 0) }) (same_mark (f 66) byte some)
-    ∙ ap (λ t. record { bytes = made (λ i. slice_index ring ((f 67 + suc i) % 16)) n; overrun = bit 7 (f 66); break_started = t }) is
-    ∙ sym right
-
--- an empty queue loses its mark
-empty : (f : ℕ → ℕ) (ring : List ℕ) (s : ℕ) → f 66 % 128 ≡ 0 → queue_by 0 (f 67) (f 68) ring
-    ≡ drop_first (queue_of f ring)
-empty f ring s e = rw e refl
-
-twice : (c : ℕ) → c < 256 → ((c + c) % 256 == 0) ≡ (c % 128 == 0)
-twice = tests_by 256 (λ c. (c + c) % 256 == 0) (λ c. c % 128 == 0) refl
-
-xor_is : (k : ℕ) → k < 256 → (b : ℕ) → b < 256 → (bit_xor b k == 0) ≡ (b == k)
-xor_is k l b m = pair_tests 256 256 (λ b k. bit_xor b k == 0) (λ b k. b == k) refl b k m l
-
-kept_last : (f : ℕ → ℕ) (u v i : ℕ) → 32 ≤ i → i < 60 → put (put f 25 u) 76 v i ≡ f i
-kept_last f u v i l m = grind (arith, nat_tests, l, m)
+use Rattle.fw_keys.proofs.Dropped.{cleared, dropped, empty, xor_is, kept_last}
+use Rattle.fw_keys.proofs.Bytes.{twice}
 
 module _ (d : Board) (bytes : List ℕ) (hk : HasKernel bytes) (small : All IsByte bytes)
     (low : (p1 p2 c : ℕ) (s : d.State) → (d.pins p1 p2 c s).bus < 256) (held : List Bool)
@@ -102,7 +49,12 @@ module _ (d : Board) (bytes : List ℕ) (hk : HasKernel bytes) (small : All IsBy
   reply_goes : Safe m DROP f ring → (f 64 == 0) ≡ false → bit 1 (f 64) ≡ false → Takes
   reply_goes safe due none =
       by (Until 524 ∷ Go true ∷ Until 558 ∷ Go false ∷ Until SCAN ∷ []) 12 (omega arith) (put (put f 64 0) 25 64) safe
-      (λ a. record { kbd = rw (due, none) refl; inv = record { most = inv.most; started = inv.started; some = inv.some; mode = inv.mode; lamps = inv.lamps }; cells = λ i l u. grind (arith, nat_tests, l, u); stack = (refl, refl) })
+      (λ a. record {
+        kbd = rw (due, none) refl;
+        inv = record { most = inv.most; started = inv.started; some = inv.some; mode = inv.mode; lamps = inv.lamps };
+        cells = λ i l u. grind (arith, nat_tests, l, u);
+        stack = (refl, refl);
+      })
       (ap not due, (none, (refl, refl, refl)))
 
   -- and the reset is made
@@ -117,7 +69,13 @@ module _ (d : Board) (bytes : List ℕ) (hk : HasKernel bytes) (small : All IsBy
       (λ a. record {
         kbd = ap (λ q. record (kbd_of held as_new ring) { queue = q })
             (cleared f ring (f 68) (f 66 % 128) refl refl inv.started inv.some) ∙ rw (due, both) refl;
-        inv = record { most = omega (arith, started); started = inv.started; some = omega (arith, started); mode = omega arith; lamps = omega arith };
+        inv = record {
+          most = omega (arith, started);
+          started = inv.started;
+          some = omega (arith, started);
+          mode = omega arith;
+          lamps = omega arith;
+        };
         cells = λ i l u. grind (arith, nat_tests, l, u);
         stack = (refl, refl);
       })
@@ -127,7 +85,12 @@ module _ (d : Board) (bytes : List ℕ) (hk : HasKernel bytes) (small : All IsBy
   aa_goes : Safe m DROP f ring → (f 64 == 0) ≡ true → (f 65 == 0) ≡ false → Takes
   aa_goes safe none due =
       by (Until 524 ∷ Go false ∷ Until 528 ∷ Go true ∷ Until SCAN ∷ []) 14 (omega arith) (put (put f 65 0) 25 65) safe
-      (λ a. record { kbd = rw (none, due) refl; inv = record { most = inv.most; started = inv.started; some = inv.some; mode = inv.mode; lamps = inv.lamps }; cells = λ i l u. grind (arith, nat_tests, l, u); stack = (refl, refl) })
+      (λ a. record {
+        kbd = rw (none, due) refl;
+        inv = record { most = inv.most; started = inv.started; some = inv.some; mode = inv.mode; lamps = inv.lamps };
+        cells = λ i l u. grind (arith, nat_tests, l, u);
+        stack = (refl, refl);
+      })
       (ap not none, (ap not due, (refl, refl, refl)))
 
   -- the mark goes
@@ -138,7 +101,19 @@ module _ (d : Board) (bytes : List ℕ) (hk : HasKernel bytes) (small : All IsBy
       let some : f 68 ≤ f 66 % 128 = inv.some in
       by (Until 524 ∷ Go false ∷ Until 528 ∷ Go false ∷ Until 533 ∷ Go true ∷ Until SCAN ∷ []) 20 (omega arith)
       (put (put f 66 0) 25 66) safe
-      (λ a. record { kbd = ap (λ q. record (kbd_of held (put (put f 66 0) 25 66) ring) { queue = q }) (empty f ring (f 68) z) ∙ rw (none, noaa) refl; inv = record { most = omega arith; started = inv.started; some = omega (arith, some, z); mode = inv.mode; lamps = inv.lamps }; cells = λ i l u. grind (arith, nat_tests, l, u); stack = (refl, refl) })
+      (λ a. record {
+        kbd = ap (λ q. record (kbd_of held (put (put f 66 0) 25 66) ring) { queue = q }) (empty f ring (f 68) z)
+            ∙ rw (none, noaa) refl;
+        inv = record {
+          most = omega arith;
+          started = inv.started;
+          some = omega (arith, some, z);
+          mode = inv.mode;
+          lamps = inv.lamps;
+        };
+        cells = λ i l u. grind (arith, nat_tests, l, u);
+        stack = (refl, refl);
+      })
       (ap not none, (ap not noaa, (twice (f 66) (h.cell 66 (omega arith)) ∙ is, (refl, refl, refl))))
 
   abbrev pub shorter : ℕ → ℕ → ℕ
@@ -155,7 +130,13 @@ module _ (d : Board) (bytes : List ℕ) (hk : HasKernel bytes) (small : All IsBy
       record {
         kbd = ap (λ q. record (kbd_of held (shorter s) ring) { queue = q }) (dropped f ring n s byte count is)
             ∙ rw (none, noaa) refl;
-        inv = record { most = omega (arith, less, count, most); started = one; some = grind (arith, less, one, code); mode = inv.mode; lamps = inv.lamps };
+        inv = record {
+          most = omega (arith, less, count, most);
+          started = one;
+          some = grind (arith, less, one, code);
+          mode = inv.mode;
+          lamps = inv.lamps;
+        };
         cells = λ i l u. grind (arith, nat_tests, l, u);
         stack = (refl, refl);
       }
@@ -170,8 +151,16 @@ module _ (d : Board) (bytes : List ℕ) (hk : HasKernel bytes) (small : All IsBy
       by (Until 524 ∷ Go false ∷ Until 528 ∷ Go false ∷ Until 533 ∷ Go false ∷ Until 544 ∷ Go true ∷ Until SCAN ∷ []) 31
       (omega arith) (shorter 0) safe
       (shorter_facts n 0 safe none noaa count (omega arith) (λ e. absurd (omega (arith, e)))
-      (sym (ap (λ v. (v == 240) && not (not (f 68 == 0))) (sym is) ∙ ap (λ b. b && not (not (f 68 == 0))) other)))
-      (ap not none, (ap not noaa, (twice (f 66) (h.cell 66 (omega arith)) ∙ some, (ap not (xor_is 240 (omega arith) (f 28) (h.cell 28 (omega arith)) ∙ other), (refl, refl, refl)))))
+      (sym (ap (λ v. (v == 240) && not (not (f 68 == 0))) (sym is) ∙ ap (λ b. b && not (not (f 68 == 0))) other))) (
+        ap not none,
+        (
+          ap not noaa,
+          (
+            twice (f 66) (h.cell 66 (omega arith)) ∙ some,
+            (ap not (xor_is 240 (omega arith) (f 28) (h.cell 28 (omega arith)) ∙ other), (refl, refl, refl)),
+          ),
+        ),
+      )
   first_goes true n safe none noaa count is next f0 =
       let h = bytes_of m DROP f ring safe in
       let some : (f 66 % 128 == 0) ≡ false = grind (arith, nat_tests, count) in
@@ -185,8 +174,17 @@ module _ (d : Board) (bytes : List ℕ) (hk : HasKernel bytes) (small : All IsBy
       31 (omega arith) (shorter (bit_xor (f 68) 1)) safe
       (shorter_facts n (bit_xor (f 68) 1) safe none noaa count (rw small_flip (omega arith))
       (λ e. next code (let k : 1 - f 68 ≡ 1 = sym small_flip ∙ e in omega (arith, k)))
-      (flips ∙ sym (ap (λ v. (v == 240) && not (not (f 68 == 0))) (sym is) ∙ ap (λ b. b && not (not (f 68 == 0))) f0)))
-      (ap not none, (ap not noaa, (twice (f 66) (h.cell 66 (omega arith)) ∙ some, (ap not (xor_is 240 (omega arith) (f 28) (h.cell 28 (omega arith)) ∙ f0), (refl, refl, refl)))))
+      (flips
+      ∙ sym (ap (λ v. (v == 240) && not (not (f 68 == 0))) (sym is) ∙ ap (λ b. b && not (not (f 68 == 0))) f0))) (
+        ap not none,
+        (
+          ap not noaa,
+          (
+            twice (f 66) (h.cell 66 (omega arith)) ∙ some,
+            (ap not (xor_is 240 (omega arith) (f 28) (h.cell 28 (omega arith)) ∙ f0), (refl, refl, refl)),
+          ),
+        ),
+      )
 
   takes_by : (b64 b1 b65 : Bool) → (f 64 == 0) ≡ b64 → bit 1 (f 64) ≡ b1 → (f 65 == 0) ≡ b65 → (n : ℕ) → f 66 % 128 ≡ n
       → Safe m DROP f ring
@@ -248,7 +246,12 @@ module _ (d : Board) (bytes : List ℕ) (hk : HasKernel bytes) (small : All IsBy
       (Keeps held (without_offered (reply_of (f 64) (f 75)) (image_keys bytes)) g1 ring)
       (Keeps held (sent_byte (Some (f 28)) (image_keys bytes)) f ring) (begin_at d DROP g1 ring m1 board1) (omega arith)
       (λ a g rg q.
-      record { kbd = q.kbd; inv = q.inv; cells = λ i k u. q.cells i k u ∙ kept_last f l.0 (if f 28 == 254 then f 76 else f 28) i k u; stack = q.stack })
+      record {
+        kbd = q.kbd;
+        inv = q.inv;
+        cells = λ i k u. q.cells i k u ∙ kept_last f l.0 (if f 28 == 254 then f 76 else f 28) i k u;
+        stack = q.stack;
+      })
       (takes d bytes hk small low held x1 m1 board1 g1 ring
       (record { most = inv.most; started = inv.started; some = inv.some; mode = inv.mode; lamps = inv.lamps }) safe1 is
       next))

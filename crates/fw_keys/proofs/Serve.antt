@@ -1,5 +1,6 @@
 -- A whole tick: from the instruction at TICK to the next one, data memory goes on as the model's keyboard does.
-use Rattle.std.proofs.Common.{◌≡◌, ◌≤◌, ◌<◌, ℕ, suc, zero, ◌+◌, ◌*◌, List, All, Bool, true, false, ◌==◌, bit_xor, if◌then◌else◌, refl, ap, sym, ◌∙◌, arith, inl}
+use Rattle.std.proofs.Common.{◌≡◌, ◌≤◌, ◌<◌, ℕ, suc, zero, ◌+◌, ◌*◌, List, All, Bool, true, false, ◌==◌}
+use Rattle.std.proofs.Common.{bit_xor, if◌then◌else◌, refl, ap, sym, ◌∙◌, arith, inl}
 use Rattle.std.proofs.lemmas.Bool.Decides.{nat_tests}
 use Rattle.mcs48_core.specs.Cpu.{Cpu}
 use Rattle.fw_kernel.specs.declared.labels.TheConstants.{TICK, DONE, WAIT}
@@ -114,8 +115,21 @@ module _ (d : Board) (bytes : List ℕ) (hk : HasKernel bytes) (small : All IsBy
 
   -- the processor is fit for the work where it is at the tick's start
   pub fit : (l : Bool) → IsFine (begun late tf last f ring m) → Safe (first l) 10 (stacked f) ring
-  fit l fine =
-      (inl refl, record { pc = omega arith; a = omega arith; ram = fine.ram; long = fine.long; t = omega arith; pre = omega (arith, few); p1 = fine.p1; p2 = fine.p2; bus = fine.bus; sp = fine.sp })
+  fit l fine = (
+    inl refl,
+    record {
+      pc = omega arith;
+      a = omega arith;
+      ram = fine.ram;
+      long = fine.long;
+      t = omega arith;
+      pre = omega (arith, few);
+      p1 = fine.p1;
+      p2 = fine.p2;
+      bus = fine.bus;
+      sp = fine.sp;
+    },
+  )
 
   pub tick : IsFine (begun late tf last f ring m) → (meeting : Meeting) (last_off : ℕ) → 3 + last_off ≤ 2040
       → (F : Bool → Stage d.State → Type 0) → ((l : Bool) → Work l meeting last_off (F l))
@@ -147,7 +161,13 @@ module _ (d : Board) (bytes : List ℕ) (hk : HasKernel bytes) (small : All IsBy
               (held_same (λ c. stacked b.now (32 + c)) (λ c. b.now (32 + c)) (λ c l. kept_on b.now c))
               ∙ keyboard_goes (image_keys bytes) meeting (stacked f) ring b.now b.last down b.downs b.kbd;
           downs = b.downs;
-          inv = record { most = b.inv.most; started = b.inv.started; some = b.inv.some; mode = b.inv.mode; lamps = b.inv.lamps };
+          inv = record {
+            most = b.inv.most;
+            started = b.inv.started;
+            some = b.inv.some;
+            mode = b.inv.mode;
+            lamps = b.inv.lamps;
+          };
           stack = b.stack;
           fine = bf.1;
           facts = b.facts;

@@ -1,5 +1,6 @@
 -- Step 5 of a tick, and its time by the numbers of changed columns and of edges.
-use Rattle.std.proofs.Common.{◌≡◌, ◌≤◌, ◌<◌, ℕ, suc, zero, ◌+◌, ◌*◌, ◌%◌, List, [], ◌∷◌, All, Bool, true, false, ◌==◌, if◌then◌else◌, refl, ap, sym, ◌∙◌, arith}
+use Rattle.std.proofs.Common.{◌≡◌, ◌≤◌, ◌<◌, ℕ, suc, zero, ◌+◌, ◌*◌, ◌%◌, List, [], ◌∷◌, All, Bool, true, false}
+use Rattle.std.proofs.Common.{◌==◌, if◌then◌else◌, refl, ap, sym, ◌∙◌, arith}
 use Rattle.std.proofs.lemmas.Bool.Decides.{nat_tests}
 use Rattle.mcs48_core.specs.Cpu.{Cpu}
 use Rattle.fw_keys.proofs.Blocks.{Just, leaf, seq_just, recast, relax}
@@ -75,6 +76,25 @@ module _ (d : Board) (bytes : List ℕ) (hk : HasKernel bytes) (small : All IsBy
       (AfterColumns d bytes hk small low held m.f0 ch hd 0 12 f ring) (begin_at d COLUMN f1 ring m1 board1)
       (omega arith)
       (λ a g rg h.
-      record { cells = wide f h.r0 h.r7 h.p; same = ap (λ t. memory t rg) h.now; facts = record { r0 = h.r0; r7 = h.r7; p = h.p; now = refl; r0_is = h.r0_is; kbd = h.kbd; most = h.most; more = h.more } })
+      record {
+        cells = wide f h.r0 h.r7 h.p;
+        same = ap (λ t. memory t rg) h.now;
+        facts = record {
+          r0 = h.r0;
+          r7 = h.r7;
+          p = h.p;
+          now = refl;
+          r0_is = h.r0_is;
+          kbd = h.kbd;
+          most = h.most;
+          more = h.more;
+        };
+      })
       (columns_law d bytes hk small low held m.f0 ch hd 12 0 x1 m1 board1 f1 ring refl
-      (record { pointer = refl; flag = ap (λ k. k.f0) same1; most = most; changes = λ i l. other_cell f 48 (48 + i) (48 + i) (omega arith) (omega (arith, l)) refl ∙ changes i l; helds = λ i l. other_cell f 48 (32 + i) (32 + i) (omega arith) (omega (arith, l)) refl ∙ helds i l }) safe1)))
+      (record {
+        pointer = refl;
+        flag = ap (λ k. k.f0) same1;
+        most = most;
+        changes = λ i l. other_cell f 48 (48 + i) (48 + i) (omega arith) (omega (arith, l)) refl ∙ changes i l;
+        helds = λ i l. other_cell f 48 (32 + i) (32 + i) (omega arith) (omega (arith, l)) refl ∙ helds i l;
+      }) safe1)))

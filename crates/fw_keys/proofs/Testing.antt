@@ -1,7 +1,8 @@
 -- Step 3: a tick of the power-on test.
 use Rattle.fw_keys.proofs.Patch.{Keeps}
 use Rattle.fw_logic.proofs.Path.{Fork}
-use Rattle.std.proofs.Common.{◌≡◌, ◌<◌, ℕ, ◌+◌, ◌-◌, ◌%◌, List, [], ◌∷◌, All, Bool, true, false, not, ◌==◌, if◌then◌else◌, refl, ap, sym, ◌∙◌, arith}
+use Rattle.std.proofs.Common.{◌≡◌, ◌<◌, ℕ, ◌+◌, ◌-◌, ◌%◌, List, [], ◌∷◌, All, Bool, true, false, not, ◌==◌}
+use Rattle.std.proofs.Common.{if◌then◌else◌, refl, ap, sym, ◌∙◌, arith}
 use Rattle.std.proofs.lemmas.Bool.Decides.{nat_tests}
 use Rattle.mcs48_core.specs.Cpu.{Cpu}
 use Rattle.fw_keys.proofs.Blocks.{leaf, bytes_of}
@@ -39,7 +40,15 @@ module _ (d : Board) (bytes : List ℕ) (hk : HasKernel bytes) (small : All IsBy
       (Until 65 ∷ Go true ∷ Until 192 ∷ Fork 194 (passed 194) ∷ Fork 196 (passed 196) ∷ Until 198 ∷ Go true ∷ Until
       SCAN ∷ []) TESTED SCAN 36 (put (put (put f 25 69) 24 0) 69 ((f 69 + 255) % 256)) ring x m
       (record m { f1 = false }) board f ring safe.0
-      (λ a. record { kbd = ap (λ n. record (kbd_of held f ring) { test = n }) less ∙ sym (ap (λ b. record (kbd_of held f ring) { test = f 69 - 1; aa_due = if b then true else not (f 65 == 0) }) last); inv = record { most = inv.most; started = inv.started; some = inv.some; mode = inv.mode; lamps = inv.lamps }; cells = λ i l u. grind (arith, nat_tests, l, u); stack = (refl, refl) })
+      (λ a. record {
+        kbd = ap (λ n. record (kbd_of held f ring) { test = n }) less ∙ sym (ap (λ b. record (kbd_of held f ring) {
+          test = f 69 - 1;
+          aa_due = if b then true else not (f 65 == 0);
+        }) last);
+        inv = record { most = inv.most; started = inv.started; some = inv.some; mode = inv.mode; lamps = inv.lamps };
+        cells = λ i l u. grind (arith, nat_tests, l, u);
+        stack = (refl, refl);
+      })
       (ap not runs, (refl, (refl, refl, refl, λ e0. (refl, (refl, refl, refl, λ e1. (some, (refl, refl, refl)))))))
   tests_by_last true last runs safe =
       let one : f 69 ≡ 1 = grind (arith, nat_tests, last) in
@@ -48,7 +57,16 @@ module _ (d : Board) (bytes : List ℕ) (hk : HasKernel bytes) (small : All IsBy
       (Until 65 ∷ Go true ∷ Until 192 ∷ Fork 194 (passed 194) ∷ Fork 196 (passed 196) ∷ Until 198 ∷ Go false ∷ Until
       SCAN ∷ []) TESTED SCAN 36 (put (put (put (put f 24 0) 69 ((f 69 + 255) % 256)) 65 1) 25 65) ring x m
       (record m { f1 = false }) board f ring safe.0
-      (λ a. record { kbd = ap (λ n. record (kbd_of held f ring) { test = n; aa_due = true }) (let e : (f 69 + 255) % 256 ≡ f 69 - 1 = rw one refl in e) ∙ sym (ap (λ b. record (kbd_of held f ring) { test = f 69 - 1; aa_due = if b then true else not (f 65 == 0) }) last); inv = record { most = inv.most; started = inv.started; some = inv.some; mode = inv.mode; lamps = inv.lamps }; cells = λ i l u. grind (arith, nat_tests, l, u); stack = (refl, refl) })
+      (λ a. record {
+        kbd = ap (λ n. record (kbd_of held f ring) { test = n; aa_due = true })
+            (let e : (f 69 + 255) % 256 ≡ f 69 - 1 = rw one refl in e) ∙ sym (ap (λ b. record (kbd_of held f ring) {
+              test = f 69 - 1;
+              aa_due = if b then true else not (f 65 == 0);
+            }) last);
+        inv = record { most = inv.most; started = inv.started; some = inv.some; mode = inv.mode; lamps = inv.lamps };
+        cells = λ i l u. grind (arith, nat_tests, l, u);
+        stack = (refl, refl);
+      })
       (ap not runs, (refl, (refl, refl, refl, λ e0. (refl, (refl, refl, refl, λ e1. (none, (refl, refl, refl)))))))
 
   pub testing_law : (f 69 == 0) ≡ false → Safe m TESTED f ring

@@ -1,12 +1,10 @@
 -- A tick without a frame, from its first instruction to the end of the service.
 use Rattle.fw_keys.proofs.Patch.{Keeps}
-use Rattle.kbd_model.specs.Tick.{met, is_inhibited}
-use Rattle.kbd_model.specs.Codes.{Keys}
 use Rattle.fw_keys.proofs.Head.{board_lit}
 use Rattle.fw_keys.proofs.Scan.{keyed}
 use Rattle.fw_logic.proofs.Path.{Fork}
-use Rattle.std.proofs.Common.{◌≡◌, ◌≤◌, ◌<◌, ℕ, ◌+◌, ◌-◌, ◌%◌, List, [], ◌∷◌, All, Bool, true, false, not, ◌==◌, bit_xor, refl, ap, sym, ◌∙◌, subst, arith}
-use Rattle.std.proofs.lemmas.Bool.Decides.{nat_tests}
+use Rattle.std.proofs.Common.{◌≡◌, ◌≤◌, ◌<◌, ℕ, ◌+◌, ◌-◌, ◌%◌, List, [], ◌∷◌, All, Bool, true, false, not, ◌==◌}
+use Rattle.std.proofs.Common.{bit_xor, refl, ap, sym, ◌∙◌, subst, arith}
 use Rattle.mcs48_core.specs.Cpu.{Cpu}
 use Rattle.mcs48_core.specs.declared.levels.Pins.{Pins}
 use Rattle.fw_keys.proofs.Blocks.{leaf, recast, bytes_of}
@@ -14,14 +12,13 @@ use Rattle.std.proofs.Common.{Some, None}
 use Rattle.fw_logic.proofs.Sound.{weaken}
 use Rattle.fw_logic.proofs.Sound.{chain}
 use Rattle.fw_keys.proofs.Blocks.{from_stage, safe_at, fine_end, seq_f0}
-use Rattle.fw_keys.proofs.Columns.{wide}
+use Rattle.fw_keys.proofs.Columns.{wide, kept_helds}
 use Rattle.fw_keys.proofs.Scan.{Scanned, scan_law, edges_most}
 use Rattle.fw_keys.proofs.Head.{headed, head_changes, head_helds, offered_in, look, started, shone, Headed, head_law}
 use Rattle.fw_keys.proofs.Testing.{testing_law}
 use Rattle.fw_kernel.specs.Places.{HasKernel}
 use Rattle.fw_kernel.specs.declared.labels.TheConstants.{DONE, SCAN, TESTED}
 use Rattle.fw_keys.proofs.Block.{Ends, Safe}
-use Rattle.fw_keys.proofs.Patch.{Patch}
 use Rattle.fw_keys.specs.Edges.{image_keys}
 use Rattle.fw_keys.specs.State.{Inv, kbd_of}
 use Rattle.fw_logic.proofs.Block.{begin_at, memory, put, scratched}
@@ -35,21 +32,7 @@ use Rattle.kbd_model.specs.Keyboard.{Keyboard, offer}
 use Rattle.kbd_model.specs.Tick.{is_scanning, tested_if}
 use Rattle.kbd_model.specs.declared.meeting.Meeting.{Meeting}
 use Rattle.kbd_model.specs.declared.meeting.Meeting.TheVariants.{Idle, Inhibited}
-
--- a look without an effect, to the place behind it
-abbrev passed : ℕ → Cpu → Bool → Cpu → Cpu
-passed place m b e = record m { pc = place; t = e.t; pre = e.pre; tf = e.tf; rq = e.rq; last_t1 = e.last_t1 }
-
--- a whole tick, but for the held keys
-abbrev pub keyed_tick : Keys → Meeting → (ℕ → ℕ) → (ℕ → ℕ) → Keyboard → Keyboard
-keyed_tick keys meeting changed down k =
-    keyed keys (is_inhibited meeting) changed down (tested_if (not (k.test == 0)) (met meeting keys k))
-
-wide_helds : (f : ℕ → ℕ) (r0 r7 : ℕ) (p : Patch) (i : ℕ) → i < 12 → wide f r0 r7 p (32 + i) ≡ f (32 + i)
-wide_helds f r0 r7 p i l = grind (arith, nat_tests, l)
-
-below_cells : (f : ℕ → ℕ) (u v i : ℕ) → 32 ≤ i → put (put f 25 u) 24 v i ≡ f i
-below_cells f u v i l = grind (arith, nat_tests, l)
+use Rattle.fw_keys.proofs.KeyedTick.{passed, keyed_tick, below_cells}
 
 module _ (d : Board) (bytes : List ℕ) (hk : HasKernel bytes) (small : All IsByte bytes)
     (low : (p1 p2 c : ℕ) (s : d.State) → (d.pins p1 p2 c s).bus < 256) (held : List Bool) where
@@ -131,7 +114,22 @@ module _ (d : Board) (bytes : List ℕ) (hk : HasKernel bytes) (small : All IsBy
         (λ a g2 rg s. record {
           cells = wide g s.r0 s.r7 s.p;
           same = ap (λ t. memory t rg) s.now;
-          facts = (s.kbd ∙ ap (λ b. keyed (image_keys bytes) b changed down (kbd_of held g r)) inh ∙ ap (λ k. keyed (image_keys bytes) inhibited changed down k) q.kbd, (λ i l. wide_helds g s.r0 s.r7 s.p i l ∙ q.cells (32 + i) (omega arith) (omega (arith, l)) ∙ head_helds down f r4 r5 i l), record { most = s.most; started = q.inv.started; some = (let u : g 68 ≤ g 66 % 128 = q.inv.some in let v : g 66 % 128 ≤ s.p.count % 128 = s.more in omega (arith, u, v)); mode = q.inv.mode; lamps = q.inv.lamps }, q.stack.0, q.stack.1);
+          facts = (
+            s.kbd ∙ ap (λ b. keyed (image_keys bytes) b changed down (kbd_of held g r)) inh
+                ∙ ap (λ k. keyed (image_keys bytes) inhibited changed down k) q.kbd,
+            (λ i l. kept_helds g s.r0 s.r7 s.p i l
+                ∙ q.cells (32 + i) (omega arith) (omega (arith, l)) ∙ head_helds down f r4 r5 i l),
+            record {
+              most = s.most;
+              started = q.inv.started;
+              some = (let u : g 68 ≤ g 66 % 128 = q.inv.some in let v : g 66 % 128 ≤ s.p.count % 128 = s.more in omega
+                  (arith, u, v));
+              mode = q.inv.mode;
+              lamps = q.inv.lamps;
+            },
+            q.stack.0,
+            q.stack.1,
+          );
         })
         h))
 
@@ -213,8 +211,21 @@ module _ (d : Board) (bytes : List ℕ) (hk : HasKernel bytes) (small : All IsBy
         (Until 65 ∷ Go false ∷ Until 71 ∷ Go false ∷ Go false ∷ Until 76 ∷ Go true ∷ Until SCAN ∷ []) TESTED SCAN 31
         (put (put (headed_by r4 r5) 25 69) 24 0) ring (y + 231) m' (record m' { f1 = false }) board' (headed_by r4 r5)
         ring safe.0
-        (λ a. record { kbd = refl; inv = record { most = inv.most; started = inv.started; some = inv.some; mode = inv.mode; lamps = inv.lamps }; cells = λ i l u. below_cells (headed_by r4 r5) 69 0 i l; stack = (refl, refl) })
-        (ap not no_test, (look_at m' board' r4 r5 22 (λ p. not p.t0) is where_board ∙ ap not clock, (look_at m' board' r4 r5 24 (λ p. not p.t1) is where_board ∙ ap not high, (unoffered r4 r5 (r5 == 0) refl (offers ∙ nothing), (refl, refl, refl)))))
+        (λ a. record {
+          kbd = refl;
+          inv = record { most = inv.most; started = inv.started; some = inv.some; mode = inv.mode; lamps = inv.lamps };
+          cells = λ i l u. below_cells (headed_by r4 r5) 69 0 i l;
+          stack = (refl, refl);
+        }) (
+          ap not no_test,
+          (
+            look_at m' board' r4 r5 22 (λ p. not p.t0) is where_board ∙ ap not clock,
+            (
+              look_at m' board' r4 r5 24 (λ p. not p.t1) is where_board ∙ ap not high,
+              (unoffered r4 r5 (r5 == 0) refl (offers ∙ nothing), (refl, refl, refl)),
+            ),
+          ),
+        )
 
     inhibited_way : Inv f → (f 69 == 0) ≡ true
         → (d.pins 44 (255 - f 77) (y + 231 + 22) (ticks 22 0 (λ o. d.tick (255 - f 77) (y + 231 + o)) shining)).t0
@@ -225,8 +236,18 @@ module _ (d : Board) (bytes : List ℕ) (hk : HasKernel bytes) (small : All IsBy
         (Until 65 ∷ Go false ∷ Until 71 ∷ Go true ∷ Fork 186 (passed 186) ∷ Until SCAN ∷ []) TESTED SCAN 31
         (put (put (headed_by r4 r5) 25 69) 24 0) ring (y + 231) m' (record m' { f1 = true }) board' (headed_by r4 r5)
         ring safe.0
-        (λ a. record { kbd = refl; inv = record { most = inv.most; started = inv.started; some = inv.some; mode = inv.mode; lamps = inv.lamps }; cells = λ i l u. below_cells (headed_by r4 r5) 69 0 i l; stack = (refl, refl) })
-        (ap not no_test, (look_at m' board' r4 r5 22 (λ p. not p.t0) is where_board ∙ ap not clock, (refl, (refl, refl, refl, λ e0. (refl, refl, refl)))))
+        (λ a. record {
+          kbd = refl;
+          inv = record { most = inv.most; started = inv.started; some = inv.some; mode = inv.mode; lamps = inv.lamps };
+          cells = λ i l u. below_cells (headed_by r4 r5) 69 0 i l;
+          stack = (refl, refl);
+        }) (
+          ap not no_test,
+          (
+            look_at m' board' r4 r5 22 (λ p. not p.t0) is where_board ∙ ap not clock,
+            (refl, (refl, refl, refl, λ e0. (refl, refl, refl))),
+          ),
+        )
 
     test_way : Inv f → (f 69 == 0) ≡ false → Way false 36 (tested_if true)
     test_way inv runs m' board' r4 r5 is where_board offers safe =

@@ -1,7 +1,8 @@
 -- Step 4 of a tick: is scanning on, and the key that repeats.
 use Rattle.kbd_model.specs.Codes.{Keys}
 use Rattle.fw_logic.proofs.Image.{byte_is}
-use Rattle.std.proofs.Common.{◌≡◌, ◌≤◌, ◌<◌, ℕ, ◌+◌, ◌-◌, ◌%◌, List, [], ◌∷◌, All, Bool, true, false, not, ◌==◌, nat_le, if◌then◌else◌, bit_and, refl, ap, sym, ◌∙◌, arith, slice_index}
+use Rattle.std.proofs.Common.{◌≡◌, ◌≤◌, ◌<◌, ℕ, ◌+◌, ◌-◌, ◌%◌, List, [], ◌∷◌, All, Bool, true, false, not, ◌==◌}
+use Rattle.std.proofs.Common.{nat_le, if◌then◌else◌, bit_and, refl, ap, sym, ◌∙◌, arith, slice_index}
 use Rattle.std.proofs.lemmas.Bool.Decides.{nat_tests}
 use Rattle.mcs48_core.specs.Cpu.{Cpu}
 use Rattle.fw_keys.proofs.Blocks.{Just, leaf, seq_just, recast, relax, bytes_of}
@@ -27,9 +28,7 @@ use Rattle.kbd_model.specs.Keyboard.{Keyboard}
 use Rattle.kbd_model.specs.Queue.{enter}
 use Rattle.kbd_model.specs.Tick.{is_ready, is_scanning, repeated, repeated_if}
 use Rattle.kbd_model.specs.Typematic.{period}
-
-or_none : (a b : ℕ) → a < 256 → b < 256 → (bit_or a b == 0) ≡ ((a == 0) && (b == 0))
-or_none = pair_tests 256 256 (λ a b. bit_or a b == 0) (λ a b. (a == 0) && (b == 0)) refl
+use Rattle.fw_keys.proofs.Bytes.{or_none}
 
 mode_none : (b : ℕ) → b < 256 → is_ready (mode_of b) ≡ (b == 0)
 mode_none = tests_by 256 (λ b. is_ready (mode_of b)) (λ b. b == 0) refl
@@ -125,7 +124,16 @@ module _ (d : Board) (bytes : List ℕ) (hk : HasKernel bytes) (small : All IsBy
       (AfterStep (repeated (repeat_of (f 74) (f 72)) (image_keys bytes) b2) f ring)
       (Until 620 ∷ Go false ∷ Until 624 ∷ Go true ∷ Until EDGES ∷ []) REPEAT EDGES 11 (over f p) ring x m m board f ring
       safe.0
-      (λ a. record { p = p; is = record { now = refl; kbd = ap (λ t. record (kbd_of held f ring) { repeats = t }) (some_count (f 72) (f 74) (h.cell 74 (omega arith)) e0 e1) ∙ rw (e0, e1) refl; most = most; more = omega arith } })
+      (λ a. record {
+        p = p;
+        is = record {
+          now = refl;
+          kbd = ap (λ t. record (kbd_of held f ring) { repeats = t })
+              (some_count (f 72) (f 74) (h.cell 74 (omega arith)) e0 e1) ∙ rw (e0, e1) refl;
+          most = most;
+          more = omega arith;
+        };
+      })
       (e0, (ap not (last_count (f 74) (h.cell 74 (omega arith)) ∙ e1), (refl, refl, refl))))
   repeat_by false true true x m board f ring most safe e0 e1 e2 =
       let h = bytes_of m REPEAT f ring safe in
@@ -139,8 +147,25 @@ module _ (d : Board) (bytes : List ℕ) (hk : HasKernel bytes) (small : All IsBy
       (Until 620 ∷ Go false ∷ Until 624 ∷ Go false ∷ Until 633 ∷ Acc (210 + f 73 % 32) ∷ Run 1 ∷ Acc
       (period (f 73)) ∷ Until 636 ∷ Go true ∷ Until EDGES ∷ []) REPEAT EDGES 24 (over f p) ring x m m board f ring
       safe.0
-      (λ a. record { p = p; is = record { now = refl; kbd = ap (λ t. record (kbd_of held f ring) { repeats = t }) (some_period (f 72) (f 73) (h.cell 73 (omega arith))) ∙ rw (e0, e1) refl; most = most; more = omega arith } })
-      (e0, (ap not (last_count (f 74) (h.cell 74 (omega arith)) ∙ e1), (period_place (f 73) (h.cell 73 (omega arith)), (period_read bytes hk (f 73) (h.cell 73 (omega arith)), (e2, (refl, refl, refl)))))))
+      (λ a. record {
+        p = p;
+        is = record {
+          now = refl;
+          kbd = ap (λ t. record (kbd_of held f ring) { repeats = t })
+              (some_period (f 72) (f 73) (h.cell 73 (omega arith))) ∙ rw (e0, e1) refl;
+          most = most;
+          more = omega arith;
+        };
+      }) (
+        e0,
+        (
+          ap not (last_count (f 74) (h.cell 74 (omega arith)) ∙ e1),
+          (
+            period_place (f 73) (h.cell 73 (omega arith)),
+            (period_read bytes hk (f 73) (h.cell 73 (omega arith)), (e2, (refl, refl, refl))),
+          ),
+        ),
+      ))
   repeat_by false true false x m board f ring most safe e0 e1 e2 =
       let h = bytes_of m REPEAT f ring safe in
       let code : ℕ = slice_index bytes (768 + f 72) in
@@ -151,8 +176,16 @@ module _ (d : Board) (bytes : List ℕ) (hk : HasKernel bytes) (small : All IsBy
       (leaf d (kernel_in true bytes) (has_rows true bytes hk) small low (Just g1 ring)
       (Until 620 ∷ Go false ∷ Until 624 ∷ Go false ∷ Until 633 ∷ Acc (210 + f 73 % 32) ∷ Run 1 ∷ Acc
       (period (f 73)) ∷ Until 636 ∷ Go false ∷ Until AGAIN ∷ []) REPEAT AGAIN 28 g1 ring x m m board f ring safe.0
-      (λ a. (refl, refl))
-      (e0, (ap not (last_count (f 74) (h.cell 74 (omega arith)) ∙ e1), (period_place (f 73) (h.cell 73 (omega arith)), (period_read bytes hk (f 73) (h.cell 73 (omega arith)), (e2, (refl, refl, refl)))))))
+      (λ a. (refl, refl)) (
+        e0,
+        (
+          ap not (last_count (f 74) (h.cell 74 (omega arith)) ∙ e1),
+          (
+            period_place (f 73) (h.cell 73 (omega arith)),
+            (period_read bytes hk (f 73) (h.cell 73 (omega arith)), (e2, (refl, refl, refl))),
+          ),
+        ),
+      ))
       (λ x1 m1 board1 same1 safe1.
       recast d (kernel_in true bytes) (has_rows true bytes hk) small low x1 m1 board1 EDGES 17 17
       (λ a. Entered (code ∷ []) g1 ring)
@@ -162,7 +195,19 @@ module _ (d : Board) (bytes : List ℕ) (hk : HasKernel bytes) (small : All IsBy
       f) { r1 = q.pointer; r2 = code; count = q.count; left = period (f 73) } in record {
         cells = over f p;
         same = ap (λ t. memory t rg) q.now;
-        facts = record { p = p; is = record { now = refl; kbd = ap (λ t. record (kbd_of held (over f p) rg) { queue = t }) q.queue ∙ ap (λ t. record (kbd_of held f ring) { queue = enter (code ∷ []) (queue_of f ring); repeats = t }) (some_period (f 72) (f 73) (h.cell 73 (omega arith))) ∙ rw (e0, e1) refl; most = q.most; more = q.more } };
+        facts = record {
+          p = p;
+          is = record {
+            now = refl;
+            kbd = ap (λ t. record (kbd_of held (over f p) rg) { queue = t }) q.queue
+                ∙ ap (λ t. record (kbd_of held f ring) {
+                  queue = enter (code ∷ []) (queue_of f ring);
+                  repeats = t;
+                }) (some_period (f 72) (f 73) (h.cell 73 (omega arith))) ∙ rw (e0, e1) refl;
+            most = q.most;
+            more = q.more;
+          };
+        };
       })
       (again d bytes hk small low held x1 m1 board1 g1 ring safe1 most))
 
@@ -181,8 +226,18 @@ module _ (d : Board) (bytes : List ℕ) (hk : HasKernel bytes) (small : All IsBy
       (leaf d (kernel_in true bytes) (has_rows true bytes hk) small low
       (AfterStep (repeating (image_keys bytes) m.f1) f ring) (Until 608 ∷ Go false ∷ Until EDGES ∷ []) SCAN EDGES 16
       (over f p) ring x m (record m { f0 = false }) board f ring safe.0
-      (λ a. record { p = p; is = record { now = refl; kbd = sym (ap (λ b. repeated_if b (image_keys bytes) m.f1 (kbd_of held f ring)) is); most = most; more = omega arith } })
-      (scan_test (f 69) (f 70) (f 71) la lb (h.cell 71 (omega arith)) (or_small (f 69) (f 70) la lb) ∙ is, (refl, refl, refl)))
+      (λ a. record {
+        p = p;
+        is = record {
+          now = refl;
+          kbd = sym (ap (λ b. repeated_if b (image_keys bytes) m.f1 (kbd_of held f ring)) is);
+          most = most;
+          more = omega arith;
+        };
+      }) (
+        scan_test (f 69) (f 70) (f 71) la lb (h.cell 71 (omega arith)) (or_small (f 69) (f 70) la lb) ∙ is,
+        (refl, refl, refl),
+      ))
   step4_law true x m board f ring most safe is =
       let h = bytes_of m SCAN f ring safe in
       let la = h.cell 69 (omega arith) in
@@ -192,8 +247,10 @@ module _ (d : Board) (bytes : List ℕ) (hk : HasKernel bytes) (small : All IsBy
       seq_just d (kernel_in true bytes) (has_rows true bytes hk) small low x n board REPEAT 11 EDGES 45 g1 ring
       (AfterStep (repeating (image_keys bytes) m.f1) f ring) (begin_at d SCAN f ring m board) safe.1
       (leaf d (kernel_in true bytes) (has_rows true bytes hk) small low (Just g1 ring)
-      (Until 608 ∷ Go true ∷ Until REPEAT ∷ []) SCAN REPEAT 11 g1 ring x m n board f ring safe.0 (λ a. (refl, refl))
-      (scan_test (f 69) (f 70) (f 71) la lb (h.cell 71 (omega arith)) (or_small (f 69) (f 70) la lb) ∙ is, (refl, refl, refl)))
+      (Until 608 ∷ Go true ∷ Until REPEAT ∷ []) SCAN REPEAT 11 g1 ring x m n board f ring safe.0 (λ a. (refl, refl)) (
+        scan_test (f 69) (f 70) (f 71) la lb (h.cell 71 (omega arith)) (or_small (f 69) (f 70) la lb) ∙ is,
+        (refl, refl, refl),
+      ))
       (λ x1 m1 board1 same1 safe1.
       recast d (kernel_in true bytes) (has_rows true bytes hk) small low x1 m1 board1 EDGES 45 45
       (AfterStep (repeated (repeat_of (f 74) (f 72)) (image_keys bytes) m.f1) g1 ring)
@@ -201,6 +258,14 @@ module _ (d : Board) (bytes : List ℕ) (hk : HasKernel bytes) (small : All IsBy
       (λ a g rg q. record {
         cells = over f q.p;
         same = ap (λ t. memory t rg) q.is.now;
-        facts = record { p = q.p; is = record { now = refl; kbd = q.is.kbd ∙ sym (ap (λ b. repeated_if b (image_keys bytes) m.f1 (kbd_of held f ring)) is); most = q.is.most; more = q.is.more } };
+        facts = record {
+          p = q.p;
+          is = record {
+            now = refl;
+            kbd = q.is.kbd ∙ sym (ap (λ b. repeated_if b (image_keys bytes) m.f1 (kbd_of held f ring)) is);
+            most = q.is.most;
+            more = q.is.more;
+          };
+        };
       })
       (repeat_by (f 74 == 0) (f 74 == 1) m.f1 x1 m1 board1 g1 ring most safe1 refl refl (ap (λ k. k.f1) same1)))

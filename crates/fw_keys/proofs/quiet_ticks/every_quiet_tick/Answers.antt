@@ -3,4 +3,7 @@ use Rattle.fw_keys.proofs.QuietTick.{quiet_tick}
 use Rattle.fw_keys.proofs.quiet_ticks.every_quiet_tick.Goals as goal
 
 pub returns : goal.returns
-returns c = record { quiet = λ bytes has small pins tick low w s few meeting q. quiet_tick (numbered pins tick) bytes has small low w s few meeting q }
+returns c = record {
+  quiet = λ bytes has small pins tick low w s few meeting q. quiet_tick
+      (numbered pins tick) bytes has small low w s few meeting q;
+}

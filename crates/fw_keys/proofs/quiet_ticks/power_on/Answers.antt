@@ -3,4 +3,6 @@ use Rattle.fw_keys.proofs.PowerOn.{starts}
 use Rattle.fw_keys.proofs.quiet_ticks.power_on.Goals as goal
 
 pub returns : goal.returns
-returns c = record { powers_on = λ bytes has small pins tick board low. starts (numbered pins tick) bytes has small low board }
+returns c = record {
+  powers_on = λ bytes has small pins tick board low. starts (numbered pins tick) bytes has small low board;
+}

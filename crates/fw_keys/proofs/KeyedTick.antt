@@ -1,0 +1,24 @@
+-- A tick of the keyboard in two parts: what the link brings, and then the keys.
+use Rattle.kbd_model.specs.Tick.{met, is_inhibited}
+use Rattle.kbd_model.specs.Codes.{Keys}
+use Rattle.fw_keys.proofs.Scan.{keyed}
+use Rattle.std.proofs.Common.{◌≡◌, ◌≤◌, ℕ, Bool, not, ◌==◌, arith}
+use Rattle.std.proofs.lemmas.Bool.Decides.{nat_tests}
+use Rattle.mcs48_core.specs.Cpu.{Cpu}
+use Rattle.fw_keys.proofs.Head.{look}
+use Rattle.fw_logic.proofs.Block.{put}
+use Rattle.kbd_model.specs.Keyboard.{Keyboard}
+use Rattle.kbd_model.specs.Tick.{tested_if}
+use Rattle.kbd_model.specs.declared.meeting.Meeting.{Meeting}
+
+-- a look without an effect, to the place behind it
+abbrev pub passed : ℕ → Cpu → Bool → Cpu → Cpu
+passed place m b e = record m { pc = place; t = e.t; pre = e.pre; tf = e.tf; rq = e.rq; last_t1 = e.last_t1 }
+
+-- a whole tick, but for the held keys
+abbrev pub keyed_tick : Keys → Meeting → (ℕ → ℕ) → (ℕ → ℕ) → Keyboard → Keyboard
+keyed_tick keys meeting changed down k =
+    keyed keys (is_inhibited meeting) changed down (tested_if (not (k.test == 0)) (met meeting keys k))
+
+pub below_cells : (f : ℕ → ℕ) (u v i : ℕ) → 32 ≤ i → put (put f 25 u) 24 v i ≡ f i
+below_cells f u v i l = grind (arith, nat_tests, l)
