@@ -15,7 +15,6 @@ use Rattle.fw_keys.specs.Quiet.{cells_in, IsStarted}
 use Rattle.fw_keys.proofs.Rows.{marks}
 use Rattle.fw_keys.proofs.Step5.{all_edges}
 use Rattle.std.proofs.lemmas.Nat.{xor_of_8}
-use Rattle.fw_keys.proofs.Serve.{tick}
 
 -- edges by the twelve columns' bytes
 pub columns_same : (ch ch' dn dn' : ℕ → ℕ) (c n : ℕ) → c + n ≡ 12 → ((i : ℕ) → i < 12 → ch i ≡ ch' i)

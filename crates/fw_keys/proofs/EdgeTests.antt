@@ -1,5 +1,4 @@
 -- What an edge reads and tests: a row's bit, the delay of the rate, whether a key repeats.
-use Rattle.fw_keys.proofs.Fold.{edge}
 use Rattle.std.proofs.Common.{◌≡◌, ◌<◌, ℕ, suc, ◌+◌, ◌-◌, ◌*◌, ◌^◌, ◌%◌, ◌/◌, List, Bool}
 use Rattle.std.proofs.Common.{true, false, not, ◌==◌, bit_and, bit_xor, if◌then◌else◌, Some, None, refl, ap}
 use Rattle.std.proofs.Common.{sym, ◌∙◌, arith, slice_index}

@@ -5,7 +5,6 @@ use Rattle.fw_keys.proofs.Scan.{keyed}
 use Rattle.std.proofs.Common.{◌≡◌, ◌≤◌, ℕ, Bool, not, ◌==◌, arith}
 use Rattle.std.proofs.lemmas.Bool.Decides.{nat_tests}
 use Rattle.mcs48_core.specs.Cpu.{Cpu}
-use Rattle.fw_keys.proofs.Head.{look}
 use Rattle.fw_logic.proofs.Block.{put}
 use Rattle.kbd_model.specs.Keyboard.{Keyboard}
 use Rattle.kbd_model.specs.Tick.{tested_if}

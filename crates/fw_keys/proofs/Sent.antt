@@ -12,7 +12,7 @@ use Rattle.fw_kernel.specs.Places.{HasKernel}
 use Rattle.fw_kernel.specs.declared.labels.TheConstants.{DROP, SCAN, SENT}
 use Rattle.fw_keys.proofs.Block.{Ends, Safe}
 use Rattle.fw_keys.specs.Edges.{image_keys}
-use Rattle.fw_keys.specs.State.{Inv, kbd_of, made, reply_of}
+use Rattle.fw_keys.specs.State.{Inv, kbd_of, reply_of}
 use Rattle.fw_logic.proofs.Block.{Shape, begin_at, put}
 use Rattle.bits.proofs.Every.{by_below, tests_by}
 use Rattle.fw_logic.proofs.Kernel.{kernel_in}
