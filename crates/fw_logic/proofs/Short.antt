@@ -1,5 +1,5 @@
 -- The rows of the kernel's code, each of one or two cycles.
-use Rattle.std.proofs.Common.{◌≡◌, ℕ, List, Bool, ◌&&◌, not, ◌%◌, ◌+◌}
+use Rattle.std.proofs.Common.{ℕ, List, Bool, ◌&&◌, not, ◌%◌, ◌+◌}
 use Rattle.mcs48_isa.specs.Table.{row_of}
 use Rattle.mcs48_ranges.proofs.Rows.{row_timed}
 use Rattle.fw_kernel.specs.Places.{is_table, HasKernel}
