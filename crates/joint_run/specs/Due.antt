@@ -63,9 +63,10 @@ outside_of s = record {
 abbrev pub passed : ℕ → ℕ → ℕ → List HostEvent → Outside → Beside
 passed cycles now p2 events o = ticks cycles now (joint_cycle events p2) (beside o 0 [])
 
--- the cycles of a step have passed: what stands outside then, what was said, and the answer: how many of the host's events
--- were done, and the wires after the first and after the last cycle
-pub record HasPassed (cycles now p2 : ℕ) (events : List HostEvent) (old new : Outside) (said : List Stamped) (answer : ℕ × Lines × Lines) : Type 0 where
+-- the cycles of a step have passed: what stands outside then, what was said, and the answer, which is how many of the
+-- host's events were done, and the wires after the first and after the last cycle
+pub record HasPassed (cycles now p2 : ℕ) (events : List HostEvent) (old new : Outside) (said : List Stamped)
+    (answer : ℕ × Lines × Lines) : Type 0 where
   pub outside : new ≡ outside_of (passed cycles now p2 events old)
   pub items : said ≡ (passed cycles now p2 events old).pc.side.log
   pub done : answer.0 ≡ (passed cycles now p2 events old).pc.side.done
