@@ -1,3 +1,4 @@
+pub mod Asked
 pub mod AtNumber
 pub mod Counted
 pub mod Counting

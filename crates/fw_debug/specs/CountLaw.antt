@@ -1,16 +1,19 @@
 -- What probes count: the number of the steps whose state meets them, and the first of these.
 use Rattle.std.specs.Prelude.{◌≡◌, ◌≤◌, ℕ, ◌-◌, ◌^◌, ◌==◌, nat_lt, min, if◌then◌else◌}
-use Rattle.std.specs.Prelude.{List, [], ◌∷◌, length, map, slice_get, Some, None}
+use Rattle.std.specs.Prelude.{List, [], ◌∷◌, ◌++◌, length, map, slice_get, Some, None, Ok}
 use Rattle.std.specs.Option.{option_and_then}
 use Rattle.std.specs.declared.option.Option.{Option}
 use Rattle.joint_feed.specs.Stories.{Story}
+use Rattle.text_lines.specs.Fields.{is_blank_line}
 use Rattle.fw_debug.specs.declared.command.Command.{Command}
 use Rattle.fw_debug.specs.declared.command.Command.TheVariants.{Arm, Drop}
+use Rattle.fw_debug.specs.Commands.{command_in}
+use Rattle.fw_debug.specs.Obeyed.{lines_told}
 use Rattle.fw_debug.specs.Probes.{Watch, armed}
 use Rattle.fw_debug.specs.Counts.{met_between, counted_between}
 use Rattle.fw_debug.specs.Looks.{looks}
 use Rattle.fw_debug.specs.Sessions.{Debug, walk, hunt}
-use Rattle.fw_debug.specs.Told.{obeyed}
+use Rattle.fw_debug.specs.Told.{Told, obeyed}
 
 -- after a look at each of the states that the first n steps lead to
 abbrev pub LooksCount : Type 0
@@ -71,3 +74,16 @@ CountsSinceArmed = (s : Story) (lines : List Command) (d : Debug) (probe a b lat
     → slice_get d.probes probe ≡ Some watch → number_after lines probe ≡ Some later
     → (now : Watch) × (slice_get (obeyed_all s (Arm probe a b ∷ lines) d).probes later ≡ Some now)
     × IsTally s d.steps (obeyed_all s lines (obeyed s (Arm probe a b) d).debug).steps (armed a b watch) now
+
+-- what lines ask for, in their order; a blank one asks for nothing
+abbrev pub asked_by : List ℕ → List Command
+asked_by line = if is_blank_line line then [] else elim (command_in line) [ None ↦ [] | Some command ↦ command ∷ [] ]
+
+abbrev pub asked : List (List ℕ) → List Command
+asked [] = []
+asked (line ∷ others) = asked_by line ++ asked others
+
+-- the lines of a script, obeyed one after another, leave what they ask for leaves
+abbrev pub LinesAreObeyed : Type 0
+LinesAreObeyed = (s : Story) (lines : List (List ℕ)) (d : Debug) (end : Told)
+    → lines_told s lines d ≡ Ok end → end.debug ≡ obeyed_all s (asked lines) d

@@ -1,7 +1,7 @@
 //! What a probe counts, as laws over the definitions, each a clause of a function that does nothing.
 
 ghost use Rattle.fw_debug.specs.CountLaw.{LooksCount, WalkCounts, HuntCounts};
-ghost use Rattle.fw_debug.specs.CountLaw.{CountsFromNone, LinesCount, CountsSinceArmed};
+ghost use Rattle.fw_debug.specs.CountLaw.{CountsFromNone, LinesCount, CountsSinceArmed, LinesAreObeyed};
 
 /// A probe counts the steps whose state meets it, over every run.
 ///
@@ -10,7 +10,8 @@ ghost use Rattle.fw_debug.specs.CountLaw.{CountsFromNone, LinesCount, CountsSinc
 /// these steps whose state meets it, to the greatest 64-bit number at most; and where it had no first step, the least of
 /// them is its first. So a probe that had counted nothing tells how many they are, and the least of them, or none where
 /// there are none (`from_none`). A probe goes on counting through the lines of a session until one arms it or drops it,
-/// whatever they do with the others (`lines`), and one that a line arms tells what has met it since then (`armed`).
+/// whatever they do with the others (`lines`), and one that a line arms tells what has met it since then (`armed`). The
+/// lines of a script are these lines (`script`).
 pub fn probes_count()
     ensures looks { LooksCount }
     ensures walk { WalkCounts }
@@ -18,4 +19,5 @@ pub fn probes_count()
     ensures from_none { CountsFromNone }
     ensures lines { LinesCount }
     ensures armed { CountsSinceArmed }
+    ensures script { LinesAreObeyed }
 {}

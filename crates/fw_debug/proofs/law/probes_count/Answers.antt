@@ -1,5 +1,6 @@
 use Rattle.fw_debug.proofs.Counted.{looks_count, walk_counts, hunt_counts}
 use Rattle.fw_debug.proofs.Counting.{counts_from_none}
+use Rattle.fw_debug.proofs.Asked.{lines_are_obeyed}
 use Rattle.fw_debug.proofs.Lasting.{lines_count, counts_since_armed}
 use Rattle.fw_debug.proofs.law.probes_count.Goals as goal
 
@@ -11,4 +12,5 @@ returns c = record {
   from_none = counts_from_none;
   lines = lines_count;
   armed = counts_since_armed;
+  script = lines_are_obeyed;
 }
