@@ -29,7 +29,8 @@ use Rattle.ctl_link.specs.declared.port.Port.{Port}
 use Rattle.ctl_link.specs.Link.{settled, asking, took_where, takes_input, held_since, link_after}
 use Rattle.host_turn.specs.Host.{Host, acted, acted_where, event_turn, interrupts, read_by_bios, in_silence, is_done}
 use Rattle.host_turn.specs.Cycle.{host_of, port_by}
-use Rattle.host_turn.specs.Run.{Side, side_at_start, desk_of, turn_of, goes_on, says_lights}
+use Rattle.host_turn.specs.Run.{Side, side_at_start, desk_of, goes_on, says_lights}
+use Rattle.host_turn.proofs.Turns.{turn_of}
 use Rattle.byte_time.specs.declared.UnderWay.{UnderWay}
 use Rattle.byte_time.specs.declared.meeting.Meeting.{Meeting}
 use Rattle.byte_time.specs.declared.meeting.Meeting.TheVariants.{Got, Inhibited, Idle, Sent, Cut}

@@ -69,11 +69,3 @@ carried events Idle now m = quietly events 321 now m
 carried events (Sent byte) now m =
     byte_cycle events (320 + now) (Arrives byte) (quietly events 319 (suc now) (byte_cycle events now (Begins true) m))
 carried events Cut now m = quietly events 321 now m
-
--- a tick of 609 and `rest` cycles, from its start on: offsets 0 to 255, 256 to 287, the meeting from 288 to 608, and
--- the rest
-abbrev pub byte_tick : List HostEvent → Bool → Option ℕ → ℕ → ℕ → Side UnderWay → Side UnderWay
-byte_tick events tested offer start rest m =
-    let earlier : Side UnderWay = quietly events 256 start m in
-    let later : Side UnderWay = quietly events 32 (256 + start) earlier in
-    quietly events rest (609 + start) (carried events (meeting_in tested offer earlier later) (288 + start) later)

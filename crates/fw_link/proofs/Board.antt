@@ -7,7 +7,7 @@ use Rattle.board_lines.specs.declared.event.Edge.{Edge}
 use Rattle.board_lines.specs.declared.event.HostEvent.{HostEvent}
 use Rattle.board_lines.specs.declared.lines.Lines.{Lines}
 use Rattle.ctl_wire.specs.Wire.{drive}
-use Rattle.fw_link.specs.Latch.{driven}
+use Rattle.fw_link.proofs.Latches.{driven}
 use Rattle.host_turn.specs.Run.{lights_said}
 use Rattle.joint_run.specs.Joint.{Beside, latch_of, lights_of, joint_cycle, joint_pins, joint_board}
 use Rattle.pc_wires.specs.Wires.{board_cycle}

@@ -15,7 +15,8 @@ use Rattle.fw_logic.proofs.Leads.{Leads}
 use Rattle.fw_logic.proofs.Path.{Stage}
 use Rattle.fw_logic.proofs.Short.{has_rows}
 use Rattle.fw_logic.proofs.Sound.{chain}
-use Rattle.fw_link.specs.Latch.{wired, driven, frame_bit, sent_latch, cut_latch}
+use Rattle.fw_link.specs.Latch.{wired, frame_bit, sent_latch, cut_latch}
+use Rattle.fw_link.proofs.Latches.{driven}
 use Rattle.fw_link.proofs.Cell.{cut, board_cut, half_turned}
 use Rattle.fw_link.proofs.Frame.{begins, cells_pass}
 use Rattle.fw_link.proofs.Sending.{InFrame, sending, left_at, look, risen_is, high_span, look_is}

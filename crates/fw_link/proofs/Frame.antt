@@ -15,7 +15,8 @@ use Rattle.fw_logic.proofs.Leads.{Leads}
 use Rattle.fw_logic.proofs.Path.{Stage}
 use Rattle.fw_logic.proofs.Short.{has_rows}
 use Rattle.fw_logic.proofs.Sound.{chain, weaken}
-use Rattle.fw_link.specs.Latch.{wired, driven, frame_bit, sent_latch}
+use Rattle.fw_link.specs.Latch.{wired, frame_bit, sent_latch}
+use Rattle.fw_link.proofs.Latches.{driven}
 use Rattle.fw_link.proofs.Ends.{in_quarters, readied, readies, Readied, stops, board_stopped}
 use Rattle.fw_link.proofs.Sending.{InFrame, one_cell, sending, look, risen_is, high_span}
 use Rattle.fw_link.proofs.Wired.{IsReleased, both_high, spans}

@@ -17,7 +17,8 @@ use Rattle.fw_logic.proofs.Kernel.{kernel_in}
 use Rattle.fw_logic.proofs.Leads.{Leads}
 use Rattle.fw_logic.proofs.Short.{has_rows}
 use Rattle.fw_logic.proofs.Sound.{weaken}
-use Rattle.fw_link.specs.Latch.{driven, frame_bit, received_latch}
+use Rattle.fw_link.specs.Latch.{frame_bit, received_latch}
+use Rattle.fw_link.proofs.Latches.{driven}
 use Rattle.fw_link.proofs.Board.{at_wires, data_is}
 use Rattle.fw_link.proofs.Receive.{is_parity}
 use Rattle.fw_link.proofs.Received.{received_frame, got_cells, byte_read, right_read}

@@ -1,3 +1,4 @@
+pub mod Latches
 pub mod Cell
 pub mod Ends
 pub mod Wired

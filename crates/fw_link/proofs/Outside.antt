@@ -5,7 +5,8 @@ use Rattle.std.proofs.lemmas.Bool.Decides.{nat_tests}
 use Rattle.board_lines.specs.declared.event.Edge.{Edge}
 use Rattle.board_lines.specs.declared.event.HostEvent.{HostEvent}
 use Rattle.board_lines.specs.declared.lines.Lines.{Lines}
-use Rattle.fw_link.specs.Latch.{frame_bit, sent_latch, cut_latch, received_latch, in_tick}
+use Rattle.fw_link.specs.Latch.{frame_bit, sent_latch, cut_latch, received_latch}
+use Rattle.fw_link.proofs.Latches.{in_tick}
 use Rattle.fw_link.proofs.Board.{one_cycle}
 use Rattle.fw_link.proofs.Wired.{IsReleased}
 use Rattle.fw_link.proofs.Wires.{Drives, sent_is_frame, sent_before, sent_ends}

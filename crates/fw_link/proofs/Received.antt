@@ -16,7 +16,8 @@ use Rattle.fw_logic.proofs.Leads.{Leads}
 use Rattle.fw_logic.proofs.Path.{Stage}
 use Rattle.fw_logic.proofs.Short.{has_rows}
 use Rattle.fw_logic.proofs.Sound.{chain, weaken}
-use Rattle.fw_link.specs.Latch.{wired, driven, received_latch}
+use Rattle.fw_link.specs.Latch.{wired, received_latch}
+use Rattle.fw_link.proofs.Latches.{driven}
 use Rattle.fw_link.proofs.Ends.{in_quarters}
 use Rattle.fw_link.proofs.Receive.{awaits, Awaits, is_parity, takes_parity, with_parity, takes_stop, acks}
 use Rattle.fw_link.proofs.Receive.{board_behind_bit, board_acked}

@@ -15,7 +15,8 @@ use Rattle.fw_logic.proofs.Kernel.{kernel_in}
 use Rattle.fw_logic.proofs.Leads.{Leads}
 use Rattle.fw_logic.proofs.Path.{Stage}
 use Rattle.fw_logic.proofs.Short.{has_rows}
-use Rattle.fw_link.specs.Latch.{wired, driven, frame_bit, sent_latch}
+use Rattle.fw_link.specs.Latch.{wired, frame_bit, sent_latch}
+use Rattle.fw_link.proofs.Latches.{driven}
 use Rattle.fw_link.proofs.Cell.{turned, cell, Celled}
 use Rattle.fw_link.proofs.Ends.{in_quarters}
 use Rattle.fw_link.proofs.Wired.{IsReleased, falls, rises, puts, spans, cell_low, cell_high, cell_next}

@@ -19,7 +19,8 @@ use Rattle.fw_logic.proofs.Kernel.{kernel_in}
 use Rattle.fw_logic.proofs.Leads.{Leads}
 use Rattle.fw_logic.proofs.Short.{has_rows}
 use Rattle.fw_logic.proofs.Sound.{weaken}
-use Rattle.fw_link.specs.Latch.{wired, driven, frame_bit, sent_latch, cut_latch}
+use Rattle.fw_link.specs.Latch.{wired, frame_bit, sent_latch, cut_latch}
+use Rattle.fw_link.proofs.Latches.{driven}
 use Rattle.fw_link.proofs.Board.{at_wires, clock_is}
 use Rattle.fw_link.proofs.Cut.{cut_frame, as_sent}
 use Rattle.fw_link.proofs.Frame.{sent_frame}

@@ -15,7 +15,8 @@ use Rattle.fw_logic.proofs.Kernel.{kernel_in}
 use Rattle.fw_logic.proofs.Leads.{Leads}
 use Rattle.fw_logic.proofs.Path.{Stage}
 use Rattle.fw_logic.proofs.Short.{has_rows}
-use Rattle.fw_link.specs.Latch.{wired, driven, received_cell, received_latch}
+use Rattle.fw_link.specs.Latch.{wired, received_cell, received_latch}
+use Rattle.fw_link.proofs.Latches.{driven}
 use Rattle.fw_link.proofs.Receive.{takes_bit, TakesBit}
 use Rattle.fw_link.proofs.Wired.{IsReleased, both_high, rises, spans}
 use Rattle.joint_run.specs.Run.{Board, ticks}

@@ -6,7 +6,8 @@ use Rattle.std.proofs.lemmas.Bool.Decides.{nat_tests}
 use Rattle.mcs48_core.specs.Status.{bit, digit}
 use Rattle.fw_logic.proofs.Blocks.{ticks_add}
 use Rattle.bits.proofs.Every.{every_below, by_byte, tests_by}
-use Rattle.fw_link.specs.Latch.{wired, driven, frame_bit, sent_cell, sent_latch}
+use Rattle.fw_link.specs.Latch.{wired, frame_bit, sent_cell, sent_latch}
+use Rattle.fw_link.proofs.Latches.{driven}
 use Rattle.joint_run.specs.Run.{Board, ticks}
 
 -- a latch that pulls neither wire

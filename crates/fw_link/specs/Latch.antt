@@ -3,15 +3,10 @@ use Rattle.std.specs.Prelude.{ℕ, suc, ◌+◌, ◌-◌, ◌*◌, ◌/◌, ◌%
 use Rattle.std.specs.Prelude.{Bool, true, false, nat_le, nat_lt, if◌then◌else◌, bit_and, slice_index_or}
 use Rattle.mcs48_core.specs.Status.{digit}
 use Rattle.board_lines.specs.Frame.{frame_bits}
-use Rattle.joint_run.specs.Run.{Board, ticks}
 
 -- the latch that leaves both wires alone, with clock and data at these levels
 abbrev pub wired : ℕ → Bool → Bool → ℕ
 wired v clock level = bit_and v (252 + digit clock + 2 * digit level)
-
--- the board after n cycles from an offset on, where the latch of port 2 is a function of the offset from cycle x
-abbrev pub driven : (d : Board) → ℕ → (ℕ → ℕ) → ℕ → ℕ → d.State → d.State
-driven d x latch n from board = ticks n from (λ o. d.tick (latch o) (x + o)) board
 
 -- bit k of a byte's frame; behind the frame the wire is high
 abbrev pub frame_bit : ℕ → ℕ → Bool
@@ -40,10 +35,3 @@ received_cell v k o = wired v (nat_le 16 o) (if nat_lt k 10 then true else nat_l
 
 abbrev pub received_latch : ℕ → ℕ → ℕ
 received_latch v o = if nat_lt o 28 then v else received_cell v ((o - 28) / 32) ((o - 28) % 32)
-
--- the latch in a tick that starts in this cycle, with a frame of this length from the look at data on
-abbrev pub in_tick : (ℕ → ℕ) → ℕ → ℕ → ℕ → ℕ → ℕ
-in_tick latch v start length o =
-    if nat_lt o (260 + start) then v
-    else if nat_lt o (260 + start + length) then latch (o - (260 + start))
-    else v

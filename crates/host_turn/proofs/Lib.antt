@@ -1,3 +1,4 @@
 pub mod Going
 pub mod Keeps
 pub mod Rest
+pub mod Turns

@@ -8,8 +8,7 @@ use Rattle.int09.specs.Bios.{State, start}
 use Rattle.board_lines.specs.declared.event.HostEvent.{HostEvent}
 use Rattle.host_turn.specs.declared.desk.Desk.{Desk}
 use Rattle.host_turn.specs.declared.stamped.Stamped.{Stamped}
-use Rattle.host_turn.specs.Host.{Turn, turn}
-use Rattle.host_turn.specs.Cycle.{Cycled, cycled, host_of}
+use Rattle.host_turn.specs.Cycle.{Cycled, cycled}
 
 -- the controller with its link, the mask, INT 09h, how many events of the host are done, and what was said so far
 pub record Side (F : Type 0) : Type 0 where
@@ -44,10 +43,6 @@ with_cycled now c s = record {
 -- a cycle of a run, with the events of a history in their order
 unfoldable pub goes_on : {F : Type 0} → List HostEvent → ℕ → Side F → Side F
 goes_on events now s = with_cycled now (cycled now (slice_get events s.done) (desk_of s)) s
-
--- the host's turn in a cycle of a run
-abbrev pub turn_of : {F : Type 0} → List HostEvent → ℕ → Side F → Turn
-turn_of events now s = turn now s.port.filled (slice_get events s.done) (host_of (desk_of s))
 
 -- lights that differ from those shown are said
 abbrev pub lights_said : ℕ → ℕ → ℕ → List Stamped

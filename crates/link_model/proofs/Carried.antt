@@ -12,7 +12,8 @@ use Rattle.ctl_link.specs.Link.{Settled, settled, takes_input, took_where, held_
 use Rattle.ctl_link.specs.Empty.{is_held}
 use Rattle.board_lines.specs.declared.event.HostEvent.{HostEvent}
 use Rattle.host_turn.specs.Cycle.{port_by}
-use Rattle.host_turn.specs.Run.{Side, goes_on, turn_of}
+use Rattle.host_turn.specs.Run.{Side, goes_on}
+use Rattle.host_turn.proofs.Turns.{turn_of}
 use Rattle.byte_time.specs.declared.UnderWay.{UnderWay}
 use Rattle.byte_time.specs.ByteTime.{Event, Quiet, Begins, happened_at, byte_cycle, quietly, meeting_by}
 use Rattle.kbd_model.specs.Tick.{IsOffered}

@@ -7,7 +7,8 @@ use Rattle.board_lines.specs.declared.event.HostEvent.{HostEvent}
 use Rattle.board_lines.specs.declared.lines.Lines.{Lines}
 use Rattle.ctl_wire.specs.declared.wire.Wire.{Wire}
 use Rattle.ctl_wire.proofs.Pulls.{look_keeps}
-use Rattle.host_turn.specs.Run.{Side, turn_of, goes_on}
+use Rattle.host_turn.specs.Run.{Side, goes_on}
+use Rattle.host_turn.proofs.Turns.{turn_of}
 use Rattle.host_turn.specs.Cycle.{port_by}
 use Rattle.pc_wires.specs.Wires.{Pc, board_cycle, looked, wires}
 use Rattle.byte_time.specs.ByteTime.{quietly}

@@ -1,14 +1,15 @@
 -- Worked examples, by computing.
 use Rattle.std.proofs.Common.{◌≡◌, ℕ, ◌+◌, ◌-◌, ◌/◌, ◌%◌, List, [], ◌∷◌, ◌&&◌, true, refl}
-use Rattle.std.specs.Prelude.{if◌then◌else◌, nat_le, nat_lt, slice_index_or, Some}
+use Rattle.std.specs.Prelude.{Bool, if◌then◌else◌, nat_le, nat_lt, slice_index_or, Some}
+use Rattle.std.specs.declared.option.Option.{Option}
 use Rattle.pc_tables.specs.declared.item.Item.TheVariants.{Read, Status}
 use Rattle.board_lines.specs.declared.event.HostAct.TheVariants.{Write64, Read60, Mask, Status as AskStatus}
 use Rattle.board_lines.specs.declared.event.HostEvent.{HostEvent}
-use Rattle.host_turn.specs.Run.{side_at_start, goes_on}
+use Rattle.host_turn.specs.Run.{Side, side_at_start, goes_on}
 use Rattle.board_lines.specs.declared.lines.Lines.{Lines}
 use Rattle.board_lines.specs.Frame.{frame_bits, byte_of}
 use Rattle.pc_wires.specs.Wires.{board_cycle, pc_at_start}
-use Rattle.byte_time.specs.ByteTime.{byte_tick, byte_cycle}
+use Rattle.byte_time.specs.ByteTime.{byte_cycle, quietly, carried, meeting_in}
 use Rattle.byte_time.specs.declared.UnderWay.{UnderWay}
 use Rattle.ctl_core.specs.ScanCodes.{scan_codes, translated}
 use Rattle.wires_agree.specs.Cycles.{board_cycles}
@@ -41,6 +42,14 @@ reads = at 0 Mask ∷ at 607 Read60 ∷ at 608 Read60 ∷ []
 on_wires : (board_cycles reads (sends 4384) 700 4096 pc_at_start).side.log ≡ record { cycle = 4703; item = Read 0 } ∷ record { cycle = 4704; item = Read 0x1e } ∷ []
 unfolding reads board_cycle goes_on byte_of scan_codes translated
 on_wires = refl
+
+-- a tick of 609 and `rest` cycles, from its start on: offsets 0 to 255, 256 to 287, the meeting from 288 to 608, and
+-- the rest
+abbrev byte_tick : List HostEvent → Bool → Option ℕ → ℕ → ℕ → Side UnderWay → Side UnderWay
+byte_tick events tested offer start rest m =
+    let earlier : Side UnderWay = quietly events 256 start m in
+    let later : Side UnderWay = quietly events 32 (256 + start) earlier in
+    quietly events rest (609 + start) (carried events (meeting_in tested offer earlier later) (288 + start) later)
 
 in_bytes : (byte_tick reads true (Some 0x1c) 4096 91 (side_at_start UnderWay)).log ≡ record { cycle = 4703; item = Read 0 } ∷ record { cycle = 4704; item = Read 0x1e } ∷ []
 unfolding reads byte_cycle goes_on scan_codes translated

@@ -12,7 +12,8 @@ use Rattle.ctl_link.specs.declared.port.Port.{Port}
 use Rattle.ctl_link.specs.Link.{Settled, held_since, asking, took, took_where, takes_input, link_after, moves_link, settled}
 use Rattle.board_lines.specs.declared.event.HostEvent.{HostEvent}
 use Rattle.host_turn.specs.Host.{Turn, is_done}
-use Rattle.host_turn.specs.Run.{Side, turn_of, goes_on, with_cycled}
+use Rattle.host_turn.specs.Run.{Side, goes_on, with_cycled}
+use Rattle.host_turn.proofs.Turns.{turn_of}
 use Rattle.host_turn.specs.Cycle.{ends_cycle}
 use Rattle.wires_agree.specs.Without.{link_by, port_by, side_by, without_bits}
 use Rattle.wires_agree.specs.Laws.{GoesOnAlike}

@@ -9,7 +9,8 @@ use Rattle.ctl_link.specs.declared.link.Link.TheVariants.{Busy}
 use Rattle.ctl_link.specs.declared.port.Port.{Port}
 use Rattle.ctl_link.specs.Link.{held_since, took_where, takes_input, link_after}
 use Rattle.board_lines.specs.declared.event.HostEvent.{HostEvent}
-use Rattle.host_turn.specs.Run.{Side, turn_of, goes_on}
+use Rattle.host_turn.specs.Run.{Side, goes_on}
+use Rattle.host_turn.proofs.Turns.{turn_of}
 use Rattle.board_lines.specs.declared.lines.Lines.{Lines}
 use Rattle.ctl_wire.specs.declared.wire.Wire.{Wire}
 use Rattle.ctl_wire.specs.declared.wire.Wire.TheVariants.{Recv, Send}
