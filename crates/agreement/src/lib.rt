@@ -2,16 +2,16 @@
 //! processor.
 //!
 //! This layer knows both sides: the processor's, from tick start to tick start (what the firmware's memory means, what
-//! it drives and reads on the wires), and the model's (the keyboard's tick, the controller in byte time). It proves that
-//! each tick of the one is a tick of the other, and by induction that the whole runs are. It must not know the text of a
-//! log, nor how a run is made or the expected log computed. Our own.
+//! it drives and reads on the wires), and the model's (the keyboard's tick, the controller in byte time). It proves
+//! that each tick of the one is a tick of the other, and by induction that the whole runs are. It must not know the
+//! text of a log, nor how a run is made or the expected log computed. Our own.
 #![tactic(auto)]
 
 ghost use Rattle.agreement.specs.Agreement.{AgreementLaw};
 
-/// For every layout and every accepted history: the joint run of the layout's compiled image is never stuck, each of its
-/// ticks starts at most five cycles past its multiple of 2,048, and what was said up to a tick start is what the model
-/// says up to it, at the run's own tick starts. Nothing is done when it is called; the law is its contract.
+/// For every layout and every accepted history: the joint run of the layout's compiled image is never stuck, each of
+/// its ticks starts at most five cycles past its multiple of 2,048, and what was said up to a tick start is what the
+/// model says up to it, at the run's own tick starts. Nothing is done when it is called; the law is its contract.
 pub fn run_and_model_agree()
     ensures agreement { AgreementLaw }
 {}

@@ -14,8 +14,8 @@ pub struct Edge {
     pub down: bool,
 }
 
-/// What the host does in an event. Source: PC/AT Technical Reference, the ports of the keyboard controller; the mask and
-/// the taking of a word are our own.
+/// What the host does in an event. Source: PC/AT Technical Reference, the ports of the keyboard controller; the mask
+/// and the taking of a word are our own.
 #[derive(Clone, Copy, Debug, PartialEq, Eq, Default)]
 pub enum HostAct {
     /// It writes this byte to port 60h.

@@ -4,9 +4,9 @@ ghost use Rattle.std.specs.Prelude.{◌≡◌, ◌<◌, ◌≤◌, ◌^◌, ◌�
 ghost use Rattle.board_lines.specs.Bits.{data_bits, is_odd as is_odd_of, value as value_of};
 ghost use Rattle.board_lines.specs.Frame.{byte_of as byte_in, frame_bits, is_right as is_right_of};
 
-/// The eleven bits of a byte on the data wire, in the order in which they pass: the start bit 0, eight data bits with the
-/// lowest first, the parity bit, the stop bit 1. Data and parity have an odd number of ones. Source: PC/AT Technical
-/// Reference, keyboard data stream.
+/// The eleven bits of a byte on the data wire, in the order in which they pass: the start bit 0, eight data bits with
+/// the lowest first, the parity bit, the stop bit 1. Data and parity have an odd number of ones. Source: PC/AT
+/// Technical Reference, keyboard data stream.
 #[derive(Clone, Copy, Debug, PartialEq, Eq)]
 pub struct Frame {
     /// The bits by number, from the start bit, 0, to the stop bit, 10.
@@ -40,7 +40,7 @@ pub fn byte_of(f: Frame) -> Option<u8>
     }
 }
 
-// Whether start, parity and stop of a frame are right.
+/// Whether start, parity and stop of a frame are right.
 fn is_right(f: &Frame) -> bool
     ensures right { result ≡ is_right_of f.now.bits }
     ensures eleven { length f.now.bits ≡ 11 }
@@ -48,7 +48,7 @@ fn is_right(f: &Frame) -> bool
     !f.bits[0] && f.bits[10] && is_odd(&f.bits[1..10])
 }
 
-// The bits of a byte, the lowest first.
+/// The bits of a byte, the lowest first.
 fn data_of(byte: u8) -> [bool; 8]
     ensures { result ≡ data_bits byte }
 {
@@ -64,7 +64,7 @@ fn data_of(byte: u8) -> [bool; 8]
     ]
 }
 
-// The number that at most eight bits are, the lowest first.
+/// The number that at most eight bits are, the lowest first.
 fn value(bits: &[bool]) -> u8
     requires { length bits.now ≤ 8 }
     ensures value { result ≡ value_of bits.now }
@@ -76,7 +76,7 @@ fn value(bits: &[bool]) -> u8
     }
 }
 
-// Whether an odd number of the bits are ones.
+/// Whether an odd number of the bits are ones.
 fn is_odd(bits: &[bool]) -> bool
     ensures { result ≡ is_odd_of bits.now }
 {

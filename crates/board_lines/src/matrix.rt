@@ -7,8 +7,8 @@ ghost use Rattle.board_lines.specs.Matrix.{all_up, rows_of, turned};
 use crate::place::Place;
 use std::marker::Model;
 
-/// The key matrix: 12 columns of 8 rows, with a diode per key, so keys don't hide each other. A clause sees it as whether
-/// the key at each place is down. Source: our own.
+/// The key matrix: 12 columns of 8 rows, with a diode per key, so keys don't hide each other. A clause sees it as
+/// whether the key at each place is down. Source: our own.
 #[derive(Debug, Drop)]
 pub struct Matrix {
     /// The rows of each column as the bus shows them: bit k is row k, 0 for down.
@@ -65,7 +65,7 @@ impl Matrix {
     }
 }
 
-// The rows of a column, once the key in this row has gone down or up.
+/// The rows of a column, once the key in this row has gone down or up.
 fn turn_row(rows: u8, row: u8, down: bool) -> u8
     requires { row < 8 }
     ensures { column_keys result ≡ slice_set (column_keys rows) row down }
@@ -77,7 +77,7 @@ fn turn_row(rows: u8, row: u8, down: bool) -> u8
     }
 }
 
-// The rows of a column as the bus reads them, which is how they are kept: a byte.
+/// The rows of a column as the bus reads them, which is how they are kept: a byte.
 fn shown(rows: u8) -> u8
     ensures rows { result ≡ rows }
     ensures byte { result < 256 }

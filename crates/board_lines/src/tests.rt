@@ -16,7 +16,7 @@ fn places_are_numbered_by_column(rt: HostRuntime) -> Result<(), Fail> {
     Ok(())
 }
 
-// A frame by its bits, as they are written: 1 for high.
+/// A frame by its bits, as they are written: 1 for high.
 fn frame(bits: &[u8; 11]) -> Frame {
     let mut frame = Frame { bits: [false; 11] };
     for (i, bit) in bits.iter().enumerate() {

@@ -2,9 +2,9 @@
 //! carries it.
 //!
 //! This layer knows the PC's side of a cycle, and of a byte under way no more than which way it goes. It knows ticks by
-//! their starts, and the meeting of a tick: what passes over the link in it. It knows no wire, edge, bit or frame, and no
-//! keyboard but what it offers. A tick is 2,048 cycles, up to five more or less; cycles in it are counted as offsets from
-//! its start. Source: our own.
+//! their starts, and the meeting of a tick: what passes over the link in it. It knows no wire, edge, bit or frame, and
+//! no keyboard but what it offers. A tick is 2,048 cycles, up to five more or less; cycles in it are counted as offsets
+//! from its start. Source: our own.
 #![tactic(auto)]
 
 mod meeting;

@@ -6,8 +6,9 @@ ghost use Rattle.byte_time.specs.ByteTime.{meeting_by};
 use crate::UnderWay;
 use ctl_link::Link;
 
-/// What a tick brings over the link: a byte for the keyboard; nothing, as the controller holds the keyboard off; nothing,
-/// as nothing is offered; the keyboard's byte; or nothing of it, as the controller pulled the clock before it began.
+/// What a tick brings over the link: a byte for the keyboard; nothing, as the controller holds the keyboard off;
+/// nothing, as nothing is offered; the keyboard's byte; or nothing of it, as the controller pulled the clock before it
+/// began.
 #[derive(Clone, Copy, Debug, PartialEq, Eq, Drop)]
 pub enum Meeting {
     Got(u8),

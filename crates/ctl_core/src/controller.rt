@@ -2,7 +2,8 @@
 
 ghost use Rattle.std.specs.Prelude.{◌≡◌, ◌↔◌, false, is_some, IsErr, IsSome, IfErr, OnErr, OnOk, option_map};
 ghost use Rattle.ctl_core.specs.Commands.{after_taken, commanded, passed, taken};
-ghost use Rattle.ctl_core.specs.Controller.{at_start, emptied, interrupt_enabled, is_disabled, is_idle, put_out, status_of, written};
+ghost use Rattle.ctl_core.specs.Controller.{at_start, emptied, interrupt_enabled, is_disabled, is_idle, put_out};
+ghost use Rattle.ctl_core.specs.Controller.{status_of, written};
 ghost use Rattle.ctl_core.specs.Translation.{after_received, received_as};
 
 use crate::command::{Command, Parameter, decode_command};
@@ -12,8 +13,8 @@ use crate::translation::{Translated, translate_marked};
 use bitflags::Flags;
 use std::marker::Model;
 
-/// What taking a byte of the input buffer did beyond the controller itself: nothing, a byte for the keyboard, a byte for
-/// the output port, or a pulse of its lines, of which each 0 bit of the number is pulsed.
+/// What taking a byte of the input buffer did beyond the controller itself: nothing, a byte for the keyboard, a byte
+/// for the output port, or a pulse of its lines, of which each 0 bit of the number is pulsed.
 #[derive(Clone, Copy, Debug, PartialEq, Eq, Drop)]
 pub enum Did {
     Nothing,
@@ -180,7 +181,7 @@ impl Controller {
         })
     }
 
-    // A byte of port 60h, with the parameter that was awaited.
+    /// A byte of port 60h, with the parameter that was awaited.
     fn pass(&mut self, awaited: Option<Parameter>, byte: u8) -> Did
         ensures told { result ≡ (passed awaited byte self.old).did }
         ensures after { self.new ≡ (passed awaited byte self.old).state }
@@ -201,7 +202,7 @@ impl Controller {
         }
     }
 
-    // A command, once a wait for a parameter has ended.
+    /// A command, once a wait for a parameter has ended.
     fn obey(&mut self, command: Command) -> Did
         ensures told { result ≡ (commanded command self.old).did }
         ensures after { self.new ≡ (commanded command self.old).state }
@@ -251,7 +252,7 @@ impl Controller {
         }
     }
 
-    // Puts a byte into the output buffer.
+    /// Puts a byte into the output buffer.
     fn put_out(&mut self, byte: u8)
         ensures { self.new ≡ put_out byte self.old }
     {

@@ -3,14 +3,14 @@
 use crate::{Controller, Did, InputFull, Port, Received};
 use std::process::Abort;
 
-// Writes a byte and has it taken.
+/// Writes a byte and has it taken.
 fn written(rt: &impl Abort, controller: &mut Controller, port: Port, byte: u8) -> Option<Did> {
     assert!(rt; controller.host_write(port, byte).is_ok());
     assert!(rt; !controller.output_full());
     controller.take_input()
 }
 
-// Sends a byte from the keyboard; what it put out is read.
+/// Sends a byte from the keyboard; what it put out is read.
 fn sent(rt: &impl Abort, controller: &mut Controller, byte: u8) -> Option<u8> {
     assert!(rt; !controller.output_full());
     match controller.receive(byte, true) {

@@ -4,7 +4,7 @@ ghost use Rattle.std.specs.Prelude.{◌≡◌, slice_get};
 ghost use Rattle.ctl_core.specs.ScanCodes.{translated};
 ghost use Rattle.ctl_core.specs.Translation.{translation};
 
-// What each byte below 80 gives, from 00 on; a code that no key has gives itself.
+/// What each byte below 80 gives, from 00 on; a code that no key has gives itself.
 static SCAN_CODES: [u8; 128] = [
     0xff, 0x43, 0x02, 0x3f, 0x3d, 0x3b, 0x3c, 0x07, 0x08, 0x44, 0x42, 0x40, 0x3e, 0x0f, 0x29, 0x0f,
     0x10, 0x38, 0x2a, 0x13, 0x1d, 0x10, 0x02, 0x17, 0x18, 0x19, 0x2c, 0x1f, 0x1e, 0x11, 0x03, 0x1f,
@@ -16,7 +16,7 @@ static SCAN_CODES: [u8; 128] = [
     0x52, 0x53, 0x50, 0x4c, 0x4d, 0x48, 0x01, 0x45, 0x78, 0x4e, 0x51, 0x4a, 0x37, 0x49, 0x46, 0x7f,
 ];
 
-// The byte before a key's code that makes it a break.
+/// The byte before a key's code that makes it a break.
 const BREAK: u8 = 0xf0;
 
 /// What is put out for a byte, or nothing, and the break mark after it.
@@ -38,7 +38,7 @@ pub fn translate(byte: u8) -> Option<u8>
     }
 }
 
-// The table's entry at this place, if it has one.
+/// The table's entry at this place, if it has one.
 fn entry_at(table: &[u8], place: u8) -> Option<u8>
     ensures { result ≡ slice_get table.now place }
 {

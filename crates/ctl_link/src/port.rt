@@ -2,7 +2,8 @@
 
 ghost use Rattle.std.specs.Prelude.{◌≡◌, ◌+◌, false, nat_le};
 ghost use Rattle.ctl_link.specs.Empty.{IsEmptyUnlessHeld};
-ghost use Rattle.ctl_link.specs.Link.{filled_by, handed_over, held_since, moves_link, port_at_start, received, settled, takes_input};
+ghost use Rattle.ctl_link.specs.Link.{filled_by, handed_over, held_since, moves_link, port_at_start, received};
+ghost use Rattle.ctl_link.specs.Link.{settled, takes_input};
 ghost use Rattle.ctl_link.specs.Pulls.{BeginsPull, KeepsPull};
 
 use crate::link::Link;
@@ -24,7 +25,7 @@ pub struct Port<F> {
     pub awaits: bool,
 }
 
-// Whether a pull of the clock since this cycle has lasted long enough.
+/// Whether a pull of the clock since this cycle has lasted long enough.
 fn is_long(since: u64, now: u64) -> bool
     ensures { result ≡ nat_le (since + 64) now }
 {
@@ -45,8 +46,8 @@ impl<F: Drop> Port<F> {
         }
     }
 
-    /// A byte of the keyboard has come whole in cycle `now`, or has come wrong (`None`), while the output buffer is empty.
-    /// No reply is awaited any more, and the link is held from this cycle on.
+    /// A byte of the keyboard has come whole in cycle `now`, or has come wrong (`None`), while the output buffer is
+    /// empty. No reply is awaited any more, and the link is held from this cycle on.
     pub fn receive(&mut self, now: u64, byte: Option<u8>)
         requires output_empty { self.old.core.output_full ≡ false }
         ensures port { self.new ≡ received now byte self.old }
@@ -72,8 +73,8 @@ impl<F: Drop> Port<F> {
 
     /// What the controller does by itself at the end of cycle `now`. First it takes its input, where it may: the output
     /// buffer is empty, and the link is held, or is free while no reply is awaited. Then the link changes by itself: a
-    /// free one is held where the output buffer is full or the keyboard disabled, and a pull of the clock ends once it has
-    /// lasted 64 cycles and nothing stands against it. Answers what the input taken did.
+    /// free one is held where the output buffer is full or the keyboard disabled, and a pull of the clock ends once it
+    /// has lasted 64 cycles and nothing stands against it. Answers what the input taken did.
     pub fn settle(&mut self, now: u64) -> Did
         ensures port { self.new ≡ (settled now self.old).port }
         ensures did { result ≡ (settled now self.old).did }
@@ -86,7 +87,7 @@ impl<F: Drop> Port<F> {
         did
     }
 
-    // The input is taken, where it may be.
+    /// The input is taken, where it may be.
     fn take_input(&mut self, now: u64) -> Did
         ensures port { self.new ≡ (takes_input now self.old).port }
         ensures did { result ≡ (takes_input now self.old).did }
@@ -107,7 +108,7 @@ impl<F: Drop> Port<F> {
         did
     }
 
-    // Since when the link is held, where the input may be taken; a free link is held from now on.
+    /// Since when the link is held, where the input may be taken; a free link is held from now on.
     fn held_since(&self, now: u64) -> Option<u64>
         ensures { result ≡ held_since now self.now.awaits self.now.link }
     {
@@ -119,7 +120,7 @@ impl<F: Drop> Port<F> {
         }
     }
 
-    // The output buffer was filled in this cycle, where it is full after something done while it was empty.
+    /// The output buffer was filled in this cycle, where it is full after something done while it was empty.
     fn note_filling(&mut self, now: u64)
         ensures { self.new ≡ record self.old { filled = filled_by now self.old.core self.old.filled } }
     {
@@ -129,7 +130,7 @@ impl<F: Drop> Port<F> {
         self.filled = now;
     }
 
-    // The link by itself.
+    /// The link by itself.
     fn move_link(&mut self, now: u64)
         ensures { self.new ≡ moves_link now self.old }
     {

@@ -4,7 +4,7 @@ use crate::{Link, Port};
 use ctl_core::{Did, Port as HostPort};
 use std::process::Abort;
 
-// The host writes a byte.
+/// The host writes a byte.
 fn write(rt: &impl Abort, port: &mut Port<u8>, to: HostPort, byte: u8) {
     assert!(rt; port.core.host_write(to, byte).is_ok());
 }

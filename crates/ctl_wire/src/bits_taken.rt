@@ -5,8 +5,8 @@ ghost use Rattle.std.specs.Prelude.{◌≡◌, ◌<◌, ◌≤◌, ◌==◌, [],
 use board_lines::Frame;
 use std::marker::Model;
 
-/// The bits of a frame of the keyboard that have come so far, at most ten of the eleven. A clause sees them as a list, in
-/// the order in which they came.
+/// The bits of a frame of the keyboard that have come so far, at most ten of the eleven. A clause sees them as a list,
+/// in the order in which they came.
 #[derive(Drop)]
 pub struct Bits {
     bits: [bool; 11],

@@ -38,7 +38,7 @@ pub fn drive_of(link: &Link<Wire>) -> Lines
     }
 }
 
-// What it drives while a byte is under way.
+/// What it drives while a byte is under way.
 fn drive_in(wire: &Wire) -> Lines
     ensures { result ≡ drive_in wire.now }
 {

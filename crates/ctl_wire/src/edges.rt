@@ -4,7 +4,8 @@ ghost use Rattle.std.specs.Prelude.{◌≡◌, ◌+◌, ◌<◌, ◌≤◌, ◌=
 
 use std::marker::Model;
 
-/// How many falling edges of a frame for the keyboard have been, at most ten of the eleven. A clause sees it as the number.
+/// How many falling edges of a frame for the keyboard have been, at most ten of the eleven. A clause sees it as the
+/// number.
 #[derive(Clone, Copy, Debug, PartialEq, Eq)]
 pub struct Edges {
     count: u8,

@@ -11,8 +11,8 @@ use board_lines::byte_of;
 use ctl_link::{Link, Port};
 
 /// The clock falls in cycle `now`, with the data wire at this level. In a free link the keyboard's frame begins; in one
-/// that requests, the frame for the keyboard. A frame under way counts the edge and takes the bit, and the eleventh edge
-/// ends it: the byte is received, or handed over. While the controller pulls the clock, edges are ignored.
+/// that requests, the frame for the keyboard. A frame under way counts the edge and takes the bit, and the eleventh
+/// edge ends it: the byte is received, or handed over. While the controller pulls the clock, edges are ignored.
 pub fn fall(port: &mut Port<Wire>, now: u64, dat: bool)
     requires empty { IsEmptyUnlessHeld port.old }
     ensures port { port.new ≡ edge_at now dat port.old.link port.old }

@@ -21,7 +21,7 @@ const DATA_LOW: Lines = Lines {
     dat: false,
 };
 
-// The controller between two cycles, with the number of the next one.
+/// The controller between two cycles, with the number of the next one.
 #[derive(Drop)]
 struct Bench {
     wire: CtlWire,
@@ -38,8 +38,8 @@ impl Bench {
         }
     }
 
-    // A cycle, in which the keyboard drives these levels, and the host writes a byte or does nothing. Answers whether
-    // what was written was taken into the input buffer.
+    /// A cycle, in which the keyboard drives these levels, and the host writes a byte or does nothing. Answers whether
+    /// what was written was taken into the input buffer.
     fn cycle(&mut self, keyboard: Lines, byte: Option<(Port, u8)>) -> bool {
         if self.now >= 1_000_000 {
             return false;
@@ -59,7 +59,7 @@ impl Bench {
         written
     }
 
-    // Cycles up to before this one.
+    /// Cycles up to before this one.
     fn run_to(&mut self, to: u64, keyboard: Lines) {
         if self.now < to {
             for _ in self.now..to {
@@ -68,7 +68,7 @@ impl Bench {
         }
     }
 
-    // A cell of 32 cycles: the clock falls at once and stays low for 16, with data at this level.
+    /// A cell of 32 cycles: the clock falls at once and stays low for 16, with data at this level.
     fn cell(&mut self, dat: bool) {
         for _ in 0..16_u8 {
             self.cycle(Lines { clk: false, dat }, None);
@@ -78,7 +78,7 @@ impl Bench {
         }
     }
 
-    // The cells of a frame, as many as there are bits; 1 is high.
+    /// The cells of a frame, as many as there are bits; 1 is high.
     fn cells(&mut self, bits: &[u8]) {
         for bit in bits {
             self.cell(*bit == b'1');
@@ -86,7 +86,7 @@ impl Bench {
     }
 }
 
-// The host writes a byte, while the keyboard lets both wires go.
+/// The host writes a byte, while the keyboard lets both wires go.
 fn write(rt: &impl Abort, bench: &mut Bench, port: Port, byte: u8) {
     assert!(rt; bench.cycle(HIGH, Some((port, byte))));
 }

@@ -14,8 +14,8 @@ use ctl_core::{Controller, Did, InputFull, Port as HostPort};
 use ctl_link::Port;
 use std::marker::Model;
 
-/// The controller with its wires. In each cycle it looks at the wires, then the host may act, then it settles; the value
-/// keeps the cycle of its last look, and whether that look waits for its settling.
+/// The controller with its wires. In each cycle it looks at the wires, then the host may act, then it settles; the
+/// value keeps the cycle of its last look, and whether that look waits for its settling.
 #[derive(Drop)]
 pub struct CtlWire {
     port: Port<Wire>,

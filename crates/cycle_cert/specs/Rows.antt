@@ -1,12 +1,16 @@
 -- What a row of the opcode table says of the places that can follow, and of the registers of the selected bank.
-use Rattle.std.specs.Prelude.{ℕ, ◌+◌, ◌%◌, Bool, true, false, not, ◌==◌, if◌then◌else◌, List, [], ◌∷◌, Option, Some, None}
+use Rattle.std.specs.Prelude.{ℕ, ◌+◌, ◌%◌, Bool, true, false, not, ◌==◌, if◌then◌else◌, List, [], ◌∷◌, Option}
+use Rattle.std.specs.Prelude.{Some, None}
 use Rattle.mcs48_isa.specs.Text.{target}
 use Rattle.mcs48_isa.specs.declared.operation.Op.{Op}
 use Rattle.mcs48_isa.specs.declared.operation.Op.TheVariants.{Moves, Unary, Flow, Control}
-use Rattle.mcs48_isa.specs.declared.operation.MoveOp.TheVariants.{MovRA, MovIA, MovRN, MovIN, MovPswA, XchR, XchI, XchdI}
+use Rattle.mcs48_isa.specs.declared.operation.MoveOp.TheVariants.{MovRA, MovIA, MovRN, MovIN, MovPswA, XchR, XchI}
+use Rattle.mcs48_isa.specs.declared.operation.MoveOp.TheVariants.{XchdI}
 use Rattle.mcs48_isa.specs.declared.operation.UnaryOp.TheVariants.{IncR, IncI, DecR}
 use Rattle.mcs48_isa.specs.declared.operation.FlowOp.{FlowOp}
-use Rattle.mcs48_isa.specs.declared.operation.FlowOp.TheVariants.{Jmp, Call, Ret, Retr, Jmpp, Djnz, Jb, Jc, Jnc, Jz, Jnz, Jt0, Jnt0, Jt1, Jnt1, Jf0, Jf1, Jtf, Jni}
+use Rattle.mcs48_isa.specs.declared.operation.FlowOp.TheVariants.{Jmp, Call, Ret, Retr, Jmpp, Djnz, Jb, Jc, Jnc}
+use Rattle.mcs48_isa.specs.declared.operation.FlowOp.TheVariants.{Jz, Jnz, Jt0, Jnt0, Jt1, Jnt1, Jf0, Jf1, Jtf}
+use Rattle.mcs48_isa.specs.declared.operation.FlowOp.TheVariants.{Jni}
 use Rattle.mcs48_isa.specs.declared.operation.ControlOp.TheVariants.{EnI, EnTcnti, SelRb1}
 use Rattle.cycle_cert.specs.declared.rows.When.{When}
 use Rattle.cycle_cert.specs.declared.rows.When.TheVariants.{Always, NotAtOne, AtOne}

@@ -1,6 +1,7 @@
 //! Judging the certified places by the program.
 
-ghost use Rattle.std.specs.Prelude.{◌≡◌, ℕ, ◌<◌, ◌≤◌, ◌∷◌, ◌++◌, [], Some, None, Ok, IfSome, IfOk, IfErr, option_map, length};
+ghost use Rattle.std.specs.Prelude.{◌≡◌, ℕ, ◌<◌, ◌≤◌, ◌∷◌, ◌++◌, [], Some, None, Ok, IfSome, IfOk, IfErr};
+ghost use Rattle.std.specs.Prelude.{option_map, length};
 ghost use Rattle.std.specs.Option.{ForSome};
 ghost use Rattle.mcs48_isa.specs.Operands.{IsOp};
 ghost use Rattle.mcs48_core.specs.Step.{row_at};

@@ -6,7 +6,8 @@ ghost use Rattle.std.specs.Prelude.{◌≡◌, ◌<◌, Some, None, IfSome};
 ghost use Rattle.mcs48_isa.specs.Text.{target};
 ghost use Rattle.mcs48_isa.specs.Operands.{IsOp};
 ghost use Rattle.cycle_cert.specs.declared.rows.When.TheVariants.{Always};
-ghost use Rattle.cycle_cert.specs.Rows.{is_certifiable, fits, place_after, two_ways, branch_ways, counting_ways, ways, ways_in, value_given, writes, heaviest};
+ghost use Rattle.cycle_cert.specs.Rows.{is_certifiable, fits, place_after, two_ways, branch_ways, counting_ways};
+ghost use Rattle.cycle_cert.specs.Rows.{ways, ways_in, value_given, writes, heaviest};
 
 use mcs48_isa::{ControlOp, FlowOp, MoveOp, Op, UnaryOp};
 

@@ -9,8 +9,8 @@ use fw_kernel::TICK;
 use joint_run::Joint;
 use mcs48_core::Mcu;
 
-/// Whether the machine stands at a tick start: the counter, modulo 2,048, is `TICK`, and the next step is no interrupt's
-/// entry. Then the next step executes the instruction at `TICK`.
+/// Whether the machine stands at a tick start: the counter, modulo 2,048, is `TICK`, and the next step is no
+/// interrupt's entry. Then the next step executes the instruction at `TICK`.
 pub fn at_tick(joint: &Joint) -> bool
     ensures tells { TellsTick joint.now result }
     ensures executes { ExecutesTick joint.now result }

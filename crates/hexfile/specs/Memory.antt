@@ -1,5 +1,6 @@
 -- A program memory while a file fills it: each of its places with the byte that the file gave to it, or none.
-use Rattle.std.specs.Prelude.{ℕ, ◌+◌, Bool, ◌&&◌, List, ◌++◌, length, take, drop, map, replicate, None, Some, nat_lt, is_some, unwrap_or}
+use Rattle.std.specs.Prelude.{ℕ, ◌+◌, Bool, ◌&&◌, List, ◌++◌, length, take, drop, map, replicate, None, Some}
+use Rattle.std.specs.Prelude.{nat_lt, is_some, unwrap_or}
 use Rattle.std.specs.List.{list_any, slice_range}
 use Rattle.std.specs.declared.option.Option.{Option}
 use Rattle.hexfile.specs.Record.{Record}

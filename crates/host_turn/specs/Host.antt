@@ -1,5 +1,6 @@
 -- The host in a cycle: its next event, where it is due, and then INT 09h's read, where the interrupt comes through.
-use Rattle.std.specs.Prelude.{ℕ, ◌+◌, Bool, true, false, not, ◌&&◌, nat_le, List, [], ◌∷◌, ◌++◌, Some, None, is_some, if◌then◌else◌}
+use Rattle.std.specs.Prelude.{ℕ, ◌+◌, Bool, true, false, not, ◌&&◌, nat_le, List, [], ◌∷◌, ◌++◌, Some, None}
+use Rattle.std.specs.Prelude.{is_some, if◌then◌else◌}
 use Rattle.std.specs.declared.option.Option.{Option}
 use Rattle.ctl_core.specs.Controller.{ControllerState, written, emptied, status_of, interrupt_enabled}
 use Rattle.ctl_core.specs.declared.port.Port.TheVariants.{P60, P64}
@@ -8,7 +9,8 @@ use Rattle.pc_tables.specs.declared.item.Item.TheVariants.{Port, Read, Taken, St
 use Rattle.int09.specs.Bios.{State, Outcome, first_word, without_first}
 use Rattle.int09.specs.Rules.{fed}
 use Rattle.board_lines.specs.declared.event.HostAct.{HostAct}
-use Rattle.board_lines.specs.declared.event.HostAct.TheVariants.{Write60, Write64, Read60, Mask, Unmask, Take, Status as AskStatus}
+use Rattle.board_lines.specs.declared.event.HostAct.TheVariants.{Write60, Write64, Read60, Mask, Unmask, Take}
+use Rattle.board_lines.specs.declared.event.HostAct.TheVariants.{Status as AskStatus}
 use Rattle.board_lines.specs.declared.event.HostEvent.{HostEvent}
 
 -- what the host sees and changes: the controller's buffers, whether it has masked the interrupt, and INT 09h

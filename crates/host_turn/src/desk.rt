@@ -38,9 +38,9 @@ impl<F: Drop> Desk<F> {
         }
     }
 
-    /// Cycle `now`, once what came over the link in it has been done: the host's next event, if any, where it is due; then
-    /// the read of INT 09h, where the interrupt comes through; then the controller settles. Answers whether the event was
-    /// done. What was said, at most five items, is put behind `items`, in order.
+    /// Cycle `now`, once what came over the link in it has been done: the host's next event, if any, where it is due;
+    /// then the read of INT 09h, where the interrupt comes through; then the controller settles. Answers whether the
+    /// event was done. What was said, at most five items, is put behind `items`, in order.
     pub fn go_on(
         &mut self,
         now: u64,
@@ -66,8 +66,8 @@ impl<F: Drop> Desk<F> {
         done
     }
 
-    /// Whether cycle `now` changes nothing and says nothing for certain, which is so in most cycles: the link is free, both
-    /// buffers are empty, the keyboard isn't disabled, and the host's next event, if any, isn't due.
+    /// Whether cycle `now` changes nothing and says nothing for certain, which is so in most cycles: the link is free,
+    /// both buffers are empty, the keyboard isn't disabled, and the host's next event, if any, isn't due.
     #[inline(always)]
     pub fn rests(&self, now: u64, next: Option<HostEvent>) -> bool
         ensures rests { result ≡ (is_at_rest self.now && not (is_due now next)) }
@@ -77,7 +77,7 @@ impl<F: Drop> Desk<F> {
     }
 }
 
-// What is said of the input that was taken.
+/// What is said of the input that was taken.
 fn say_did(did: Did, items: &mut ArrayVec<Item, 16>)
     requires room { length items.old.items < 16 }
     ensures items { items.new.items ≡ items.old.items ++ said_of did }

@@ -45,7 +45,7 @@ impl<F: Drop> Desk<F> {
         }
     }
 
-    // An event that is due.
+    /// An event that is due.
     fn act(&mut self, act: HostAct, items: &mut ArrayVec<Item, 16>) -> bool
         requires room { length items.old.items ≤ 11 }
         ensures desk { self.new ≡ with_host (acted_where (not (waits act self.old.port.core)) act (host_of self.old)).host self.old }

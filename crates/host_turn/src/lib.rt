@@ -2,10 +2,10 @@
 //! one cycle of all that goes on once it is known what came over the link.
 //!
 //! This layer knows the controller with its end of the link, the host's events with their stamps, the host's mask and
-//! INT 09h. Of a byte under way it knows nothing: what is known of it is a type parameter. It knows no wire, no keyboard
-//! and no history. A cycle is 2.5 microseconds; cycle 4,096 is stamp 0. Source: PC/AT Technical Reference, the ports of
-//! the keyboard controller and the keyboard's interrupt; one event a cycle, and the read 64 cycles after the filling at
-//! the earliest, are our own.
+//! INT 09h. Of a byte under way it knows nothing: what is known of it is a type parameter. It knows no wire, no
+//! keyboard and no history. A cycle is 2.5 microseconds; cycle 4,096 is stamp 0. Source: PC/AT Technical Reference, the
+//! ports of the keyboard controller and the keyboard's interrupt; one event a cycle, and the read 64 cycles after the
+//! filling at the earliest, are our own.
 #![tactic(auto)]
 
 mod desk;

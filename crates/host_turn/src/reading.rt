@@ -12,8 +12,8 @@ use pc_tables::Item;
 const LEAST_WAIT: u64 = 64;
 
 impl<F: Drop> Desk<F> {
-    /// INT 09h reads the byte of the output buffer, where the interrupt comes through in cycle `now`. It says `port` with
-    /// the byte, and what INT 09h says of it.
+    /// INT 09h reads the byte of the output buffer, where the interrupt comes through in cycle `now`. It says `port`
+    /// with the byte, and what INT 09h says of it.
     pub(crate) fn interrupt(&mut self, now: u64, items: &mut ArrayVec<Item, 16>)
         requires room { length items.old.items ≤ 12 }
         ensures desk { self.new ≡ with_host (bios_turn now self.old.port.filled (host_of self.old)).host self.old }
@@ -31,8 +31,8 @@ impl<F: Drop> Desk<F> {
         }
     }
 
-    // Whether the interrupt comes through now: the output buffer is full since 64 cycles at least, the command byte lets
-    // the interrupt through, and the host hasn't masked it.
+    /// Whether the interrupt comes through now: the output buffer is full since 64 cycles at least, the command byte
+    /// lets the interrupt through, and the host hasn't masked it.
     fn interrupts(&self, now: u64) -> bool
         ensures { result ≡ interrupts now self.now.port.filled (host_of self.now) }
     {

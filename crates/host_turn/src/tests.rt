@@ -1,5 +1,5 @@
-//! Worked examples of the host's turn, cycle by cycle. No byte comes over the link here, and what would be known of one is
-//! a number.
+//! Worked examples of the host's turn, cycle by cycle. No byte comes over the link here, and what would be known of one
+//! is a number.
 
 ghost use Rattle.std.specs.Prelude.{◌≤◌, length};
 
@@ -12,12 +12,12 @@ use pc_tables::Item;
 use std::process::Abort;
 use std::test::Fail;
 
-// Stamps count from cycle 4,096 on.
+/// Stamps count from cycle 4,096 on.
 fn event(stamp: u64, act: HostAct) -> Option<HostEvent> {
     Some(HostEvent { stamp, act })
 }
 
-// A cycle with this event next: whether it is done, and what is said.
+/// A cycle with this event next: whether it is done, and what is said.
 fn check(
     rt: &impl Abort,
     desk: &mut Desk<u8>,

@@ -3,7 +3,8 @@ use Rattle.std.specs.Prelude.{ℕ, ◌+◌, ◌-◌, ◌*◌, ◌%◌, ◌==◌,
 use Rattle.std.specs.Prelude.{List, [], ◌∷◌, Some, None, is_some, option_and_then}
 use Rattle.std.specs.Option.{option_map, unwrap_or}
 use Rattle.std.specs.declared.option.Option.{Option}
-use Rattle.pc_tables.specs.declared.item.Item.TheVariants.{Word, Beep, Overrun, Broke, Pause, Resume, Print, Boot, SysMake, SysBreak}
+use Rattle.pc_tables.specs.declared.item.Item.TheVariants.{Word, Beep, Overrun, Broke, Pause, Resume, Print, Boot}
+use Rattle.pc_tables.specs.declared.item.Item.TheVariants.{SysMake, SysBreak}
 use Rattle.pc_tables.specs.declared.words.WordRow.{WordRow}
 use Rattle.pc_tables.specs.Words.{words_at}
 use Rattle.bits.specs.Bits.{has_bit, with_bit, without_bit, flipped_bit}

@@ -256,6 +256,7 @@ impl Bios {
         self.enter(u16::from(number))
     }
 
+    /// The word enters the buffer and is said; the full buffer beeps.
     fn enter(&mut self, word: u16) -> ArrayVec<Item, 2>
         ensures after { self.new ≡ (enters word self.old).after }
         ensures items { result.items ≡ (enters word self.old).items }
@@ -266,6 +267,7 @@ impl Bios {
         }
     }
 
+    /// The same, where there is a word.
     fn enter_if(&mut self, word: Option<u16>) -> ArrayVec<Item, 2>
         ensures after { self.new ≡ (enters_if word self.old).after }
         ensures items { result.items ≡ (enters_if word self.old).items }
@@ -276,6 +278,7 @@ impl Bios {
         }
     }
 
+    /// INT 09h as it starts.
     fn reset(&mut self)
         ensures { self.new ≡ start }
     {
@@ -287,24 +290,28 @@ impl Bios {
         self.words.clear();
     }
 
+    /// Whether Ctrl is down.
     fn ctrl(&self) -> bool
         ensures { result ≡ has_bit ctrl self.now.shifts }
     {
         self.shifts.contains(Shifts::CTRL)
     }
 
+    /// Whether Alt is down.
     fn alt(&self) -> bool
         ensures { result ≡ has_bit alt self.now.shifts }
     {
         self.shifts.contains(Shifts::ALT)
     }
 
+    /// Whether Num Lock is on.
     fn num(&self) -> bool
         ensures { result ≡ has_bit num self.now.shifts }
     {
         self.shifts.contains(Shifts::NUM)
     }
 
+    /// Whether a Shift key is down.
     fn shift(&self) -> bool
         ensures { result ≡ shift_down self.now }
     {

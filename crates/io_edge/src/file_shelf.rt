@@ -60,7 +60,7 @@ impl<'a, R: Files> Shelf for FileShelf<'a, R> {
     }
 }
 
-// What an opened file gives to its end, at most `max` bytes. One that couldn't be opened is a failure.
+/// What an opened file gives to its end, at most `max` bytes. One that couldn't be opened is a failure.
 fn read_opened<F: Read + Drop>(
     opened: io::Result<F>,
     alloc: Global,
@@ -74,7 +74,7 @@ fn read_opened<F: Read + Drop>(
     read_all(&mut file, alloc, max)
 }
 
-// What the reader gives up to its end, at most `max` bytes.
+/// What the reader gives up to its end, at most `max` bytes.
 fn read_all<F: Read>(reader: &mut F, alloc: Global, max: usize) -> Result<Vec<u8>, FetchFault>
     ensures size { IfOk result (λ bytes. vec_len bytes ≤ max) }
     ensures gives { GivesFile (F.remaining reader.old) max result }
@@ -89,7 +89,7 @@ fn read_all<F: Read>(reader: &mut F, alloc: Global, max: usize) -> Result<Vec<u8
     Err(FetchFault::Failed)
 }
 
-// Reads once, and at most one byte more than `max` allows. Answers how many bytes came, which is 0 at the end.
+/// Reads once, and at most one byte more than `max` allows. Answers how many bytes came, which is 0 at the end.
 fn read_some<F: Read>(reader: &mut F, bytes: &mut Vec<u8>, max: usize) -> Result<usize, FetchFault>
     requires { vec_len bytes.old ≤ max }
     ensures size { OnOk result (vec_len bytes.new ≤ max) }
@@ -116,7 +116,7 @@ fn read_some<F: Read>(reader: &mut F, bytes: &mut Vec<u8>, max: usize) -> Result
 mod tests {
     use super::*;
 
-    // Gives three bytes, and then an error.
+    /// Gives three bytes, and then an error.
     #[derive(Drop)]
     struct Broken {
         reads: u8,

@@ -77,7 +77,7 @@ impl Shelf for MemShelf {
     }
 }
 
-// The bytes of the first file with this name.
+/// The bytes of the first file with this name.
 fn file_under<'a>(name: &str, files: &'a [(String, Vec<u8>)]) -> Option<&'a [u8]>
     ensures { option_copied result ≡ bytes_under name.now (files_of files.now) }
 {

@@ -23,8 +23,8 @@ pub enum FetchFault {
     Memory,
 }
 
-/// Files under names. A shelf counts its faults: the count never falls, and rises only where a fetch fails. A shelf in memory also tells its files, how
-/// many calls it has had, and which numbers of calls fail.
+/// Files under names. A shelf counts its faults: the count never falls, and rises only where a fetch fails. A shelf in
+/// memory also tells its files, how many calls it has had, and which numbers of calls fail.
 pub trait Shelf {
     ghost faults: { Self → ℕ };
 

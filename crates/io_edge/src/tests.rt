@@ -5,7 +5,7 @@ use std::io::{self, Write};
 use std::test::Fail;
 use std::{env, fs, process};
 
-// A path in the temporary folder that no other run has.
+/// A path in the temporary folder that no other run has.
 fn own_path(rt: &HostRuntime, word: &str) -> Result<String, Fail> {
     let folder = env::temp_dir(rt)?;
     Ok(format!(in rt.alloc();
@@ -15,7 +15,7 @@ fn own_path(rt: &HostRuntime, word: &str) -> Result<String, Fail> {
     )?)
 }
 
-// Whether the answer is these bytes.
+/// Whether the answer is these bytes.
 fn gave(answer: Result<Vec<u8>, FetchFault>, bytes: &[u8]) -> bool {
     match answer {
         Ok(given) => given.as_slice() == bytes,
@@ -23,7 +23,7 @@ fn gave(answer: Result<Vec<u8>, FetchFault>, bytes: &[u8]) -> bool {
     }
 }
 
-// Whether the answer is this fault.
+/// Whether the answer is this fault.
 fn refused(answer: Result<Vec<u8>, FetchFault>, fault: FetchFault) -> bool {
     match answer {
         Ok(_) => false,
@@ -59,7 +59,7 @@ fn a_stream_holds_what_was_put(rt: HostRuntime) -> Result<(), Fail> {
     Ok(())
 }
 
-// A writer that takes one byte at a time.
+/// A writer that takes one byte at a time.
 #[derive(Drop)]
 struct Slow {
     taken: Vec<u8>,

@@ -7,16 +7,17 @@ use arrayvec::ArrayVec;
 use board_lines::{Edge, HostEvent, Lines};
 use host_turn::Stamped;
 
-/// The next events of a history, in their order: edges that aren't made yet, and the host's events that aren't done yet.
-/// They may hold events that aren't due.
+/// The next events of a history, in their order: edges that aren't made yet, and the host's events that aren't done
+/// yet. They may hold events that aren't due.
 #[derive(Drop)]
 pub struct Due {
     pub edges: ArrayVec<Edge, 4>,
     pub host: ArrayVec<HostEvent, 2>,
 }
 
-/// What a step did. `cycles` is 1 or 2; `edges` and `host` say how many of the handed events were made and done; `items`
-/// is what was said, each with its cycle, in order; `lines` are the wires after the step's first and after its last cycle.
+/// What a step did. `cycles` is 1 or 2; `edges` and `host` say how many of the handed events were made and done;
+/// `items` is what was said, each with its cycle, in order; `lines` are the wires after the step's first and after its
+/// last cycle.
 #[derive(Drop)]
 pub struct Seen {
     pub cycles: u8,

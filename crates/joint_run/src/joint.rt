@@ -52,9 +52,9 @@ impl Joint {
         }
     }
 
-    /// One joint step. The edges are made whose stamp is reached; the processor makes one step; then its cycles pass, in
-    /// each of which the controller looks at the wires, the host acts and the controller settles. Where the processor is
-    /// stuck nothing has changed, and no edge is made.
+    /// One joint step. The edges are made whose stamp is reached; the processor makes one step; then its cycles pass,
+    /// in each of which the controller looks at the wires, the host acts and the controller settles. Where the
+    /// processor is stuck nothing has changed, and no edge is made.
     pub fn step(&mut self, due: &Due) -> Result<Seen, Stuck>
         requires near { self.old.cycle < 2 ^ 62 }
         ensures step { IsJointStep due.now self.old (due_step due.now self.old) result self.new }

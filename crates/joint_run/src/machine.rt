@@ -15,8 +15,8 @@ use host_turn::Stamped;
 use mcs48_core::{Mcu, Pins, Stuck};
 use mcs48_isa::Image;
 
-/// The program; the matrix, with the edges made that were handed in; the processor; what stands outside it; how many cycles
-/// are done, and how many steps.
+/// The program; the matrix, with the edges made that were handed in; the processor; what stands outside it; how many
+/// cycles are done, and how many steps.
 #[derive(Drop)]
 pub struct Machine {
     pub image: Image,
@@ -46,7 +46,8 @@ fn make_edges(matrix: &mut Matrix, cycle: u64, edges: &[Edge]) -> u8
     }
 }
 
-/// The levels that the processor reads: the rows of the column that port 1 selects, and the wires. All other pins are high.
+/// The levels that the processor reads: the rows of the column that port 1 selects, and the wires. All other pins are
+/// high.
 fn pins(matrix: &Matrix, outside: &Outside, mcu: &Mcu) -> Pins
     ensures { result ≡ pins_by matrix.now mcu.now.p1 mcu.now.p2 (beside outside.now 0 []) }
 {
@@ -87,8 +88,8 @@ fn empty_out(items: &mut ArrayVec<Stamped, 16>)
 }
 
 impl Machine {
-    /// One joint step, told in `seen`. The edges are made whose stamp is reached; the processor makes one step; then its
-    /// cycles pass. Where the processor is stuck nothing has changed, and no edge is made.
+    /// One joint step, told in `seen`. The edges are made whose stamp is reached; the processor makes one step; then
+    /// its cycles pass. Where the processor is stuck nothing has changed, and no edge is made.
     pub(crate) fn step(&mut self, due: &Due, seen: &mut Seen) -> Result<(), Stuck>
         requires near { self.old.cycle < 2 ^ 62 }
         requires steps { self.old.steps ≤ self.old.cycle }

@@ -18,8 +18,8 @@ use host_turn::{Desk, Stamped};
 use int09::Bios;
 use pc_tables::Item;
 
-/// The controller with its wire state, the host's mask and INT 09h; the level of the clock at the controller's last look;
-/// and the lights that the keyboard shows.
+/// The controller with its wire state, the host's mask and INT 09h; the level of the clock at the controller's last
+/// look; and the lights that the keyboard shows.
 #[derive(Drop)]
 pub struct Outside {
     pub desk: Desk<Wire>,
@@ -136,8 +136,8 @@ impl Outside {
         self.clock = line.clk;
     }
 
-    /// The host acts and the controller settles, in a cycle in which something may happen. What is said is put behind the
-    /// items, with this cycle.
+    /// The host acts and the controller settles, in a cycle in which something may happen. What is said is put behind
+    /// the items, with this cycle.
     #[inline(never)]
     fn go_on_busily(
         &mut self,
@@ -207,8 +207,8 @@ impl Outside {
         self.go_on(now, next, items)
     }
 
-    /// Whether in the cycles up to this one nothing happens for certain and nothing is said, as in most: with this latch of
-    /// port 2 the lights stay as they are and the clock doesn't fall, and the host and the controller rest.
+    /// Whether in the cycles up to this one nothing happens for certain and nothing is said, as in most: with this
+    /// latch of port 2 the lights stay as they are and the clock doesn't fall, and the host and the controller rest.
     #[inline(always)]
     fn is_quiet(&self, last: u64, p2: u8, next: Option<HostEvent>) -> bool
         ensures { result ≡ is_quiet last p2 next self.now }
@@ -216,8 +216,8 @@ impl Outside {
         self.desk.rests(last, next) && lights(p2) == self.shown && !(self.clock && !latch(p2).clk)
     }
 
-    /// The cycles of a step, 1 or 2, from this one on, in which port 2 is this and something may happen. Answers how many of
-    /// the host's events were done, and the wires after the first and after the last cycle.
+    /// The cycles of a step, 1 or 2, from this one on, in which port 2 is this and something may happen. Answers how
+    /// many of the host's events were done, and the wires after the first and after the last cycle.
     #[inline(never)]
     fn pass_busily(
         &mut self,

@@ -9,7 +9,7 @@ use pc_tables::Item;
 use std::process::Abort;
 use std::test::Fail;
 
-// A program that begins with these bytes; all others are 00, a NOP of one cycle.
+/// A program that begins with these bytes; all others are 00, a NOP of one cycle.
 fn program(bytes: &[u8]) -> Image {
     let mut image = Image { bytes: [0; 2048] };
     for (i, byte) in bytes.iter().enumerate() {
@@ -27,7 +27,7 @@ fn nothing() -> Due {
     }
 }
 
-// One step.
+/// One step.
 fn step(rt: &impl Abort, joint: &mut Joint, due: &Due) -> Seen {
     assert!(rt; joint.cycle() < 1_000_000);
     match joint.step(due) {
@@ -36,7 +36,7 @@ fn step(rt: &impl Abort, joint: &mut Joint, due: &Due) -> Seen {
     }
 }
 
-// Steps up to this cycle.
+/// Steps up to this cycle.
 fn run_to(rt: &impl Abort, joint: &mut Joint, cycle: u64) {
     let due = nothing();
     for _ in 0..10_000 {

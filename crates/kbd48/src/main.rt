@@ -8,7 +8,8 @@ use kbd48_app::{Exit, kbd48};
 use std::process::ExitCode;
 use std::{env, io};
 
-/// The words after the program's name. An error where there is no memory for them, or where one of them is no UTF-8 text.
+/// The words after the program's name. An error where there is no memory for them, or where one of them is no UTF-8
+/// text.
 fn words_of(rt: &HostRuntime) -> io::Result<Vec<String>> {
     let mut words = Vec::new(rt.alloc());
     for word in env::args(rt)?.skip(1) {

@@ -22,7 +22,8 @@ use Rattle.mcs48_core.specs.StateText.{state_text_of}
 use Rattle.kbd48_app.specs.declared.kind.Kind.{Kind}
 use Rattle.kbd48_app.specs.declared.kind.Kind.TheVariants as kinds
 use Rattle.kbd48_app.specs.declared.refusal.Refusal.{Refusal}
-use Rattle.kbd48_app.specs.declared.refusal.Refusal.TheVariants.{Words, Hex, Asm, Layout, Keys, Cert, Timing, Stuck, Memory}
+use Rattle.kbd48_app.specs.declared.refusal.Refusal.TheVariants.{Words, Hex, Asm, Layout, Keys, Cert, Timing}
+use Rattle.kbd48_app.specs.declared.refusal.Refusal.TheVariants.{Stuck, Memory}
 use Rattle.kbd48_app.specs.declared.words.Command.{Command}
 use Rattle.kbd48_app.specs.declared.words.Command.TheVariants.{OverFile, OverPair, Debug, Feed}
 use Rattle.kbd48_app.specs.declared.words.FileCommand.{FileCommand}

@@ -7,7 +7,8 @@ use Rattle.kbd48_app.specs.Kinds.{name_of}
 use Rattle.kbd48_app.specs.declared.kind.Kind.{Kind}
 use Rattle.kbd48_app.specs.declared.kind.Kind.TheVariants as kinds
 use Rattle.kbd48_app.specs.declared.refusal.Refusal.{Refusal}
-use Rattle.kbd48_app.specs.declared.refusal.Refusal.TheVariants.{Words, Read, TooLong, Hex, Asm, Layout, Keys, Cert, Script, Timing, Stuck, Memory}
+use Rattle.kbd48_app.specs.declared.refusal.Refusal.TheVariants.{Words, Read, TooLong, Hex, Asm, Layout, Keys}
+use Rattle.kbd48_app.specs.declared.refusal.Refusal.TheVariants.{Cert, Script, Timing, Stuck, Memory}
 
 abbrev pub exit_of : Refusal → Exit
 exit_of Words = exits.Words

@@ -1,5 +1,6 @@
 -- The accepted forms of the words that follow the program's name.
-use Rattle.std.specs.Prelude.{ℕ, ◌+◌, ◌*◌, Bool, not, true, ◌&&◌, ◌||◌, nat_eq, nat_lt, nat_le, false, List, [], ◌∷◌, length, None, Some, codes, is_some}
+use Rattle.std.specs.Prelude.{ℕ, ◌+◌, ◌*◌, Bool, not, true, ◌&&◌, ◌||◌, nat_eq, nat_lt, nat_le, false, List, []}
+use Rattle.std.specs.Prelude.{◌∷◌, length, None, Some, codes, is_some}
 use Rattle.std.specs.Prelude.{if◌then◌else◌}
 use Rattle.std.specs.Char.{is_ascii_digit}
 use Rattle.std.specs.List.{list_all}

@@ -4,7 +4,8 @@ ghost use Rattle.std.specs.Prelude.{◌≡◌, ◌⊎◌, ◌≤◌, List, map, 
 ghost use Rattle.io_edge.specs.Faults.{Rose};
 ghost use Rattle.kbd48_app.specs.Answers.{answer_of, MayAnswer, MayAnswerOf, MayEnd};
 ghost use Rattle.kbd48_app.specs.Kinds.{limit_of, kind_of};
-ghost use Rattle.kbd48_app.specs.Plans.{Gives, Fetches, assembled, compiled, debug_plan, file_said, keys_refusal, pair_plan, script_next};
+ghost use Rattle.kbd48_app.specs.Plans.{Gives, Fetches, assembled, compiled, debug_plan, file_said, keys_refusal};
+ghost use Rattle.kbd48_app.specs.Plans.{pair_plan, script_next};
 ghost use Rattle.kbd48_app.specs.Words.{command_of, is_without_run};
 ghost use Rattle.fw_debug.specs.Probes.{Watch};
 ghost use Rattle.hexfile.specs.Hex.{hex_of};
@@ -153,8 +154,8 @@ fn over_cert<F: Shelf>(
     certify(alloc, &image, &text)
 }
 
-/// `run` and `expect`: fetches the layout and judges it, then fetches the key file and judges it for the layout, and then
-/// makes the run.
+/// `run` and `expect`: fetches the layout and judges it, then fetches the key file and judges it for the layout, and
+/// then makes the run.
 fn over_run<F: Shelf>(
     alloc: Global,
     command: RunCommand,

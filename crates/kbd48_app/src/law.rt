@@ -10,14 +10,14 @@ pub fn each_key_gives_its_scan_code()
     ensures scan_codes { EachKeyGivesItsScanCode }
 {}
 
-/// Of each program memory: `list` of its HEX text prints its listing, `asm` of its listing prints its HEX text, and neither
-/// text is too long for a file. Nothing is done when it is called; the law is its contract.
+/// Of each program memory: `list` of its HEX text prints its listing, `asm` of its listing prints its HEX text, and
+/// neither text is too long for a file. Nothing is done when it is called; the law is its contract.
 pub fn list_and_asm_are_inverse()
     ensures inverse { ListAndAsmAreInverse }
 {}
 
-/// `run` without options and `expect`, over two files: what one may answer, over any shelf, the other may, and over a shelf
-/// that tells its files both print one text. Nothing is done when it is called; the law is its contract.
+/// `run` without options and `expect`, over two files: what one may answer, over any shelf, the other may, and over a
+/// shelf that tells its files both print one text. Nothing is done when it is called; the law is its contract.
 pub fn run_and_expect_print_alike()
     ensures alike { RunAndExpectPrintAlike }
 {}

@@ -2,8 +2,8 @@
 //!
 //! This layer knows the words' forms, the order in which files are fetched and judged, the lines that are printed and
 //! the exits. It knows no file system and no terminal: the shelf and the sink are handed in, and `main` alone makes the
-//! real ones. What the bytes of a file mean, and what an instruction does, are the layers below. The words, the texts and
-//! the exits are our own.
+//! real ones. What the bytes of a file mean, and what an instruction does, are the layers below. The words, the texts
+//! and the exits are our own.
 #![tactic(auto)]
 
 mod answering;

@@ -6,7 +6,9 @@ ghost use Rattle.io_edge.specs.Faults.{Rose};
 ghost use Rattle.layout_reader.specs.Faults.{Refusal as LayoutRefusal};
 ghost use Rattle.kbd48_app.specs.declared.kind.Kind.{Kind};
 ghost use Rattle.kbd48_app.specs.Answers.{answer_of, MayAnswer};
-ghost use Rattle.kbd48_app.specs.Causes.{HasAsmFault, HasCertFault, HasFileFault, HasHexFault, HasKeysFault, HasLayoutFault, HasScriptFault, HasTimingFault, IsStuck, IsUntimely, MayExit};
+ghost use Rattle.kbd48_app.specs.Causes.{HasAsmFault, HasCertFault, HasFileFault, HasHexFault, HasKeysFault};
+ghost use Rattle.kbd48_app.specs.Causes.{HasLayoutFault, HasScriptFault, HasTimingFault, IsStuck, IsUntimely};
+ghost use Rattle.kbd48_app.specs.Causes.{MayExit};
 ghost use Rattle.kbd48_app.specs.Complete.{IsFaultless, IsLeft};
 ghost use Rattle.kbd48_app.specs.Plans.{Answer, plan};
 ghost use Rattle.kbd48_app.specs.Reached.{IsTooLong, IsUnserved, fetches_of, Makes, may_lack};
@@ -53,13 +55,13 @@ fn conclude<K: Sink>(out: &mut K, answer: &Result<Vec<u8>, Refusal>) -> Exit
 
 /// The program, from the words that follow its name to its exit.
 ///
-/// Words outside the accepted forms are refused first. Then the files that the words name are fetched and judged, in the
-/// order of the words, each before the next is fetched; the first refusal ends the call. All that is said goes to the
-/// sink line by line, each line offered whole in one `put`. A sink that fails ends the call with `Write`; want of memory
-/// with `Memory`, which never comes for words outside the forms.
+/// Words outside the accepted forms are refused first. Then the files that the words name are fetched and judged, in
+/// the order of the words, each before the next is fetched; the first refusal ends the call. All that is said goes to
+/// the sink line by line, each line offered whole in one `put`. A sink that fails ends the call with `Write`; want of
+/// memory with `Memory`, which never comes for words outside the forms.
 ///
-/// At each step of the run of `run` and `expect` each probe looks once. `debug` obeys a script with them. Nothing else is
-/// done with them.
+/// At each step of the run of `run` and `expect` each probe looks once. `debug` obeys a script with them. Nothing else
+/// is done with them.
 pub fn kbd48<F: Shelf, K: Sink>(
     alloc: Global,
     words: &[String],

@@ -4,7 +4,8 @@ ghost use Rattle.std.specs.Prelude.{◌≡◌, ◌<◌, ◌≤◌, codes, length
 ghost use Rattle.std.specs.Str.{bytes_eq};
 ghost use Rattle.std.specs.Char.{is_ascii_digit};
 ghost use Rattle.std.specs.List.{list_all};
-ghost use Rattle.kbd48_app.specs.Words.{is_name, is_short_number, count_of, step_of, named_of, pair_of, debug_of, are_both, log_of, run_of, feed_of, command_of, files_in, is_form};
+ghost use Rattle.kbd48_app.specs.Words.{is_name, is_short_number, count_of, step_of, named_of, pair_of, debug_of};
+ghost use Rattle.kbd48_app.specs.Words.{are_both, log_of, run_of, feed_of, command_of, files_in, is_form};
 
 use crate::bytes::KeyboardBytes;
 use crate::kind::Kind;

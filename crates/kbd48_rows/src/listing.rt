@@ -18,8 +18,8 @@ static ROWS: [Row; 5] = [
         exit: Exit::Done,
         text: "",
     },
-    // 01 begins no instruction, a jump's address is its whole target, and the last instruction goes on past the last byte
-    // other than 00.
+    // 01 begins no instruction, a jump's address is its whole target, and the last instruction goes on past the last
+    // byte other than 00.
     Row {
         words: &["list", "f"],
         file: ":05000000019640E3231E\n:00000001FF\n",

@@ -24,8 +24,8 @@ pub fn sample_layout(alloc: Global) -> Result<String, AllocError> {
     Ok(text)
 }
 
-/// A shelf with a layout, which is called `us84`, and a key file, which is called `keys`, of which the fetches with these
-/// numbers fail.
+/// A shelf with a layout, which is called `us84`, and a key file, which is called `keys`, of which the fetches with
+/// these numbers fail.
 fn shelf_for(
     alloc: Global,
     layout: &str,

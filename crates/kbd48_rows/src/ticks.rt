@@ -26,9 +26,9 @@ fn to_next_start(joint: &mut Joint, due: &mut Due) -> Result<(), Fail> {
     Ok(())
 }
 
-/// Three tick starts, each in the cycle of its multiple of 2,048 or in the next, in service and with register bank 1. The
-/// key at column 3, row 5 goes down before column 3 is read in tick 0, at 4,096 + 16 + 48: at start 1 the held keys and
-/// the changed ones show it, at start 2 the held ones alone. Both wires and all lights stay released.
+/// Three tick starts, each in the cycle of its multiple of 2,048 or in the next, in service and with register bank 1.
+/// The key at column 3, row 5 goes down before column 3 is read in tick 0, at 4,096 + 16 + 48: at start 1 the held keys
+/// and the changed ones show it, at start 2 the held ones alone. Both wires and all lights stay released.
 #[test]
 fn first_ticks_with_a_key(rt: HostRuntime) -> Result<(), Fail> {
     let mut joint = Joint::power_on(&Image { bytes: KERNEL }, Bios::new(rt.alloc())?);

@@ -1,5 +1,6 @@
 -- Exactly once: what waits to be sent, and what leaves it.
-use Rattle.std.specs.Prelude.{◌≡◌, ℕ, ◌==◌, Bool, true, false, ◌&&◌, ◌||◌, if◌then◌else◌, List, [], ◌∷◌, ◌++◌, Some, None, IsSome, slice_get}
+use Rattle.std.specs.Prelude.{◌≡◌, ℕ, ◌==◌, Bool, true, false, ◌&&◌, ◌||◌, if◌then◌else◌, List, [], ◌∷◌, ◌++◌}
+use Rattle.std.specs.Prelude.{Some, None, IsSome, slice_get}
 use Rattle.std.specs.declared.option.Option.{Option}
 use Rattle.kbd_model.specs.declared.meeting.Meeting.{Meeting}
 use Rattle.kbd_model.specs.declared.meeting.Meeting.TheVariants.{Got, Inhibited, Idle, Sent, Cut}

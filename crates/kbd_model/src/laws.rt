@@ -4,8 +4,8 @@ ghost use Rattle.kbd_model.specs.Laws.{NoneLost, InOrder, AtMostSixteen, CodesSt
 ghost use Rattle.kbd_model.specs.Once.{CutIsOffered, GotLeaves, NothingElseLeaves, OffersFirst};
 ghost use Rattle.kbd_model.specs.Once.{ResetLeaves, RestAdds, SentLeaves, StaysInLine};
 
-/// The queue loses exactly what its rules say, keeps the order of what entered, never holds more than sixteen bytes, and
-/// never parts a break's F0 from its code.
+/// The queue loses exactly what its rules say, keeps the order of what entered, never holds more than sixteen bytes,
+/// and never parts a break's F0 from its code.
 pub fn queue_is_in_order()
     ensures loses { NoneLost }
     ensures order { InOrder }

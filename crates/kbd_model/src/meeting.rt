@@ -1,8 +1,8 @@
 //! How keyboard and line met in a tick.
 
-/// What passed between keyboard and system in a tick: a byte from the system, with whether its parity was right; nothing,
-/// because the system held the line; nothing, because nothing was offered; the byte offered; or nothing, because the
-/// system pulled the line before the byte's first edge.
+/// What passed between keyboard and system in a tick: a byte from the system, with whether its parity was right;
+/// nothing, because the system held the line; nothing, because nothing was offered; the byte offered; or nothing,
+/// because the system pulled the line before the byte's first edge.
 #[derive(Clone, Copy, Debug, PartialEq, Eq, Drop)]
 pub enum Meeting {
     Got(u8, bool),

@@ -3,8 +3,8 @@
 use arrayvec::ArrayVec;
 use std::marker::Model;
 
-/// The codes that wait to be sent, in sixteen places of a byte each. A clause sees it as a `KeyQueue`: the bytes, whether
-/// a code found no room, and whether a break is started.
+/// The codes that wait to be sent, in sixteen places of a byte each. A clause sees it as a `KeyQueue`: the bytes,
+/// whether a code found no room, and whether a break is started.
 #[derive(Drop)]
 pub struct Queue {
     bytes: ArrayVec<u8, 16>,

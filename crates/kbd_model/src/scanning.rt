@@ -79,8 +79,8 @@ impl TickModel {
         }
     }
 
-    /// An edge changes what is held. Where scanning is on, a press enters the make and is the key that repeats; a release
-    /// enters the break and ends its own repeating.
+    /// An edge changes what is held. Where scanning is on, a press enters the make and is the key that repeats; a
+    /// release enters the break and ends its own repeating.
     fn see_edge(&mut self, scanning: bool, place: Place, down: bool, layout: &Layout)
         requires repeats { ForSome self.old.repeats (λ r. HasKey layout.now r.place) }
         requires edge { HasKey layout.now place }

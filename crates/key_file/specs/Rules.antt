@@ -1,5 +1,6 @@
 -- The rules of an event, each judged against the events before it.
-use Rattle.std.specs.Prelude.{ℕ, ◌+◌, nat_le, nat_lt, not, Bool, false, List, [], ◌∷◌, ◌++◌, length, None, Some, is_some, if◌then◌else◌}
+use Rattle.std.specs.Prelude.{ℕ, ◌+◌, nat_le, nat_lt, not, Bool, false, List, [], ◌∷◌, ◌++◌, length, None, Some}
+use Rattle.std.specs.Prelude.{is_some, if◌then◌else◌}
 use Rattle.std.specs.declared.option.Option.{Option}
 use Rattle.board_lines.specs.declared.event.Edge.{Edge}
 use Rattle.board_lines.specs.Edges.{of_place, last_of}
@@ -7,7 +8,8 @@ use Rattle.first_fault.specs.FirstFault.{Judgement, judge}
 use Rattle.key_file.specs.declared.event.Event.{Event}
 use Rattle.key_file.specs.declared.event.Event.TheVariants.{EdgeOf, End}
 use Rattle.key_file.specs.declared.rule.Rule.{Rule}
-use Rattle.key_file.specs.declared.rule.Rule.TheVariants.{Form, UnknownWord, UnknownKey, Order, Held, Dwell, Density, NoEnd, AfterEnd, Late, TooMany}
+use Rattle.key_file.specs.declared.rule.Rule.TheVariants.{Form, UnknownWord, UnknownKey, Order, Held, Dwell}
+use Rattle.key_file.specs.declared.rule.Rule.TheVariants.{Density, NoEnd, AfterEnd, Late, TooMany}
 use Rattle.key_file.specs.Histories.{Before, stamp_at, last_edge, fourth_last}
 
 -- the number of each rule

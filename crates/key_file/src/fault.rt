@@ -12,11 +12,12 @@ use thiserror::Error;
 /// The greatest stamp of an event: 600 seconds.
 pub(crate) const LAST_STAMP: u64 = 240_000_000;
 
-/// Why a key file gives no history: its first faulty line, counted from 1, and the lowest number of a rule that it breaks.
+/// Why a key file gives no history: its first faulty line, counted from 1, and the lowest number of a rule that it
+/// breaks.
 ///
-/// The numbers are 1 form, 2 unknown word, 3 unknown key, 4 a falling stamp, 5 press of a key that is down or release of
-/// one that is up, 6 dwell, 7 density, 8 no end (at the number of lines plus one), 9 a line after the end, 10 a stamp
-/// past 240,000,000, 11 more than 65,536 events.
+/// The numbers are 1 form, 2 unknown word, 3 unknown key, 4 a falling stamp, 5 press of a key that is down or release
+/// of one that is up, 6 dwell, 7 density, 8 no end (at the number of lines plus one), 9 a line after the end, 10 a
+/// stamp past 240,000,000, 11 more than 65,536 events.
 #[derive(Clone, Copy, Debug, PartialEq, Eq, Drop, Error)]
 pub enum KeyFault {
     /// A rule other than those of time is broken.

@@ -7,8 +7,8 @@ ghost use Rattle.key_file.specs.Histories.{KeyHistory};
 use board_lines::{Edge, HostEvent};
 use std::marker::Model;
 
-/// A history that is accepted, as far as that doesn't hang on the layout. Stamps count cycles of 2.5 microseconds; stamp 0
-/// is cycle 4,096 of a run.
+/// A history that is accepted, as far as that doesn't hang on the layout. Stamps count cycles of 2.5 microseconds;
+/// stamp 0 is cycle 4,096 of a run.
 ///
 /// The stamps of the edges don't fall, nor do those of the host's events, and none is past the end, which is at most
 /// 240,000,000. There are at most 65,536 events. The edges of a key are press, release, press and so on, at least 2,240

@@ -5,7 +5,8 @@ ghost use Rattle.std.specs.Option.{option_map, option_and_then};
 ghost use Rattle.text_lines.specs.Fields.{fields};
 ghost use Rattle.text_lines.specs.Numbers.{hexadecimal_of};
 ghost use Rattle.key_file.specs.declared.event.Event.TheVariants.{HostOf};
-ghost use Rattle.key_file.specs.Fields.{stamp_of, only, place_named, edge_of, write_of, act_of, alone, event_of, event_in};
+ghost use Rattle.key_file.specs.Fields.{stamp_of, only, place_named, edge_of, write_of, act_of, alone, event_of};
+ghost use Rattle.key_file.specs.Fields.{event_in};
 
 use crate::event::Event;
 use crate::rule::Rule;
@@ -116,8 +117,8 @@ fn event_of(layout: &Layout, stamp: u64, word: Word, arguments: &[u8]) -> Result
     }
 }
 
-/// The event of a line that isn't skipped, by its first field and the text behind that, or the first of the rules of form,
-/// word and key that it breaks.
+/// The event of a line that isn't skipped, by its first field and the text behind that, or the first of the rules of
+/// form, word and key that it breaks.
 pub(crate) fn event_in(layout: &Layout, first: &[u8], others: &[u8]) -> Result<Event, Rule>
     ensures { result ≡ event_in layout.now (first.now ∷ fields others.now) }
 {

@@ -15,8 +15,8 @@ use std::marker::Model;
 /// The places of the matrix.
 const PLACES: usize = 96;
 
-/// What the events so far came to. A clause sees it as the events themselves; beside them it keeps the last edge of each
-/// key, by its place.
+/// What the events so far came to. A clause sees it as the events themselves; beside them it keeps the last edge of
+/// each key, by its place.
 #[derive(Drop)]
 pub(crate) struct Progress {
     edges: Vec<Edge>,

@@ -2,7 +2,8 @@
 
 ghost use Rattle.std.specs.Prelude.{◌≡◌, ◌≤◌, Ok, length, IfOk, IfErr};
 ghost use Rattle.first_fault.specs.FirstFault.{at_item};
-ghost use Rattle.key_file.specs.KeyFile.{take_event, take_fields, take_line, finish, history_of, with_fault_told, IsFaultOf};
+ghost use Rattle.key_file.specs.KeyFile.{take_event, take_fields, take_line, finish, history_of, with_fault_told};
+ghost use Rattle.key_file.specs.KeyFile.{IsFaultOf};
 ghost use Rattle.key_file.specs.Accepted.{IsAcceptedFor};
 ghost use Rattle.text_lines.specs.Fields.{fields};
 
@@ -54,8 +55,8 @@ fn take_line(
 /// Reads a key file of at most 4,194,304 bytes for a layout.
 ///
 /// Ok is exactly the file's history, and it is accepted for the layout. `KeyFault::Input` and `KeyFault::Timing` are
-/// exactly the first faulty line with the lowest number of a rule that it breaks: each line is judged after those before
-/// it. Want of memory may come at any time, and says nothing of the file.
+/// exactly the first faulty line with the lowest number of a rule that it breaks: each line is judged after those
+/// before it. Want of memory may come at any time, and says nothing of the file.
 pub fn read_history(alloc: Global, bytes: &[u8], layout: &Layout) -> Result<History, KeyFault>
     requires within { length bytes.now ≤ 4194304 }
     ensures history { IfOk result (λ history. history_of layout.now bytes.now ≡ Ok history) }

@@ -3,7 +3,8 @@
 ghost use Rattle.std.specs.Prelude.{◌≡◌, ◌+◌, nat_lt};
 ghost use Rattle.first_fault.specs.FirstFault.{first_broken};
 ghost use Rattle.key_file.specs.Histories.{last_edge, fourth_last};
-ghost use Rattle.key_file.specs.Rules.{is_down, is_held, soon_after, edge_judgements, key_judgements, is_too_many, judgements};
+ghost use Rattle.key_file.specs.Rules.{is_down, is_held, soon_after, edge_judgements, key_judgements};
+ghost use Rattle.key_file.specs.Rules.{is_too_many, judgements};
 ghost use Rattle.key_file.specs.declared.rule.Rule.TheVariants.{Dwell, Density};
 
 use crate::event::Event;

@@ -6,7 +6,9 @@ use Rattle.toml.specs.Data.{Data, table, Members}
 use Rattle.board_lines.specs.Places.{place_at}
 use Rattle.layout_reader.specs.declared.entry.Entry.{Entry}
 use Rattle.layout_reader.specs.declared.cause.Cause.{Cause}
-use Rattle.layout_reader.specs.declared.cause.Cause.TheVariants.{UnknownField, MissingField, WrongKind, UnknownKey, PlaceOutOfRange, PlaceTaken, KeyNamedBefore}
+use Rattle.layout_reader.specs.declared.cause.Cause.TheVariants.{UnknownField, MissingField, WrongKind}
+use Rattle.layout_reader.specs.declared.cause.Cause.TheVariants.{UnknownKey, PlaceOutOfRange, PlaceTaken}
+use Rattle.layout_reader.specs.declared.cause.Cause.TheVariants.{KeyNamedBefore}
 use Rattle.layout_reader.specs.declared.fields.Level.TheVariants as level
 use Rattle.layout_reader.specs.Faults.{Judgement, judge, first_of, unless}
 use Rattle.layout_reader.specs.Fields.{has_other_field, has_field, is_not_text, is_not_whole, byte_at, key_at}

@@ -1,7 +1,10 @@
 -- The faults of a layout document.
 use Rattle.std.specs.Prelude.{ℕ, Bool, if◌then◌else◌, List, [], ◌∷◌, Option, Some, None, Result, Ok, Err}
 use Rattle.layout_reader.specs.declared.cause.Cause.{Cause}
-use Rattle.layout_reader.specs.declared.cause.Cause.TheVariants.{NotToml, UnknownField, MissingField, WrongKind, WrongFormat, UnknownKey, PlaceOutOfRange, PlaceTaken, RateOutOfRange, NoEntries, KeyNamedBefore}
+use Rattle.layout_reader.specs.declared.cause.Cause.TheVariants.{NotToml, UnknownField, MissingField, WrongKind}
+use Rattle.layout_reader.specs.declared.cause.Cause.TheVariants.{WrongFormat, UnknownKey, PlaceOutOfRange}
+use Rattle.layout_reader.specs.declared.cause.Cause.TheVariants.{PlaceTaken, RateOutOfRange, NoEntries}
+use Rattle.layout_reader.specs.declared.cause.Cause.TheVariants.{KeyNamedBefore}
 
 -- the number by which a message names the fault
 abbrev pub number_of : Cause → ℕ

@@ -1,12 +1,15 @@
 -- The top level of a layout document.
-use Rattle.std.specs.Prelude.{ℕ, ℤ, pos, negsuc, ◌==◌, nat_lt, Bool, true, false, ◌||◌, not, if◌then◌else◌, List, [], ◌∷◌, codes}
+use Rattle.std.specs.Prelude.{ℕ, ℤ, pos, negsuc, ◌==◌, nat_lt, Bool, true, false, ◌||◌, not, if◌then◌else◌, List}
+use Rattle.std.specs.Prelude.{[], ◌∷◌, codes}
 use Rattle.std.specs.Prelude.{Option, Some, None, is_none, option_and_then, unwrap_or, Result}
 use Rattle.toml.specs.Data.{Items, no_items, item, Members}
 use Rattle.layout_reader.specs.declared.cause.Cause.{Cause}
-use Rattle.layout_reader.specs.declared.cause.Cause.TheVariants.{UnknownField, MissingField, WrongKind, WrongFormat, RateOutOfRange, NoEntries}
+use Rattle.layout_reader.specs.declared.cause.Cause.TheVariants.{UnknownField, MissingField, WrongKind}
+use Rattle.layout_reader.specs.declared.cause.Cause.TheVariants.{WrongFormat, RateOutOfRange, NoEntries}
 use Rattle.layout_reader.specs.declared.fields.Level.TheVariants.{Top}
 use Rattle.layout_reader.specs.Faults.{Judgement, judge, first_of, unless}
-use Rattle.layout_reader.specs.Fields.{has_other_field, has_field, is_not_text, is_not_whole, is_not_list, whole_at, byte_at, list_at}
+use Rattle.layout_reader.specs.Fields.{has_other_field, has_field, is_not_text, is_not_whole, is_not_list}
+use Rattle.layout_reader.specs.Fields.{whole_at, byte_at, list_at}
 
 -- whether the whole number is this one
 abbrev pub is_whole : ℕ → Option ℤ → Bool

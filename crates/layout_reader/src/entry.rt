@@ -2,7 +2,8 @@
 
 ghost use Rattle.std.specs.Prelude.{◌≡◌, ◌<◌, false, IfSome, IfOk};
 ghost use Rattle.toml.specs.View.{table_view, view};
-ghost use Rattle.layout_reader.specs.Entries.{sends_in, place_in, is_place_taken, is_key_named, entry_in, entry_from, IsEntry};
+ghost use Rattle.layout_reader.specs.Entries.{sends_in, place_in, is_place_taken, is_key_named, entry_in};
+ghost use Rattle.layout_reader.specs.Entries.{entry_from, IsEntry};
 
 use crate::cause::Cause;
 use crate::fields::{
@@ -48,6 +49,7 @@ fn place_in(fields: &Table) -> Option<Place>
     }
 }
 
+/// Whether an earlier entry stands at the place.
 #[tactic(auto, unfolding(crate::specs::Entries::is_place_taken))]
 fn is_place_taken(earlier: &[Entry], place: Place) -> bool
     ensures { result ≡ is_place_taken earlier.now place }
@@ -55,6 +57,7 @@ fn is_place_taken(earlier: &[Entry], place: Place) -> bool
     earlier.iter().any(|entry| entry.place == place)
 }
 
+/// Whether an earlier entry names the key.
 #[tactic(auto, unfolding(crate::specs::Entries::is_key_named))]
 fn is_key_named(earlier: &[Entry], key: Key) -> bool
     ensures { result ≡ is_key_named earlier.now key }

@@ -3,7 +3,8 @@
 ghost use Rattle.std.specs.Prelude.{◌≡◌, ◌≤◌, ◌<◌, nat_eq, length, All};
 ghost use Rattle.std.specs.List.{IsDistinct};
 ghost use Rattle.layout_reader.specs.Entries.{IsEntry};
-ghost use Rattle.layout_reader.specs.Layouts.{KeyLayout, places_of, keys_of, code_at, place_of, entry_at, entry_of_key, AreEntries};
+ghost use Rattle.layout_reader.specs.Layouts.{KeyLayout, places_of, keys_of, code_at, place_of, entry_at};
+ghost use Rattle.layout_reader.specs.Layouts.{entry_of_key, AreEntries};
 
 use crate::entry::Entry;
 use board_lines::Place;
@@ -28,6 +29,7 @@ impl Model for Layout {
 }
 
 impl Layout {
+    /// The layout of this rate byte and these entries.
     pub(crate) fn new(rate: u8, entries: Vec<Entry>) -> Layout
         requires rate { rate < 128 }
         requires entries { AreEntries entries.items }
@@ -56,8 +58,8 @@ impl Layout {
         self.entries.as_slice()
     }
 
-    /// The code that the keyboard sends for this place (scan set 2), which is that of the key that its entry sends; None
-    /// exactly where no entry has the place.
+    /// The code that the keyboard sends for this place (scan set 2), which is that of the key that its entry sends;
+    /// None exactly where no entry has the place.
     pub fn code_at(&self, place: Place) -> Option<u8>
         ensures code { result ≡ code_at place self.now }
     {

@@ -60,8 +60,8 @@ fn layout_of(alloc: Global, top: &Table) -> Result<Layout, LayoutFault>
 /// Reads a layout document.
 ///
 /// Ok is exactly the document's layout. `LayoutFault::Entry` is exactly its first fault: the top level is judged first,
-/// as entry 0, and then each entry, counted from 1, after those before it. Want of memory may come at any time, and says
-/// nothing of the document. Bytes that aren't UTF-8, or that `toml` refuses, have fault 1 at entry 0.
+/// as entry 0, and then each entry, counted from 1, after those before it. Want of memory may come at any time, and
+/// says nothing of the document. Bytes that aren't UTF-8, or that `toml` refuses, have fault 1 at entry 0.
 #[tactic(auto, unfolding(crate::specs::Documents::layout_of_document, crate::specs::Documents::tree_of))]
 pub fn read_layout(alloc: Global, bytes: &[u8]) -> Result<Layout, LayoutFault>
     ensures layout { IfOk result (λ layout. layout_of_document bytes.now ≡ Ok layout) }

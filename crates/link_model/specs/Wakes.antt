@@ -1,5 +1,6 @@
 -- Until when nothing can happen on the PC's side.
-use Rattle.std.specs.Prelude.{◌≡◌, ◌≤◌, ◌<◌, ℕ, ◌+◌, Bool, false, not, ◌&&◌, ◌||◌, min, [], Some, None, is_some, if◌then◌else◌}
+use Rattle.std.specs.Prelude.{◌≡◌, ◌≤◌, ◌<◌, ℕ, ◌+◌, Bool, false, not, ◌&&◌, ◌||◌, min, [], Some, None, is_some}
+use Rattle.std.specs.Prelude.{if◌then◌else◌}
 use Rattle.std.specs.declared.option.Option.{Option}
 use Rattle.ctl_core.specs.Controller.{ControllerState, interrupt_enabled, is_disabled}
 use Rattle.ctl_link.specs.declared.link.Link.{Link}

@@ -13,8 +13,8 @@ pub fn each_seen_once()
     ensures once { EachSeenOnce }
 {}
 
-/// What the spans of a tick come to is what each of its cycles does: the lights, what comes over the link, the host, the
-/// controller.
+/// What the spans of a tick come to is what each of its cycles does: the lights, what comes over the link, the host,
+/// the controller.
 pub fn cycle_by_cycle()
     ensures cycles { CycleByCycle }
 {}

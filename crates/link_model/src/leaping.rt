@@ -86,7 +86,8 @@ fn link_stir<F: Drop>(link: &Link<F>, awaits: bool, core: &Controller, end: u64)
     }
 }
 
-/// The first cycle from `now` on in which something may happen on the PC's side, and `end` where there is none before it.
+/// The first cycle from `now` on in which something may happen on the PC's side, and `end` where there is none before
+/// it.
 pub(crate) fn first_stir<F: Drop>(
     desk: &Desk<F>,
     next: Option<HostEvent>,

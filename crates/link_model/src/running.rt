@@ -14,8 +14,8 @@ use pc_tables::Item;
 use std::alloc::{AllocError, Global};
 use std::marker::Model;
 
-/// The PC's side of a run: the desk, how many of the host's events are done, and what was said so far. A clause sees it as
-/// a `Side`.
+/// The PC's side of a run: the desk, how many of the host's events are done, and what was said so far. A clause sees it
+/// as a `Side`.
 #[derive(Drop)]
 pub(crate) struct Running {
     pub(crate) desk: Desk<UnderWay>,

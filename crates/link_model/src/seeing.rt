@@ -1,6 +1,7 @@
 //! The edges that a tick sees.
 
-ghost use Rattle.std.specs.Prelude.{◌≡◌, ℕ, ◌<◌, ◌≤◌, ◌++◌, ◌^◌, ◌==◌, ◌&&◌, [], ◌∷◌, true, false, nat_le, length, map, slice_index_or, IfOk, if◌then◌else◌};
+ghost use Rattle.std.specs.Prelude.{◌≡◌, ℕ, ◌<◌, ◌≤◌, ◌++◌, ◌^◌, ◌==◌, ◌&&◌, [], ◌∷◌, true, false, nat_le};
+ghost use Rattle.std.specs.Prelude.{length, map, slice_index_or, IfOk, if◌then◌else◌};
 ghost use Rattle.std.specs.List.{filter};
 ghost use Rattle.std.specs.List.Sorted.{IsPartitionPoint};
 ghost use Rattle.std.specs.Option.{ForSome};
@@ -8,7 +9,8 @@ ghost use Rattle.board_lines.specs.declared.event.Edge.{Edge as EdgeOf};
 ghost use Rattle.board_lines.specs.Edges.{of_place, AreInOrder};
 ghost use Rattle.board_lines.specs.Cadence.{KeepsCadenceTo, listed};
 ghost use Rattle.link_model.specs.TickEdges.{by_place, change_of, tick_edges as tick_edges_of};
-ghost use Rattle.link_model.specs.Seeing.{start_before as start_before_of, is_read_from as is_read_from_start, sees as sees_edge, HasSeen};
+ghost use Rattle.link_model.specs.Seeing.{start_before as start_before_of, is_read_from as is_read_from_start};
+ghost use Rattle.link_model.specs.Seeing.{sees as sees_edge, HasSeen};
 
 use board_lines::{Edge, Place};
 use std::alloc::{AllocError, Global};
@@ -145,8 +147,8 @@ fn is_seen_at(edge: &Edge, place: u8, before: Option<u64>, now: u64) -> bool
     edge.place.number() == place && sees(before, now, edge)
 }
 
-/// Whether a tick sees an edge, by its start and that of the tick before: it reads the edge's column in time, and that one
-/// didn't.
+/// Whether a tick sees an edge, by its start and that of the tick before: it reads the edge's column in time, and that
+/// one didn't.
 fn sees(before: Option<u64>, now: u64, edge: &Edge) -> bool
     requires near { now < 2 ^ 62 }
     requires before_near { ForSome before (λ start. start < 2 ^ 62) }

@@ -65,8 +65,8 @@ impl Running {
         Ok(())
     }
 
-    /// The cycles from there to the tick's end, by whether the keyboard's test has ended and what it offers. Answers the
-    /// meeting.
+    /// The cycles from there to the tick's end, by whether the keyboard's test has ended and what it offers. Answers
+    /// the meeting.
     fn meet(
         &mut self,
         events: &[HostEvent],

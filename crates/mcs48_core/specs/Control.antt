@@ -1,7 +1,9 @@
 -- Interrupts, banks, the timer and the clock output.
 use Rattle.std.specs.Prelude.{true, false}
 use Rattle.mcs48_isa.specs.declared.operation.ControlOp.{ControlOp}
-use Rattle.mcs48_isa.specs.declared.operation.ControlOp.TheVariants.{Nop, EnI, DisI, EnTcnti, DisTcnti, SelRb0, SelRb1, SelMb0, SelMb1, StrtT, StrtCnt, StopTcnt, Ent0Clk}
+use Rattle.mcs48_isa.specs.declared.operation.ControlOp.TheVariants.{Nop, EnI, DisI, EnTcnti, DisTcnti, SelRb0}
+use Rattle.mcs48_isa.specs.declared.operation.ControlOp.TheVariants.{SelRb1, SelMb0, SelMb1, StrtT, StrtCnt}
+use Rattle.mcs48_isa.specs.declared.operation.ControlOp.TheVariants.{StopTcnt, Ent0Clk}
 use Rattle.mcs48_core.specs.declared.processor.Count.TheVariants.{Off, Timer, Counter}
 use Rattle.mcs48_core.specs.Cpu.{Cpu}
 

@@ -1,7 +1,9 @@
 -- The data moves. The program counter stands behind the first byte.
 use Rattle.std.specs.Prelude.{ℕ, ◌+◌, ◌*◌, ◌/◌, ◌%◌, List, slice_index}
 use Rattle.mcs48_isa.specs.declared.operation.MoveOp.{MoveOp}
-use Rattle.mcs48_isa.specs.declared.operation.MoveOp.TheVariants.{MovAN, MovAR, MovAI, MovRA, MovIA, MovRN, MovIN, MovAPsw, MovPswA, MovAT, MovTA, XchR, XchI, XchdI, Movp, Movp3, MovxAI, MovxIA}
+use Rattle.mcs48_isa.specs.declared.operation.MoveOp.TheVariants.{MovAN, MovAR, MovAI, MovRA, MovIA, MovRN, MovIN}
+use Rattle.mcs48_isa.specs.declared.operation.MoveOp.TheVariants.{MovAPsw, MovPswA, MovAT, MovTA, XchR, XchI}
+use Rattle.mcs48_isa.specs.declared.operation.MoveOp.TheVariants.{XchdI, Movp, Movp3, MovxAI, MovxIA}
 use Rattle.mcs48_core.specs.Cpu.{Cpu}
 use Rattle.mcs48_core.specs.Status.{psw_of, with_high_status}
 use Rattle.mcs48_core.specs.Registers.{past, in_page, register, with_register, indirect, with_indirect}

@@ -1,6 +1,7 @@
 -- Paths of steps, and the law of one: the definitions compute over a concrete program from a state that is unknown
 -- but for the parts that decide where the program goes.
-use Rattle.std.specs.Prelude.{◌≡◌, ℕ, zero, suc, ◌+◌, ◌*◌, ◌%◌, true, false, nat_le, bit_and, bit_xor, List, [], ◌∷◌, slice_set, Some, None}
+use Rattle.std.specs.Prelude.{◌≡◌, ℕ, zero, suc, ◌+◌, ◌*◌, ◌%◌, true, false, nat_le, bit_and, bit_xor, List, []}
+use Rattle.std.specs.Prelude.{◌∷◌, slice_set, Some, None}
 use Rattle.std.specs.declared.option.Option.{Option}
 use Rattle.mcs48_core.specs.declared.levels.Pins.{Pins}
 use Rattle.mcs48_core.specs.declared.processor.Count.TheVariants.{Off}

@@ -1,7 +1,9 @@
 -- The ports, the bus and the port expander. The program counter stands behind the first byte.
 use Rattle.std.specs.Prelude.{bit_and, bit_or}
 use Rattle.mcs48_isa.specs.declared.operation.PortOp.{PortOp}
-use Rattle.mcs48_isa.specs.declared.operation.PortOp.TheVariants.{InP1, InP2, InsBus, OutlP1, OutlP2, OutlBus, AnlP1, AnlP2, AnlBus, OrlP1, OrlP2, OrlBus, MovdAP, MovdPA, OrldPA, AnldPA}
+use Rattle.mcs48_isa.specs.declared.operation.PortOp.TheVariants.{InP1, InP2, InsBus, OutlP1, OutlP2, OutlBus}
+use Rattle.mcs48_isa.specs.declared.operation.PortOp.TheVariants.{AnlP1, AnlP2, AnlBus, OrlP1, OrlP2, OrlBus}
+use Rattle.mcs48_isa.specs.declared.operation.PortOp.TheVariants.{MovdAP, MovdPA, OrldPA, AnldPA}
 use Rattle.mcs48_core.specs.declared.levels.Pins.{Pins}
 use Rattle.mcs48_core.specs.Cpu.{Cpu}
 use Rattle.mcs48_core.specs.Registers.{past}

@@ -107,7 +107,8 @@ impl Mcu {
         self.a = self.a / 2 + if high { 128 } else { 0 };
     }
 
-    /// Does an operation on one value or flag, with the counter `here`, behind its byte. The answer is the next counter.
+    /// Does an operation on one value or flag, with the counter `here`, behind its byte. The answer is the next
+    /// counter.
     #[inline(always)]
     pub(crate) fn change(&mut self, op: UnaryOp, here: u16) -> u16
         requires operands { IsUnary op }

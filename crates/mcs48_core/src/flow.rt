@@ -63,7 +63,8 @@ impl Mcu {
         (high % 16) as u16 * 256 + low as u16
     }
 
-    /// Makes a jump, a call or a return, with the counter `here`, behind its first byte. The answer is the next counter.
+    /// Makes a jump, a call or a return, with the counter `here`, behind its first byte. The answer is the next
+    /// counter.
     #[inline(always)]
     pub(crate) fn redirect(&mut self, op: FlowOp, here: u16, image: &Image, pins: &Pins) -> u16
         requires operands { IsFlow op }

@@ -2,7 +2,8 @@
 
 ghost use Rattle.std.specs.Prelude.{◌≡◌, ◌<◌, ◌/◌, ◌%◌};
 ghost use Rattle.mcs48_core.specs.Status.{bit, psw_of, with_high_status};
-ghost use Rattle.mcs48_core.specs.Registers.{counted, in_page, bank_start, register, with_register, indirect, with_indirect};
+ghost use Rattle.mcs48_core.specs.Registers.{counted, in_page, bank_start, register, with_register, indirect};
+ghost use Rattle.mcs48_core.specs.Registers.{with_indirect};
 
 use crate::processor::Mcu;
 

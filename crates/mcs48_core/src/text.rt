@@ -1,7 +1,8 @@
 //! The text that shows a processor's state.
 
 ghost use Rattle.std.specs.Prelude.{◌≡◌, ◌++◌, IfOk, OnOk};
-ghost use Rattle.mcs48_core.specs.StateText.{flag, switch, run_word, counter_line, timer_fields, timer_line, latch_line, register_line, count_line, state_text_of};
+ghost use Rattle.mcs48_core.specs.StateText.{flag, switch, run_word, counter_line, timer_fields, timer_line};
+ghost use Rattle.mcs48_core.specs.StateText.{latch_line, register_line, count_line, state_text_of};
 
 use crate::processor::{Count, Mcu};
 use std::alloc::{AllocError, Global};

@@ -2,7 +2,8 @@
 use Rattle.std.specs.Prelude.{ℕ, ◌%◌, List, [], ◌∷◌, ◌++◌, codes, Some, None}
 use Rattle.hex_text.specs.Digits.{hex_digit, hex_byte, hex_word}
 use Rattle.pc_tables.specs.declared.item.Item.{Item}
-use Rattle.pc_tables.specs.declared.item.Item.TheVariants.{Port, Read, Word, Beep, Overrun, Lights, Taken, Status, Output, Pulse}
+use Rattle.pc_tables.specs.declared.item.Item.TheVariants.{Port, Read, Word, Beep, Overrun, Lights, Taken, Status}
+use Rattle.pc_tables.specs.declared.item.Item.TheVariants.{Output, Pulse}
 use Rattle.pc_tables.specs.declared.item.Item.TheVariants.{Broke, Pause, Resume, Print, Boot, SysMake, SysBreak}
 
 -- the low digit of a value

@@ -24,6 +24,7 @@ impl Model for KeyRow {
     ghost view = { λ key. row key.name.now key.code key.scan };
 }
 
+/// A key with its name, its code and its scan code.
 fn row(name: &'static str, code: u8, scan: u8) -> KeyRow
     ensures { result ≡ row name.now code scan }
 {

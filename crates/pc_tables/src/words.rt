@@ -23,6 +23,7 @@ fn word(high: u8, low: u8) -> Option<u16>
     Some(256 * u16::from(high) + u16::from(low))
 }
 
+/// The letter that a name is. None for every other name.
 fn letter_in(name: &str) -> Option<u8>
     ensures letter { result ≡ letter_in name.now }
     ensures low { IfSome result (λ letter. 97 ≤ letter) }
@@ -44,6 +45,7 @@ pub fn letter_on(scan: u8) -> Option<u8>
     letter_in(name_of(key_scanned(scan)?))
 }
 
+/// The words of a letter's key, by its scan code and its lower-case letter.
 fn letter_words(scan: u8, letter: u8) -> WordRow
     requires low { 97 ≤ letter }
     requires high { letter ≤ 122 }
@@ -57,6 +59,7 @@ fn letter_words(scan: u8, letter: u8) -> WordRow
     }
 }
 
+/// The words of a function key, counted from 0.
 fn function_words(k: u8) -> WordRow
     requires { k < 10 }
     ensures { result ≡ function_words k }
@@ -69,6 +72,7 @@ fn function_words(k: u8) -> WordRow
     }
 }
 
+/// The words of a key that stands in the table.
 #[tactic(auto, unfolding(crate::specs::Words::words))]
 fn table_words(scan: u8) -> Option<WordRow>
     ensures { result ≡ table_words scan }

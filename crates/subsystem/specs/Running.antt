@@ -37,8 +37,8 @@ abbrev pub lines_of : List ℕ → List Stamped → List LogLine
 lines_of starts log = map (line_of starts) log
 
 -- the run ends before the step that begins at the first tick start at or after the end stamp. `starts` are the stamps
--- of all tick starts up to it, `end` is the processor there, `steps` and `cycles` are counted from power-on, and the log
--- is what was said, each item with its tick
+-- of all tick starts up to it, `end` is the processor there, `steps` and `cycles` are counted from power-on, and the
+-- log is what was said, each item with its tick
 pub record IsRun (s : Story) (run : Run) : Type 0 where
   pub world : World Beside
   pub reached : state_at s run.steps ≡ Some world

@@ -1,8 +1,8 @@
-//! The PC's side at its wires and the PC's side in byte time are the same machine, but for what they know of a byte under
-//! way.
+//! The PC's side at its wires and the PC's side in byte time are the same machine, but for what they know of a byte
+//! under way.
 //!
-//! This layer is laws, each the contract of a function that does nothing. It knows both sides; of the keyboard it knows no
-//! more than the levels that it drives in each cycle. Source: our own.
+//! This layer is laws, each the contract of a function that does nothing. It knows both sides; of the keyboard it knows
+//! no more than the levels that it drives in each cycle. Source: our own.
 #![tactic(auto)]
 
 ghost use Rattle.wires_agree.specs.Laws.{BetweenFrames, FrameShown, GoesOnAlike, StampZeroFirst, WhilePulled};
@@ -13,8 +13,8 @@ pub fn goes_on_alike()
     ensures alike { GoesOnAlike }
 {}
 
-/// While the keyboard leaves the clock alone and no byte is under way, the cycles at the wires are those of byte time in
-/// which nothing comes over the link.
+/// While the keyboard leaves the clock alone and no byte is under way, the cycles at the wires are those of byte time
+/// in which nothing comes over the link.
 pub fn between_frames()
     ensures between { BetweenFrames }
 {}
