@@ -25,7 +25,7 @@ use Rattle.key_file.specs.Accepted.{IsAccepted}
 use Rattle.key_file.specs.Histories.{KeyHistory}
 use Rattle.link_model.proofs.Edges.{skip, keep, are_at, filter_same}
 use Rattle.link_model.specs.TickEdges.{by_place, change_at, is_down, shown, shown_at}
-use Rattle.mcs48_core.specs.Status.{bit}
+use Rattle.bits.specs.Bits.{bit}
 use Rattle.agreement.proofs.Model.{columns_in}
 
 -- the bus reads the rows of the keys that are down

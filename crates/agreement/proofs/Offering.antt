@@ -17,7 +17,7 @@ use Rattle.joint_run.specs.Run.{World}
 use Rattle.kbd_model.specs.Keyboard.{offer}
 use Rattle.kbd_model.specs.Queue.{first_of}
 use Rattle.mcs48_core.specs.Cpu.{Cpu}
-use Rattle.mcs48_core.specs.Status.{bit}
+use Rattle.bits.specs.Bits.{bit}
 use Rattle.agreement.proofs.Happened.{lit_latch}
 
 abbrev the : Option ℕ → ℕ

@@ -1,5 +1,10 @@
--- Bits of a byte, each given by its value: 01, 02, 04 .. 80. The bit comes first, then the byte.
-use Rattle.std.specs.Prelude.{ℕ, ◌-◌, Bool, ◌==◌, if◌then◌else◌, bit_and, bit_or, bit_xor}
+-- Bits of a byte. One that is looked at alone is given by its number; those of a register of flags by their values: 01,
+-- 02, 04 .. 80. The bit comes first, then the byte.
+use Rattle.std.specs.Prelude.{ℕ, ◌-◌, ◌/◌, ◌%◌, ◌^◌, Bool, ◌==◌, if◌then◌else◌, bit_and, bit_or, bit_xor}
+
+-- bit k of a number; bit 0 is the lowest
+abbrev pub bit : ℕ → ℕ → Bool
+bit k byte = byte / 2 ^ k % 2 == 1
 
 -- whether the byte has the bit
 abbrev pub has_bit : ℕ → ℕ → Bool

@@ -1,9 +1,6 @@
--- The bits of a byte by their numbers, and bytes by their bits.
-use Rattle.std.specs.Prelude.{ℕ, ◌+◌, ◌*◌, ◌/◌, ◌%◌, ◌^◌, ◌==◌, Bool, false, not, List, [], ◌∷◌, if◌then◌else◌}
-
--- bit k of a number; bit 0 is the lowest
-abbrev pub bit : ℕ → ℕ → Bool
-bit k byte = byte / 2 ^ k % 2 == 1
+-- The eight bits of a byte, and bytes by their bits.
+use Rattle.std.specs.Prelude.{ℕ, ◌+◌, ◌*◌, Bool, false, not, List, [], ◌∷◌, if◌then◌else◌}
+use Rattle.bits.specs.Bits.{bit}
 
 -- the eight bits of a byte, the lowest first
 abbrev pub data_bits : ℕ → List Bool

@@ -19,7 +19,7 @@ use Rattle.mcs48_isa.specs.declared.operation.ControlOp.{ControlOp}
 use Rattle.mcs48_isa.specs.declared.operation.ControlOp.TheVariants.{Nop}
 use Rattle.mcs48_core.specs.declared.levels.Pins.{Pins}
 use Rattle.mcs48_core.specs.Cpu.{Cpu}
-use Rattle.mcs48_core.specs.Status.{bit}
+use Rattle.bits.specs.Bits.{bit}
 use Rattle.mcs48_core.specs.Registers.{past, counted, in_page, register}
 use Rattle.mcs48_core.specs.Moves.{move}
 use Rattle.mcs48_core.specs.Arithmetic.{alu, unary}

@@ -5,7 +5,8 @@ use Rattle.std.proofs.Common.{not, ◌==◌, if◌then◌else◌, bit_and, bit_x
 use Rattle.std.proofs.Common.{slice_index}
 use Rattle.std.proofs.lemmas.Bool.Decides.{nat_tests}
 use Rattle.mcs48_core.specs.Cpu.{Cpu}
-use Rattle.mcs48_core.specs.Status.{bit, digit}
+use Rattle.bits.specs.Bits.{bit}
+use Rattle.mcs48_core.specs.Status.{digit}
 use Rattle.fw_keys.proofs.Blocks.{Just, JustA, leaf_a, leaf, here, seq, seq_just, seq_just_a, recast, relax}
 use Rattle.fw_keys.proofs.Blocks.{bytes_of, cell-get}
 use Rattle.fw_keys.proofs.Rows.{marks, rows_time, self, AfterRows, rows_law}

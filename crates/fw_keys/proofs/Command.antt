@@ -5,7 +5,7 @@ use Rattle.std.proofs.Common.{◌≡◌, ◌≤◌, ◌<◌, ℕ, ◌+◌, ◌*�
 use Rattle.std.proofs.Common.{◌==◌, nat_le, if◌then◌else◌, bit_and, refl, ap, sym, ◌∙◌, arith}
 use Rattle.std.proofs.lemmas.Bool.Decides.{nat_tests}
 use Rattle.mcs48_core.specs.Cpu.{Cpu}
-use Rattle.mcs48_core.specs.Status.{bit}
+use Rattle.bits.specs.Bits.{bit}
 use Rattle.fw_keys.proofs.Blocks.{Just, leaf, seq_just, relax, bytes_of}
 use Rattle.std.proofs.Common.{nat_lt}
 use Rattle.fw_keys.proofs.Ready.{based, ready_law}

@@ -2,7 +2,7 @@
 use Rattle.std.proofs.Common.{◌≡◌, ◌≤◌, ◌<◌, ℕ, suc, zero, ◌+◌, ◌-◌, ◌%◌, List, false}
 use Rattle.std.proofs.Common.{not, ◌==◌, if◌then◌else◌, bit_xor, refl, ap, sym, ◌∙◌, arith, slice_index}
 use Rattle.std.proofs.lemmas.Bool.Decides.{nat_tests}
-use Rattle.mcs48_core.specs.Status.{bit}
+use Rattle.bits.specs.Bits.{bit}
 use Rattle.std.proofs.Common.{◌&&◌}
 use Rattle.fw_keys.proofs.Ring.{made-same}
 use Rattle.fw_keys.specs.State.{made, queue_by, queue_of}

@@ -4,7 +4,7 @@ use Rattle.std.proofs.Common.{◌≡◌, ◌≤◌, ◌<◌, ℕ, suc, ◌+◌, 
 use Rattle.std.proofs.Common.{true, false, not, ◌==◌, bit_and, refl, ap}
 use Rattle.std.proofs.Common.{sym, ◌∙◌, arith, slice_index}
 use Rattle.mcs48_core.specs.Cpu.{Cpu}
-use Rattle.mcs48_core.specs.Status.{bit}
+use Rattle.bits.specs.Bits.{bit}
 use Rattle.fw_keys.proofs.Blocks.{Just, leaf, seq_just, recast, bytes_of}
 use Rattle.fw_keys.proofs.Enter.{Entered, enters}
 use Rattle.fw_keys.proofs.Enter2.{enters_two}

@@ -3,7 +3,8 @@ use Rattle.std.proofs.Common.{◌≡◌, ◌<◌, ℕ, suc, ◌+◌, ◌-◌, �
 use Rattle.std.proofs.Common.{true, false, not, ◌==◌, bit_and, bit_xor, if◌then◌else◌, Some, None, refl, ap}
 use Rattle.std.proofs.Common.{sym, ◌∙◌, arith, slice_index}
 use Rattle.mcs48_isa.proofs.Cases.{from_each}
-use Rattle.mcs48_core.specs.Status.{bit, digit}
+use Rattle.bits.specs.Bits.{bit}
+use Rattle.mcs48_core.specs.Status.{digit}
 use Rattle.fw_kernel.specs.Places.{HasKernel, is_table}
 use Rattle.fw_keys.specs.State.{repeat_of}
 use Rattle.bits.proofs.Every.{by_byte, pair_tests, tests_by}

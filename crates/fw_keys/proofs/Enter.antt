@@ -3,7 +3,7 @@ use Rattle.std.proofs.Common.{◌≡◌, ◌≤◌, ◌<◌, ℕ, suc, ◌+◌, 
 use Rattle.std.proofs.Common.{◌||◌, nat_le, bit_or, refl, ap, sym, ◌∙◌, arith, slice_set, slice_index}
 use Rattle.std.proofs.lemmas.Bool.Decides.{nat_tests}
 use Rattle.mcs48_core.specs.Cpu.{Cpu}
-use Rattle.mcs48_core.specs.Status.{bit}
+use Rattle.bits.specs.Bits.{bit}
 use Rattle.fw_keys.proofs.Blocks.{leaf, bytes_of}
 use Rattle.std.proofs.Common.{nat_lt}
 use Rattle.fw_kernel.specs.Places.{HasKernel}

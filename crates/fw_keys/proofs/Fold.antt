@@ -1,6 +1,6 @@
 -- The edges of a tick as the code goes through them: column by column, row by row; the held keys apart.
 use Rattle.std.specs.Prelude.{ℕ, zero, suc, ◌+◌, ◌*◌, Bool, if◌then◌else◌, List, [], ◌∷◌}
-use Rattle.mcs48_core.specs.Status.{bit}
+use Rattle.bits.specs.Bits.{bit}
 use Rattle.board_lines.specs.Matrix.{turned}
 use Rattle.kbd_model.specs.Codes.{Keys}
 use Rattle.kbd_model.specs.Keyboard.{Keyboard}

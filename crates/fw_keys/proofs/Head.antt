@@ -4,7 +4,7 @@ use Rattle.std.proofs.Common.{◌≡◌, ◌<◌, ℕ, suc, zero, ◌+◌, ◌-�
 use Rattle.std.proofs.Common.{not, ◌==◌, nat_le, if◌then◌else◌, bit_xor, refl, ap, sym, ◌∙◌, arith, slice_index}
 use Rattle.std.proofs.lemmas.Bool.Decides.{nat_tests}
 use Rattle.mcs48_core.specs.Cpu.{Cpu}
-use Rattle.mcs48_core.specs.Status.{bit}
+use Rattle.bits.specs.Bits.{bit}
 use Rattle.std.proofs.Common.{◌&&◌, nat_lt, bit_or, Some, None}
 use Rattle.std.specs.declared.option.Option.{Option}
 use Rattle.fw_logic.proofs.Sound.{sound}

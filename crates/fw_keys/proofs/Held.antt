@@ -4,7 +4,7 @@ use Rattle.std.proofs.Common.{◌≡◌, ◌<◌, ℕ, suc, zero, ◌+◌, ◌*�
 use Rattle.std.proofs.Common.{if◌then◌else◌, List, [], ◌∷◌, ◌++◌, slice_set, bit_xor, refl, ap, sym, ◌∙◌, arith}
 use Rattle.std.proofs.lemmas.Bool.Decides.{nat_tests}
 use Rattle.std.proofs.lemmas.Nat.Bits.{bit_at_xor}
-use Rattle.mcs48_core.specs.Status.{bit}
+use Rattle.bits.specs.Bits.{bit}
 use Rattle.fw_keys.specs.Edges.{row_edges, column_edges, tick_edges}
 use Rattle.fw_keys.specs.State.{flags, down_at, held_by}
 

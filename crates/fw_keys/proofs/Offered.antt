@@ -5,7 +5,7 @@ use Rattle.std.proofs.Common.{Bool}
 use Rattle.std.proofs.Common.{◌≡◌, ◌<◌, ℕ, suc, zero, ◌+◌, ◌%◌, List, length, true, false, not, ◌==◌, Some}
 use Rattle.std.proofs.Common.{None, refl, ap, sym, ◌∙◌, arith, slice_index}
 use Rattle.std.specs.declared.option.Option.{Option}
-use Rattle.mcs48_core.specs.Status.{bit}
+use Rattle.bits.specs.Bits.{bit}
 use Rattle.fw_keys.proofs.Head.{offered_in}
 use Rattle.fw_keys.proofs.Ring.{made-length}
 use Rattle.fw_keys.specs.State.{kbd_of, made, queue_of}

@@ -4,7 +4,8 @@ use Rattle.std.proofs.Common.{◌≡◌, ◌≤◌, ◌<◌, ℕ, suc, zero, ◌
 use Rattle.std.proofs.Common.{true, false, not, ◌==◌, if◌then◌else◌, refl, ap, sym, ◌∙◌, subst, arith}
 use Rattle.std.proofs.lemmas.Bool.Decides.{nat_tests}
 use Rattle.mcs48_core.specs.Cpu.{Cpu}
-use Rattle.mcs48_core.specs.Status.{bit, digit}
+use Rattle.bits.specs.Bits.{bit}
+use Rattle.mcs48_core.specs.Status.{digit}
 use Rattle.fw_keys.proofs.Blocks.{JustA, leaf_a, leaf, here, seq, seq_just_a, recast, relax}
 use Rattle.fw_keys.proofs.Edge.{edge_law}
 use Rattle.fw_kernel.specs.Places.{HasKernel}

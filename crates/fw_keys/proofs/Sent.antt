@@ -5,7 +5,7 @@ use Rattle.std.proofs.Common.{◌≡◌, ◌≤◌, ◌<◌, ℕ, suc, zero, ◌
 use Rattle.std.proofs.Common.{not, ◌==◌, if◌then◌else◌, bit_xor, refl, ap, sym, ◌∙◌, arith, slice_index}
 use Rattle.std.proofs.lemmas.Bool.Decides.{nat_tests}
 use Rattle.mcs48_core.specs.Cpu.{Cpu}
-use Rattle.mcs48_core.specs.Status.{bit}
+use Rattle.bits.specs.Bits.{bit}
 use Rattle.fw_keys.proofs.Blocks.{Just, leaf, seq_just, relax, bytes_of}
 use Rattle.std.proofs.Common.{◌&&◌}
 use Rattle.fw_kernel.specs.Places.{HasKernel}

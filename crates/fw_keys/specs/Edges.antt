@@ -1,6 +1,6 @@
 -- The edges of a tick as bytes of columns: what changed, and what is down.
 use Rattle.std.specs.Prelude.{ℕ, zero, suc, ◌+◌, ◌*◌, Bool, if◌then◌else◌, List, [], ◌∷◌, ◌++◌, slice_index}
-use Rattle.mcs48_core.specs.Status.{bit}
+use Rattle.bits.specs.Bits.{bit}
 use Rattle.kbd_model.specs.Codes.{Keys}
 
 -- the layout in an image

@@ -2,7 +2,7 @@
 use Rattle.std.specs.Prelude.{◌≡◌, ◌≤◌, ℕ, zero, suc, ◌+◌, ◌*◌, ◌/◌, ◌%◌, Bool, not, ◌==◌, if◌then◌else◌, List, [], ◌∷◌}
 use Rattle.std.specs.Prelude.{slice_index, Some, None}
 use Rattle.std.specs.declared.option.Option.{Option}
-use Rattle.mcs48_core.specs.Status.{bit}
+use Rattle.bits.specs.Bits.{bit}
 use Rattle.kbd_model.specs.declared.state.Mode.{Mode}
 use Rattle.kbd_model.specs.declared.state.Mode.TheVariants.{Ready, WantRate, WantLights}
 use Rattle.kbd_model.specs.declared.state.Reply.{Reply}

@@ -3,7 +3,8 @@ use Rattle.std.proofs.Common.{◌≡◌, ◌<◌, ℕ, suc, zero, ◌+◌, ◌-�
 use Rattle.std.proofs.Common.{nat_le, nat_lt}
 use Rattle.std.proofs.Common.{if◌then◌else◌, bit_and, bit_or, refl, ap, sym, ◌∙◌, arith}
 use Rattle.std.proofs.lemmas.Bool.Decides.{nat_tests}
-use Rattle.mcs48_core.specs.Status.{bit, digit}
+use Rattle.bits.specs.Bits.{bit}
+use Rattle.mcs48_core.specs.Status.{digit}
 use Rattle.fw_logic.proofs.Blocks.{ticks_add}
 use Rattle.bits.proofs.Every.{every_below, by_byte, tests_by}
 use Rattle.fw_link.specs.Latch.{wired, frame_bit, sent_cell, sent_latch}

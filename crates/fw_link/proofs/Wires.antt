@@ -3,7 +3,7 @@ use Rattle.std.proofs.Common.{◌≡◌, ◌≤◌, ◌<◌, ℕ, suc, ◌+◌, 
 use Rattle.std.proofs.Common.{nat_le, nat_lt, if◌then◌else◌}
 use Rattle.std.proofs.Common.{bit_and, refl, ap, ◌∙◌, arith}
 use Rattle.std.proofs.lemmas.Bool.Decides.{nat_tests}
-use Rattle.mcs48_core.specs.Status.{bit}
+use Rattle.bits.specs.Bits.{bit}
 use Rattle.board_lines.specs.declared.lines.Lines.{Lines}
 use Rattle.bits.proofs.Every.{by_byte, tests_by}
 use Rattle.fw_link.specs.Latch.{wired, frame_bit, sent_cell, sent_latch}

@@ -11,7 +11,7 @@ use Rattle.fw_logic.specs.Blocks.{IsAt}
 use Rattle.joint_run.specs.Joint.{Beside, latch_of, lights_of, joint_board}
 use Rattle.joint_run.specs.Run.{World}
 use Rattle.joint_run.specs.Starts.{Comes}
-use Rattle.mcs48_core.specs.Status.{bit}
+use Rattle.bits.specs.Bits.{bit}
 use Rattle.pc_wires.specs.Wires.{Pc}
 use Rattle.wires_agree.specs.Cycles.{board_cycles}
 use Rattle.fw_link.specs.Latch.{sent_latch, cut_latch, received_latch}

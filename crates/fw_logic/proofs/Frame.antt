@@ -6,7 +6,7 @@ use Rattle.mcs48_isa.specs.declared.operation.Op.TheVariants.{Flow}
 use Rattle.mcs48_isa.specs.declared.operation.FlowOp.TheVariants.{Jmp, Retr}
 use Rattle.mcs48_core.specs.declared.levels.Pins.{Pins}
 use Rattle.mcs48_core.specs.Cpu.{Cpu}
-use Rattle.mcs48_core.specs.Status.{bit}
+use Rattle.bits.specs.Bits.{bit}
 use Rattle.mcs48_core.specs.Timer.{after_timer}
 use Rattle.mcs48_core.specs.Step.{Stepped, stepped, executed, row_at}
 use Rattle.fw_kernel.specs.declared.labels.TheConstants.{TICK, WAIT, DONE}

@@ -9,7 +9,7 @@ use Rattle.mcs48_isa.specs.declared.operation.FlowOp.TheVariants.{Jmp, Call, Ret
 use Rattle.mcs48_isa.specs.declared.operation.FlowOp.TheVariants.{Jnz, Jt0, Jnt0, Jt1, Jnt1, Jf0, Jf1, Jtf, Jni}
 use Rattle.mcs48_core.specs.declared.levels.Pins.{Pins}
 use Rattle.mcs48_core.specs.Cpu.{Cpu}
-use Rattle.mcs48_core.specs.Status.{bit}
+use Rattle.bits.specs.Bits.{bit}
 use Rattle.mcs48_core.specs.Registers.{past, register, with_register}
 use Rattle.mcs48_core.specs.Flow.{branch}
 use Rattle.mcs48_core.specs.Timer.{after_timer}

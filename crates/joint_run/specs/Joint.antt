@@ -10,7 +10,7 @@ use Rattle.host_turn.specs.declared.stamped.Stamped.{Stamped}
 use Rattle.host_turn.specs.Run.{says_lights}
 use Rattle.mcs48_core.specs.declared.levels.Pins.{Pins}
 use Rattle.mcs48_core.specs.Reset.{reset_cpu}
-use Rattle.mcs48_core.specs.Status.{bit}
+use Rattle.bits.specs.Bits.{bit}
 use Rattle.pc_wires.specs.Wires.{Pc, pc_at_start, wires, board_cycle}
 use Rattle.joint_run.specs.Run.{Board, World}
 

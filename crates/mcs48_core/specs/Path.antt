@@ -6,7 +6,8 @@ use Rattle.std.specs.declared.option.Option.{Option}
 use Rattle.mcs48_core.specs.declared.levels.Pins.{Pins}
 use Rattle.mcs48_core.specs.declared.processor.Count.TheVariants.{Off}
 use Rattle.mcs48_core.specs.Cpu.{Cpu}
-use Rattle.mcs48_core.specs.Status.{bit, digit}
+use Rattle.bits.specs.Bits.{bit}
+use Rattle.mcs48_core.specs.Status.{digit}
 use Rattle.mcs48_core.specs.Step.{Stepped, stepped}
 
 -- so many steps, from a state and the cycles before it

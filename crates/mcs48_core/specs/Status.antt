@@ -1,10 +1,7 @@
 -- The status byte PSW: its flags, its bank bit and its stack pointer.
-use Rattle.std.specs.Prelude.{ℕ, ◌+◌, ◌*◌, ◌/◌, ◌%◌, ◌^◌, Bool, true, false, ◌==◌}
+use Rattle.std.specs.Prelude.{ℕ, ◌+◌, ◌*◌, Bool, true, false}
+use Rattle.bits.specs.Bits.{bit}
 use Rattle.mcs48_core.specs.Cpu.{Cpu}
-
--- bit k of a number
-abbrev pub bit : ℕ → ℕ → Bool
-bit k x = x / 2 ^ k % 2 == 1
 
 -- a truth value as a digit
 abbrev pub digit : Bool → ℕ

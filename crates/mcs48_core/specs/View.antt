@@ -2,7 +2,7 @@
 use Rattle.std.specs.Prelude.{◌≡◌, ◌<◌, ◌/◌, ◌%◌}
 use Rattle.mcs48_core.specs.declared.processor.Mcu.TheInside.{Inside}
 use Rattle.mcs48_core.specs.Cpu.{Cpu}
-use Rattle.mcs48_core.specs.Status.{bit}
+use Rattle.bits.specs.Bits.{bit}
 
 -- the processor that the fields stand for
 abbrev pub cpu_of : Inside → Cpu

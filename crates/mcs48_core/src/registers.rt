@@ -1,7 +1,8 @@
 //! The program counter, the flags, the registers of the selected bank and the data byte that one points to.
 
 ghost use Rattle.std.specs.Prelude.{◌≡◌, ◌<◌, ◌/◌, ◌%◌};
-ghost use Rattle.mcs48_core.specs.Status.{bit, psw_of, with_high_status};
+ghost use Rattle.bits.specs.Bits.{bit};
+ghost use Rattle.mcs48_core.specs.Status.{psw_of, with_high_status};
 ghost use Rattle.mcs48_core.specs.Registers.{counted, in_page, bank_start, register, with_register, indirect};
 ghost use Rattle.mcs48_core.specs.Registers.{with_indirect};
 

@@ -6,7 +6,8 @@ use Rattle.mcs48_isa.specs.declared.operation.Op.{Op}
 use Rattle.mcs48_isa.specs.declared.operation.Op.TheVariants.{Moves, Alu, Unary, Flow, PortIo, Control}
 use Rattle.mcs48_core.specs.declared.levels.Pins.{Pins}
 use Rattle.mcs48_core.specs.Cpu.{Cpu}
-use Rattle.mcs48_core.specs.Status.{bit, high_status}
+use Rattle.bits.specs.Bits.{bit}
+use Rattle.mcs48_core.specs.Status.{high_status}
 use Rattle.mcs48_core.specs.Registers.{past, register, with_register, bank_start}
 use Rattle.mcs48_isa.specs.declared.operation.FlowOp.{FlowOp}
 use Rattle.mcs48_isa.specs.declared.operation.FlowOp.TheVariants.{Jmp, Call, Ret, Retr, Jmpp, Djnz, Jb, Jc, Jnc, Jz}

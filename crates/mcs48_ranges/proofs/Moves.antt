@@ -14,7 +14,8 @@ use Rattle.mcs48_isa.specs.declared.operation.UnaryOp.TheVariants.{IncA, IncR, I
 use Rattle.mcs48_isa.specs.declared.operation.UnaryOp.TheVariants.{SwapA, RlA, RlcA, RrA, RrcA, ClrC, CplC, ClrF0}
 use Rattle.mcs48_isa.specs.declared.operation.UnaryOp.TheVariants.{CplF0, ClrF1, CplF1}
 use Rattle.mcs48_core.specs.Cpu.{Cpu}
-use Rattle.mcs48_core.specs.Status.{bit, digit, psw_of}
+use Rattle.bits.specs.Bits.{bit}
+use Rattle.mcs48_core.specs.Status.{digit, psw_of}
 use Rattle.mcs48_core.specs.Registers.{past, register, with_register, indirect, with_indirect, bank_start}
 use Rattle.mcs48_core.specs.Moves.{move, digits_of}
 use Rattle.mcs48_core.specs.Arithmetic.{alu, unary, low_adjusted, adjusts_high}
