@@ -23,7 +23,8 @@ use Rattle.joint_run.specs.Run.{Board, World, ticks}
 use Rattle.kbd_model.specs.Keyboard.{is_held}
 use Rattle.key_file.specs.Accepted.{IsAccepted}
 use Rattle.key_file.specs.Histories.{KeyHistory}
-use Rattle.link_model.proofs.Edges.{skip, keep, are_at, filter_same}
+use Rattle.board_lines.proofs.Shown.{skip, keep}
+use Rattle.link_model.proofs.Edges.{are_at, filter_same}
 use Rattle.link_model.specs.TickEdges.{by_place, change_at, is_down, shown, shown_at}
 use Rattle.bits.specs.Bits.{bit}
 use Rattle.agreement.proofs.Model.{columns_in}

@@ -64,7 +64,7 @@ is_one cycle place e es firsts h same =
     ]
 
 -- no later edge is made, where one isn't
-later_not : (cycle : ℕ) (e f : Edge) → e.stamp ≤ f.stamp → is_made cycle e ≡ false → is_made cycle f ≡ false
+pub later_not : (cycle : ℕ) (e f : Edge) → e.stamp ≤ f.stamp → is_made cycle e ≡ false → is_made cycle f ≡ false
 later_not cycle e f l h = grind (arith, nat_tests, l, h)
 
 none_made : (cycle place : ℕ) (e : Edge) (es : List Edge) → AreInOrder (e ∷ es) → is_made cycle e ≡ false
@@ -73,7 +73,7 @@ none_made cycle place e [] order h = not_made cycle place e [] h
 none_made cycle place e (f ∷ fs) order h =
     not_made cycle place e (f ∷ fs) h ∙ none_made cycle place f fs order.1 (later_not cycle e f order.0 h)
 
-tail_in_order : (e : Edge) (es : List Edge) → AreInOrder (e ∷ es) → AreInOrder es
+pub tail_in_order : (e : Edge) (es : List Edge) → AreInOrder (e ∷ es) → AreInOrder es
 tail_in_order e [] order = tt
 tail_in_order e (f ∷ fs) order = order.1
 

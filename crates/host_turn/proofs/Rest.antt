@@ -2,6 +2,7 @@
 use Rattle.std.proofs.Common.{◌≡◌, ℕ, ◌+◌, [], ◌++◌, Bool, true, false, not, ◌&&◌, ◌||◌, Some, None, refl, ap, ◌∙◌}
 use Rattle.std.specs.Prelude.{is_some, if◌then◌else◌, nat_le}
 use Rattle.std.specs.declared.option.Option.{Option}
+use Rattle.std.proofs.lemmas.Bool.{not-true}
 use Rattle.bits.proofs.Every.{and-left, and-right}
 use Rattle.ctl_core.specs.Commands.{Taken, taken_from}
 use Rattle.ctl_core.specs.Controller.{ControllerState, is_idle, is_disabled, interrupt_enabled}
@@ -16,10 +17,6 @@ use Rattle.host_turn.specs.declared.desk.Desk.{Desk}
 use Rattle.host_turn.specs.Host.{Host, Turn, event_turn, bios_turn, turn, acted_where, in_silence, read_by_bios, is_done, waits}
 use Rattle.host_turn.specs.Cycle.{Cycled, cycled, ends_cycle, host_of}
 use Rattle.host_turn.specs.Rest.{is_free, is_at_rest, is_due}
-
-not-true : (a : Bool) → not a ≡ true → a ≡ false
-not-true true h = absurd cc
-not-true false h = refl
 
 no_input : (i : Option Input) → is_some i ≡ false → i ≡ None
 no_input None h = refl

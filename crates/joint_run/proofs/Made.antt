@@ -8,21 +8,14 @@ use Rattle.std.proofs.Math.Seq.{take-add}
 use Rattle.board_lines.specs.declared.event.Edge.{Edge}
 use Rattle.board_lines.specs.Edges.{is_made, AreInOrder}
 use Rattle.board_lines.specs.Matrix.{turned, turned_by}
+use Rattle.board_lines.proofs.Shown.{later_not, tail_in_order}
 use Rattle.joint_run.specs.Due.{made_first}
-
--- no later edge is made, where one isn't
-later_not : (cycle : ℕ) (e f : Edge) → e.stamp ≤ f.stamp → is_made cycle e ≡ false → is_made cycle f ≡ false
-later_not cycle e f l h = grind (arith, nat_tests, l, h)
 
 none_after : (cycle : ℕ) (e : Edge) (es : List Edge) → AreInOrder (e ∷ es) → is_made cycle e ≡ false → filter (is_made cycle) es ≡ []
 none_after cycle e [] order h = refl
 none_after cycle e (f ∷ fs) order h =
     let g : is_made cycle f ≡ false = later_not cycle e f order.0 h in
     ap (λ b. if b then f ∷ filter (is_made cycle) fs else filter (is_made cycle) fs) g ∙ none_after cycle f fs order.1 g
-
-tail_in_order : (e : Edge) (es : List Edge) → AreInOrder (e ∷ es) → AreInOrder es
-tail_in_order e [] order = tt
-tail_in_order e (f ∷ fs) order = order.1
 
 -- of edges in order the made ones are the first
 pub first_made : (cycle : ℕ) (es : List Edge) → AreInOrder es → filter (is_made cycle) es ≡ made_first cycle es

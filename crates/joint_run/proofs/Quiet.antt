@@ -1,6 +1,7 @@
 -- In quiet cycles nothing but the clock's level is noted.
 use Rattle.std.proofs.Common.{◌≡◌, ◌≤◌, ◌<◌, ℕ, zero, suc, ◌+◌, ◌-◌, List, [], ◌∷◌, ◌++◌, Bool, true, false, not, ◌&&◌, Some, None, refl, ap, ◌∙◌, subst, arith}
 use Rattle.std.specs.Prelude.{◌==◌, if◌then◌else◌, slice_get}
+use Rattle.std.proofs.lemmas.Bool.{not-true, not_from_false}
 use Rattle.std.proofs.lemmas.Bool.Decides.{nat_tests}
 use Rattle.std.proofs.Math.Bool.{and-true}
 use Rattle.std.specs.declared.option.Option.{Option}
@@ -27,14 +28,6 @@ use Rattle.joint_run.proofs.Passing.{cycle_is}
 both : (a b : Bool) → a ≡ true → b ≡ true → (a && b) ≡ true
 both true b h k = k
 both false b h k = absurd cc
-
-not-true : (a : Bool) → not a ≡ true → a ≡ false
-not-true true h = absurd cc
-not-true false h = refl
-
-not-false : (a : Bool) → a ≡ false → not a ≡ true
-not-false true h = absurd cc
-not-false false h = refl
 
 -- what falls to a level doesn't fall from it again
 no_second_fall : (a : Bool) → (a && not a) ≡ false
@@ -135,7 +128,7 @@ quiet_cycle : (now p2 : ℕ) (next : Option HostEvent) (o : Outside) → IsQuiet
     → outside_cycle now p2 next o ≡ record { outside = noted p2 o; items = []; done = false }
 quiet_cycle now p2 next o q =
     quiet_with (latch_of p2) (lights_of p2) now next o (link_free now p2 next o q) q.level
-    (both (is_at_rest o.desk) (not (is_due now next)) q.rest (not-false (is_due now next) q.none)) q.lights
+    (both (is_at_rest o.desk) (not (is_due now next)) q.rest (not_from_false (is_due now next) q.none)) q.lights
 
 module _ (events : List HostEvent) (p2 : ℕ) where
   abbrev next : Option HostEvent

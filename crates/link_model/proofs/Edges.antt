@@ -8,14 +8,8 @@ use Rattle.link_model.specs.TickEdges.{none_before, by_place, change_of, change_
 use Rattle.key_file.specs.Accepted.{Alternates, Dwells}
 use Rattle.board_lines.specs.declared.event.Edge.{Edge}
 use Rattle.board_lines.specs.Edges.{of_place, last_of}
+use Rattle.board_lines.proofs.Shown.{skip, keep}
 use Rattle.link_model.specs.Laws.{RisesFrom}
-
--- filters
-pub skip : {X : Type 0} (p : X → Bool) (x : X) (xs : List X) → p x ≡ false → filter p (x ∷ xs) ≡ filter p xs
-skip p x xs h = ap (λ c. if c then x ∷ filter p xs else filter p xs) h
-
-pub keep : {X : Type 0} (p : X → Bool) (x : X) (xs : List X) → p x ≡ true → filter p (x ∷ xs) ≡ x ∷ filter p xs
-keep p x xs h = ap (λ c. if c then x ∷ filter p xs else filter p xs) h
 
 abbrev pub AreAt : ℕ → List Edge → Type 0
 AreAt p [] = Unit {0}

@@ -12,7 +12,9 @@ use Rattle.board_lines.specs.Edges.{of_place, last_of, AreInOrder}
 use Rattle.board_lines.specs.Laws.{ArePlaces}
 use Rattle.board_lines.specs.Cadence.{KeepsCadenceTo}
 use Rattle.link_model.specs.Laws.{RisesFrom, Shows, EdgesShown}
-use Rattle.link_model.proofs.Edges.{one, are_at, skip, keep, filter_same, map_by_place, same_by_place, least_or, shown_rises}
+use Rattle.bits.proofs.Every.{and-left, and-right}
+use Rattle.board_lines.proofs.Shown.{skip, keep}
+use Rattle.link_model.proofs.Edges.{one, are_at, filter_same, map_by_place, same_by_place, least_or, shown_rises}
 
 -- one or none
 abbrev digit : Bool → ℕ
@@ -124,14 +126,6 @@ module _ (q : Edge → Bool) where
               omega (arith, x, y)
           | false ↦ λ h. subst (λ v. length v ≤ 4) (sym (skip q e es h)) (four es (tail_rises e es r) t.1 ps.1)
         ] refl
-
-pub and-left : (a b : Bool) → (a && b) ≡ true → a ≡ true
-and-left true b h = refl
-and-left false b h = h
-
-pub and-right : (a b : Bool) → (a && b) ≡ true → b ≡ true
-and-right true b h = h
-and-right false b h = absurd cc
 
 nothing : (es : List Edge) → last_of false (filter (λ e. false) es) ≡ false
 nothing [] = refl

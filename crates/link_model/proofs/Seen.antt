@@ -6,7 +6,7 @@ use Rattle.std.proofs.lemmas.Bool.{eqb-true}
 use Rattle.board_lines.specs.declared.event.Edge.{Edge}
 use Rattle.link_model.specs.TickEdges.{none_before, is_least, read_at, by_place, change_at, shown_at, shown}
 use Rattle.link_model.specs.Laws.{SeenOnce}
-use Rattle.link_model.proofs.Few.{and-left, and-right}
+use Rattle.bits.proofs.Every.{and-left, and-right}
 
 module _ (p : ℕ → Bool) where
   -- a number with the property below

@@ -13,7 +13,8 @@ use Rattle.board_lines.specs.Edges.{of_place, AreInOrder}
 use Rattle.board_lines.specs.Cadence.{KeepsCadenceTo}
 use Rattle.link_model.specs.TickEdges.{is_seen, by_place, change_of, tick_edges}
 use Rattle.link_model.specs.Seeing.{start_before, is_read_from, sees, HasSeen}
-use Rattle.link_model.proofs.Edges.{skip, keep, are_at, filter_same, same_by_place}
+use Rattle.board_lines.proofs.Shown.{skip, keep}
+use Rattle.link_model.proofs.Edges.{are_at, filter_same, same_by_place}
 use Rattle.link_model.proofs.Few.{seen_so}
 
 -- the stamps of a list in order don't fall
