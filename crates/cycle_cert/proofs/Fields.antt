@@ -1,12 +1,10 @@
--- The fields and numbers of a line.
-use Rattle.std.proofs.Common.{cond, length, ◌∙◌, ap, ◌≡◌, ◌<◌, ℕ, ◌+◌, ◌*◌, List, [], ◌∷◌, Bool, true, false, ◌==◌, leb, if◌then◌else◌, Some, None, refl, arith}
+-- The numbers of a line.
+use Rattle.std.proofs.Common.{length, ◌∙◌, ap, ◌≡◌, ◌<◌, ℕ, ◌+◌, ◌*◌, List, [], ◌∷◌, Bool, true, false, ◌==◌, leb, if◌then◌else◌, Some, None, refl, arith}
 use Rattle.std.proofs.lemmas.Bool.Decides.{nat_tests}
-use Rattle.std.specs.List.{onto_first}
 use Rattle.std.specs.Option.{option_and_then}
 use Rattle.std.specs.declared.option.Option.{Option}
-use Rattle.text_lines.specs.Fields.{pieces}
 use Rattle.text_lines.specs.Numbers.{decimal_digit, number_after}
-use Rattle.cycle_cert.specs.Lines.{at_most, HasMore, number_in}
+use Rattle.cycle_cert.specs.Lines.{at_most, number_in}
 
 -- a number only grows with its digits
 grows : (limit n : ℕ) (text : List ℕ) → limit < n → at_most limit (number_after 10 decimal_digit n text) ≡ None
@@ -27,16 +25,3 @@ pub number_past : (limit n : ℕ) (text rest : List ℕ) → number_after 10 dec
     → number_in limit text ≡ None
 number_past limit n text rest e l =
     by_length (length text == 0) (at_most limit (number_after 10 decimal_digit 0 text)) (ap (at_most limit) e ∙ grows limit n rest l)
-
-onto_more : (first : List ℕ) (x : ℕ) (ps : List (List ℕ)) → HasMore (first ∷ onto_first x ps)
-onto_more first x [] = tt
-onto_more first x (p ∷ ps) = tt
-
-piece_by : (first : List ℕ) (x : ℕ) (b : Bool) (ps : List (List ℕ)) → HasMore (first ∷ cond b ([] ∷ ps) (onto_first x ps))
-piece_by first x true ps = tt
-piece_by first x false ps = onto_more first x ps
-
--- each text has a piece
-pub two_pieces : (mark : ℕ) (first text : List ℕ) → HasMore (first ∷ pieces mark text)
-two_pieces mark first [] = tt
-two_pieces mark first (x ∷ xs) = piece_by first x (x == mark) (pieces mark xs)

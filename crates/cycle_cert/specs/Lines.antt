@@ -28,11 +28,6 @@ number_in limit text = if length text == 0 then None else at_most limit (number_
 abbrev pub register_in : List ℕ → Option ℕ
 register_in text = at_most 7 (decimal_of 1 text)
 
--- two fields at least
-abbrev pub HasMore : List (List ℕ) → Type 0
-HasMore (first ∷ second ∷ others) = Unit {0}
-HasMore others = ⊥
-
 -- the target of the fields of a certificate's first line: the word and a place
 abbrev pub target_from : List (List ℕ) → Option ℕ
 target_from (word ∷ place ∷ []) = if bytes_eq word (codes "target") then place_in place else None

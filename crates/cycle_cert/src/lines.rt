@@ -2,31 +2,19 @@
 //!
 //! Source: our own.
 
-ghost use Rattle.std.specs.Prelude.{◌≡◌, ◌∷◌, ◌≤◌, ◌<◌, [], IfSome, MatchOption};
+ghost use Rattle.std.specs.Prelude.{◌≡◌, ◌≤◌, ◌<◌, IfSome};
 ghost use Rattle.text_lines.specs.Fields.{pieces};
-ghost use Rattle.text_lines.specs.Numbers.{decimal_digit};
-ghost use Rattle.cycle_cert.specs.Lines.{place_in, number_in, register_in, target_in, bound_from, entry_in, HasMore};
+ghost use Rattle.cycle_cert.specs.Lines.{place_in, number_in, register_in, target_in, bound_from, entry_in};
 
 use crate::bound::Bound;
 use crate::certificate::Entry;
-use text_lines::{decimal, hexadecimal, split_once};
+use text_lines::{decimal, decimal_digit, hexadecimal, single, split_once};
 
 /// The greatest number of cycles that a bound may fix.
 const MOST_FIXED: u32 = 1_000_000;
 
 /// The greatest factor of a register's weight.
 const MOST_FACTOR: u32 = 10_000;
-
-/// The value, 0 to 9, of a decimal digit. None for any other character.
-fn decimal_digit(character: u8) -> Option<u8>
-    ensures value { result ≡ decimal_digit character }
-    ensures below { IfSome result (λ value. value < 10) }
-{
-    match character {
-        b'0'..=b'9' => Some(character - b'0'),
-        _ => None,
-    }
-}
 
 /// The number that decimal digits write, one at least, where it is at most `limit`. None for every other text.
 fn number(limit: u32, text: &[u8]) -> Option<u32>
@@ -68,17 +56,6 @@ fn register(text: &[u8]) -> Option<u8>
     if number < 8 { Some(number as u8) } else { None }
 }
 
-/// A text that has no space. None where it has one.
-fn single(text: &[u8]) -> Option<&[u8]>
-    ensures { MatchOption result (HasMore (pieces 32 text.now))
-        (λ field. (field.now ≡ text.now) × (pieces 32 text.now ≡ text.now ∷ [])) }
-{
-    match split_once(b' ', text) {
-        Some(_) => None,
-        None => Some(text),
-    }
-}
-
 /// The place that a certificate's first line gives as its target. None where the line hasn't the form.
 pub(crate) fn target(line: &[u8]) -> Option<u16>
     ensures target { result ≡ target_in line.now }
@@ -88,7 +65,7 @@ pub(crate) fn target(line: &[u8]) -> Option<u16>
     if word != b"target".as_slice() {
         return None;
     }
-    place(single(rest)?)
+    place(single(b' ', rest)?)
 }
 
 /// The bound that the fields behind a place give. None where they haven't the form.
@@ -106,7 +83,7 @@ fn bound(text: &[u8]) -> Option<Bound>
     let fixed = number(MOST_FIXED, fixed)?;
     let (factor, rest) = split_once(b' ', rest)?;
     let factor = number(MOST_FACTOR, factor)?;
-    let register = register(single(rest)?)?;
+    let register = register(single(b' ', rest)?)?;
     Some(Bound {
         fixed,
         factor,

@@ -13,11 +13,6 @@ infixl 10 ◌>>=◌
 abbrev pub ◌>>=◌ : {A B : Type 0} → Option A → (A → Option B) → Option B
 found >>= next = option_and_then next found
 
--- two fields at least
-abbrev pub HasMore : List (List ℕ) → Type 0
-HasMore (first ∷ second ∷ others) = Unit {0}
-HasMore others = ⊥
-
 -- a number below so many
 abbrev pub below : ℕ → Option ℕ → Option ℕ
 below limit None = None

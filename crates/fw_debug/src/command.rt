@@ -2,12 +2,12 @@
 //!
 //! Source: our own.
 
-ghost use Rattle.std.specs.Prelude.{◌≡◌, ◌∷◌, ◌<◌, ◌^◌, [], IfSome, MatchOption};
+ghost use Rattle.std.specs.Prelude.{◌≡◌, ◌<◌, [], IfSome};
 ghost use Rattle.text_lines.specs.Fields.{pieces};
 ghost use Rattle.fw_debug.specs.Commands.{cell_in, arm_from, number_from, word_named, command_of, command_in};
-ghost use Rattle.fw_debug.specs.Commands.{HasMore, HasCell};
+ghost use Rattle.fw_debug.specs.Commands.{HasCell};
 
-use text_lines::{decimal, hexadecimal, split_once};
+use text_lines::{decimal, hexadecimal, single, split_once};
 
 /// What a line of a script asks for.
 #[derive(Clone, Copy, Drop)]
@@ -56,17 +56,6 @@ fn word_named(name: &[u8]) -> Option<Word>
     }
 }
 
-/// A text that has no space. None where it has one.
-fn single(text: &[u8]) -> Option<&[u8]>
-    ensures { MatchOption result (HasMore (pieces 32 text.now))
-        (λ field. (field.now ≡ text.now) × (pieces 32 text.now ≡ text.now ∷ [])) }
-{
-    match split_once(b' ', text) {
-        Some(_) => None,
-        None => Some(text),
-    }
-}
-
 /// The place, 0 to 127, that two hexadecimal digits write. None for every other text.
 fn cell(text: &[u8]) -> Option<u8>
     ensures cell { result ≡ cell_in text.now }
@@ -84,7 +73,7 @@ fn cell(text: &[u8]) -> Option<u8>
 fn last_number(text: &[u8]) -> Option<u32>
     ensures { result ≡ number_from (pieces 32 text.now) }
 {
-    decimal(9, single(text)?)
+    decimal(9, single(b' ', text)?)
 }
 
 /// The arming of a probe, of the fields behind the word. None where they haven't the form.
@@ -96,7 +85,7 @@ fn arm(text: &[u8]) -> Option<Command>
     let probe = decimal(9, probe)?;
     let (a, rest) = split_once(b' ', rest)?;
     let a = hexadecimal(3, a)? as u16;
-    let b = hexadecimal(2, single(rest)?)? as u8;
+    let b = hexadecimal(2, single(b' ', rest)?)? as u8;
     Some(Command::Arm { probe, a, b })
 }
 
@@ -109,7 +98,7 @@ fn command_of(word: Word, text: &[u8]) -> Option<Command>
         Word::Step => Some(Command::Step(last_number(text)?)),
         Word::Go => Some(Command::Go(last_number(text)?)),
         Word::Show => None,
-        Word::Ram => Some(Command::Ram(cell(single(text)?)?)),
+        Word::Ram => Some(Command::Ram(cell(single(b' ', text)?)?)),
         Word::Arm => arm(text),
         Word::Tell => Some(Command::Tell(last_number(text)?)),
         Word::Drop => Some(Command::Drop(last_number(text)?)),

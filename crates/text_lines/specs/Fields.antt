@@ -23,6 +23,11 @@ fields line = filter is_field (slice_split is_blank line)
 abbrev pub pieces : ℕ → List ℕ → List (List ℕ)
 pieces mark line = slice_split (λ character. character == mark) line
 
+-- two pieces at least
+abbrev pub HasMore : List (List ℕ) → Type 0
+HasMore (first ∷ second ∷ others) = Unit {0}
+HasMore others = ⊥
+
 -- the first character of a text is a space or a tab
 abbrev pub begins_blank : List ℕ → Bool
 begins_blank [] = false

@@ -14,8 +14,8 @@ mod pieces;
 pub use blanks::{is_blank, is_blank_line};
 pub use fields::next_field;
 pub use line::next_line;
-pub use numbers::{decimal, hexadecimal};
-pub use pieces::split_once;
+pub use numbers::{decimal, decimal_digit, hexadecimal};
+pub use pieces::{single, split_once};
 
 #[cfg(test)]
 mod tests;

@@ -5,7 +5,7 @@ ghost use Rattle.hex_text.specs.Digits.{digit_value};
 ghost use Rattle.text_lines.specs.Numbers.{decimal_digit, number_after, decimal_of, hexadecimal_of};
 
 /// The value, 0 to 9, of a decimal digit. None for any other character.
-fn decimal_digit(character: u8) -> Option<u8>
+pub fn decimal_digit(character: u8) -> Option<u8>
     ensures value { result ≡ decimal_digit character }
     ensures below { IfSome result (λ value. value < 10) }
 {

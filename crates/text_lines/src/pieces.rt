@@ -2,7 +2,7 @@
 
 ghost use Rattle.std.specs.Prelude.{◌≡◌, ◌∷◌, ◌<◌, ◌==◌, [], IfSome, MatchOption, length, position};
 ghost use Rattle.std.specs.List.{slice_split};
-ghost use Rattle.text_lines.specs.Fields.{is_blank, pieces};
+ghost use Rattle.text_lines.specs.Fields.{HasMore, is_blank, pieces};
 
 use crate::blanks::is_blank;
 
@@ -23,6 +23,17 @@ pub fn split_once(mark: u8, text: &[u8]) -> Option<(&[u8], &[u8])>
     match place_of(mark, text) {
         Some(place) => Some((&text[..place], &text[place + 1..])),
         None => None,
+    }
+}
+
+/// A text that has no such mark, and is one piece; None where it has one.
+pub fn single(mark: u8, text: &[u8]) -> Option<&[u8]>
+    ensures pieces { MatchOption result (HasMore (pieces mark text.now))
+        (λ piece. (piece.now ≡ text.now) × (pieces mark text.now ≡ text.now ∷ [])) }
+{
+    match split_once(mark, text) {
+        Some(_) => None,
+        None => Some(text),
     }
 }
 
