@@ -5,6 +5,7 @@ use Rattle.std.proofs.Common.{bit_and, bit_or, refl, ap, sym, ◌∙◌, subst, 
 use Rattle.std.proofs.lemmas.Bool.Decides.{nat_tests}
 use Rattle.mcs48_core.specs.Cpu.{Cpu}
 use Rattle.mcs48_core.specs.Status.{digit}
+use Rattle.mcs48_ranges.proofs.Parts.{digit_small}
 use Rattle.board_lines.specs.Bits.{value}
 use Rattle.fw_kernel.specs.Places.{HasKernel}
 use Rattle.fw_kernel.specs.declared.labels.TheConstants.{R_CELL, R_PARITY}
@@ -33,10 +34,6 @@ read_bits wire = wire 0 ∷ wire 1 ∷ wire 2 ∷ wire 3 ∷ wire 4 ∷ wire 5 �
 value_on : (b : Bool) (bits : List Bool) → value (b ∷ bits) ≡ digit b + 2 * value bits
 value_on true bits = refl
 value_on false bits = let e : 2 * value bits ≡ 0 + 2 * value bits = omega arith in e
-
-pub digit_small : (b : Bool) → digit b ≤ 1
-digit_small true = omega arith
-digit_small false = omega arith
 
 -- by numbers alone
 eight_in : (a d0 d1 d2 d3 d4 d5 d6 d7 t1 t2 t3 t4 t5 t6 t7 : ℕ) → a < 256

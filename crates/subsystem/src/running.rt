@@ -21,7 +21,6 @@ use int09::Bios;
 use key_file::History;
 use layout_reader::Layout;
 use mcs48_isa::Image;
-use quiet_log::quiet_histories;
 use std::alloc::{AllocError, Global};
 
 /// Goes on from power-on to the run's end.
@@ -97,7 +96,6 @@ pub fn run(
     let image = compile(layout);
     keeps_time(layout, history);
     runs_are_expected();
-    quiet_histories();
     let bios = Bios::new(alloc)?;
     let mut progress = Progress::new(alloc, &image, bios, history);
     run_on(&mut progress, &image, history, probes)?;

@@ -1,3 +1,4 @@
+use Rattle.std.proofs.Common.{◌∙◌}
 use Rattle.fw_compile.specs.Image.{image_of}
 use Rattle.joint_feed.specs.Stories.{story}
 use Rattle.link_model.specs.Machine.{keyboard}
@@ -11,8 +12,11 @@ returns c = record {
       λ layout history run sound accepted is.
       let law = c.run_and_model_agree.ensures.agreement layout history sound accepted in
       let s = story (image_of layout) history in
+      let log = log_as_expected (keyboard layout) s law.0 law.1 run is in
+      let cadence = keeps_cadence s law.0 run is in
       record {
-        log = log_as_expected (keyboard layout) s law.0 law.1 run is;
-        cadence = keeps_cadence s law.0 run is;
+        log = log;
+        cadence = cadence;
+        quiet = λ quiet. log ∙ c.quiet_histories.ensures.listed layout history run.starts.items quiet cadence is.last;
       };
 }

@@ -1,4 +1,4 @@
-use Rattle.std.proofs.Common.{subst, sym, ◌∙◌}
+use Rattle.std.proofs.Common.{subst, sym}
 use Rattle.fw_compile.specs.Image.{image_of}
 use Rattle.fw_logic.specs.JointRun.{KeepsTime}
 use Rattle.joint_feed.specs.Stories.{story}
@@ -31,9 +31,7 @@ pub returns-clause-agrees : goal.returns-clause-agrees
 returns-clause-agrees g c = (expected g c).log
 
 pub returns-clause-quiet : goal.returns-clause-quiet
-returns-clause-quiet g c = λ quiet.
-    (expected g c).log
-    ∙ c.quiet_histories.ensures.listed c.args.layout.now c.args.history.now c.outcome_of.result.starts.items quiet (expected g c).cadence (ran g c).last
+returns-clause-quiet g c = (expected g c).quiet
 
 pub returns-clause-cadence : goal.returns-clause-cadence
 returns-clause-cadence g c = (expected g c).cadence
