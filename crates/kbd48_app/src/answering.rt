@@ -185,7 +185,6 @@ fn over_script<F: Shelf>(
     shelf: &mut F,
     probes: &mut Vec<Box<dyn Probe>>,
 ) -> Result<Vec<u8>, Refusal>
-    requires accepted { IsAcceptedFor layout.now history }
     ensures ends { MayEnd (script_next script.now layout.now history) (F.told shelf.old) (answer_of result)
         (F.told shelf.new) (map (λ b. watch b) probes.old.items) (map (λ b. watch b) probes.new.items) }
     ensures read { result ≡ Err Refusal.Read → Rose (F.faults shelf.old) (F.faults shelf.new) }

@@ -6,7 +6,6 @@ ghost use Rattle.fw_debug.specs.Faults.{IsRight, IsVerdict};
 ghost use Rattle.fw_debug.specs.Obeyed.{IsObeyed, IsObeyedInPart};
 ghost use Rattle.fw_debug.specs.Scripts.{script_of};
 ghost use Rattle.joint_feed.specs.Stories.{story};
-ghost use Rattle.key_file.specs.Accepted.{IsAcceptedFor};
 ghost use Rattle.kbd48_app.specs.Answers.{MayAnswerDebug, answer_of};
 ghost use Rattle.kbd48_app.specs.Debugging.{script_refusal};
 
@@ -25,7 +24,6 @@ fn over_session(
     script: &[u8],
     probes: &mut Vec<Box<dyn Probe>>,
 ) -> Result<Vec<u8>, Refusal>
-    requires accepted { IsAcceptedFor layout.now history }
     requires right { IsRight (length probes.old.items) script.now }
     ensures says { let s = story (image_of layout.now) history in
         let before = map (λ b. watch b) probes.old.items in
@@ -60,7 +58,6 @@ pub fn debug(
     verdict: Result<(), SessionFault>,
     probes: &mut Vec<Box<dyn Probe>>,
 ) -> Result<Vec<u8>, Refusal>
-    requires accepted { IsAcceptedFor layout.now history }
     requires judged { IsVerdict (script_of (length probes.old.items) script.now) verdict }
     ensures says { let before = map (λ b. watch b) probes.old.items in
         MayAnswerDebug layout.now history script.now (answer_of result) before (map (λ b. watch b) probes.new.items) }

@@ -5,8 +5,8 @@ use Rattle.joint_feed.specs.Stories.{story}
 use Rattle.kbd48_app.proofs.Sessions.{refused_so, right_by, said_so}
 use Rattle.kbd48_app.proofs.debugging.debug.Goals as goal
 
-pub over_session-requires-clause-right : goal.over_session-requires-clause-right
-over_session-requires-clause-right g c = right_by _ c.args.script.now c.args.verdict c.in-Ok.is c.requires.judged
+pub over_session-requires : goal.over_session-requires
+over_session-requires g c = record { right = right_by _ c.args.script.now c.args.verdict c.in-Ok.is c.requires.judged }
 
 pub returns-in-Err-clause-says : goal.returns-in-Err-clause-says
 returns-in-Err-clause-says g c =
