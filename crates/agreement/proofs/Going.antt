@@ -1,63 +1,116 @@
 -- From one tick start to the next, by the tick's meeting: what ties the joint run to the model goes on.
-use Rattle.std.proofs.Common.{◌≡◌, ◌≤◌, ℕ, suc, ◌+◌, ◌-◌, ◌*◌, ◌==◌, not, List, Bool, refl, ap, sym, ◌∙◌, subst, arith}
+use Rattle.std.proofs.Common.{◌≡◌, ◌≤◌, ℕ, suc, ◌+◌, ◌-◌, ◌*◌, ◌==◌, not, All, List, Bool, refl, ap, sym, ◌∙◌, subst, arith}
 use Rattle.board_lines.specs.declared.event.Edge.{Edge}
 use Rattle.board_lines.specs.declared.event.HostEvent.{HostEvent}
 use Rattle.board_lines.specs.declared.lines.Lines.{Lines}
+use Rattle.board_lines.specs.Flips.{AreFlips}
 use Rattle.byte_time.specs.declared.meeting.Meeting.{Meeting}
 use Rattle.fw_kernel.specs.declared.labels.TheConstants.{TICK}
-use Rattle.fw_keys.proofs.Carried.{SameKeys, ticks_same, edges_low, low_edges}
-use Rattle.fw_keys.proofs.Kept.{Sound, NoPrefix, met_sound, tested_sound, tick_sound}
+use Rattle.fw_keys.proofs.Carried.{SameKeys, ticks_same, layers_alike, edges_low, low_edges}
+use Rattle.fw_keys.proofs.Edges.{IsWide}
+use Rattle.fw_keys.proofs.Kept.{Sound, NoPrefix, pressed_low, met_sound, tested_sound, tick_sound}
 use Rattle.fw_keys.specs.Edges.{image_keys}
-use Rattle.fw_keys.specs.Quiet.{shown_by, edges_now, changed_now, down_now}
+use Rattle.fw_keys.specs.Quiet.{shown_by, layers_by, edges_now, changed_now, down_now, latch_now}
+use Rattle.fw_link.proofs.Over.{IsOver, under}
+use Rattle.fw_link.proofs.TickLatch.{lines_by}
 use Rattle.fw_link.proofs.Wired.{IsReleased}
+use Rattle.fw_link.specs.Latch.{Frame}
 use Rattle.fw_logic.proofs.Laws.{comes_as}
-use Rattle.joint_run.specs.Joint.{Beside, joint_board, lights_of}
-use Rattle.joint_run.specs.Run.{World}
+use Rattle.host_turn.specs.Run.{says_lights}
+use Rattle.joint_run.specs.Joint.{Beside, latch_of, lights_of}
+use Rattle.joint_run.specs.Run.{Board, World}
 use Rattle.joint_run.specs.Starts.{Tick}
+use Rattle.kbd_model.proofs.Alike.{layered_same, layers_same, ticked_same}
 use Rattle.kbd_model.specs.Codes.{Keys, keys_of}
-use Rattle.kbd_model.specs.Keyboard.{Keyboard, is_held}
-use Rattle.kbd_model.specs.Tick.{ticked, met}
+use Rattle.kbd_model.specs.Layers.{Layers, layered, all_layers_after}
+use Rattle.kbd_model.specs.Keyboard.{Keyboard, offer, is_held}
+use Rattle.kbd_model.specs.Tick.{ticked, tested_if, met}
 use Rattle.kbd_model.specs.declared.meeting.Meeting.{Meeting as KeyboardMeeting}
-use Rattle.layout_reader.specs.Layouts.{KeyLayout}
+use Rattle.layout_reader.specs.Layouts.{KeyLayout, is_fn_place}
+use Rattle.link_model.proofs.Known.{layered_known}
 use Rattle.link_model.specs.Expected.{Whole, meeting_from}
-use Rattle.link_model.specs.Machine.{keyboard, met_as}
+use Rattle.link_model.specs.Machine.{LayeredKeyboard, keyboard, met_as}
 use Rattle.link_model.specs.TickEdges.{shown}
+use Rattle.wires_agree.proofs.Pending.{flips_stay}
+use Rattle.wires_agree.specs.Flips.{IsFlip}
 use Rattle.wires_agree.specs.Ticks.{Ticked}
 use Rattle.wires_agree.specs.Without.{seen_in_bytes}
-use Rattle.agreement.proofs.Happened.{Happened, lit_latch, at_look}
+use Rattle.agreement.specs.Wires.{IsFrameOf}
+use Rattle.agreement.proofs.Compiled.{is_silent, silent_keys}
+use Rattle.agreement.proofs.Placed.{IsOfLayout}
+use Rattle.agreement.proofs.Happened.{Happened, GoesBy, at_lights, at_look}
 use Rattle.agreement.proofs.Model.{columns_in, by_columns, IsOnTime}
-use Rattle.agreement.proofs.Sides.{side_is}
+use Rattle.agreement.proofs.OnWires.{on_wires}
+use Rattle.agreement.proofs.Sides.{met_is, side_is}
 use Rattle.agreement.proofs.Ties.{Ties}
 
 -- a tick of the image's keyboard is one of the layout's, and keeps what is to be kept
 module _ (a b : Keys) (same : SameKeys a b) (codes : NoPrefix b) where
-  pub layout_ticks : (meeting : KeyboardMeeting) (es : List (ℕ × Bool)) (k : Keyboard) → low_edges es → Sound k
-      → ticked a meeting es k ≡ ticked b meeting es k
-  layout_ticks meeting es k low s =
-      ticks_same a b same meeting es k
-      (tested_sound b codes (not (k.test == 0)) (met meeting b k) (met_sound b codes meeting k s)).place low
+  pub layout_ticks : (meeting : KeyboardMeeting) (es : List (ℕ × Bool)) (l : Layers) (k : Keyboard) → low_edges es
+      → Sound b l k → ticked a meeting (layered a.is_fn es l) k ≡ ticked b meeting (layered b.is_fn es l) k
+  layout_ticks meeting es l k low s =
+      ticks_same a b same meeting es l k
+      (pressed_low b l (tested_if (not (k.test == 0)) (met meeting b k)).repeats
+      (tested_sound b codes l (not (k.test == 0)) (met meeting b k) (met_sound b codes l meeting k s)).place) low
 
-module _ (edges : List Edge) (events : List HostEvent) (bytes : List ℕ) (layout : KeyLayout)
-    (same : SameKeys (image_keys bytes) (keys_of layout)) (codes : NoPrefix (keys_of layout))
-    (n : ℕ) (w : World Beside) (m : Whole Keyboard) (time : IsOnTime n w) (tie : Ties w m)
-    (columns : edges_now (joint_board edges events) w ≡ shown (is_held m.keys) (columns_in edges w.cycle))
-    (released : IsReleased (lit_latch edges events w))
-    (lamps : m.keys.lights ≡ lights_of (lit_latch edges events w)) where
+-- at places of the layout the kernel's Fn key is the layout's: the layers and the tick are those of the layout
+module _ (layout : KeyLayout) (es : List (ℕ × Bool)) (of_layout : All (IsOfLayout layout) es) where
+  own_layers : (l : Layers) → all_layers_after (is_silent layout) es l ≡ all_layers_after (is_fn_place layout) es l
+  own_layers l = layers_same (is_silent layout) (is_fn_place layout) es l of_layout
+
+  own_ticks : (meeting : KeyboardMeeting) (l : Layers) (k : Keyboard)
+      → ticked (silent_keys layout) meeting (layered (is_silent layout) es l) k
+      ≡ ticked (keys_of layout) meeting (layered (is_fn_place layout) es l) k
+  own_ticks meeting l k =
+      ap (λ v. ticked (silent_keys layout) meeting v k) (layered_same (is_silent layout) (is_fn_place layout) es l of_layout)
+      ∙ ticked_same (silent_keys layout) (is_fn_place layout) meeting (layered (is_fn_place layout) es l) k
+      (layered_known (λ p. is_silent layout p ≡ is_fn_place layout p) (is_fn_place layout) es l of_layout)
+
+-- on any board above the joint board, by the state of the joint run
+module _ (edges : List Edge) (events : List HostEvent) (d : Board) (to : d.State → Beside)
+    (over : IsOver edges events d to) (bytes : List ℕ) (layout : KeyLayout)
+    (same : SameKeys (image_keys bytes) (silent_keys layout)) (codes : NoPrefix (silent_keys layout))
+    (n : ℕ) (w : World d.State) (m : Whole LayeredKeyboard) (time : IsOnTime n (under to w))
+    (tie : Ties bytes (silent_keys layout) (under to w) m)
+    (columns : edges_now d w ≡ shown (is_held m.keys.keyboard) (columns_in edges w.cycle))
+    (of_layout : All (IsOfLayout layout) (shown (is_held m.keys.keyboard) (columns_in edges w.cycle)))
+    (released : IsReleased (latch_now d w))
+    (lamps : m.keys.keyboard.lights ≡ lights_of (latch_now d w)) (noise : AreFlips events) where
+  abbrev u : World Beside
+  u = under to w
+
+  -- the next start is on time, and tied to the model
   abbrev pub Goal : World Beside → Type 0
-  Goal e = IsOnTime (suc n) e × Ties e (by_columns (keyboard layout) edges events w.cycle e.cycle m)
+  Goal e = IsOnTime (suc n) e × Ties bytes (silent_keys layout) e (by_columns (keyboard layout) edges events w.cycle e.cycle m)
+
+  abbrev pub lines : Frame → ℕ → Lines
+  lines frame = lines_by frame (latch_now d w) w.cycle released
 
   -- what the law of a tick's wires has to say, whatever the tick's length
-  abbrev pub Wires : (ℕ → Lines) → Type 0
-  Wires lines = (rest more k : ℕ) → k ≡ 353 + rest → rest ≡ 15 + more
-      → Ticked events lines w.cycle rest (at_look edges events w) (m.keys.test == 0)
-      (Rattle.kbd_model.specs.Keyboard.offer m.keys) k
+  abbrev pub Wires : (ℕ → Lines) → Meeting → Type 0
+  Wires lines met = (rest more k : ℕ) → k ≡ 353 + rest → rest ≡ 15 + more
+      → Ticked events lines w.cycle rest (at_look edges events u) (m.keys.keyboard.test == 0) (offer m.keys.keyboard) met k
 
-  ends : (meeting : KeyboardMeeting) (met : Meeting) (lines : ℕ → Lines)
+  -- what noise is to turn round at the look
+  pub flip_at_look : IsFlip (at_look edges events u).side.port.flip
+  flip_at_look =
+      flips_stay events (λ o. latch_of (latch_now d w)) 24 (232 + w.cycle)
+      (record (at_lights events u) {
+        side = says_lights (232 + w.cycle) u.board.shown (lights_of (latch_now d w)) (at_lights events u).side;
+      })
+      noise (flips_stay events (λ o. latch_of w.cpu.p2) 232 w.cycle u.board.pc noise tie.flip)
+
+  -- the meeting is the law's
+  meets : (met : Meeting) (frame : Frame) → Wires (lines frame) met
       → meeting_from (keyboard layout) events w.cycle m ≡ met
-      → met_as met ≡ meeting → Wires lines → (e : World Beside) → Happened edges events bytes meeting lines w e → Goal e
-  ends meeting met lines is kind wires e h =
-      let d = joint_board edges events in
-      let es : List (ℕ × Bool) = shown (is_held m.keys) (columns_in edges w.cycle) in
+  meets met frame wires =
+      met_is edges events u tie.released released tie.idle LayeredKeyboard (keyboard layout) m tie.side tie.shown lamps
+      (lines frame) 15 368 met (wires 15 0 368 refl refl)
+
+  ends : (meeting : KeyboardMeeting) (met : Meeting) (frame : Frame) → met_as met ≡ meeting → Wires (lines frame) met
+      → (e : World d.State) → Happened d bytes meeting frame w e → Goal (under to e)
+  ends meeting met frame kind wires e h =
+      let es : List (ℕ × Bool) = shown (is_held m.keys.keyboard) (columns_in edges w.cycle) in
       let early : 2 ≤ w.cpu.pre = tie.started.early in
       let late : w.cpu.pre ≤ 3 = tie.started.late in
       let early' : 2 ≤ e.cpu.pre = h.started.early in
@@ -69,44 +122,85 @@ module _ (edges : List Edge) (events : List HostEvent) (bytes : List ℕ) (layou
       let end : e.cycle ≡ 256 + w.cycle + k = omega (arith, pass, late, early') in
       let long : rest ≡ 15 + (rest - 15) = omega (arith, pass, late, early') in
       let law = wires rest (rest - 15) k refl long in
+      let is : meeting_from (keyboard layout) events w.cycle m ≡ met = meets met frame wires in
+      let there = on_wires edges events d to over w tie.lit released frame bytes meeting e late h in
       let low : low_edges es = subst (λ v. low_edges v) columns (edges_low (changed_now d w) (down_now d w)) in
-      let meets : met_as (meeting_from (keyboard layout) events w.cycle m) ≡ meeting = ap met_as is ∙ kind in
-      let keys : shown_by e.cpu.ram ≡ ticked (keys_of layout) (met_as (meeting_from (keyboard layout) events w.cycle m))
-      es m.keys =
+      let as_met : met_as (meeting_from (keyboard layout) events w.cycle m) ≡ meeting = ap met_as is ∙ kind in
+      let l : Layers = m.keys.layers in
+      let k0 : Keyboard = m.keys.keyboard in
+      let img : Keys = image_keys bytes in
+      let b : Keys = silent_keys layout in
+      let wide : IsWide l = subst IsWide tie.layers refl in
+      let keys : shown_by e.cpu.ram ≡ ticked b meeting (layered b.is_fn es l) k0 =
       h.keyboard
-      ∙ ap (λ k. ticked (image_keys bytes) meeting (edges_now d w) k) tie.keyboard
-      ∙ ap (λ v. ticked (image_keys bytes) meeting v m.keys) columns
-      ∙ layout_ticks (image_keys bytes) (keys_of layout) same codes meeting es m.keys low tie.sound
-      ∙ ap (λ v. ticked (keys_of layout) v es m.keys) (sym meets) in
-      let pc = h.pc k end in (
+      ∙ ap (λ v. ticked img meeting (layered img.is_fn (edges_now d w) (layers_by w.cpu.ram)) v) tie.keyboard
+      ∙ ap (λ v. ticked img meeting (layered img.is_fn (edges_now d w) v) k0) tie.layers
+      ∙ ap (λ v. ticked img meeting (layered img.is_fn v l) k0) columns
+      ∙ layout_ticks img b same codes meeting es l k0 low tie.sound in
+      let layers : layers_by e.cpu.ram ≡ all_layers_after b.is_fn es l =
+      h.layers
+      ∙ ap (λ v. all_layers_after img.is_fn (edges_now d w) v) tie.layers
+      ∙ ap (λ v. all_layers_after img.is_fn v l) columns
+      ∙ layers_alike img b same es l low in
+      let own : ticked b meeting (layered b.is_fn es l) k0
+      ≡ ticked (keys_of layout) (met_as (meeting_from (keyboard layout) events w.cycle m)) (layered (is_fn_place layout) es l) k0 =
+      own_ticks layout es of_layout meeting l k0
+      ∙ ap (λ v. ticked (keys_of layout) v (layered (is_fn_place layout) es l) k0) (sym as_met) in
+      let own_after = own_layers layout es of_layout l in
+      let pc = there.pc k end in (
         omega (arith, pass, now),
         record {
           started = h.started;
-          keyboard = keys;
+          keyboard = keys ∙ own;
+          layers = layers ∙ own_after;
+          repeating = h.repeating;
           sound =
-              tick_sound (keys_of layout) codes
-              (met_as (meeting_from (keyboard layout) events w.cycle m)) es m.keys low tie.sound;
+              subst (λ v. Sound b v
+              (ticked (keys_of layout) (met_as (meeting_from (keyboard layout) events w.cycle m)) (layered (is_fn_place layout) es l) k0))
+              own_after
+              (subst (λ v. Sound b (all_layers_after b.is_fn es l) v) own (tick_sound b codes meeting es l k0 low wide tie.sound));
           side = ap (λ (b : Rattle.pc_wires.specs.Wires.Pc). seen_in_bytes b.side) pc
-              ∙ side_is edges events w tie.released released tie.idle Keyboard (keyboard layout) m tie.side tie.shown
-              lamps lines rest k law;
+              ∙ side_is edges events u tie.released released tie.idle LayeredKeyboard (keyboard layout) m tie.side tie.shown
+              lamps (lines frame) rest k met law;
           idle =
               ap (λ (b : Rattle.pc_wires.specs.Wires.Pc). Rattle.ctl_link.specs.Link.is_busy b.side.port.link) pc
               ∙ law.idle_again;
-          shown = h.shown ∙ sym lamps;
-          lit = ap lights_of h.latch ∙ sym h.shown;
+          flip = subst (λ (b : Rattle.pc_wires.specs.Wires.Pc). IsFlip b.side.port.flip) (sym pc)
+              (flips_stay events (lines frame) k (256 + w.cycle) (at_look edges events u) noise flip_at_look);
+          shown = there.shown ∙ sym lamps;
+          lit = ap lights_of h.latch ∙ sym there.shown;
           released = subst (λ v. IsReleased v) (sym h.latch) released;
         },
       )
 
-  pub goes : (meeting : KeyboardMeeting) (met : Meeting) (lines : ℕ → Lines)
-      → meeting_from (keyboard layout) events w.cycle m ≡ met
-      → met_as met ≡ meeting → Wires lines
-      → Tick (joint_board edges events) TICK bytes w (Happened edges events bytes meeting lines w)
-      → Tick (joint_board edges events) TICK bytes w Goal
-  goes meeting met lines is kind wires t = record {
+  -- the run comes there, and the board has gone on by the tick's latch
+  abbrev pub Went : Frame → World d.State → Type 0
+  Went frame e =
+      Goal (under to e) × GoesBy d frame w e × IsFrameOf (offer m.keys.keyboard) (meeting_from (keyboard layout) events w.cycle m) frame
+
+  by_frame : (meeting : KeyboardMeeting) (frame : Frame) (e : World d.State) → Happened d bytes meeting frame w e
+      → GoesBy d frame w e
+  by_frame meeting frame e h =
+      let late : w.cpu.pre ≤ 3 = tie.started.late in
+      let pass : e.cycle + w.cpu.pre ≡ w.cycle + 2048 + e.cpu.pre = h.time in
+      let n : ℕ = e.cycle - w.cycle in
+      let cycles : e.cycle ≡ w.cycle + n = omega (arith, pass, late) in
+      record { latch = h.latch; length = n; cycles = cycles; board = h.board n cycles }
+
+  pub goes : (meeting : KeyboardMeeting) (met : Meeting) (frame : Frame) → IsFrameOf (offer m.keys.keyboard) met frame
+      → met_as met ≡ meeting
+      → Wires (lines frame) met
+      → Tick d TICK bytes w (Happened d bytes meeting frame w)
+      → Tick d TICK bytes w (Went frame)
+  goes meeting met frame fits kind wires t = record {
     at = t.at;
     first = t.first;
     step = t.step;
-    rest = comes_as (joint_board edges events) TICK bytes (Happened edges events bytes meeting lines w) Goal t.first
-        (λ e h. ends meeting met lines is kind wires e h) t.rest;
+    rest = comes_as d TICK bytes (Happened d bytes meeting frame w) (Went frame) t.first
+        (λ e h. (
+          ends meeting met frame kind wires e h,
+          by_frame meeting frame e h,
+          subst (λ v. IsFrameOf (offer m.keys.keyboard) v frame) (sym (meets met frame wires)) fits,
+        ))
+        t.rest;
   }

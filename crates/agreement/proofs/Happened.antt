@@ -5,10 +5,13 @@ use Rattle.board_lines.specs.declared.event.Edge.{Edge}
 use Rattle.board_lines.specs.declared.event.HostEvent.{HostEvent}
 use Rattle.board_lines.specs.declared.lines.Lines.{Lines}
 use Rattle.fw_keys.specs.Edges.{image_keys}
-use Rattle.fw_keys.specs.Quiet.{IsStarted, shown_by, edges_now, latch_now}
+use Rattle.fw_keys.specs.Quiet.{IsStarted, IsRepeating, shown_by, layers_by, edges_now, latch_now}
+use Rattle.fw_link.specs.Latch.{Frame, tick_latch}
+use Rattle.fw_link.proofs.Latches.{driven}
 use Rattle.host_turn.specs.Run.{says_lights}
 use Rattle.joint_run.specs.Joint.{Beside, joint_board, latch_of, lights_of}
-use Rattle.joint_run.specs.Run.{World}
+use Rattle.joint_run.specs.Run.{Board, World}
+use Rattle.kbd_model.specs.Layers.{layered, all_layers_after}
 use Rattle.kbd_model.specs.Tick.{ticked}
 use Rattle.kbd_model.specs.declared.meeting.Meeting.{Meeting}
 use Rattle.pc_wires.specs.Wires.{Pc}
@@ -30,15 +33,30 @@ at_look edges events w =
       side = says_lights (232 + w.cycle) w.board.shown (lights_of (lit_latch edges events w)) (at_lights events w).side;
     })
 
--- from tick start w to tick start v, with this meeting and these lines from the look on
-pub record Happened (edges : List Edge) (events : List HostEvent) (bytes : List ℕ) (meeting : Meeting)
-    (lines : ℕ → Lines)
-    (w v : World Beside) : Type 0 where
+-- from tick start w to tick start v on any board, with this meeting and this frame: the keyboard and the layers that memory
+-- shows have gone on, and the board by the tick's latch, cycle by cycle
+pub record Happened (d : Board) (bytes : List ℕ) (meeting : Meeting) (frame : Frame) (w v : World d.State)
+    : Type 0 where
   pub started : IsStarted v.cpu
   pub time : v.cycle + w.cpu.pre ≡ w.cycle + 2048 + v.cpu.pre
-  pub keyboard : shown_by v.cpu.ram
-      ≡ ticked (image_keys bytes) meeting (edges_now (joint_board edges events) w) (shown_by w.cpu.ram)
-  pub latch : v.cpu.p2 ≡ lit_latch edges events w
+  pub keyboard : shown_by v.cpu.ram ≡ ticked (image_keys bytes) meeting
+      (layered (image_keys bytes).is_fn (edges_now d w) (layers_by w.cpu.ram)) (shown_by w.cpu.ram)
+  pub layers : layers_by v.cpu.ram ≡ all_layers_after (image_keys bytes).is_fn (edges_now d w) (layers_by w.cpu.ram)
+  pub repeating : IsRepeating bytes v.cpu.ram
+  pub latch : v.cpu.p2 ≡ latch_now d w
+  pub board : (n : ℕ) → v.cycle ≡ w.cycle + n
+      → v.board ≡ driven d w.cycle (tick_latch w.cpu.p2 (latch_now d w) frame) n 0 w.board
+
+-- so it has gone on by the latch of a tick with this frame
+pub record GoesBy (d : Board) (frame : Frame) (w v : World d.State) : Type 0 where
+  pub latch : v.cpu.p2 ≡ latch_now d w
+  pub length : ℕ
+  pub cycles : v.cycle ≡ w.cycle + length
+  pub board : v.board ≡ driven d w.cycle (tick_latch w.cpu.p2 (latch_now d w) frame) length 0 w.board
+
+-- what that comes to at the wires of the joint board
+pub record AtWires (edges : List Edge) (events : List HostEvent) (lines : ℕ → Lines) (w v : World Beside)
+    : Type 0 where
   pub shown : v.board.shown ≡ lights_of (lit_latch edges events w)
   pub pc : (k : ℕ) → v.cycle ≡ 256 + w.cycle + k
       → v.board.pc ≡ board_cycles events lines k (256 + w.cycle) (at_look edges events w)

@@ -7,7 +7,6 @@ use Rattle.std.proofs.lemmas.Bool.{eqb-true}
 use Rattle.std.proofs.lemmas.Bool.Decides.{nat_tests}
 use Rattle.std.proofs.lemmas.List.{get_or-set_same, get_or-set_other, length-set}
 use Rattle.board_lines.specs.Matrix.{turned}
-use Rattle.fw_keys.proofs.Edges.{each_turns}
 use Rattle.fw_keys.proofs.Fold.{turned_all}
 use Rattle.fw_keys.specs.Quiet.{shown_by}
 use Rattle.kbd_model.specs.declared.meeting.Meeting.{Meeting as KeyboardMeeting}
@@ -21,11 +20,12 @@ use Rattle.kbd_model.specs.Commands.{obeyed_in, parameter, commanded, acknowledg
 use Rattle.kbd_model.specs.Keyboard.{Keyboard, is_held, offer}
 use Rattle.kbd_model.specs.Queue.{clear}
 use Rattle.kbd_model.specs.Tick.{met, sent_byte, without_offered, reset, tested_if, repeated, repeated_if}
-use Rattle.kbd_model.specs.Tick.{edges_if, is_scanning, is_inhibited, ticked}
+use Rattle.kbd_model.specs.Layers.{Layers, layer_of, layers_after, layered}
+use Rattle.kbd_model.specs.Tick.{edge_if, edges_if, is_scanning, is_inhibited, ticked}
 use Rattle.byte_time.specs.declared.meeting.Meeting.{Meeting}
-use Rattle.layout_reader.specs.Layouts.{KeyLayout}
+use Rattle.layout_reader.specs.Layouts.{KeyLayout, is_fn_place}
 use Rattle.link_model.proofs.Seen.{last_change, held_is_now}
-use Rattle.link_model.specs.Machine.{keyboard, met_as}
+use Rattle.link_model.specs.Machine.{LayeredKeyboard, keyboard, met_as}
 use Rattle.link_model.specs.TickEdges.{shown}
 
 -- each place has its Boolean
@@ -117,19 +117,27 @@ repeats_hold : (keys : Keys) (on inhibited : Bool) (k : Keyboard) → (repeated_
 repeats_hold keys true inhibited k = repeat_holds keys k.repeats inhibited k
 repeats_hold keys false inhibited k = refl
 
--- edges turn what is held
-edges_turn : (keys : Keys) (on : Bool) (edges : List (ℕ × Bool)) (k : Keyboard) (held : List Bool) → k.held ≡ held
-    → (edges_if on keys edges k).held ≡ turned_all edges held
-edges_turn keys on edges k held same =
-    ap (λ (x : Keyboard). x.held) (each_turns keys on edges k) ∙ ap (λ h. turned_all edges h) same
+-- an edge turns what is held, whatever its layer
+edge_turns : (keys : Keys) (on : Bool) (place : ℕ) (down on_fn : Bool) (k : Keyboard)
+    → (edge_if on keys place down on_fn k).held ≡ turned place down k.held
+edge_turns keys true place true on_fn k = refl
+edge_turns keys true place false on_fn k = refl
+edge_turns keys false place down on_fn k = refl
+
+edges_turn : (keys : Keys) (on : Bool) (is_fn : ℕ → Bool) (edges : List (ℕ × Bool)) (l : Layers) (k : Keyboard) (held : List Bool)
+    → k.held ≡ held → (edges_if on keys (layered is_fn edges l) k).held ≡ turned_all edges held
+edges_turn keys on is_fn [] l k held same = same
+edges_turn keys on is_fn (e ∷ es) l k held same =
+    edges_turn keys on is_fn es (layers_after is_fn e l) (edge_if on keys e.0 e.1 (layer_of l e.0 e.1) k) (turned e.0 e.1 held)
+    (edge_turns keys on e.0 e.1 (layer_of l e.0 e.1) k ∙ ap (λ h. turned e.0 e.1 h) same)
 
 -- the edges alone turn the keys of a tick
-pub ticked_holds : (keys : Keys) (meeting : KeyboardMeeting) (edges : List (ℕ × Bool)) (k : Keyboard)
-    → (ticked keys meeting edges k).held ≡ turned_all edges k.held
-ticked_holds keys meeting edges k =
+pub ticked_holds : (keys : Keys) (meeting : KeyboardMeeting) (is_fn : ℕ → Bool) (edges : List (ℕ × Bool)) (l : Layers) (k : Keyboard)
+    → (ticked keys meeting (layered is_fn edges l) k).held ≡ turned_all edges k.held
+ticked_holds keys meeting is_fn edges l k =
     let j : Keyboard = tested_if (not (k.test == 0)) (met meeting keys k) in
     let i : Keyboard = repeated_if (is_scanning j) keys (is_inhibited meeting) j in
-    edges_turn keys (is_scanning j) edges i k.held
+    edges_turn keys (is_scanning j) is_fn edges l i k.held
     (repeats_hold keys (is_scanning j) (is_inhibited meeting) j ∙ tested_holds (not (k.test == 0)) (met meeting keys k)
     ∙ met_holds keys meeting k)
 
@@ -153,12 +161,13 @@ turned_is (e ∷ es) held p long l =
     ∙ ap (λ b. last_change es p b) (turned_at held e.0 p e.1 (omega (arith, long, l)) (e.0 == p) refl)
 
 -- what the columns show is held behind the tick
-pub holds_now : (layout : KeyLayout) (meeting : Meeting) (k : Keyboard) (now : ℕ → Bool) (p : ℕ) → HasPlaces k → p < 96
+pub holds_now : (layout : KeyLayout) (meeting : Meeting) (k : LayeredKeyboard) (now : ℕ → Bool) (p : ℕ) → HasPlaces k.keyboard → p < 96
     → (keyboard layout).held ((keyboard layout).ticked meeting (shown ((keyboard layout).held k) now) k) p ≡ now p
 holds_now layout meeting k now p has l =
-    let edges : List (ℕ × Bool) = shown (is_held k) now in
-    ap (λ h. slice_index_or h p false) (ticked_holds (keys_of layout) (met_as meeting) edges k)
-    ∙ turned_is edges k.held p has l ∙ held_is_now (is_held k) now p l
+    let edges : List (ℕ × Bool) = shown (is_held k.keyboard) now in
+    ap (λ h. slice_index_or h p false)
+    (ticked_holds (keys_of layout) (met_as meeting) (is_fn_place layout) edges k.layers k.keyboard)
+    ∙ turned_is edges k.keyboard.held p has l ∙ held_is_now (is_held k.keyboard) now p l
 
 -- a list of keys that are up
 none_down : (n p : ℕ) → slice_index_or (replicate n false) p false ≡ false

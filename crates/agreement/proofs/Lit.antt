@@ -6,8 +6,14 @@ use Rattle.board_lines.specs.declared.lines.Lines.{Lines}
 use Rattle.fw_kernel.specs.Places.{HasKernel}
 use Rattle.fw_keys.proofs.QuietTick.{board3, H, k, shone_is}
 use Rattle.fw_keys.proofs.Tick.{shining}
+use Rattle.fw_keys.specs.Edges.{IsSilentAlike}
 use Rattle.fw_keys.specs.Quiet.{cells_in, IsStarted, edges_now, latch_now}
 use Rattle.fw_link.proofs.Outside.{still_wires, lit_wires}
+use Rattle.fw_link.proofs.Latches.{driven}
+use Rattle.fw_link.proofs.Over.{IsOver, under, ticks_over}
+use Rattle.fw_link.proofs.TickLatch.{before_lights}
+use Rattle.fw_link.proofs.Wired.{spans_on}
+use Rattle.fw_link.specs.Latch.{Frame, tick_latch}
 use Rattle.fw_logic.proofs.Blocks.{ticks_add, joined}
 use Rattle.fw_logic.proofs.Service.{stacked}
 use Rattle.fw_logic.specs.Scan.{in_tick}
@@ -16,10 +22,11 @@ use Rattle.joint_run.specs.Joint.{Beside, joint_board, latch_of, lights_of}
 use Rattle.joint_run.specs.Run.{Board, World, ticks}
 use Rattle.pc_wires.specs.Wires.{Pc}
 use Rattle.wires_agree.specs.Cycles.{board_cycles}
-use Rattle.agreement.proofs.Happened.{lit_latch, at_lights, at_look}
+use Rattle.agreement.proofs.Happened.{at_lights, at_look}
 
 -- at any board
-module _ (d : Board) (bytes : List ℕ) (hk : HasKernel bytes) (small : All IsByte bytes)
+module _ (d : Board) (bytes : List ℕ) (hk : HasKernel bytes) (alike : IsSilentAlike bytes)
+    (small : All IsByte bytes)
     (low : (p1 p2 c : ℕ) (s : d.State) → (d.pins p1 p2 c s).bus < 256) (w : World d.State) (s : IsStarted w.cpu)
     (few : length (edges_now d w) ≤ 4) where
   abbrev old : ℕ → d.State → d.State
@@ -31,55 +38,88 @@ module _ (d : Board) (bytes : List ℕ) (hk : HasKernel bytes) (small : All IsBy
   -- the board where the head of the tick ends, two cycles past the lights
   abbrev pub shine : Bool → d.State
   shine l =
-      shining d bytes hk small low (H d bytes hk small low w s few) (w.cycle + 3) (k d bytes hk small low w s few l)
-      (board3 d bytes hk small low w s few) (stacked (cells_in w.cpu.ram)) (drop 112 w.cpu.ram)
+      shining d bytes hk alike small low (H d bytes hk alike small low w s few) (w.cycle + 3) (k d bytes hk alike small low w s few l)
+      (board3 d bytes hk alike small low w s few) (stacked (cells_in w.cpu.ram)) (drop 112 w.cpu.ram)
 
   -- the board so many cycles later
   pub from_lights : (l : Bool) (n z : ℕ) → z ≡ w.cycle + 234
       → ticks n z new (shine l) ≡ ticks (2 + n) (w.cycle + 232) new (in_tick d w 232)
   from_lights l n z at =
-      ap (λ b. ticks n z new b) (shone_is d bytes hk small low w s few)
+      ap (λ b. ticks n z new b) (shone_is d bytes hk alike small low w s few)
       ∙ joined 2 n (w.cycle + 232) z new (in_tick d w 232) (omega (arith, at))
 
--- a joint board that is known 22 cycles behind is known from there on, over lines that leave both wires to the latch
-pub behind_look : (edges : List Edge) (events : List HostEvent) (lines : ℕ → Lines) (v start y j : ℕ) (s : Beside)
-    (b : Pc) → y + 22 ≡ 256 + start
-    → ticks 22 y ((joint_board edges events).tick v) s ≡ record { pc = b; shown = lights_of v }
-    → ((o : ℕ) → 256 + start ≤ o → o < 256 + start + j → lines o ≡ latch_of v)
-    → ticks (22 + j) y ((joint_board edges events).tick v) s
-    ≡ record { pc = board_cycles events lines j (256 + start) b; shown = lights_of v }
-behind_look edges events lines v start y j s b at is still =
-    let tick = (joint_board edges events).tick v in
-    let there : Beside = record { pc = b; shown = lights_of v } in
-    ticks_add 22 j y tick s ∙ ap (λ t. ticks j (y + 22) tick t) is ∙ ap (λ c. ticks j c tick there) at
-    ∙ still_wires edges events lines j (256 + start) v there refl still
+  -- the board so many cycles past the tick's start, by the latch of a tick with a frame
+  abbrev pub gone : Frame → ℕ → d.State
+  gone frame n = driven d w.cycle (tick_latch w.cpu.p2 (latch_now d w) frame) n 0 w.board
 
--- at the joint board, where the lights of the latch are those that are shown
-module _ (edges : List Edge) (events : List HostEvent) (bytes : List ℕ) (hk : HasKernel bytes)
-    (small : All IsByte bytes)
-    (low : (p1 p2 c : ℕ) (s : Beside) → ((joint_board edges events).pins p1 p2 c s).bus < 256)
-    (w : World Beside)
-    (s : IsStarted w.cpu) (few : length (edges_now (joint_board edges events) w) ≤ 4)
-    (lit : lights_of w.cpu.p2 ≡ w.board.shown) where
-  abbrev d : Board
-  d = joint_board edges events
+  to_lights : (frame : Frame) → in_tick d w 232 ≡ gone frame 232
+  to_lights frame =
+      let latch : ℕ → ℕ = tick_latch w.cpu.p2 (latch_now d w) frame in
+      spans_on d w.cycle latch 232 0 w.cycle w.cpu.p2 w.board w.board (omega arith)
+      (λ i l. let z : 0 + i ≡ i = omega arith in ap latch z ∙ before_lights w.cpu.p2 (latch_now d w) frame i l) refl
 
-  abbrev v : ℕ
-  v = lit_latch edges events w
+  -- so it goes on from the head's end, while the latch stays
+  pub from_head : (frame : Frame) (l : Bool) (n : ℕ)
+      → ((i : ℕ) → i < 2 + n → tick_latch w.cpu.p2 (latch_now d w) frame (232 + i) ≡ latch_now d w)
+      → ticks n (w.cycle + 3 + 231) new (shine l) ≡ gone frame (234 + n)
+  from_head frame l n still =
+      let latch : ℕ → ℕ = tick_latch w.cpu.p2 (latch_now d w) frame in
+      let at : 232 + (2 + n) ≡ 234 + n = omega arith in
+      from_lights l n (w.cycle + 3 + 231) (omega arith)
+      ∙ spans_on d w.cycle latch (2 + n) 232 (w.cycle + 232) (latch_now d w) (in_tick d w 232) w.board refl still
+      (to_lights frame)
+      ∙ ap (gone frame) at
 
-  abbrev before : Beside
-  before = record { pc = at_lights events w; shown = w.board.shown }
+-- any board above the joint board
+module _ (edges : List Edge) (events : List HostEvent) (d : Board) (to : d.State → Beside)
+    (over : IsOver edges events d to) where
+  -- where its joint board is known 22 cycles behind, it is known from there on, over lines that leave both wires to the
+  -- latch
+  pub behind_look : (lines : ℕ → Lines) (v start y j : ℕ) (s : d.State) (b : Pc) → y + 22 ≡ 256 + start
+      → to (ticks 22 y (d.tick v) s) ≡ record { pc = b; shown = lights_of v }
+      → ((o : ℕ) → 256 + start ≤ o → o < 256 + start + j → lines o ≡ latch_of v)
+      → to (ticks (22 + j) y (d.tick v) s)
+      ≡ record { pc = board_cycles events lines j (256 + start) b; shown = lights_of v }
+  behind_look lines v start y j s b at is still =
+      let there : Beside = record { pc = b; shown = lights_of v } in
+      ap to (ticks_add 22 j y (d.tick v) s)
+      ∙ ticks_over edges events d to over j (y + 22) v (ticks 22 y (d.tick v) s)
+      ∙ ap (λ t. ticks j (y + 22) ((joint_board edges events).tick v) t) is
+      ∙ ap (λ c. ticks j c ((joint_board edges events).tick v) there) at
+      ∙ still_wires edges events lines j (256 + start) v there refl still
 
-  before_is : in_tick d w 232 ≡ before
-  before_is = still_wires edges events (λ o. latch_of w.cpu.p2) 232 w.cycle w.cpu.p2 w.board lit (λ o a u. refl)
+  -- where the lights of the latch are those that are shown
+  module _ (bytes : List ℕ) (hk : HasKernel bytes) (alike : IsSilentAlike bytes)
+      (small : All IsByte bytes)
+      (low : (p1 p2 c : ℕ) (s : d.State) → (d.pins p1 p2 c s).bus < 256)
+      (w : World d.State) (s : IsStarted w.cpu) (few : length (edges_now d w) ≤ 4)
+      (lit : lights_of w.cpu.p2 ≡ (to w.board).shown) where
+    abbrev v : ℕ
+    v = latch_now d w
 
-  -- the board at the look at the clock
-  pub looks : (l : Bool)
-      → ticks 22 (w.cycle + 3 + 231) (d.tick v) (shine d bytes hk small low w s few l)
-      ≡ record { pc = at_look edges events w; shown = lights_of v }
-  looks l =
-      let x = w.cycle in
-      let a : x + 232 ≡ 232 + x = omega arith in
-      from_lights d bytes hk small low w s few l 22 (x + 3 + 231) (omega arith)
-      ∙ ap (λ t. ticks 24 (x + 232) (d.tick v) t) before_is ∙ ap (λ c. ticks 24 c (d.tick v) before) a
-      ∙ lit_wires edges events (λ o. latch_of v) 23 (232 + x) v before (λ o a u. refl)
+    abbrev joint : ℕ → Beside → Beside
+    joint = (joint_board edges events).tick v
+
+    -- the joint board's state of the run
+    abbrev u : World Beside
+    u = under to w
+
+    abbrev before : Beside
+    before = record { pc = at_lights events u; shown = (to w.board).shown }
+
+    before_is : to (in_tick d w 232) ≡ before
+    before_is =
+        ticks_over edges events d to over 232 w.cycle w.cpu.p2 w.board
+        ∙ still_wires edges events (λ o. latch_of w.cpu.p2) 232 w.cycle w.cpu.p2 (to w.board) lit (λ o a u. refl)
+
+    -- what stands beside the processor at the look at the clock
+    pub looks : (l : Bool)
+        → to (ticks 22 (w.cycle + 3 + 231) (d.tick v) (shine d bytes hk alike small low w s few l))
+        ≡ record { pc = at_look edges events u; shown = lights_of v }
+    looks l =
+        let x = w.cycle in
+        let a : x + 232 ≡ 232 + x = omega arith in
+        ap to (from_lights d bytes hk alike small low w s few l 22 (x + 3 + 231) (omega arith))
+        ∙ ticks_over edges events d to over 24 (x + 232) v (in_tick d w 232)
+        ∙ ap (λ t. ticks 24 (x + 232) joint t) before_is ∙ ap (λ c. ticks 24 c joint before) a
+        ∙ lit_wires edges events (λ o. latch_of v) 23 (232 + x) v before (λ o a u. refl)

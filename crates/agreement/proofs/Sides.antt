@@ -1,9 +1,9 @@
 -- The PC's side of a tick: at the look at the clock, and at the tick's end, it is the model's.
-use Rattle.std.proofs.Common.{◌≡◌, ℕ, ◌+◌, List, false, ap, sym, ◌∙◌, arith}
+use Rattle.std.proofs.Common.{◌≡◌, ℕ, ◌+◌, List, false, ap, sym, ◌∙◌}
 use Rattle.board_lines.specs.declared.event.Edge.{Edge}
 use Rattle.board_lines.specs.declared.event.HostEvent.{HostEvent}
 use Rattle.board_lines.specs.declared.lines.Lines.{Lines}
-use Rattle.byte_time.specs.ByteTime.{quietly, meeting_in}
+use Rattle.byte_time.specs.ByteTime.{quietly}
 use Rattle.byte_time.specs.declared.UnderWay.{UnderWay}
 use Rattle.byte_time.specs.declared.meeting.Meeting.{Meeting}
 use Rattle.ctl_link.specs.Link.{is_busy}
@@ -11,13 +11,13 @@ use Rattle.fw_link.proofs.Wired.{IsReleased}
 use Rattle.host_turn.specs.Run.{Side, says_lights}
 use Rattle.joint_run.specs.Joint.{Beside, latch_of, lights_of}
 use Rattle.joint_run.specs.Run.{World}
-use Rattle.link_model.specs.Expected.{Whole, to_look, to_meeting, from_meeting, meeting_from}
+use Rattle.link_model.specs.Expected.{Whole, to_look, to_meeting, from_meeting, begins_from, meeting_from}
 use Rattle.link_model.specs.Machine.{Machine}
 use Rattle.pc_wires.specs.Wires.{Pc}
 use Rattle.wires_agree.proofs.Between.{between}
-use Rattle.wires_agree.specs.Cells.{IsUp}
 use Rattle.wires_agree.specs.Cycles.{board_cycles}
-use Rattle.wires_agree.specs.Ticks.{Ticked, at_meeting, from_look}
+use Rattle.wires_agree.specs.Ticks.{Ticked, from_look}
+use Rattle.wires_agree.specs.Ticks.{meeting_from as meeting_behind}
 use Rattle.wires_agree.specs.Without.{seen_in_bytes}
 use Rattle.agreement.proofs.Happened.{lit_latch, at_lights, at_look}
 
@@ -57,29 +57,20 @@ module _ (edges : List Edge) (events : List HostEvent) (w : World Beside) (was :
         ∙ ap (λ n. to_look events m.shown n w.cycle (seen_in_bytes w.board.pc.side)) (sym lit)
         ∙ ap (λ s. to_look events m.shown (kb.lights m.keys) w.cycle s) side
 
-    -- the meeting of the model's tick, by the links at the look and at the first edge
-    pub meeting_is : (lines : ℕ → Lines) → IsUp lines (256 + w.cycle) (288 + w.cycle)
-        → meeting_from kb events w.cycle m
-        ≡ meeting_in (kb.tested m.keys) (kb.offer m.keys) (seen_in_bytes look.side)
-        (seen_in_bytes (at_meeting events lines w.cycle look).side)
-    meeting_is lines up =
-        let there = between events lines 32 (256 + w.cycle) look (λ o l u. up o l (omega (arith, u))) looks_same.1 in
-        ap (λ s. meeting_in (kb.tested m.keys) (kb.offer m.keys) s (to_meeting events w.cycle s)) (sym model_looks)
-        ∙ ap (λ s. meeting_in (kb.tested m.keys) (kb.offer m.keys) (seen_in_bytes look.side) s) (sym there.0)
+    -- the meeting of the model's tick is that of a tick in byte time from the look on
+    pub meeting_is : meeting_from kb events w.cycle m
+        ≡ meeting_behind events (kb.tested m.keys) (kb.offer m.keys) w.cycle (seen_in_bytes look.side)
+    meeting_is =
+        ap (λ s. meeting_behind events (kb.tested m.keys) (kb.offer m.keys) w.cycle s) (sym model_looks)
 
-    -- where the link at the look decides it alone
-    pub meeting_by_look : (met : Meeting)
-        → ((later : Side UnderWay) → meeting_in (kb.tested m.keys) (kb.offer m.keys) (seen_in_bytes look.side) later
-        ≡ met)
-        → meeting_from kb events w.cycle m ≡ met
-    meeting_by_look met is =
-        ap (λ s. meeting_in (kb.tested m.keys) (kb.offer m.keys) s (to_meeting events w.cycle s)) (sym model_looks)
-        ∙ is (to_meeting events w.cycle (seen_in_bytes look.side))
+    -- over lines of which a law of the tick speaks, the tick's meeting is that of the law, and its end is that of the
+    -- model's tick
+    module _ (lines : ℕ → Lines) (rest k : ℕ) (met : Meeting)
+        (law : Ticked events lines w.cycle rest look (kb.tested m.keys) (kb.offer m.keys) met k) where
+      pub met_is : meeting_from kb events w.cycle m ≡ met
+      met_is = meeting_is ∙ law.meets
 
-    -- over lines of which a law of the tick speaks, the tick's end is that of the model's tick
-    pub side_is : (lines : ℕ → Lines) (rest k : ℕ)
-        → Ticked events lines w.cycle rest look (kb.tested m.keys) (kb.offer m.keys) k
-        → seen_in_bytes (board_cycles events lines k (256 + w.cycle) look).side
-        ≡ from_meeting events w.cycle rest (meeting_from kb events w.cycle m) (to_meeting events w.cycle model_look)
-    side_is lines rest k law =
-        law.agrees ∙ ap (λ s. from_look events (kb.tested m.keys) (kb.offer m.keys) w.cycle rest s) model_looks
+      pub side_is : seen_in_bytes (board_cycles events lines k (256 + w.cycle) look).side
+          ≡ from_meeting events w.cycle rest (begins_from kb events w.cycle m) (to_meeting events w.cycle model_look)
+      side_is =
+          law.agrees ∙ ap (λ s. from_look events (kb.tested m.keys) (kb.offer m.keys) w.cycle rest s) model_looks

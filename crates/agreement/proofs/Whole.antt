@@ -1,33 +1,36 @@
 -- From one law a tick to the whole run: each tick start of the run has the model's state beside it.
 use Rattle.std.proofs.Common.{◌≡◌, ◌≤◌, ◌<◌, ℕ, suc, zero, ◌+◌, ◌-◌, ◌*◌, Bool, true, false, List, length}
 use Rattle.std.proofs.Common.{refl, ap, sym, ◌∙◌, subst, arith}
-use Rattle.board_lines.specs.Cadence.{IsNear, KeepsCadence}
+use Rattle.board_lines.specs.Cadence.{KeepsCadence}
 use Rattle.byte_time.specs.declared.meeting.Meeting.{Meeting}
 use Rattle.fw_kernel.specs.declared.labels.TheConstants.{TICK}
-use Rattle.fw_logic.specs.JointRun.{KeepsTime}
+use Rattle.fw_logic.specs.JointRun.{KeepsTimeFrom}
 use Rattle.fw_logic.proofs.Clockwork as clockwork
 use Rattle.fw_logic.proofs.Clockwork.{IsClockwork}
-use Rattle.joint_run.specs.Joint.{Beside, joint_board, joint_start, log_of}
+use Rattle.joint_run.specs.Joint.{Beside, joint_board, log_of}
 use Rattle.joint_run.specs.Run.{Board, World}
-use Rattle.joint_run.specs.Starts.{Comes, Tick, IsStart}
+use Rattle.joint_run.specs.Starts.{at_tick, Comes, Tick, IsStart}
+use Rattle.fw_link.specs.Drives.{Drives}
 use Rattle.key_file.specs.Accepted.{IsAccepted}
 use Rattle.key_file.specs.Histories.{KeyHistory}
 use Rattle.link_model.specs.Expected.{Whole, meeting_from, whole_tick, whole_at}
 use Rattle.link_model.specs.Machine.{Machine}
 use Rattle.link_model.specs.TickEdges.{shown, tick_edges}
-use Rattle.agreement.specs.Agreement.{Agrees}
+use Rattle.agreement.specs.Agreement.{AgreesFrom}
+use Rattle.agreement.specs.Wires.{DrivesFrame, DrivesWires}
+use Rattle.agreement.proofs.InTime.{InTime, on_time}
 use Rattle.agreement.proofs.Model.{IsOnTime, at_first, by_columns, columns_in}
 use Rattle.agreement.proofs.FewEdges.{WasNear, HeldBefore, edges_seen, at_most_four}
 
 -- A tick's law, with what it leaves open: what ties the run to the model, and of which keyboards it holds that a tick's
 -- edges become the keys held.
-module _ (S : Type 0) (bytes : List ℕ) (history : KeyHistory) (ok : IsAccepted history) (kb : Machine S)
-    (R : World Beside → Whole S → Type 0) (Fit : S → Type 0)
+module _ (S : Type 0) (from : World Beside) (bytes : List ℕ) (history : KeyHistory) (ok : IsAccepted history)
+    (kb : Machine S) (R : World Beside → Whole S → Type 0) (Fit : S → Type 0)
     (fits : (w : World Beside) (m : Whole S) → R w m → Fit m.keys)
     (none : (p : ℕ) → p < 96 → kb.held kb.start p ≡ false)
     (so : (meeting : Meeting) (k : S) (now : ℕ → Bool) (p : ℕ) → Fit k → p < 96
     → kb.held (kb.ticked meeting (shown (kb.held k) now) k) p ≡ now p)
-    (begins : Comes (joint_board history.edges history.host) TICK bytes joint_start
+    (begins : Comes (joint_board history.edges history.host) TICK bytes from
     (λ e. IsOnTime 0 e × R e (at_first kb history.host e.cycle)))
     (goes_on : (n : ℕ) (w : World Beside) (m : Whole S) → IsOnTime n w → R w m
     → length (shown (kb.held m.keys) (columns_in history.edges w.cycle)) ≤ 4
@@ -40,25 +43,9 @@ module _ (S : Type 0) (bytes : List ℕ) (history : KeyHistory) (ok : IsAccepted
   abbrev d : Board
   d = joint_board history.edges history.host
 
-  -- a start on time is as many cycles late as the prescaler says, less two: one at most
-  record InTime (n : ℕ) (w : World Beside) : Type 0 where
-    pub cycle : w.cycle ≡ 4096 + 2048 * n + (w.cpu.pre - 2)
-    pub most : w.cpu.pre - 2 ≤ 1
-    pub near : IsNear n (w.cycle - 4096)
-    pub stamp : w.cycle ≡ 4096 + (w.cycle - 4096)
-
   -- so is each start where the run is tied to a model: its prescaler is 2 or 3
   in_time : (n : ℕ) (w : World Beside) (m : Whole S) → IsOnTime n w → R w m → InTime n w
-  in_time n w m time ties =
-      let l = late w m ties in
-      let least : 2 ≤ w.cpu.pre = l.0 in
-      let most : w.cpu.pre ≤ 3 = l.1 in
-      record {
-        cycle = omega (arith, time, least);
-        most = omega (arith, most);
-        near = record { least = omega (arith, time, least); most = omega (arith, time, most) };
-        stamp = omega (arith, time, least);
-      }
+  in_time n w m time ties = on_time n w time (late w m ties).0 (late w m ties).1
 
   -- a start with the model's state there, and the stamp of the start before it, whose reads showed the keys held
   record Stand (n : ℕ) : Type 0 where
@@ -129,7 +116,7 @@ module _ (S : Type 0) (bytes : List ℕ) (history : KeyHistory) (ok : IsAccepted
   model_next n = refl
 
   -- the run comes to the first start
-  run_first : Comes d TICK bytes joint_start (λ e. e ≡ (stand 0).w)
+  run_first : Comes d TICK bytes from (λ e. e ≡ (stand 0).w)
   unfolding stand first
   run_first = record { steps = begins.steps; end = begins.end; run = begins.run; goal = refl }
 
@@ -206,7 +193,7 @@ module _ (S : Type 0) (bytes : List ℕ) (history : KeyHistory) (ok : IsAccepted
       (w.cpu.pre - 2, (n, is, pre), t.most, t.cycle)
 
   -- the first start is such a start
-  clock_first : Comes d TICK bytes joint_start (λ w. (l : ℕ) × IsStand l w × (l ≤ 1) × (w.cycle ≡ 4096 + l))
+  clock_first : Comes d TICK bytes from (λ w. (l : ℕ) × IsStand l w × (l ≤ 1) × (w.cycle ≡ 4096 + l))
   clock_first =
       let c = run_first in
       let r = late_by 0 c.end c.goal in
@@ -235,7 +222,7 @@ module _ (S : Type 0) (bytes : List ℕ) (history : KeyHistory) (ok : IsAccepted
       record { at = t.at; first = t.first; step = t.step; rest = rest }
 
   -- the starts are a clockwork
-  clock : IsClockwork d bytes joint_start IsStand
+  clock : IsClockwork d bytes from IsStand
   clock = record {
     first = clock_first;
     each = clock_each;
@@ -245,20 +232,20 @@ module _ (S : Type 0) (bytes : List ℕ) (history : KeyHistory) (ok : IsAccepted
   }
 
   -- the run keeps its time
-  pub keeps_time : KeepsTime bytes history.edges history.host
+  pub keeps_time : KeepsTimeFrom from bytes history.edges history.host
   keeps_time = record {
-    goes_on = clockwork.never_stuck d bytes joint_start IsStand clock;
-    none_early = clockwork.none_early d bytes joint_start IsStand clock;
-    starts = λ n. (_, clockwork.starts d bytes joint_start IsStand clock n);
-    near = clockwork.near d bytes joint_start IsStand clock;
-    serves = clockwork.serving d bytes joint_start IsStand clock;
-    ends = clockwork.ends d bytes joint_start IsStand clock;
+    goes_on = clockwork.never_stuck d bytes from IsStand clock;
+    none_early = clockwork.none_early d bytes from IsStand clock;
+    starts = λ n. (_, clockwork.starts d bytes from IsStand clock n);
+    near = clockwork.near d bytes from IsStand clock;
+    serves = clockwork.serving d bytes from IsStand clock;
+    ends = clockwork.ends d bytes from IsStand clock;
   }
 
   -- each tick start of a number is the start of that number here
-  same_start : (n stamp : ℕ) (s : IsStart d TICK bytes joint_start n stamp) → s.state ≡ (stand n).w
+  same_start : (n stamp : ℕ) (s : IsStart d TICK bytes from n stamp) → s.state ≡ (stand n).w
   same_start n stamp s =
-      let k = clockwork.known d bytes joint_start IsStand clock n in
+      let k = clockwork.known d bytes from IsStand clock n in
       let j : ℕ = k.set.0 in
       let is : k.w ≡ (stand j).w = k.set.1 in
       let cycle : k.w.cycle ≡ 4096 + 2048 * n + k.late = k.cycle in
@@ -267,20 +254,20 @@ module _ (S : Type 0) (bytes : List ℕ) (history : KeyHistory) (ok : IsAccepted
       let cycle_there : k.w.cycle ≡ 4096 + 2048 * j + (k.w.cpu.pre - 2) = t.cycle in
       let most_there : k.w.cpu.pre - 2 ≤ 1 = t.most in
       let same : j ≡ n = omega (arith, cycle, most, cycle_there, most_there) in
-      sym (clockwork.is_nth d bytes joint_start IsStand clock n stamp s)
+      sym (clockwork.is_nth d bytes from IsStand clock n stamp s)
       ∙ subst (λ i. k.w ≡ (stand i).w) same is
 
   -- and it has the stamp of that one
-  is_start : (n stamp : ℕ) → IsStart d TICK bytes joint_start n stamp → IsStart d TICK bytes joint_start n (starts n)
+  is_start : (n stamp : ℕ) → IsStart d TICK bytes from n stamp → IsStart d TICK bytes from n (starts n)
   is_start n stamp s =
       let cycle : s.state.cycle ≡ 4096 + stamp = s.cycle in
       let there : (stand n).w.cycle ≡ 4096 + starts n = cycle_is n in
       let same : s.state.cycle ≡ (stand n).w.cycle = ap (λ (v : World Beside). v.cycle) (same_start n stamp s) in
       let stamp_is : stamp ≡ starts n = omega (arith, cycle, there, same) in
-      subst (λ t. IsStart d TICK bytes joint_start n t) stamp_is s
+      subst (λ t. IsStart d TICK bytes from n t) stamp_is s
 
   -- and at each the log is the model's
-  pub agrees : Agrees bytes kb history.edges history.host
+  pub agrees : AgreesFrom from bytes kb history.edges history.host
   agrees = record {
     starts = starts;
     each = λ n. let s = keeps_time.starts n in is_start n s.0 s.1;
@@ -288,4 +275,24 @@ module _ (S : Type 0) (bytes : List ℕ) (history : KeyHistory) (ok : IsAccepted
         ap (λ (v : World Beside). log_of v.board) (same_start n stamp s)
         ∙ logs (stand n).w (stand n).m (stand n).ties
         ∙ ap (λ (m : Whole S). m.side.log) (model_is n);
+  }
+
+  -- and the wires of each tick are as the law of a tick says
+  pub drives : Drives d TICK bytes from (λ c. 255) (λ e. at_tick d TICK e ≡ true)
+      → ((n : ℕ) (w : World Beside) (m : Whole S) → IsOnTime n w → R w m
+      → length (shown (kb.held m.keys) (columns_in history.edges w.cycle)) ≤ 4
+      → DrivesFrame history.edges history.host bytes (kb.offer m.keys) (meeting_from kb history.host w.cycle m) w)
+      → DrivesWires from bytes kb history.edges history.host
+  drives begins law = record {
+    first = begins;
+    starts = starts;
+    each = λ n. let s = keeps_time.starts n in is_start n s.0 s.1;
+    frames = λ n stamp s.
+        let at : Stand n = stand n in
+        let model : Whole S = whole_at kb history.edges history.host starts n in
+        let D : World Beside → Whole S → Type 0 =
+        λ w m.
+        DrivesFrame history.edges history.host bytes (kb.offer m.keys) (meeting_from kb history.host w.cycle m) w in
+        subst (λ w. D w model) (sym (same_start n stamp s))
+        (subst (λ m. D at.w m) (model_is n) (law n at.w at.m at.time at.ties (few n at)));
   }

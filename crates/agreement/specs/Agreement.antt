@@ -4,27 +4,47 @@ use Rattle.board_lines.specs.declared.event.Edge.{Edge}
 use Rattle.board_lines.specs.declared.event.HostEvent.{HostEvent}
 use Rattle.fw_compile.specs.Image.{image_of}
 use Rattle.fw_kernel.specs.declared.labels.TheConstants.{TICK}
-use Rattle.fw_logic.specs.JointRun.{KeepsTime}
-use Rattle.joint_run.specs.Joint.{joint_board, joint_start, log_of}
+use Rattle.fw_logic.specs.Boards.{power_on}
+use Rattle.fw_logic.specs.JointRun.{KeepsTime, KeepsTimeFrom}
+use Rattle.joint_run.specs.Joint.{Beside, beside_at_start, joint_board, joint_start, log_of}
+use Rattle.joint_run.specs.Run.{World}
 use Rattle.joint_run.specs.Starts.{IsStart}
-use Rattle.key_file.specs.Accepted.{IsAccepted}
+use Rattle.key_file.specs.Accepted.{IsAcceptedFor}
 use Rattle.key_file.specs.Histories.{KeyHistory}
 use Rattle.layout_reader.specs.Layouts.{KeyLayout, IsKeyLayout}
 use Rattle.link_model.specs.Expected.{whole_at}
 use Rattle.link_model.specs.Machine.{Machine, keyboard}
+use Rattle.mcs48_core.specs.Cpu.{Cpu}
+use Rattle.mcs48_ranges.specs.Sizes.{IsFine}
 
--- at each tick start of the joint run what was said so far is what the model says up to there, where its ticks start
--- when the run's do
-pub record Agrees {S : Type 0} (bytes : List ℕ) (kb : Machine S) (edges : List Edge)
+-- at each tick start of a joint run what was said so far is what the model says up to there, where its ticks start when
+-- the run's do
+pub record AgreesFrom {S : Type 0} (from : World Beside) (bytes : List ℕ) (kb : Machine S) (edges : List Edge)
     (events : List HostEvent) : Type 0 where
   pub starts : ℕ → ℕ
-  pub each : (n : ℕ) → IsStart (joint_board edges events) TICK bytes joint_start n (starts n)
-  pub log : (n stamp : ℕ) (s : IsStart (joint_board edges events) TICK bytes joint_start n stamp)
+  pub each : (n : ℕ) → IsStart (joint_board edges events) TICK bytes from n (starts n)
+  pub log : (n stamp : ℕ) (s : IsStart (joint_board edges events) TICK bytes from n stamp)
       → log_of s.state.board ≡ (whole_at kb edges events starts n).side.log
 
--- so it is for every layout and every accepted history; and the run keeps its time
+-- so it is of the run that begins with cleared memory
+abbrev pub Agrees : {S : Type 0} → List ℕ → Machine S → List Edge → List HostEvent → Type 0
+Agrees bytes kb edges events = AgreesFrom joint_start bytes kb edges events
+
+-- for every layout and every history that is accepted for it; and the run keeps its time
 abbrev pub AgreementLaw : Type 0
 AgreementLaw =
-    (layout : KeyLayout) (history : KeyHistory) → IsKeyLayout layout → IsAccepted history
+    (layout : KeyLayout) (history : KeyHistory) → IsKeyLayout layout → IsAcceptedFor layout history
     → KeepsTime (image_of layout) history.edges history.host
     × Agrees (image_of layout) (keyboard layout) history.edges history.host
+
+-- the joint run of a part that held this when it was switched on
+abbrev pub switched_on : List Edge → List HostEvent → Cpu → World Beside
+switched_on edges events m = power_on (joint_board edges events) m beside_at_start
+
+-- and whatever the part holds when it is switched on: any bytes in data memory, A and T, any carries and prescaler
+abbrev pub AnyMemoryLaw : Type 0
+AnyMemoryLaw =
+    (layout : KeyLayout) (history : KeyHistory) → IsKeyLayout layout → IsAcceptedFor layout history → (m : Cpu) → IsFine m
+    → KeepsTimeFrom (switched_on history.edges history.host m) (image_of layout) history.edges history.host
+    × AgreesFrom (switched_on history.edges history.host m) (image_of layout) (keyboard layout) history.edges
+    history.host

@@ -7,11 +7,23 @@
 //! text of a log, nor how a run is made or the expected log computed. Our own.
 #![tactic(auto)]
 
-ghost use Rattle.agreement.specs.Agreement.{AgreementLaw};
+ghost use Rattle.agreement.specs.Agreement.{AgreementLaw, AnyMemoryLaw};
+ghost use Rattle.agreement.specs.Wires.{WiresLaw};
 
-/// For every layout and every accepted history: the joint run of the layout's compiled image is never stuck, each of
-/// its ticks starts at most five cycles past its multiple of 2,048, and what was said up to a tick start is what the
-/// model says up to it, at the run's own tick starts. Nothing is done when it is called; the law is its contract.
+/// For every layout and every history that is accepted for it: the joint run of the layout's compiled image is never
+/// stuck, each of its ticks starts at most five cycles past its multiple of 2,048, and what was said up to a tick start
+/// is what the model says up to it, at the run's own tick starts. So it is of the run from cleared memory, which the
+/// program makes, and of the run from whatever a part holds when it is switched on. Nothing is done when it is called;
+/// the law is its contract.
 pub fn run_and_model_agree()
     ensures agreement { AgreementLaw }
+    ensures any_memory { AnyMemoryLaw }
+{}
+
+/// For every layout and every history that is accepted for it: in each tick of the joint run, in each of its cycles, what
+/// the keyboard drives on the two wires. Outside a frame it pulls neither wire. The frame is that of the model's meeting:
+/// the byte that is sent, whole or cut in one of its cells; the one in which the controller's byte is received; or none.
+/// Nothing is done when it is called; the law is its contract.
+pub fn wires_are_driven()
+    ensures wires { WiresLaw }
 {}

@@ -2,6 +2,7 @@ pub mod Bits
 pub mod Cadence
 pub mod Columns
 pub mod Edges
+pub mod Flips
 pub mod Frame
 pub mod Matrix
 pub mod Places

@@ -14,8 +14,8 @@ pub struct Edge {
     pub down: bool,
 }
 
-/// What the host does in an event. Source: PC/AT Technical Reference, the ports of the keyboard controller; the mask
-/// and the taking of a word are our own.
+/// What the host does in an event, or what the line does to the next frame. Source: PC/AT Technical Reference, the
+/// ports of the keyboard controller; the mask, the taking of a word and the noise are our own.
 #[derive(Clone, Copy, Debug, PartialEq, Eq, Default)]
 pub enum HostAct {
     /// It writes this byte to port 60h.
@@ -33,6 +33,9 @@ pub enum HostAct {
     /// It reads the status at port 64h.
     #[default]
     Status,
+    /// Noise turns round one bit of the keyboard's next frame, the start being bit 0: a data bit, 1 to 8, or the
+    /// parity, 9.
+    Flip(u8),
 }
 
 /// An event of the host. The stamp counts as an edge's does. Source: our own.

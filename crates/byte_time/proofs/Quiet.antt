@@ -1,5 +1,5 @@
 -- Quiet cycles in two spans.
-use Rattle.std.proofs.Common.{◌≡◌, ℕ, suc, zero, ◌+◌, List, refl, ap, sym, ◌∙◌, arith}
+use Rattle.std.proofs.Common.{◌≡◌, ℕ, suc, zero, ◌+◌, List, ap, ◌∙◌, arith}
 use Rattle.board_lines.specs.declared.event.HostEvent.{HostEvent}
 use Rattle.host_turn.specs.Run.{Side}
 use Rattle.byte_time.specs.declared.UnderWay.{UnderWay}

@@ -1,14 +1,14 @@
 //! What a tick brings over the link.
 
 ghost use Rattle.std.specs.Prelude.{◌≡◌};
-ghost use Rattle.byte_time.specs.ByteTime.{meeting_by};
+ghost use Rattle.byte_time.specs.ByteTime.{meeting_by, sent_or_cut};
 
 use crate::UnderWay;
 use ctl_link::Link;
 
 /// What a tick brings over the link: a byte for the keyboard; nothing, as the controller holds the keyboard off;
 /// nothing, as nothing is offered; the keyboard's byte; or nothing of it, as the controller pulled the clock before it
-/// began.
+/// began, or broke it off.
 #[derive(Clone, Copy, Debug, PartialEq, Eq, Drop)]
 pub enum Meeting {
     Got(u8),
@@ -18,8 +18,8 @@ pub enum Meeting {
     Cut,
 }
 
-/// The meeting of a tick: by whether the keyboard's power-on test had ended at its start, the byte that the keyboard
-/// offers, and the link after the offsets 255 and 287.
+/// What begins in a tick, as its meeting, where `Sent` says that the keyboard's byte begins: by whether the keyboard's
+/// power-on test had ended at its start, the byte that the keyboard offers, and the link after the offsets 255 and 287.
 pub fn meeting_of(
     tested: bool,
     offer: Option<u8>,
@@ -40,5 +40,16 @@ pub fn meeting_of(
         Link::Hold(_) | Link::Ask(_, _) => Meeting::Inhibited,
         Link::Request(byte) => Meeting::Got(byte),
         Link::Busy(_) => Meeting::Idle,
+    }
+}
+
+/// The meeting of a tick in which this byte of the keyboard began, by the link after offset 607: it is sent where it is
+/// still under way then; else it was broken off.
+pub fn sent_or_cut(byte: u8, last: &Link<UnderWay>) -> Meeting
+    ensures meeting { result ≡ sent_or_cut byte last.now }
+{
+    match last {
+        Link::Busy(_) => Meeting::Sent(byte),
+        Link::Free | Link::Hold(_) | Link::Ask(_, _) | Link::Request(_) => Meeting::Cut,
     }
 }

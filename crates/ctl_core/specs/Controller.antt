@@ -1,5 +1,5 @@
 -- The controller's state, and what the host does with it.
-use Rattle.std.specs.Prelude.{ℕ, ◌+◌, Bool, true, false, not, ◌&&◌, Option, Some, None, is_some}
+use Rattle.std.specs.Prelude.{ℕ, ◌+◌, Bool, true, false, not, ◌&&◌, nat_lt, Option, Some, None, is_some}
 use Rattle.bits.specs.Bits.{has_bit, bit_value}
 use Rattle.ctl_core.specs.declared.port.Input.{Input}
 use Rattle.ctl_core.specs.declared.port.Port.{Port}
@@ -8,7 +8,8 @@ use Rattle.ctl_core.specs.declared.command.Parameter.{Parameter}
 
 -- the input buffer's byte with its port, or none; whether the output buffer is full, and its last byte; the command
 -- byte; the parameter that a command awaits, or none; the last byte for the output port; whether a break was begun; the
--- status's parity bit; whether the last write was to 64h
+-- status's parity bit; whether the last write was to 64h; how often in a row the keyboard's byte came wrong and was
+-- asked for again
 pub record ControllerState : Type 0 where
   pub input : Option Input
   pub output_full : Bool
@@ -19,6 +20,7 @@ pub record ControllerState : Type 0 where
   pub break_mark : Bool
   pub parity : Bool
   pub last_to_64 : Bool
+  pub resends : ℕ
 
 -- at the start both buffers are empty, and the command byte has interrupt, system flag and translation on
 abbrev pub at_start : ControllerState
@@ -32,6 +34,7 @@ at_start = record {
   break_mark = false;
   parity = false;
   last_to_64 = false;
+  resends = 0;
 }
 
 -- the status: output full, input full, system flag, last write to 64h, bit 4 always 1, parity
@@ -56,6 +59,14 @@ emptied s = record s { output_full = false }
 -- a byte that the controller puts out fills the output buffer and clears the parity bit
 abbrev pub put_out : ℕ → ControllerState → ControllerState
 put_out byte s = record s { output_full = true; output = byte; parity = false }
+
+-- a byte that came wrong is asked for again, three times in a row at most
+abbrev pub asks_again : ControllerState → Bool
+asks_again s = nat_lt s.resends 3
+
+-- then the controller gives up: FF is put out, with the parity bit set
+abbrev pub gave_up : ControllerState → ControllerState
+gave_up s = record (put_out 0xff s) { parity = true; resends = 0 }
 
 -- bit 0 of the command byte: a full output buffer interrupts
 abbrev pub interrupt_enabled : ControllerState → Bool

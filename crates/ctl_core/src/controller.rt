@@ -1,10 +1,10 @@
 //! The controller's buffers, its command byte and what it does with a byte.
 
-ghost use Rattle.std.specs.Prelude.{◌≡◌, ◌↔◌, false, is_some, IsErr, IsSome, IfErr, OnErr, OnOk, option_map};
+ghost use Rattle.std.specs.Prelude.{◌≡◌, ◌↔◌, ◌<◌, ◌≤◌, false, if◌then◌else◌, is_some, IsErr, IsSome, IfErr, OnErr, OnOk, option_map};
 ghost use Rattle.ctl_core.specs.Commands.{after_taken, commanded, passed, taken};
 ghost use Rattle.ctl_core.specs.Controller.{at_start, emptied, interrupt_enabled, is_disabled, is_idle, put_out};
-ghost use Rattle.ctl_core.specs.Controller.{status_of, written};
-ghost use Rattle.ctl_core.specs.Translation.{after_received, received_as};
+ghost use Rattle.ctl_core.specs.Controller.{asks_again, status_of, written};
+ghost use Rattle.ctl_core.specs.Translation.{after_received, after_wrong, received_as};
 
 use crate::command::{Command, Parameter, decode_command};
 use crate::flags::{CommandByte, Status};
@@ -23,13 +23,21 @@ pub enum Did {
     Pulse(u8),
 }
 
-/// What a byte from the keyboard came to: it was put out, it began a break, or it had wrong parity.
+/// What a byte from the keyboard came to: it was put out; it began a break; it came wrong, and is asked for again; or
+/// it came wrong once too often, and the controller gave up.
 #[derive(Clone, Copy, Debug, PartialEq, Eq, Drop)]
 pub enum Received {
     Put,
     Marked,
     Bad,
+    GaveUp,
 }
+
+/// How often in a row a byte that came wrong is asked for again. Source: our own.
+const MOST_RESENDS: u8 = 3;
+
+/// What is put out where the controller gives up.
+const GIVEN_UP: u8 = 0xff;
 
 /// The controller without its wires.
 #[derive(Drop)]
@@ -43,6 +51,7 @@ pub struct Controller {
     break_mark: bool,
     parity: bool,
     last_to_64: bool,
+    resends: u8,
 }
 
 impl Model for Controller {
@@ -60,6 +69,7 @@ impl Model for Controller {
       break_mark = s.break_mark;
       parity = s.parity;
       last_to_64 = s.last_to_64;
+      resends = s.resends;
     } };
 }
 
@@ -78,6 +88,7 @@ impl Controller {
             break_mark: false,
             parity: false,
             last_to_64: false,
+            resends: 0,
         }
     }
 
@@ -165,6 +176,13 @@ impl Controller {
         self.command_byte.bits()
     }
 
+    /// How often in a row the keyboard's byte came wrong and was asked for again.
+    pub fn resends(&self) -> u8
+        ensures count { result ≡ self.now.resends }
+    {
+        self.resends
+    }
+
     /// Takes the byte of the input buffer and does what it says, while the output buffer is empty. `None` exactly where
     /// the input buffer is empty.
     pub fn take_input(&mut self) -> Option<Did>
@@ -229,20 +247,24 @@ impl Controller {
         Did::Nothing
     }
 
-    /// A byte from the keyboard, while the output buffer is empty, and whether its parity was right. It is put out, by
-    /// the translation that the command byte asks for, or begins a break. With wrong parity nothing changes.
+    /// A byte from the keyboard, while the output buffer is empty, and whether it came right. A right one is put out,
+    /// by the translation that the command byte asks for, or begins a break, and no byte is asked for again any more.
+    /// One that came wrong is `Bad`, and is to be asked for again, three times in a row at most, which are counted;
+    /// then the controller gives up and puts out FF with the parity bit set.
     pub fn receive(&mut self, byte: u8, good: bool) -> Received
         requires output_empty { self.old.output_full ≡ false }
-        ensures bad { (result ≡ Received.Bad) ↔ (good ≡ false) }
+        ensures bad { (result ≡ Received.Bad) ↔ ((good ≡ false) × (self.old.resends < 3)) }
+        ensures gave_up { (result ≡ Received.GaveUp) ↔ ((good ≡ false) × (3 ≤ self.old.resends)) }
         ensures answer { result ≡ received_as self.old byte good }
         ensures after { self.new ≡ after_received self.old byte good }
     {
         if !good {
-            return Received::Bad;
+            return self.receive_wrong();
         }
         let translating = self.command_byte.contains(CommandByte::TRANSLATE);
         let Translated { byte, mark } = translate_marked(translating, self.break_mark, byte);
         self.break_mark = mark;
+        self.resends = 0;
         match byte {
             Some(byte) => {
                 self.put_out(byte);
@@ -250,6 +272,22 @@ impl Controller {
             }
             None => Received::Marked,
         }
+    }
+
+    /// A byte from the keyboard came wrong, while the output buffer is empty: as `receive` says, whatever the byte.
+    pub fn receive_wrong(&mut self) -> Received
+        requires output_empty { self.old.output_full ≡ false }
+        ensures answer { result ≡ (if asks_again self.old then Received.Bad else Received.GaveUp) }
+        ensures after { self.new ≡ after_wrong self.old }
+    {
+        if self.resends < MOST_RESENDS {
+            self.resends += 1;
+            return Received::Bad;
+        }
+        self.put_out(GIVEN_UP);
+        self.parity = true;
+        self.resends = 0;
+        Received::GaveUp
     }
 
     /// Puts a byte into the output buffer.

@@ -15,7 +15,7 @@ fn sent(rt: &impl Abort, controller: &mut Controller, byte: u8) -> Option<u8> {
     assert!(rt; !controller.output_full());
     match controller.receive(byte, true) {
         Received::Put => Some(controller.host_read60()),
-        Received::Marked | Received::Bad => None,
+        Received::Marked | Received::Bad | Received::GaveUp => None,
     }
 }
 

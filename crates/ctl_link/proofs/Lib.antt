@@ -1,3 +1,4 @@
+pub mod Breaks
 pub mod Empty
 pub mod Pulls
 pub mod Settled

@@ -1,9 +1,9 @@
 -- The controller with its link to the keyboard: what it does between bytes, and when a byte has passed.
-use Rattle.std.specs.Prelude.{ℕ, ◌+◌, Bool, true, false, ◌||◌, nat_le, Some, None, if◌then◌else◌}
+use Rattle.std.specs.Prelude.{ℕ, ◌+◌, Bool, true, false, not, ◌&&◌, ◌||◌, nat_le, Some, None, is_some, if◌then◌else◌}
 use Rattle.std.specs.declared.option.Option.{Option}
-use Rattle.ctl_core.specs.Controller.{ControllerState, at_start, is_disabled}
+use Rattle.ctl_core.specs.Controller.{ControllerState, at_start, asks_again, is_disabled}
 use Rattle.ctl_core.specs.Commands.{Taken, taken}
-use Rattle.ctl_core.specs.Translation.{after_received}
+use Rattle.ctl_core.specs.Translation.{after_received, after_wrong}
 use Rattle.ctl_core.specs.declared.controller.Did.{Did}
 use Rattle.ctl_core.specs.declared.controller.Did.TheVariants.{Nothing, ToKeyboard, Output, Pulse}
 use Rattle.ctl_link.specs.declared.link.Link.{Link}
@@ -12,24 +12,35 @@ use Rattle.ctl_link.specs.declared.link.Link.TheVariants.{Free, Hold, Ask, Reque
 
 -- the controller at its start, with its link free
 abbrev pub port_at_start : (F : Type 0) → Port F
-port_at_start F = record { core = at_start; filled = 0; link = Free; awaits = false }
+port_at_start F = record { core = at_start; filled = 0; link = Free; awaits = false; flip = None }
 
 -- the cycle of the last filling, after something that was done while the output buffer was empty: now, where it is full
 abbrev pub filled_by : ℕ → ControllerState → ℕ → ℕ
 filled_by now s before = if s.output_full then now else before
 
--- a byte of the keyboard is received where it came whole; one that came wrong changes nothing
+-- a byte of the keyboard begins, and takes the flip that is pending; by it follows what is known of the byte
+abbrev pub begun : {F : Type 0} → (Option ℕ → F) → Port F → Port F
+begun first p = record p { link = Busy (first p.flip); flip = None }
+
+-- a byte of the keyboard is received where it came whole; one that came wrong is asked for again, or given up
 abbrev pub core_after : Option ℕ → ControllerState → ControllerState
 core_after (Some byte) s = after_received s byte true
-core_after None s = s
+core_after None s = after_wrong s
 
--- a byte has come whole, or has come wrong: no reply is awaited any more, and the link is held from now on
+-- the link behind it, pulled from now on: by an ask for FE, the resend, where the byte is asked for again; else by a
+-- hold
+abbrev pub link_behind : {F : Type 0} → ℕ → Option ℕ → ControllerState → Link F
+link_behind now (Some byte) s = Hold now
+link_behind now None s = if asks_again s then Ask 0xfe now else Hold now
+
+-- a byte has come whole, or has come wrong: no reply is awaited any more
 abbrev pub received : {F : Type 0} → ℕ → Option ℕ → Port F → Port F
 received now byte p = record {
   core = core_after byte p.core;
   filled = filled_by now (core_after byte p.core) p.filled;
-  link = Hold now;
+  link = link_behind now byte p.core;
   awaits = false;
+  flip = p.flip;
 }
 
 -- a byte for the keyboard has gone whole: a reply is awaited
@@ -64,6 +75,7 @@ took now since t p = record {
     filled = filled_by now t.state p.filled;
     link = asking since t.did p.link;
     awaits = p.awaits;
+    flip = p.flip;
   };
   did = t.did;
 }
@@ -93,6 +105,19 @@ link_after now stop awaits (Busy under_way) = Busy under_way
 -- the same, in its place
 abbrev pub moves_link : {F : Type 0} → ℕ → Port F → Port F
 moves_link now p = record p { link = link_after now (p.core.output_full || is_disabled p.core) p.awaits p.link }
+
+-- whether a byte is under way that may still be broken off, by what is known of it
+abbrev pub may_break : {F : Type 0} → (F → Bool) → Link F → Bool
+may_break breaks Free = false
+may_break breaks (Hold since) = false
+may_break breaks (Ask byte since) = false
+may_break breaks (Request byte) = false
+may_break breaks (Busy under_way) = breaks under_way
+
+-- a waiting input breaks it off, where no reply is awaited: the link is held from now on
+abbrev pub broken_off : {F : Type 0} → (F → Bool) → ℕ → Port F → Port F
+broken_off breaks now p =
+    if may_break breaks p.link && not p.awaits && is_some p.core.input then record p { link = Hold now } else p
 
 -- what the controller does by itself at the end of a cycle: it takes its input, and then the link changes
 abbrev pub settled : {F : Type 0} → ℕ → Port F → Settled F

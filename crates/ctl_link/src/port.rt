@@ -1,16 +1,21 @@
 //! The controller with its link.
 
-ghost use Rattle.std.specs.Prelude.{◌≡◌, ◌+◌, false, nat_le};
+ghost use Rattle.std.specs.Prelude.{◌≡◌, ◌+◌, None, false, nat_le};
 ghost use Rattle.ctl_link.specs.Empty.{IsEmptyUnlessHeld};
-ghost use Rattle.ctl_link.specs.Link.{filled_by, handed_over, held_since, moves_link, port_at_start, received};
-ghost use Rattle.ctl_link.specs.Link.{settled, takes_input};
+ghost use Rattle.ctl_link.specs.Link.{broken_off, filled_by, handed_over, held_since, moves_link, port_at_start};
+ghost use Rattle.ctl_link.specs.Link.{received, settled, takes_input};
 ghost use Rattle.ctl_link.specs.Pulls.{BeginsPull, KeepsPull};
 
 use crate::link::Link;
-use ctl_core::{Controller, Did};
+use crate::passing::Passing;
+use ctl_core::{Controller, Did, Received};
 
 /// How many cycles a pull of the clock lasts at least. Source: our own.
 const LEAST_PULL: u64 = 64;
+
+/// The command by which the keyboard is asked to send its last byte again. Source: PC/AT Technical Reference, keyboard,
+/// commands.
+const RESEND: u8 = 0xfe;
 
 /// The controller with its link to the keyboard.
 #[derive(Drop)]
@@ -23,6 +28,8 @@ pub struct Port<F> {
     pub link: Link<F>,
     /// Whether a reply of the keyboard is awaited.
     pub awaits: bool,
+    /// The bit that noise turns round in the next frame of the keyboard, if any.
+    pub flip: Option<u8>,
 }
 
 /// Whether a pull of the clock since this cycle has lasted long enough.
@@ -43,21 +50,35 @@ impl<F: Drop> Port<F> {
             filled: 0,
             link: Link::Free,
             awaits: false,
+            flip: None,
         }
     }
 
+    /// A byte of the keyboard begins: it takes the flip that is pending, and none is pending any more.
+    pub fn take_flip(&mut self) -> Option<u8>
+        ensures flip { result ≡ self.old.flip }
+        ensures port { self.new ≡ record self.old { flip = None } }
+    {
+        self.flip.take()
+    }
+
     /// A byte of the keyboard has come whole in cycle `now`, or has come wrong (`None`), while the output buffer is
-    /// empty. No reply is awaited any more, and the link is held from this cycle on.
+    /// empty. No reply is awaited any more, and the link is held from this cycle on; but where the byte came wrong and
+    /// the controller doesn't give up, it asks for the byte again from this cycle on.
     pub fn receive(&mut self, now: u64, byte: Option<u8>)
         requires output_empty { self.old.core.output_full ≡ false }
         ensures port { self.new ≡ received now byte self.old }
         ensures empty { IsEmptyUnlessHeld self.new }
     {
-        if let Some(byte) = byte {
-            self.core.receive(byte, true);
-        }
+        let received = match byte {
+            Some(byte) => self.core.receive(byte, true),
+            None => self.core.receive_wrong(),
+        };
         self.note_filling(now);
-        self.link = Link::Hold(now);
+        self.link = match received {
+            Received::Bad => Link::Ask(RESEND, now),
+            Received::Put | Received::Marked | Received::GaveUp => Link::Hold(now),
+        };
         self.awaits = false;
     }
 
@@ -152,6 +173,22 @@ impl<F: Drop> Port<F> {
                 }
             }
             Link::Request(_) | Link::Busy(_) => {}
+        }
+    }
+}
+
+impl<F: Passing + Drop> Port<F> {
+    /// A waiting input breaks off a byte under way in cycle `now`, where that may still be broken off and no reply is
+    /// awaited: the link is held from this cycle on. Source: PC/AT Technical Reference, keyboard interface.
+    pub fn break_off(&mut self, now: u64)
+        ensures port { self.new ≡ broken_off F.breaks now self.old }
+        ensures empty { IsEmptyUnlessHeld self.old → IsEmptyUnlessHeld self.new }
+    {
+        let Link::Busy(under_way) = &self.link else {
+            return;
+        };
+        if under_way.may_break() && !self.awaits && self.core.input_full() {
+            self.link = Link::Hold(now);
         }
     }
 }

@@ -1,6 +1,6 @@
 //! Worked examples, cycle by cycle. What is known of a byte under way is a number here.
 
-use crate::{Link, Port};
+use crate::{Link, Passing, Port};
 use ctl_core::{Did, Port as HostPort};
 use std::process::Abort;
 
@@ -119,10 +119,52 @@ fn the_start_of_a_break_fills_nothing(rt: HostRuntime) {
 }
 
 #[test]
-fn a_byte_that_came_wrong_holds_the_link(rt: HostRuntime) {
+fn a_byte_that_comes_wrong_is_asked_for_three_times(rt: HostRuntime) {
     let mut port: Port<u8> = Port::new();
+    for count in [1, 2, 3] {
+        assert!(rt; !port.core.output_full());
+        port.receive(100, None);
+        assert_eq!(rt; port.link, Link::Ask(0xfe, 100));
+        assert_eq!(rt; port.core.resends(), count);
+    }
     assert!(rt; !port.core.output_full());
-    port.receive(100, None);
-    assert_eq!(rt; port.link, Link::Hold(100));
-    assert_eq!(rt; port.filled, 0);
+    port.receive(700, None);
+    assert_eq!(rt; port.link, Link::Hold(700));
+    assert_eq!(rt; port.core.resends(), 0);
+    assert_eq!(rt; port.filled, 700);
+    assert_eq!(rt; port.core.status(), 0x95);
+    assert_eq!(rt; port.core.host_read60(), 0xff);
+    assert_eq!(rt; port.core.status(), 0x94);
+}
+
+/// A byte under way that may be broken off, or not.
+#[derive(Clone, Copy, Debug, PartialEq, Eq, Drop)]
+struct Open(bool);
+
+impl Passing for Open {
+    ghost breaks = { λ byte. byte.0 };
+
+    fn may_break(&self) -> bool {
+        self.0
+    }
+}
+
+/// Whether a byte under way is broken off in cycle 50.
+fn is_broken(rt: &impl Abort, open: bool, awaits: bool, full: bool) -> bool {
+    let mut port: Port<Open> = Port::new();
+    port.link = Link::Busy(Open(open));
+    port.awaits = awaits;
+    if full {
+        assert!(rt; port.core.host_write(HostPort::P64, 0xae).is_ok());
+    }
+    port.break_off(50);
+    port.link == Link::Hold(50)
+}
+
+#[test]
+fn a_waiting_input_breaks_off_an_open_byte(rt: HostRuntime) {
+    assert!(rt; is_broken(&rt, true, false, true));
+    assert!(rt; !is_broken(&rt, false, false, true));
+    assert!(rt; !is_broken(&rt, true, true, true));
+    assert!(rt; !is_broken(&rt, true, false, false));
 }

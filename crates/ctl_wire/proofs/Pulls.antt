@@ -1,21 +1,22 @@
 -- A pull of the clock lasts 64 cycles at least.
-use Rattle.std.proofs.Common.{◌≡◌, ℕ, suc, zero, ◌+◌, ◌<◌, ◌≤◌, Bool, true, false, not, ◌&&◌, ◌||◌, Some, None, [], ◌∷◌, ◌++◌, length, refl, ap, ◌∙◌, ◌⊎◌, inl, inr, arith}
+use Rattle.std.proofs.Common.{◌≡◌, ℕ, suc, zero, ◌+◌, ◌<◌, ◌≤◌, Bool, true, false, not, ◌&&◌, ◌||◌, Some, None, List, [], ◌∷◌, ◌++◌, length, refl, ap, sym, subst, ◌∙◌, ◌⊎◌, inl, inr, arith}
 use Rattle.std.specs.Prelude.{if◌then◌else◌, ◌==◌}
 use Rattle.std.specs.declared.option.Option.{Option}
 use Rattle.board_lines.specs.Frame.{byte_of}
-use Rattle.ctl_core.specs.Controller.{is_disabled}
+use Rattle.ctl_core.specs.Controller.{ControllerState, asks_again, is_disabled}
 use Rattle.ctl_core.specs.Commands.{Taken, taken}
 use Rattle.ctl_link.specs.declared.link.Link.{Link}
 use Rattle.ctl_link.specs.declared.link.Link.TheVariants.{Free, Hold, Ask, Request, Busy}
 use Rattle.ctl_link.specs.declared.port.Port.{Port}
-use Rattle.ctl_link.specs.Link.{received, handed_over, held_since, took_where, takes_input, link_after, settled}
+use Rattle.ctl_link.specs.Link.{received, link_behind, handed_over, held_since, took_where, takes_input, link_after, settled, broken_off, is_busy}
 use Rattle.ctl_link.specs.Pulls.{pulled, Begins}
 use Rattle.ctl_link.proofs.Pulls.{keeps_pull, begins_pull}
+use Rattle.ctl_link.proofs.Breaks.{unbroken, pulled_idle, breaks_or_not}
 use Rattle.ctl_wire.specs.declared.wire.Wire.{Wire}
 use Rattle.ctl_wire.specs.declared.wire.Wire.TheVariants.{Recv, Send}
-use Rattle.ctl_wire.specs.Wire.{edge_at, drive}
+use Rattle.ctl_wire.specs.Wire.{edge_at, turned, drive, is_breakable}
 use Rattle.ctl_wire.specs.Cycles.{WireState, looked, port_looked}
-use Rattle.ctl_wire.specs.Pulls.{Happening, acts, wire_cycle, wire_cycles, PullsLast}
+use Rattle.ctl_wire.specs.Pulls.{Call, Writes, Reads, Flips, Happening, called, acts, wire_cycle, wire_cycles, PullsLast}
 
 -- the clock is low by the controller where it pulls, and nowhere else
 low_is_pulled : (l : Link Wire) → (drive l).clk ≡ false → (h : ℕ) × (pulled l ≡ Some h)
@@ -23,7 +24,7 @@ low_is_pulled Free e = absurd cc
 low_is_pulled (Hold since) e = (since, refl)
 low_is_pulled (Ask byte since) e = (since, refl)
 low_is_pulled (Request byte) e = absurd cc
-low_is_pulled (Busy (Recv bits)) e = absurd cc
+low_is_pulled (Busy (Recv flip bits)) e = absurd cc
 low_is_pulled (Busy (Send byte edges)) e = absurd cc
 
 pub pulled_is_low : (l : Link Wire) (h : ℕ) → pulled l ≡ Some h → (drive l).clk ≡ false
@@ -33,15 +34,21 @@ pulled_is_low (Ask byte since) h e = refl
 pulled_is_low (Request byte) h e = absurd cc
 pulled_is_low (Busy wire) h e = absurd cc
 
-high_is_none : (l : Link Wire) → (drive l).clk ≡ true → pulled l ≡ None
+pub high_is_none : (l : Link Wire) → (drive l).clk ≡ true → pulled l ≡ None
 high_is_none Free e = refl
 high_is_none (Hold since) e = absurd cc
 high_is_none (Ask byte since) e = absurd cc
 high_is_none (Request byte) e = refl
 high_is_none (Busy wire) e = refl
 
+abbrev ask : ℕ → ℕ → Link Wire
+ask byte since = Ask byte since
+
+abbrev hold : ℕ → Link Wire
+hold since = Hold since
+
 -- a link is pulled since now, or not at all
-abbrev OrNow : ℕ → Link Wire → Type 0
+abbrev pub OrNow : ℕ → Link Wire → Type 0
 OrNow now l = (pulled l ≡ None) ⊎ (pulled l ≡ Some now)
 
 -- a look leaves a pull as it is
@@ -58,17 +65,28 @@ choice : (c : Bool) (now : ℕ) (x y : Port Wire) → OrNow now x.link → OrNow
 choice true now x y h g = h
 choice false now x y h g = g
 
+-- behind the keyboard's byte the clock is pulled
+behind_pulled : (now : ℕ) (came : Option ℕ) (s : ControllerState) → pulled (link_behind {F = Wire} now came s) ≡ Some now
+behind_pulled now (Some byte) s = refl
+behind_pulled now None s = by_count (asks_again s)
+  where
+    by_count : (c : Bool) → pulled (if c then ask 0xfe now else hold now) ≡ Some now
+    by_count true = refl
+    by_count false = refl
+
 edge_begins : (now : ℕ) (dat : Bool) (p : Port Wire) (l : Link Wire) → p.link ≡ l → pulled l ≡ None → OrNow now (edge_at now dat l p).link
 edge_begins now dat p Free e h = inl refl
 edge_begins now dat p (Hold since) e h = absurd cc
 edge_begins now dat p (Ask byte since) e h = absurd cc
 edge_begins now dat p (Request byte) e h = inl refl
-edge_begins now dat p (Busy (Recv bits)) e h =
-    choice (length bits == 10) now (received now (byte_of (bits ++ dat ∷ [])) p) (record p { link = Busy (Recv (bits ++ dat ∷ [])) }) (inr refl) (inl refl)
+edge_begins now dat p (Busy (Recv flip bits)) e h =
+    let came : Option ℕ = byte_of (turned flip (bits ++ dat ∷ [])) in
+    choice (length bits == 10) now (received now came p) (record p { link = Busy (Recv flip (bits ++ dat ∷ [])) })
+    (inr (behind_pulled now came p.core)) (inl refl)
 edge_begins now dat p (Busy (Send byte edges)) e h =
     choice (edges == 10) now (handed_over p) (record p { link = Busy (Send byte (edges + 1)) }) (inl refl) (inl refl)
 
-look_begins : (c : Bool) (now : ℕ) (dat : Bool) (p : Port Wire) → pulled p.link ≡ None → OrNow now (if c then edge_at now dat p.link p else p).link
+pub look_begins : (c : Bool) (now : ℕ) (dat : Bool) (p : Port Wire) → pulled p.link ≡ None → OrNow now (if c then edge_at now dat p.link p else p).link
 look_begins c now dat p h = choice c now (edge_at now dat p.link p) p (edge_begins now dat p p.link refl h) (inl h)
 
 -- settling keeps what it finds under way, and begins a pull now
@@ -110,18 +128,55 @@ settles_once : (now : ℕ) (p : Port Wire) → OrNow now p.link → OrNow now (s
 settles_once now p (inl h) = settles_none now p p.link refl h
 settles_once now p (inr h) = inr (keeps_pull Wire now p now h (omega arith))
 
+unbroken_once : (now : ℕ) (p : Port Wire) → is_busy p.link ≡ false → OrNow now p.link → OrNow now (settled now (broken_off is_breakable now p)).port.link
+unbroken_once now p idle h =
+    subst (λ (q : Port Wire). OrNow now (settled now q).port.link) (sym (unbroken is_breakable now p idle)) (settles_once now p h)
+
+-- the break of a byte under way, and the settling: a pull begins now, or none
+pub breaks_once : (now : ℕ) (p : Port Wire) (l : Link Wire) → p.link ≡ l → OrNow now l → OrNow now (settled now (broken_off is_breakable now p)).port.link
+breaks_once now p (Busy wire) e h =
+    elim (breaks_or_not is_breakable now p wire e) [
+      | inl stays ↦ inl (ap (λ k. pulled k) stays)
+      | inr broken ↦ inr broken.1
+    ]
+breaks_once now p Free e h = unbroken_once now p (ap is_busy e) (subst (λ k. OrNow now k) (sym e) h)
+breaks_once now p (Hold since) e h = unbroken_once now p (ap is_busy e) (subst (λ k. OrNow now k) (sym e) h)
+breaks_once now p (Ask byte since) e h = unbroken_once now p (ap is_busy e) (subst (λ k. OrNow now k) (sym e) h)
+breaks_once now p (Request byte) e h = unbroken_once now p (ap is_busy e) (subst (λ k. OrNow now k) (sym e) h)
+
+-- the calls of the host leave link and clock as they are
+call_leaves : (c : Call) (w : WireState) → (called c w).port.link ≡ w.port.link
+call_leaves (Writes port byte) w = refl
+call_leaves Reads w = refl
+call_leaves (Flips bit) w = refl
+
+calls_leave : (calls : List Call) (w : WireState) → (acts calls w).port.link ≡ w.port.link
+calls_leave [] w = refl
+calls_leave (c ∷ calls) w = calls_leave calls (called c w) ∙ call_leaves c w
+
 -- a cycle begins no pull but one since now
 cycle_begins : (now : ℕ) (h : Happening) (w : WireState) → pulled w.port.link ≡ None → OrNow now (wire_cycle now h w).port.link
 unfolding wire_cycle
 cycle_begins now h w e =
-    settles_once now (acts h.calls (looked now h.line w)).port (look_begins (w.clock && not h.line.clk) now h.line.dat w.port e)
+    let early : WireState = acts h.before w in
+    let seen : WireState = looked now h.line early in
+    let none : pulled early.port.link ≡ None = ap (λ k. pulled k) (calls_leave h.before w) ∙ e in
+    let once : OrNow now (acts h.calls seen).port.link =
+    subst (λ k. OrNow now k) (sym (calls_leave h.calls seen)) (look_begins (early.clock && not h.line.clk) now h.line.dat early.port none) in
+    breaks_once now (acts h.calls seen).port (acts h.calls seen).port.link refl once
 
 -- and keeps one for 64 cycles
 cycle_keeps : (now since : ℕ) (h : Happening) (w : WireState) → pulled w.port.link ≡ Some since → now < since + 64 → pulled (wire_cycle now h w).port.link ≡ Some since
 unfolding wire_cycle
-cycle_keeps now since h w e early =
-    let same : port_looked now w.clock h.line w.port ≡ w.port = look_keeps (w.clock && not h.line.clk) now h.line.dat w.port w.port.link since e in
-    keeps_pull Wire now (acts h.calls (looked now h.line w)).port since (ap (λ (q : Port Wire). pulled q.link) same ∙ e) early
+cycle_keeps now since h w e soon =
+    let early : WireState = acts h.before w in
+    let seen : WireState = looked now h.line early in
+    let late : WireState = acts h.calls seen in
+    let held : pulled early.port.link ≡ Some since = ap (λ k. pulled k) (calls_leave h.before w) ∙ e in
+    let same : port_looked now early.clock h.line early.port ≡ early.port = look_keeps (early.clock && not h.line.clk) now h.line.dat early.port early.port.link since held in
+    let still : pulled late.port.link ≡ Some since = ap (λ k. pulled k) (calls_leave h.calls seen) ∙ ap (λ (q : Port Wire). pulled q.link) same ∙ held in
+    ap (λ (q : Port Wire). pulled (settled now q).port.link) (unbroken is_breakable now late.port (pulled_idle is_breakable late.port.link since still))
+    ∙ keeps_pull Wire now late.port since still soon
 
 cycles_keep : (happens : ℕ → Happening) (n now since : ℕ) (w : WireState) → pulled w.port.link ≡ Some since → now + n ≤ since + 64
     → pulled (wire_cycles happens n now w).port.link ≡ Some since
@@ -130,7 +185,7 @@ cycles_keep happens (suc n) now since w e l =
     cycles_keep happens n (suc now) since (wire_cycle now (happens now) w) (cycle_keeps now since (happens now) w e (omega (arith, l))) (omega (arith, l))
 
 -- a link that was pulled by this cycle is pulled since now
-since_now : (now : ℕ) (l : Link Wire) → OrNow now l → (drive l).clk ≡ false → pulled l ≡ Some now
+pub since_now : (now : ℕ) (l : Link Wire) → OrNow now l → (drive l).clk ≡ false → pulled l ≡ Some now
 since_now now l (inr e) low = e
 since_now now l (inl e) low = let p = low_is_pulled l low in let q : pulled l ≡ Some p.0 = p.1 in absurd (cc (e, q))
 

@@ -4,9 +4,9 @@ use Rattle.std.specs.declared.option.Option.{Option}
 use Rattle.board_lines.specs.declared.lines.Lines.{Lines}
 use Rattle.ctl_core.specs.Controller.{ControllerState}
 use Rattle.ctl_link.specs.declared.port.Port.{Port}
-use Rattle.ctl_link.specs.Link.{port_at_start, settled}
+use Rattle.ctl_link.specs.Link.{Settled, port_at_start, broken_off, settled}
 use Rattle.ctl_wire.specs.declared.wire.Wire.{Wire}
-use Rattle.ctl_wire.specs.Wire.{edge_at}
+use Rattle.ctl_wire.specs.Wire.{edge_at, is_breakable}
 
 -- the controller with its link; the clock's level at its last look; the cycle of that look, or none; whether that look
 -- waits for its settling
@@ -42,6 +42,14 @@ looked now line w = record {
 abbrev pub with_core : ControllerState → WireState → WireState
 with_core core w = record w { port = record w.port { core = core } }
 
--- the settling of a cycle
+-- the bit that noise turns round in the next frame of the keyboard
+abbrev pub with_flip : ℕ → WireState → WireState
+with_flip bit w = record w { port = record w.port { flip = Some bit } }
+
+-- the settling of a cycle: a waiting input breaks off the keyboard's byte, where it may, and then the controller
+-- settles
+abbrev pub settling : ℕ → WireState → Settled Wire
+settling now w = settled now (broken_off is_breakable now w.port)
+
 abbrev pub settles : ℕ → WireState → WireState
-settles now w = record w { port = (settled now w.port).port; waits = false }
+settles now w = record w { port = (settling now w).port; waits = false }

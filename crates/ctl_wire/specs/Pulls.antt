@@ -3,33 +3,39 @@
 use Rattle.std.specs.Prelude.{◌≡◌, ◌<◌, ℕ, Bool, true, false, List, [], ◌∷◌, is_some, if◌then◌else◌}
 use Rattle.std.proofs.Common.{zero, suc}
 use Rattle.board_lines.specs.declared.lines.Lines.{Lines}
-use Rattle.ctl_core.specs.Controller.{ControllerState, written, emptied}
+use Rattle.ctl_core.specs.Controller.{written, emptied}
 use Rattle.ctl_core.specs.declared.port.Port.{Port as HostPort}
-use Rattle.ctl_wire.specs.Cycles.{WireState, looked, with_core, settles}
+use Rattle.ctl_wire.specs.Cycles.{WireState, looked, with_core, with_flip, settles}
 use Rattle.ctl_wire.specs.Wire.{drive}
 
--- a call of the host: a byte for a port, or a read of port 60h
+-- a call: a byte for a port, a read of port 60h, or noise that turns a bit round
 pub data Call : Type 0 where
   Writes : HostPort → ℕ → Call
   Reads : Call
+  Flips : ℕ → Call
 
--- the controller after calls of the host; a byte is refused while the input buffer is full
-abbrev pub called : List Call → ControllerState → ControllerState
-called [] s = s
-called (Writes port byte ∷ calls) s = called calls (if is_some s.input then s else written port byte s)
-called (Reads ∷ calls) s = called calls (emptied s)
+-- the controller after a call; a byte is refused while the input buffer is full
+abbrev pub called : Call → WireState → WireState
+called (Writes port byte) w =
+    with_core (if is_some w.port.core.input then w.port.core else written port byte w.port.core) w
+called Reads w = with_core (emptied w.port.core) w
+called (Flips bit) w = with_flip bit w
 
--- what a cycle brings: the levels of the wires at its look, and the host's calls
+-- and after calls, one after another
+abbrev pub acts : List Call → WireState → WireState
+acts [] w = w
+acts (call ∷ calls) w = acts calls (called call w)
+
+-- what a cycle brings: the host's calls before its look, the levels of the wires at the look, and the host's calls
+-- behind it
 pub record Happening : Type 0 where
+  pub before : List Call
   pub line : Lines
   pub calls : List Call
 
 -- a cycle: the look, the host, the settling
-abbrev pub acts : List Call → WireState → WireState
-acts calls w = with_core (called calls w.port.core) w
-
 unfoldable pub wire_cycle : ℕ → Happening → WireState → WireState
-wire_cycle now h w = settles now (acts h.calls (looked now h.line w))
+wire_cycle now h w = settles now (acts h.calls (looked now h.line (acts h.before w)))
 
 -- cycles, one after another
 abbrev pub wire_cycles : (ℕ → Happening) → ℕ → ℕ → WireState → WireState

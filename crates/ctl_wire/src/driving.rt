@@ -43,7 +43,7 @@ fn drive_in(wire: &Wire) -> Lines
     ensures { result ≡ drive_in wire.now }
 {
     match wire {
-        Wire::Recv(_) => RELEASED,
+        Wire::Recv(_, _) => RELEASED,
         Wire::Send(byte, edges) => Lines {
             clk: true,
             dat: frame_of(*byte).bits[edges.number()],

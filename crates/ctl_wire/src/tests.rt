@@ -59,6 +59,17 @@ impl Bench {
         written
     }
 
+    /// A cycle in which both wires are high and noise turns round this bit of the next frame.
+    fn flip(&mut self, bit: u8) {
+        if self.now >= 1_000_000 || bit < 1 || bit > 9 {
+            return;
+        }
+        self.wire.look(self.now, HIGH);
+        self.wire.flip(bit);
+        self.wire.settle(self.now);
+        self.now += 1;
+    }
+
     /// Cycles up to before this one.
     fn run_to(&mut self, to: u64, keyboard: Lines) {
         if self.now < to {
@@ -124,7 +135,7 @@ fn a_byte_read_at_once_leaves_a_hold_of_64_cycles(rt: HostRuntime) {
 }
 
 #[test]
-fn wrong_parity_puts_nothing_out(rt: HostRuntime) {
+fn a_byte_of_wrong_parity_is_asked_for_again(rt: HostRuntime) {
     let mut bench = Bench::new();
     bench.run_to(100, HIGH);
     bench.cells(b"0001110001");
@@ -132,6 +143,52 @@ fn wrong_parity_puts_nothing_out(rt: HostRuntime) {
     assert!(rt; !bench.wire.core().output_full());
     assert_eq!(rt; bench.wire.filled(), 0);
     assert_eq!(rt; bench.wire.drive(), CLOCK_LOW);
+    assert_eq!(rt; bench.wire.core().resends(), 1);
+    bench.run_to(485, HIGH);
+    assert_eq!(rt; bench.wire.drive(), DATA_LOW);
+}
+
+#[test]
+fn the_last_flip_is_used_by_the_next_frame_alone(rt: HostRuntime) {
+    let mut bench = Bench::new();
+    bench.flip(9);
+    bench.flip(3);
+    bench.run_to(100, HIGH);
+    bench.cells(b"0001110000");
+    bench.run_to(421, CLOCK_LOW);
+    assert_eq!(rt; bench.wire.core().resends(), 1);
+    // FE goes out to the keyboard, which sends its byte again
+    bench.run_to(600, HIGH);
+    bench.cells(b"11111111111");
+    bench.run_to(1100, HIGH);
+    bench.cells(b"0001110000");
+    bench.run_to(1421, CLOCK_LOW);
+    assert_eq!(rt; bench.wire.core().resends(), 0);
+    assert_eq!(rt; bench.wire.host_read60(), 0x1e);
+}
+
+#[test]
+fn a_waiting_input_breaks_off_a_frame_before_its_tenth_edge(rt: HostRuntime) {
+    let mut bench = Bench::new();
+    bench.run_to(100, HIGH);
+    bench.cells(b"000111000");
+    assert_eq!(rt; bench.wire.drive(), HIGH);
+    write(&rt, &mut bench, Port::P64, 0xaa);
+    assert_eq!(rt; bench.wire.drive(), CLOCK_LOW);
+    assert!(rt; bench.wire.core().output_full());
+    assert_eq!(rt; bench.wire.filled(), 388);
+}
+
+#[test]
+fn from_the_tenth_edge_on_an_input_waits(rt: HostRuntime) {
+    let mut bench = Bench::new();
+    bench.run_to(100, HIGH);
+    bench.cells(b"0001110000");
+    write(&rt, &mut bench, Port::P64, 0xaa);
+    assert_eq!(rt; bench.wire.drive(), HIGH);
+    assert!(rt; bench.wire.core().input_full());
+    bench.run_to(422, CLOCK_LOW);
+    assert_eq!(rt; bench.wire.host_read60(), 0x1e);
 }
 
 #[test]

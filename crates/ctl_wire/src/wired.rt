@@ -1,9 +1,8 @@
 //! The controller with its wires, driven cycle by cycle.
 
-ghost use Rattle.std.specs.Prelude.{◌≡◌, ◌↔◌, ◌<◌, ◌^◌, true, false, IsErr, IsSome, IfErr, OnErr, OnOk, Some};
+ghost use Rattle.std.specs.Prelude.{◌≡◌, ◌↔◌, ◌<◌, ◌≤◌, ◌^◌, true, false, IsErr, IsSome, IfErr, OnErr, OnOk, Some};
 ghost use Rattle.ctl_core.specs.Controller.{emptied, status_of, written};
-ghost use Rattle.ctl_link.specs.Link.{settled};
-ghost use Rattle.ctl_wire.specs.Cycles.{at_start, looked, next_cycle, settles, with_core};
+ghost use Rattle.ctl_wire.specs.Cycles.{at_start, looked, next_cycle, settles, settling, with_core, with_flip};
 ghost use Rattle.ctl_wire.specs.Wire.{drive};
 
 use crate::driving::drive_of;
@@ -81,6 +80,17 @@ impl CtlWire {
         self.port.core.host_read60()
     }
 
+    /// Noise turns round this bit of the next frame of the keyboard, the start being bit 0, in place of a bit that was
+    /// to be turned round before.
+    pub fn flip(&mut self, bit: u8)
+        requires looked { self.old.waits ≡ true }
+        requires least { 1 ≤ bit }
+        requires most { bit ≤ 9 }
+        ensures flip { self.new ≡ with_flip bit self.old }
+    {
+        self.port.flip = Some(bit);
+    }
+
     /// The controller without its wires, for its status and its command byte.
     pub fn core(&self) -> &Controller
         ensures core { result.now ≡ self.now.port.core }
@@ -88,15 +98,18 @@ impl CtlWire {
         &self.port.core
     }
 
-    /// The controller settles at the end of cycle `now`. Answers what the input taken did.
+    /// The controller settles at the end of cycle `now`: a waiting input breaks off the keyboard's byte, where fewer
+    /// than ten of its falling edges have been and no reply is awaited, and is taken where it may be. Answers what the
+    /// input taken did.
     pub fn settle(&mut self, now: u64) -> Did
         requires looked { self.old.waits ≡ true }
         requires cycle { self.old.cycle ≡ Some now }
         requires range { now < 2 ^ 63 }
         ensures wire { self.new ≡ settles now self.old }
-        ensures did { result ≡ (settled now self.old.port).did }
+        ensures did { result ≡ (settling now self.old).did }
     {
         self.waits = false;
+        self.port.break_off(now);
         self.port.settle(now)
     }
 

@@ -18,7 +18,7 @@ and_true : (b : Bool) → (b && true) ≡ b
 and_true true = refl
 and_true false = refl
 
-weight_most : (v : ℕ) → v < 256 → weight v ≤ 256
+pub weight_most : (v : ℕ) → v < 256 → weight v ≤ 256
 weight_most v h = grind (arith, nat_tests, h)
 
 cycles_most : (b : Bound) (v c t : ℕ) → v < 256 → leb (cycles_at b 0 + c) t ≡ true → leb (cycles_at b v + c) t ≡ true

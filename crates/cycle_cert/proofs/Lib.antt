@@ -6,4 +6,6 @@ pub mod Given
 pub mod Places
 pub mod Plain
 pub mod Sound
+pub mod Counted
 pub mod TableLemmas
+pub mod Onward

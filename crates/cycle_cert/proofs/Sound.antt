@@ -206,17 +206,21 @@ module _ (bytes : List ℕ) (cert : Certificate) (program : All IsByte bytes) (c
         comes = run_is ∙ ap (later next.cycles) come.comes;
         there = come.there;
         within = omega (arith, within, l);
+        plain = come.plain;
+        fine = come.fine;
       }
 
   -- one step to the target
   at_once : (pins : ℕ → Pins) (m : Cpu) (next : Stepped) (limit rest : ℕ) → stepped bytes (pins 0) m ≡ Some next → rest + next.cycles ≤ limit
-      → next.cpu.pc % 2048 ≡ cert.target → ComesTo bytes pins m cert.target limit
-  at_once pins m next limit rest is l there = record {
+      → next.cpu.pc % 2048 ≡ cert.target → IsPlain next.cpu → IsFine next.cpu → ComesTo bytes pins m cert.target limit
+  at_once pins m next limit rest is l there plain range = record {
     more = zero;
     end = record { cpu = next.cpu; cycles = next.cycles + 0 };
     comes = ap (λ o. elim o as (λ v. Option Stepped) [ None ↦ None | Some n ↦ later n.cycles (run zero bytes (λ i. pins (suc i)) n.cpu) ]) is;
     there = there;
     within = omega (arith, l);
+    plain = plain;
+    fine = range;
   }
 
   goes_on : (pins : ℕ → Pins) (m : Cpu) (before : Bound) (s : Moved (pins 0) m before) (k : Bool) → (s.next.cpu.pc % 2048 == cert.target) ≡ k
@@ -226,7 +230,7 @@ module _ (bytes : List ℕ) (cert : Certificate) (program : All IsByte bytes) (c
       → ComesTo bytes pins m cert.target (cycles_at before (register before.register m))
   goes_on pins m before s true e f rest =
       let there : s.next.cpu.pc % 2048 ≡ cert.target = grind (arith, nat_tests, e) in
-      at_once pins m s.next (cycles_at before (register before.register m)) (cycles_at s.after (register s.after.register s.next.cpu)) s.is s.falls there
+      at_once pins m s.next (cycles_at before (register before.register m)) (cycles_at s.after (register s.after.register s.next.cpu)) s.is s.falls there s.plain s.range
   goes_on pins m before s false e f rest =
       first_then pins m s.next (cycles_at before (register before.register m)) (cycles_at s.after (register s.after.register s.next.cpu)) s.is s.falls (rest f)
 

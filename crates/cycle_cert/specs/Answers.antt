@@ -8,7 +8,7 @@ use Rattle.cycle_cert.specs.declared.fault.CertFault.TheVariants.{Line, Memory}
 use Rattle.cycle_cert.specs.declared.fault.Rule.{Rule}
 use Rattle.cycle_cert.specs.declared.judging.Certificate as code
 use Rattle.cycle_cert.specs.Bounds.{most_cycles}
-use Rattle.cycle_cert.specs.Certificates.{Certificate, first_fault}
+use Rattle.cycle_cert.specs.Certificates.{Certificate, first_fault, Keeps}
 use Rattle.cycle_cert.specs.Faults.{number_of}
 use Rattle.cycle_cert.specs.Reading.{certificate_of}
 
@@ -33,6 +33,11 @@ judged bytes cert =
 -- the answer for a program and a text: the faults of form and of places given twice come before all others
 unfoldable pub answer_of : List ℕ → List ℕ → Result Proved (Fault Rule)
 answer_of bytes text = and_then (certificate_of text) (judged bytes)
+
+-- the text is a certificate of the program: of so many places, with this greatest bound, and each keeps its own bound
+abbrev pub IsProved : List ℕ → List ℕ → Proved → Type 0
+IsProved bytes text proved =
+    (cert : Certificate) × (certificate_of text ≡ Ok cert) × (proved ≡ proved_of cert.entries) × Keeps bytes cert
 
 -- want of memory, or else the text's fault
 abbrev pub IsFaultOf : {X : Type 0} → Result X (Fault Rule) → CertFault → Type 0

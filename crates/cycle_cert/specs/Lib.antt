@@ -10,3 +10,4 @@ pub mod Tables
 pub mod Reading
 pub mod Answers
 pub mod Examples
+pub mod Following

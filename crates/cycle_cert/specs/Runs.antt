@@ -3,6 +3,7 @@ use Rattle.std.specs.Prelude.{◌≡◌, ℕ, zero, suc, ◌+◌, ◌%◌, ◌<�
 use Rattle.mcs48_core.specs.declared.levels.Pins.{Pins}
 use Rattle.mcs48_core.specs.Cpu.{Cpu}
 use Rattle.mcs48_core.specs.Step.{Stepped, stepped}
+use Rattle.mcs48_ranges.specs.Sizes.{IsFine}
 
 -- levels of pins that are bytes
 abbrev pub ArePins : Pins → Type 0
@@ -26,7 +27,9 @@ run (suc n) bytes pins m =
       | Some next ↦ later next.cycles (run n bytes (λ i. pins (suc i)) next.cpu)
     ]
 
--- after at least one step, none of them stuck, and at most so many cycles the counter, modulo 2,048, is at the target
+-- after at least one step, none of them stuck, and at most so many cycles the counter, modulo 2,048, is at the target;
+-- both interrupts are off still, bank 0 is selected still, and the ranges are kept, so that another certificate may
+-- begin where this one ends
 pub record ComesTo (bytes : List ℕ) (pins : ℕ → Pins) (m : Cpu) (target limit : ℕ) : Type 0 where
   -- the steps but for the first
   pub more : ℕ
@@ -34,3 +37,5 @@ pub record ComesTo (bytes : List ℕ) (pins : ℕ → Pins) (m : Cpu) (target li
   pub comes : run (suc more) bytes pins m ≡ Some end
   pub there : end.cpu.pc % 2048 ≡ target
   pub within : end.cycles ≤ limit
+  pub plain : IsPlain end.cpu
+  pub fine : IsFine end.cpu

@@ -1,9 +1,7 @@
 //! Checking a certificate.
 
 ghost use Rattle.std.specs.Prelude.{◌≡◌, ◌≤◌, Ok, length, IfOk, IfErr};
-ghost use Rattle.cycle_cert.specs.Answers.{answer_of, IsFaultOf};
-ghost use Rattle.cycle_cert.specs.Certificates.{Keeps};
-ghost use Rattle.cycle_cert.specs.Reading.{certificate_of};
+ghost use Rattle.cycle_cert.specs.Answers.{answer_of, IsFaultOf, IsProved};
 
 use crate::fault::{CertFault, Rule};
 use crate::judging::Certificate;
@@ -35,8 +33,9 @@ pub struct Proved {
 /// Ok means: from every state of the processor that keeps its ranges, with bank 0 selected, both interrupts off and
 /// the program counter, modulo 2,048, at a certified place, and with any levels at the pins in each step, the program
 /// counter, modulo 2,048, is the target after at least one step and at most the bound's cycles, and no step before is
-/// stuck. `Line` is the first fault, by line and then by rule, rules 1 and 2 before all others. `Memory` may come at
-/// any time, and says nothing of the text.
+/// stuck. Both interrupts are off then still, bank 0 is selected still, and the ranges are kept, so that a certificate
+/// of the path from there on takes over. `Line` is the first fault, by line and then by rule, rules 1 and 2 before all
+/// others. `Memory` may come at any time, and says nothing of the text.
 ///
 /// Source: our own.
 #[tactic(auto, unfolding(crate::specs::Reading::certificate_of, crate::specs::Answers::answer_of))]
@@ -44,7 +43,7 @@ pub fn check_cert(alloc: Global, image: &Image, text: &[u8]) -> Result<Proved, C
     requires size { length text.now ≤ 65536 }
     ensures proved { IfOk result (λ proved. answer_of image.now.bytes text.now ≡ Ok proved) }
     ensures fault { IfErr result (IsFaultOf (answer_of image.now.bytes text.now)) }
-    ensures sound { IfOk result (λ _. IfOk (certificate_of text.now) (Keeps image.now.bytes)) }
+    ensures sound { IfOk result (IsProved image.now.bytes text.now) }
 {
     let draft = read(alloc, text)?;
     let Some(target) = draft.target else {

@@ -23,4 +23,4 @@ mod tests;
 pub use checking::{Proved, check_cert};
 pub use examples::worked_certificates;
 pub use fault::CertFault;
-pub use law::what_rows_do_to_registers;
+pub use law::{certificates_follow_one_another, what_rows_do_to_registers};

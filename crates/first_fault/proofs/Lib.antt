@@ -1,1 +1,3 @@
 pub mod Earlier
+pub mod Ended
+pub mod Rules

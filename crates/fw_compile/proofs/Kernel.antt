@@ -1,57 +1,133 @@
--- A layout's image has the kernel's bytes outside the tables.
-use Rattle.std.proofs.Common.{◌≡◌, ◌≤◌, ◌<◌, ℕ, suc, ◌+◌, ◌-◌, List, ◌∷◌, ◌++◌, Bool, true, false, ◌&&◌}
-use Rattle.std.proofs.Common.{leb, ltb, refl, ap, sym, ◌∙◌, arith, length, take, drop, get_or, slice_index}
+-- A layout's image has the kernel's bytes outside the tables, and in them what the layout says.
+use Rattle.std.proofs.Common.{◌≡◌, ◌≤◌, ◌<◌, ℕ, ◌+◌, ◌*◌, List, [], ◌∷◌, Bool, true, false, ◌&&◌, leb, ltb}
+use Rattle.std.proofs.Common.{refl, ap, sym, ◌∙◌, arith, length, slice_index}
 use Rattle.std.proofs.lemmas.Bool.Decides.{nat_tests}
-use Rattle.std.proofs.lemmas.List.{get_or-take, get_or-drop, get_or_append_left, get_or-append_right}
 use Rattle.std.proofs.lemmas.List.FromFn.{get_or-map-range_with_len, length-map-range_with_len}
+use Rattle.bits.specs.Bits.{bit}
 use Rattle.fw_kernel.specs.declared.bytes.TheConstants.{KERNEL}
 use Rattle.fw_kernel.specs.Places.{HasKernel}
-use Rattle.layout_reader.specs.Layouts.{KeyLayout}
-use Rattle.fw_compile.specs.Image.{code_byte, codes_of, with_tables, image_of}
+use Rattle.fw_kernel.specs.Tables.{codes_at, rate_at, fn_codes_at, make_only_at, fn_place_at}
+use Rattle.layout_reader.specs.Layouts.{KeyLayout, is_make_only}
+use Rattle.fw_compile.specs.Image.{code_byte, codes_of, fn_code_byte, fn_codes_of, make_only_byte, make_only_of, fn_byte}
+use Rattle.fw_compile.specs.Image.{with_table, image_of}
+use Rattle.fw_compile.proofs.Bits.{bits_read}
+use Rattle.fw_compile.proofs.Tables.{length_with, in_table, below_table, above_table}
 
-below : (p : ℕ) (codes : List ℕ) (rate : ℕ) → p < 768
-    → slice_index (with_tables codes rate KERNEL) p ≡ slice_index KERNEL p
-below p codes rate l =
-    get_or_append_left (take 768 KERNEL) (codes ++ rate ∷ drop 865 KERNEL) 0 p l ∙ get_or-take 768 KERNEL p 0 l
+module _ (layout : KeyLayout) where
+  codes_long : length (codes_of layout) ≡ 96
+  codes_long = length-map-range_with_len (code_byte layout) 0 96
 
-in_codes : (p : ℕ) (codes : List ℕ) (rate : ℕ) → length codes ≡ 96 → p < 96
-    → slice_index (with_tables codes rate KERNEL) (768 + p) ≡ slice_index codes p
-in_codes p codes rate long l =
-    let e : 768 + p - 768 ≡ p = omega arith in
-    let less : p < length codes = omega (arith, long, l) in
-    get_or-append_right (take 768 KERNEL) (codes ++ rate ∷ drop 865 KERNEL) 768 (768 + p) 0 refl (omega arith)
-    ∙ ap (λ i. get_or (codes ++ rate ∷ drop 865 KERNEL) i 0) e ∙ get_or_append_left codes (rate ∷ drop 865 KERNEL) 0 p less
+  fn_codes_long : length (fn_codes_of layout) ≡ 96
+  fn_codes_long = length-map-range_with_len (fn_code_byte layout) 0 96
 
-above : (p : ℕ) (codes : List ℕ) (rate : ℕ) → length codes ≡ 96 → 974 ≤ p
-    → slice_index (with_tables codes rate KERNEL) p ≡ slice_index KERNEL p
-above p codes rate long l =
-    let e : p - 768 - 96 ≡ suc (p - 865) = omega arith in
-    let f : 865 + (p - 865) ≡ p = omega arith in
-    get_or-append_right (take 768 KERNEL) (codes ++ rate ∷ drop 865 KERNEL) 768 p 0 refl (omega arith)
-    ∙ get_or-append_right codes (rate ∷ drop 865 KERNEL) 96 (p - 768) 0 long (omega arith)
-    ∙ ap (λ i. get_or (rate ∷ drop 865 KERNEL) i 0) e ∙ get_or-drop 865 KERNEL (p - 865) 0
-    ∙ ap (λ i. get_or KERNEL i 0) f
+  make_only_long : length (make_only_of layout) ≡ 12
+  make_only_long = length-map-range_with_len (make_only_byte layout) 0 12
 
-codes_long : (layout : KeyLayout) → length (codes_of layout) ≡ 96
-codes_long layout = length-map-range_with_len (code_byte layout) 0 96
+  -- the kernel with one table more
+  abbrev pub one : List ℕ
+  one = with_table codes_at (codes_of layout) KERNEL
 
-pub has_kernel : (layout : KeyLayout) → HasKernel (image_of layout)
-has_kernel layout p out = pick (leb 768 p) refl
-  where
-    pick : (b : Bool) → leb 768 p ≡ b → slice_index (image_of layout) p ≡ slice_index KERNEL p
-    pick false h = below p (codes_of layout) layout.rate (grind (arith, nat_tests, h))
-    pick true h =
-        let past : ltb p 974 ≡ false = ap (λ b. b && ltb p 974) (sym h) ∙ out in
-        above p (codes_of layout) layout.rate (codes_long layout) (grind (arith, nat_tests, past))
+  abbrev pub two : List ℕ
+  two = with_table rate_at (layout.rate ∷ []) one
 
--- what MOVP3 reads at a place's number, and behind the codes
-pub code_read : (layout : KeyLayout) (place : ℕ) → place < 96
-    → slice_index (image_of layout) (768 + place) ≡ code_byte layout place
-code_read layout place l =
-    in_codes place (codes_of layout) layout.rate (codes_long layout) l
-    ∙ get_or-map-range_with_len (code_byte layout) 0 96 place place 0 l (omega arith)
+  abbrev pub three : List ℕ
+  three = with_table fn_codes_at (fn_codes_of layout) two
 
-pub rate_read : (layout : KeyLayout) → slice_index (image_of layout) 864 ≡ layout.rate
-rate_read layout =
-    get_or-append_right (take 768 KERNEL) (codes_of layout ++ layout.rate ∷ drop 865 KERNEL) 768 864 0 refl (omega arith)
-    ∙ get_or-append_right (codes_of layout) (layout.rate ∷ drop 865 KERNEL) 96 96 0 (codes_long layout) (omega arith)
+  abbrev pub four : List ℕ
+  four = with_table make_only_at (make_only_of layout) three
+
+  -- each table ends within the bytes
+  fits1 : codes_at + length (codes_of layout) ≤ length KERNEL
+  fits1 = omega (arith, codes_long)
+
+  long1 : length one ≡ 2048
+  long1 = length_with codes_at (codes_of layout) KERNEL fits1
+
+  fits2 : rate_at + 1 ≤ length one
+  fits2 = omega (arith, long1)
+
+  long2 : length two ≡ 2048
+  long2 = length_with rate_at (layout.rate ∷ []) one fits2 ∙ long1
+
+  fits3 : fn_codes_at + length (fn_codes_of layout) ≤ length two
+  fits3 = omega (arith, fn_codes_long, long2)
+
+  long3 : length three ≡ 2048
+  long3 = length_with fn_codes_at (fn_codes_of layout) two fits3 ∙ long2
+
+  fits4 : make_only_at + length (make_only_of layout) ≤ length three
+  fits4 = omega (arith, make_only_long, long3)
+
+  long4 : length four ≡ 2048
+  long4 = length_with make_only_at (make_only_of layout) three fits4 ∙ long3
+
+  fits5 : fn_place_at + 1 ≤ length four
+  fits5 = omega (arith, long4)
+
+  -- from the image down to the kernel with the tables before a place, or behind one
+  past_fn_place : (p : ℕ) → p < 973 → slice_index (image_of layout) p ≡ slice_index four p
+  past_fn_place p l = below_table fn_place_at (fn_byte layout ∷ []) four fits5 p l
+
+  past_make_only : (p : ℕ) → p < 961 → slice_index (image_of layout) p ≡ slice_index three p
+  past_make_only p l =
+      past_fn_place p (omega (arith, l)) ∙ below_table make_only_at (make_only_of layout) three fits4 p l
+
+  past_fn_codes : (p : ℕ) → p < 865 → slice_index (image_of layout) p ≡ slice_index two p
+  past_fn_codes p l =
+      past_make_only p (omega (arith, l)) ∙ below_table fn_codes_at (fn_codes_of layout) two fits3 p l
+
+  past_rate : (p : ℕ) → p < 864 → slice_index (image_of layout) p ≡ slice_index one p
+  past_rate p l = past_fn_codes p (omega (arith, l)) ∙ below_table rate_at (layout.rate ∷ []) one fits2 p l
+
+  -- outside the tables
+  below : (p : ℕ) → p < 768 → slice_index (image_of layout) p ≡ slice_index KERNEL p
+  below p l = past_rate p (omega (arith, l)) ∙ below_table codes_at (codes_of layout) KERNEL fits1 p l
+
+  above : (p : ℕ) → 974 ≤ p → slice_index (image_of layout) p ≡ slice_index KERNEL p
+  above p l =
+      above_table fn_place_at (fn_byte layout ∷ []) four fits5 p l
+      ∙ above_table make_only_at (make_only_of layout) three fits4 p (omega (arith, l, make_only_long))
+      ∙ above_table fn_codes_at (fn_codes_of layout) two fits3 p (omega (arith, l, fn_codes_long))
+      ∙ above_table rate_at (layout.rate ∷ []) one fits2 p (omega (arith, l))
+      ∙ above_table codes_at (codes_of layout) KERNEL fits1 p (omega (arith, l, codes_long))
+
+  pub has_kernel : HasKernel (image_of layout)
+  has_kernel p out = pick (leb 768 p) refl
+    where
+      pick : (b : Bool) → leb 768 p ≡ b → slice_index (image_of layout) p ≡ slice_index KERNEL p
+      pick false h = below p (grind (arith, nat_tests, h))
+      pick true h =
+          let past : ltb p 974 ≡ false = ap (λ b. b && ltb p 974) (sym h) ∙ out in
+          above p (grind (arith, nat_tests, past))
+
+  -- what is read at a place's number, in the one layer and in the other
+  pub code_read : (place : ℕ) → place < 96 → slice_index (image_of layout) (codes_at + place) ≡ code_byte layout place
+  code_read place l =
+      past_rate (768 + place) (omega (arith, l))
+      ∙ in_table codes_at (codes_of layout) KERNEL fits1 place (omega (arith, l, codes_long))
+      ∙ get_or-map-range_with_len (code_byte layout) 0 96 place place 0 l (omega arith)
+
+  pub fn_code_read : (place : ℕ) → place < 96
+      → slice_index (image_of layout) (fn_codes_at + place) ≡ fn_code_byte layout place
+  fn_code_read place l =
+      past_make_only (865 + place) (omega (arith, l))
+      ∙ in_table fn_codes_at (fn_codes_of layout) two fits3 place (omega (arith, l, fn_codes_long))
+      ∙ get_or-map-range_with_len (fn_code_byte layout) 0 96 place place 0 l (omega arith)
+
+  -- the rate
+  pub rate_read : slice_index (image_of layout) rate_at ≡ layout.rate
+  rate_read = past_fn_codes 864 (omega arith) ∙ in_table rate_at (layout.rate ∷ []) one fits2 0 (omega arith)
+
+  -- the bit of a key that sends no break
+  pub make_only_read : (column row : ℕ) → column < 12 → row < 8
+      → bit row (slice_index (image_of layout) (make_only_at + column)) ≡ is_make_only (8 * column + row) layout
+  make_only_read column row c r =
+      let byte : slice_index (image_of layout) (make_only_at + column) ≡ make_only_byte layout column =
+      past_fn_place (961 + column) (omega (arith, c))
+      ∙ in_table make_only_at (make_only_of layout) three fits4 column (omega (arith, c, make_only_long))
+      ∙ get_or-map-range_with_len (make_only_byte layout) 0 12 column column 0 c (omega arith) in
+      ap (bit row) byte ∙ bits_read (λ k. is_make_only (8 * column + k) layout) row r
+
+  -- the place of the Fn key
+  pub fn_place_read : slice_index (image_of layout) fn_place_at ≡ fn_byte layout
+  fn_place_read = in_table fn_place_at (fn_byte layout ∷ []) four fits5 0 (omega arith)

@@ -1,2 +1,4 @@
-mod Tables
+pub mod Tables
+pub mod Bits
 pub mod Kernel
+pub mod Keys

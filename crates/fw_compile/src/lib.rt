@@ -1,18 +1,20 @@
-//! The compiler from a key layout to a firmware image: the kernel with the layout's codes and its rate in it.
+//! The compiler from a key layout to a firmware image: the kernel with the layout's tables in it.
 //!
-//! This layer knows where the kernel keeps the layout's tables: the code of place p at 300 + p (hexadecimal), 00 where
-//! it has none, and the rate at 360. It must not know what the kernel does, nor a key. Our own.
+//! This layer knows where the kernel keeps the layout's tables (hexadecimal): the code of place p at 300 + p and under Fn
+//! at 361 + p, 00 where it has none; the rate at 360; at 3C1 + c a byte for column c, whose bit r is set where the key at
+//! row r sends no break; and the place of the Fn key at 3CD, FF where there is none. It must not know what the kernel
+//! does, nor a key. Our own.
 #![tactic(auto)]
 
 mod codes;
 #[cfg(test)]
 mod tests;
 
-ghost use Rattle.std.specs.Prelude.{◌≡◌};
-ghost use Rattle.fw_compile.specs.Image.{image_of, with_tables};
+ghost use Rattle.std.specs.Prelude.{◌≡◌, ◌≤◌, ◌+◌, length};
+ghost use Rattle.fw_compile.specs.Image.{image_of, with_table};
 ghost use Rattle.fw_kernel.specs.Places.{HasKernel};
 
-use crate::codes::codes_of;
+use crate::codes::{codes_of, fn_byte, fn_codes_of, make_only_of};
 use fw_kernel::KERNEL;
 use layout_reader::Layout;
 use mcs48_isa::Image;
@@ -23,21 +25,34 @@ const CODES: usize = 0x300;
 /// The place of the rate, behind the codes.
 const RATE: usize = 0x360;
 
-/// The image of a layout: the kernel with the code of place p (0 to 95) at 300 + p (hexadecimal), 00 where no entry has
-/// the place, and the rate at 360. So outside the places 300 to 3CD it has the kernel's bytes. It never refuses.
+/// The place of the first code under Fn.
+const FN_CODES: usize = 0x361;
+
+/// The place of the first column's byte of the keys that send no break.
+const MAKE_ONLY: usize = 0x3c1;
+
+/// The place where the Fn key's place stands.
+const FN_PLACE: usize = 0x3cd;
+
+/// The image of a layout: the kernel with the layout's tables, which stand at 300 to 3CD (hexadecimal). Outside of them
+/// it has the kernel's bytes. It never refuses.
 pub fn compile(layout: &Layout) -> Image
     ensures image { result.bytes ≡ image_of layout.now }
     ensures kernel { HasKernel result.bytes }
 {
     let mut bytes = KERNEL;
-    put_tables(&mut bytes, &codes_of(layout), layout.rate());
+    put_table(&mut bytes, CODES, &codes_of(layout));
+    put_table(&mut bytes, RATE, &[layout.rate()]);
+    put_table(&mut bytes, FN_CODES, &fn_codes_of(layout));
+    put_table(&mut bytes, MAKE_ONLY, &make_only_of(layout));
+    put_table(&mut bytes, FN_PLACE, &[fn_byte(layout)]);
     Image { bytes }
 }
 
-/// Puts the codes of the 96 places and the rate to where the kernel reads them.
-fn put_tables(bytes: &mut [u8; 2048], codes: &[u8; 96], rate: u8)
-    ensures { bytes.new ≡ with_tables codes.now rate bytes.old }
+/// Puts a table to where the kernel reads it.
+fn put_table(bytes: &mut [u8; 2048], at: usize, table: &[u8])
+    requires { at + length table.now ≤ 2048 }
+    ensures { bytes.new ≡ with_table at table.now bytes.old }
 {
-    bytes[CODES..RATE].copy_from_slice(codes);
-    bytes[RATE] = rate;
+    bytes[at..at + table.len()].copy_from_slice(table);
 }

@@ -117,6 +117,9 @@ pub const REST: u16 = 0x292;
 /// What isn't 00 at power-on.
 pub const POWER: u16 = 0x29a;
 
+/// Power-on's first block: data memory is cleared.
+pub const BLANK: u16 = 0x2ad;
+
 /// The columns' changes in order.
 pub const EDGES: u16 = 0x409;
 
@@ -131,6 +134,9 @@ pub const DONE: u16 = 0x414;
 
 /// The column has changed.
 pub const MOVED: u16 = 0x416;
+
+/// The column's layers and make-only keys.
+pub const LAYERS: u16 = 0x424;
 
 /// The rows of a changed column.
 pub const ROWS: u16 = 0x42f;
@@ -150,11 +156,20 @@ pub const BEGINS: u16 = 0x454;
 /// One byte enters the queue.
 pub const ENTER: u16 = 0x463;
 
+/// The Fn key went down.
+pub const FN_DOWN: u16 = 0x47a;
+
+/// The Fn key went up.
+pub const FN_UP: u16 = 0x480;
+
 /// The key went up.
 pub const RELEASE: u16 = 0x486;
 
 /// The key's own repeating ends.
 pub const ENDS: u16 = 0x497;
+
+/// Has the key a break?
+pub const SILENT: u16 = 0x4a1;
 
 /// F0 and one byte enter the queue.
 pub const ENTER2: u16 = 0x4ac;

@@ -6,7 +6,7 @@ pub const SOURCE: &str = r"
 ; sends and receives frames, obeys the system's commands and puts the lights.
 ;
 ; The work of a tick is the service of the timer's interrupt, in register bank 1. It makes no call, and no register
-; lives from tick to tick: what does is in the cells below, which are 00 at power-on but for TEST, LAST and RATE. Numbers
+; lives from tick to tick: what does is in the cells below, which power-on makes 00 but for TEST, LAST and RATE. Numbers
 ; at the right are cycles since the tick's start. Each block is headed by what it needs beside the cells that it names,
 ; what it leaves to later blocks (every other register is free), and its cycles, from its head to the next head.
 ;
@@ -23,12 +23,14 @@ pub const SOURCE: &str = r"
 ;   45      TEST      ticks left of the power-on test
 ;   46      MODE      0 Ready, 1 WantRate, 2 WantLights
 ;   47      DISABLED  0, or 1 where scanning is disabled
-;   48      RINDEX    the repeating key's place, which is the place of its code in page 3
+;   48      RINDEX    place of the code that repeats, in page 3: the key's place, or 61 more in the Fn layer
 ;   49      RATE      rate byte
 ;   4A      RCOUNT    ticks until the key repeats, 0 where nothing repeats
 ;   4B      REPLY     the reply that is due
 ;   4C      LAST      last byte sent that wasn't FE
 ;   4D      LIGHTS    bits 4..6: Scroll, Num, Caps are lit
+;   4E      FN        FF where the Fn key is down, else 00
+;   50..5B  LAYER     byte c: bit r is 1 where the key of column c, row r was last pressed in the Fn layer
 ;   70..7F  ring      the queue's bytes
 ;
 ; F0: scanning is on; set by block scan alone.
@@ -51,9 +53,10 @@ RCOUNT   EQU 4AH
 REPLY    EQU 4BH
 LAST     EQU 4CH
 LIGHTS   EQU 4DH
+FN       EQU 4EH
 
         ORG 0
-        JMP start
+        JMP blank
 
 ; -- tick: the timer's interrupt. The next overflow is 2,048 cycles after the last, since the prescaler goes on.
 ; needs: nothing. leaves: R0 = HELD, R1 = CHANGED, R3 = 12; the first column is selected.
@@ -252,16 +255,16 @@ e_data: DEC A               ; 260
         JMP scan            ; 268
 
 ; -- start: power-on. Times are the cycles since reset; the first overflow comes with the end of cycle 4,093.
-; needs: the state after reset; R0 of power. leaves: register bank 1, the timer's interrupt enabled.
-; cycles: 3 to power; from begin 37.
+; needs: the state that blank leaves; R0 of power. leaves: register bank 1, the timer's interrupt enabled.
+; cycles: 3 to power; from begin 33.
         ORG 0F2H
-start:  SEL RB1             ; 2
-        JMP power           ; 3
-begin:  MOV A,#82H          ; 25: 126 counts of 32 cycles until the first overflow
-        MOV T,A             ; 27
-pause:  DJNZ R0,pause       ; 28 to 59
-        EN TCNTI            ; 60: the overflow asks for the tick
-        STRT T              ; 61: the prescaler is 0 when cycle 62 begins
+start:  SEL RB1             ; 390
+        JMP power           ; 391
+begin:  MOV A,#8EH          ; 413: 114 counts of 32 cycles until the first overflow
+        MOV T,A             ; 415
+pause:  DJNZ R0,pause       ; 416 to 443
+        EN TCNTI            ; 444: the overflow asks for the tick
+        STRT T              ; 445: the prescaler is 0 when cycle 446 begins
 
 ; -- wait: the main program, between ticks.
 wait:   JMP wait
@@ -566,17 +569,27 @@ a_over: MOV A,@R1
 ; -- power: what isn't 00 at power-on. Times are the cycles since reset.
 ; needs: nothing. leaves: TEST, LAST, RATE, R0.
 ; cycles: 20.
-power:  MOV R1,#TEST        ; 5
-        MOV @R1,#64         ; 7
-        MOV R1,#LAST        ; 9
-        MOV @R1,#0AAH       ; 11
-        MOV A,#60H          ; 13
-        MOVP3 A,@A          ; 15
-        MOV R1,#RATE        ; 17
-        MOV @R1,A           ; 19
-        NOP                 ; 20
-        MOV R0,#16          ; 21
-        JMP begin           ; 23
+power:  MOV R1,#TEST        ; 393
+        MOV @R1,#64         ; 395
+        MOV R1,#LAST        ; 397
+        MOV @R1,#0AAH       ; 399
+        MOV A,#60H          ; 401
+        MOVP3 A,@A          ; 403
+        MOV R1,#RATE        ; 405
+        MOV @R1,A           ; 407
+        NOP                 ; 408
+        MOV R0,#14          ; 409
+        JMP begin           ; 411
+
+; -- blank: power-on's first block. A part that is switched on holds anything in data memory, A and the carries.
+; needs: the state after reset. leaves: A, both carries and all of data memory 0.
+; cycles: 390 with the jump to it.
+blank:  MOV R0,#7FH         ; 2
+        CLR A               ; 4
+        ADD A,#0            ; 5: no carry
+fill:   MOV @R0,A           ; 7 + 3 for each cell, from the last to 01
+        DJNZ R0,fill        ; R0, which is cell 00, ends at 0
+        JMP start           ; 388
 
 ; -- tables: behind the layout's, the delays by bits 5 and 6 of the rate, the periods by bits 0 to 4, in ticks.
         ORG 3CEH
@@ -613,7 +626,7 @@ done:   RETR
 
 ; -- moved: what the rows of a changed column need.
 ; needs: R0 = CHANGED + c, A the changes. leaves: R4 the changes, R7 the held keys, R6 the place of row 0.
-; cycles: 16.
+; cycles: 14.
 moved:  MOV R4,A
         MOV A,R0
         XRL A,#10H          ; HELD + c
@@ -626,8 +639,19 @@ moved:  MOV R4,A
         RL A
         ANL A,#78H          ; 8c
         MOV R6,A
-        JMP rows
-        ORG 42FH
+
+; -- layers: and the column's layers and make-only keys.
+; needs: R0 = CHANGED + c. leaves: R5 the layers, R0 the make-only keys.
+; cycles: 12.
+layers: MOV A,R0
+        ADD A,#20H          ; LAYER + c
+        MOV R1,A
+        MOV A,@R1
+        MOV R5,A
+        MOV A,R0
+        ADD A,#91H          ; 3C1 + c
+        MOVP3 A,@A
+        MOV R0,A
 
 ; -- rows: the rows of a changed column in order.
 ; needs: R4. leaves: A the changes, R3 = 8.
@@ -636,7 +660,7 @@ rows:   MOV R3,#8
         MOV A,R4
 
 ; -- row: pass r: A the changes turned right by r, R6 the place, R3 = 8 - r.
-; needs: A, R3, R6; R0, R7. leaves: the same for pass r + 1; after the eighth R0.
+; needs: A, R3, R6; R0, R5, R7. leaves: the same for pass r + 1; after the eighth R5 and R6 = 8c + 8.
 ; cycles: 3 to 8.
 row:    RR A
         JB7 edge
@@ -654,15 +678,23 @@ edge:   MOV R4,A
         ANL A,R7
         JZ release
 
-; -- press.
-; needs: R6, F0. leaves: R2 the index, A the code.
-; cycles: 6 to 8.
-press:  MOV A,R6
+; -- press: the layer is that of the Fn key now. A place without a code is the Fn key's.
+; needs: R2 the row's bit, R5, R6, FN. leaves: R5, R2 the index, A the code.
+; cycles: 16 to 20.
+press:  MOV R1,#FN
+        MOV A,@R1
+        XRL A,R5
+        ANL A,R2
+        XRL A,R5
+        MOV R5,A            ; bit r is that of FN
+        MOV A,@R1
+        ANL A,#61H
+        ADD A,R6
         MOV R2,A
         MOVP3 A,@A
+        JZ fn_down
         JF0 begins
         JMP entered
-        ORG 454H
 
 ; -- begins: this key repeats, after the delay.
 ; needs: A the code, R2 the index, RATE. leaves: RINDEX, RCOUNT, R2 the code.
@@ -700,28 +732,49 @@ over:   MOV A,@R1
         MOV @R1,A
         JMP entered
 
-        ORG 486H
-; -- release.
-; needs: R6, F0. leaves: R2 the index, A the code.
-; cycles: 6 to 8.
-release: MOV A,R6
+; -- fn_down, fn_up: the Fn key.
+; needs: R4. leaves: FN.
+; cycles: fn_down 6, fn_up 6.
+fn_down: MOV R1,#FN
+        MOV @R1,#0FFH
+        JMP entered
+fn_up:  MOV R1,#FN
+        MOV @R1,#0
+        JMP entered
+
+; -- release: the layer is that of the press.
+; needs: R2 the row's bit, R5, R6. leaves: R2 the index, A the code.
+; cycles: 12 to 16.
+release: MOV A,R5
+        ANL A,R2
+        JNZ upper
+        JMP lower
+upper:  MOV A,#61H
+lower:  ADD A,R6
         MOV R2,A
         MOVP3 A,@A
+        JZ fn_up
         JF0 ends
         JMP entered
-        ORG 497H
 
 ; -- ends: if this key is the repeating one, nothing repeats any more. Both ways take 10 cycles.
 ; needs: A the code, R2 the index. leaves: RCOUNT, R2 the code.
-; cycles: 12.
+; cycles: 10.
 ends:   XCH A,R2
         MOV R1,#RINDEX
         XRL A,@R1
         JNZ other
         MOV R1,#RCOUNT
         MOV @R1,#0
-silent: JMP enter2
-        ORG 4A8H
+
+; -- silent: has this key a break?
+; needs: R3, R0. leaves: R2.
+; cycles: 6 to 8.
+silent: MOV A,R3
+        MOVP A,@A
+        ANL A,R0
+        JZ enter2
+        JMP entered
 other:  NOP
         NOP
         JMP silent
@@ -754,9 +807,19 @@ entered: MOV A,R4
         INC R6
         DJNZ R3,row
 
-; -- foot: the next column.
-; needs: R0 = CHANGED + c. leaves: R0 = CHANGED + c + 1.
-; cycles: 3.
-foot:   INC R0
+; -- foot: the column's layers go back; the next column.
+; needs: R5, R6 = 8c + 8. leaves: LAYER, R0 = CHANGED + c + 1.
+; cycles: 15.
+foot:   MOV A,R6
+        RR A
+        RR A
+        RR A
+        ADD A,#4FH          ; LAYER + c
+        MOV R1,A
+        MOV A,R5
+        MOV @R1,A
+        MOV A,R1
+        ADD A,#0E1H
+        MOV R0,A
         JMP more
 ";

@@ -1,17 +1,18 @@
 -- After a frame: what was sent, or a command, then steps 4 and 5, to the end of the service.
 use Rattle.fw_keys.proofs.Patch.{Keeps}
-use Rattle.fw_keys.proofs.Scan.{keyed}
+use Rattle.fw_keys.proofs.Scan.{after, keyed}
 use Rattle.std.proofs.Common.{◌≡◌, ◌≤◌, ◌<◌, ℕ, ◌+◌, ◌%◌, List, All, Bool, true, ap, ◌∙◌, subst, arith}
 use Rattle.mcs48_core.specs.Cpu.{Cpu}
 use Rattle.fw_keys.proofs.Blocks.{recast}
 use Rattle.fw_keys.proofs.Blocks.{seq_f0}
-use Rattle.fw_keys.proofs.Columns.{wide, kept_helds}
+use Rattle.fw_keys.proofs.ColumnCells.{spread, kept_helds}
+use Rattle.fw_keys.proofs.Held.{layers_same}
 use Rattle.fw_keys.proofs.Scan.{Scanned, scan_law, edges_most}
 use Rattle.fw_kernel.specs.Places.{HasKernel}
 use Rattle.fw_kernel.specs.declared.labels.TheConstants.{DONE, SCAN}
 use Rattle.fw_keys.proofs.Block.{Ends, Safe}
-use Rattle.fw_keys.specs.Edges.{image_keys}
-use Rattle.fw_keys.specs.State.{Inv, kbd_of}
+use Rattle.fw_keys.specs.Edges.{image_keys, IsSilentAlike}
+use Rattle.fw_keys.specs.State.{layers_of, Inv, kbd_of}
 use Rattle.fw_logic.proofs.Block.{begin_at, memory}
 use Rattle.fw_logic.proofs.Kernel.{kernel_in}
 use Rattle.fw_logic.proofs.Leads.{Leads}
@@ -21,12 +22,13 @@ use Rattle.joint_run.specs.Run.{Board}
 use Rattle.kbd_model.specs.Keyboard.{Keyboard}
 use Rattle.kbd_model.specs.Tick.{is_scanning}
 
-module _ (d : Board) (bytes : List ℕ) (hk : HasKernel bytes) (small : All IsByte bytes)
+module _ (d : Board) (bytes : List ℕ) (hk : HasKernel bytes) (alike : IsSilentAlike bytes) (small : All IsByte bytes)
     (low : (p1 p2 c : ℕ) (s : d.State) → (d.pins p1 p2 c s).bus < 256) (held : List Bool) where
   -- data memory at the end of a tick
   pub record Over (inhibited : Bool) (ch hd : ℕ → ℕ) (step : Keyboard → Keyboard) (f : ℕ → ℕ) (ring : List ℕ) (acc : ℕ)
       (g : ℕ → ℕ) (last : List ℕ) : Type 0 where
-    pub kbd : kbd_of held g last ≡ keyed (image_keys bytes) inhibited ch hd (step (kbd_of held f ring))
+    pub kbd : kbd_of held g last ≡ keyed (image_keys bytes) inhibited ch hd (layers_of f) (step (kbd_of held f ring))
+    pub layers : layers_of g ≡ after (image_keys bytes) ch hd (layers_of f)
     pub downs : (i : ℕ) → i < 12 → g (32 + i) ≡ hd i
     pub inv : Inv g
     pub stack : (g 8 ≡ f 8) × (g 9 ≡ f 9)
@@ -52,26 +54,29 @@ module _ (d : Board) (bytes : List ℕ) (hk : HasKernel bytes) (small : All IsBy
       (Ends d x1 (record m1 { f0 = b }) board1 DONE (56 + (2 + edges_most ch)) (Over m.f1 ch hd step f ring))) flag
       (recast d (kernel_in true bytes) (has_rows true bytes hk) small low x1
       (record m1 { f0 = is_scanning (kbd_of held g r) }) board1 DONE (56 + (2 + edges_most ch))
-      (56 + (2 + edges_most ch)) (Scanned d bytes hk small low held m1.f1 ch hd g r) (Over m.f1 ch hd step f ring)
+      (56 + (2 + edges_most ch)) (Scanned d bytes hk alike small low held m1.f1 ch hd g r) (Over m.f1 ch hd step f ring)
       (begin_at d SCAN g r m1 board1) (omega arith)
       (λ a g2 rg s. record {
-        cells = wide g s.r0 s.r7 s.p;
+        cells = spread g s.w;
         same = ap (λ t. memory t rg) s.now;
         facts = record {
-          kbd = s.kbd ∙ ap (λ b. keyed (image_keys bytes) b ch hd (kbd_of held g r)) inh
-              ∙ ap (λ k. keyed (image_keys bytes) m.f1 ch hd k) q.kbd;
-          downs = λ i l. kept_helds g s.r0 s.r7 s.p i l ∙ q.cells (32 + i) (omega arith) (omega (arith, l)) ∙ helds i l;
+          kbd = s.kbd ∙ ap (λ b. keyed (image_keys bytes) b ch hd (layers_of g) (kbd_of held g r)) inh
+              ∙ ap (λ l. keyed (image_keys bytes) m.f1 ch hd l (kbd_of held g r)) (layers_same g f q.layers)
+              ∙ ap (λ k. keyed (image_keys bytes) m.f1 ch hd (layers_of f) k) q.kbd;
+          layers = s.layers ∙ ap (λ l. after (image_keys bytes) ch hd l) (layers_same g f q.layers);
+          downs = λ i l. kept_helds g s.w i l ∙ q.cells (32 + i) (omega arith) (omega (arith, l)) ∙ helds i l;
           inv = record {
             most = s.most;
             started = q.inv.started;
-            some = (let u : g 68 ≤ g 66 % 128 = q.inv.some in let v : g 66 % 128 ≤ s.p.count % 128 = s.more in omega
+            some = (let u : g 68 ≤ g 66 % 128 = q.inv.some in let v : g 66 % 128 ≤ s.w.p.count % 128 = s.more in omega
                 (arith, u, v));
             mode = q.inv.mode;
             lamps = q.inv.lamps;
+            fn = s.cell;
           };
           stack = q.stack;
         };
       })
-      (scan_law d bytes hk small low held ch hd x1 m1 board1 g r q.inv.most safe1
+      (scan_law d bytes hk alike small low held ch hd x1 m1 board1 g r q.inv.most q.inv.fn safe1
       (λ i l. q.cells (48 + i) (omega arith) (omega (arith, l)) ∙ changes i l)
       (λ i l. q.cells (32 + i) (omega arith) (omega (arith, l)) ∙ helds i l))))

@@ -10,6 +10,7 @@ use Rattle.mcs48_ranges.specs.Sizes.{IsFine}
 use Rattle.fw_logic.proofs.Block.{memory, put}
 use Rattle.fw_logic.proofs.Memory.{memory_is}
 use Rattle.fw_logic.proofs.Service.{serving, stacked, begun}
+use Rattle.fw_keys.proofs.Patch.{still}
 use Rattle.fw_keys.specs.State.{Inv}
 use Rattle.fw_keys.specs.Edges.{row_edges, column_edges}
 use Rattle.fw_keys.specs.Quiet.{cells_in, IsStarted}
@@ -118,7 +119,7 @@ started_is late few tf last now ring m fine inv = record {
   back = refl;
   status = refl;
   fine = fine;
-  inv = record { most = inv.most; started = inv.started; some = inv.some; mode = inv.mode; lamps = inv.lamps };
+  inv = still (refl, refl, refl, refl, refl) inv;
 }
 
 pub xor_small : (a b : ℕ) → a < 256 → b < 256 → bit_xor a b < 256

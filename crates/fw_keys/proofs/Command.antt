@@ -1,5 +1,5 @@
 -- Step 2: a byte that was received, in every mode.
-use Rattle.fw_keys.proofs.Patch.{Keeps}
+use Rattle.fw_keys.proofs.Patch.{IsFnCell, Keeps}
 use Rattle.kbd_model.specs.Commands.{acknowledges}
 use Rattle.std.proofs.Common.{◌≡◌, ◌≤◌, ◌<◌, ℕ, ◌+◌, ◌*◌, ◌%◌, ◌/◌, List, [], ◌∷◌, All, Bool, true, false, not}
 use Rattle.std.proofs.Common.{◌==◌, nat_le, if◌then◌else◌, bit_and, refl, ap, sym, ◌∙◌, arith}
@@ -13,6 +13,7 @@ use Rattle.fw_kernel.specs.Places.{HasKernel}
 use Rattle.fw_kernel.specs.declared.labels.TheConstants.{COMMAND, READY, SCAN}
 use Rattle.fw_keys.proofs.Block.{Ends, Safe}
 use Rattle.fw_keys.specs.Edges.{image_keys}
+use Rattle.fw_keys.proofs.Patch.{awaits}
 use Rattle.fw_keys.specs.State.{Inv, kbd_of}
 use Rattle.fw_logic.proofs.Block.{begin_at, put}
 use Rattle.bits.proofs.Every.{by_byte, tests_by}
@@ -45,6 +46,9 @@ three_alone = by_byte (λ b. bit_and (b % 16 * 16 + b / 16) 112)
 mode_kept : (f : ℕ → ℕ) (i : ℕ) → 32 ≤ i → i < 60 → put f 70 0 i ≡ f i
 mode_kept f i l u = grind (arith, nat_tests, l, u)
 
+layer_kept : (f : ℕ → ℕ) (i : ℕ) → 78 ≤ i → i < 92 → put f 70 0 i ≡ f i
+layer_kept f i l u = grind (arith, nat_tests, l, u)
+
 module _ (d : Board) (bytes : List ℕ) (hk : HasKernel bytes) (small : All IsByte bytes)
     (low : (p1 p2 c : ℕ) (s : d.State) → (d.pins p1 p2 c s).bus < 256) (held : List Bool)
     (x : ℕ) (m : Cpu) (board : d.State) (f : ℕ → ℕ) (ring : List ℕ) (inv : Inv f) where
@@ -52,14 +56,15 @@ module _ (d : Board) (bytes : List ℕ) (hk : HasKernel bytes) (small : All IsBy
   Obeys = Leads d (kernel_in true bytes) x (begin_at d COMMAND f ring m board)
       (Ends d x m board SCAN 68 (Keeps held (obeyed (image_keys bytes) (f 28) (not (f 29 == 0))) f ring))
 
-  facts_of : (g : ℕ → ℕ) → g 66 ≡ f 66 → g 68 ≡ f 68 → g 70 ≤ 2 → g 77 ≡ 16 * (g 77 / 16 % 8)
-      → ((i : ℕ) → 32 ≤ i → i < 60 → g i ≡ f i) → (g 8 ≡ f 8) × (g 9 ≡ f 9)
+  facts_of : (g : ℕ → ℕ) → g 66 ≡ f 66 → g 68 ≡ f 68 → g 70 ≤ 2 → g 77 ≡ 16 * (g 77 / 16 % 8) → IsFnCell (g 78)
+      → ((i : ℕ) → 32 ≤ i → i < 60 → g i ≡ f i) → ((i : ℕ) → 78 ≤ i → i < 92 → g i ≡ f i) → (g 8 ≡ f 8) × (g 9 ≡ f 9)
       → kbd_of held g ring ≡ obeyed (image_keys bytes) (f 28) (not (f 29 == 0)) (kbd_of held f ring) → (a : ℕ)
       → Keeps held (obeyed (image_keys bytes) (f 28) (not (f 29 == 0))) f ring a g ring
-  facts_of g e66 e68 e70 e77 cells stack kbd a =
+  facts_of g e66 e68 e70 e77 e78 cells layers stack kbd a =
       record {
         kbd = kbd;
         cells = cells;
+        layers = layers;
         stack = stack;
         inv = record {
           most = (let l : f 66 % 128 ≤ 16 = inv.most in rw e66 l);
@@ -67,6 +72,7 @@ module _ (d : Board) (bytes : List ℕ) (hk : HasKernel bytes) (small : All IsBy
           some = (let l : f 68 ≤ f 66 % 128 = inv.some in rw (e66, e68) l);
           mode = e70;
           lamps = e77;
+          fn = e78;
         };
       }
 
@@ -75,8 +81,9 @@ module _ (d : Board) (bytes : List ℕ) (hk : HasKernel bytes) (small : All IsBy
       leaf d (kernel_in true bytes) (has_rows true bytes hk) small low
       (Keeps held (obeyed (image_keys bytes) (f 28) (not (f 29 == 0))) f ring) (Until 347 ∷ Go true ∷ Until SCAN ∷ [])
       COMMAND SCAN 68 (put (put (put f 64 1) 75 254) 25 75) ring x m m board f ring safe.0
-      (facts_of (put (put (put f 64 1) 75 254) 25 75) refl refl inv.mode inv.lamps
-      (λ i k u. grind (arith, nat_tests, k, u)) (refl, refl) (rw e refl)) (e, (refl, refl, refl))
+      (facts_of (put (put (put f 64 1) 75 254) 25 75) refl refl inv.mode inv.lamps inv.fn
+      (λ i k u. grind (arith, nat_tests, k, u)) (λ i k u. grind (arith, nat_tests, k, u)) (refl, refl) (rw e refl))
+      (e, (refl, refl, refl))
 
   in_ready : Safe m COMMAND f ring → (f 29 == 0) ≡ false → (f 70 == 0) ≡ true → Obeys
   in_ready safe right mode =
@@ -87,9 +94,12 @@ module _ (d : Board) (bytes : List ℕ) (hk : HasKernel bytes) (small : All IsBy
       (λ a g rg q.
       record {
         kbd = q.kbd
-            ∙ sym (ap (λ b. obeyed (image_keys bytes) (f 28) (not b) (kbd_of held f ring)) right ∙ ap (λ b. obeyed_in (if b then Ready else if f 70 == 1 then WantRate else WantLights) (image_keys bytes) (f 28) (kbd_of held f ring)) mode);
+            ∙ sym (ap (λ b. obeyed (image_keys bytes) (f 28) (not b) (kbd_of held f ring)) right ∙ ap
+            (λ b. obeyed_in (if b then Ready else if f 70 == 1 then WantRate else WantLights) (image_keys bytes)
+            (f 28) (kbd_of held f ring)) mode);
         inv = q.inv;
         cells = λ i k u. q.cells i k u;
+        layers = λ i k u. q.layers i k u;
         stack = q.stack;
       })
       (seq_just d (kernel_in true bytes) (has_rows true bytes hk) small low x m board READY 16 SCAN 43 (based 70 f) ring
@@ -109,7 +119,8 @@ module _ (d : Board) (bytes : List ℕ) (hk : HasKernel bytes) (small : All IsBy
       (Keeps held (obeyed (image_keys bytes) (f 28) (not (f 29 == 0))) f ring)
       (Until 347 ∷ Go false ∷ Until 352 ∷ Go false ∷ Until 355 ∷ Go false ∷ Until 360 ∷ Go true ∷ Until SCAN ∷ [])
       COMMAND SCAN 68 g ring x m m board f ring safe.0
-      (facts_of g refl refl (omega arith) inv.lamps (λ i k u. grind (arith, nat_tests, k, u)) (refl, refl)
+      (facts_of g refl refl (omega arith) inv.lamps inv.fn (λ i k u. grind (arith, nat_tests, k, u))
+      (λ i k u. grind (arith, nat_tests, k, u)) (refl, refl)
       (rw (right, mode, w, small_byte) refl)) (
         right,
         (
@@ -129,8 +140,8 @@ module _ (d : Board) (bytes : List ℕ) (hk : HasKernel bytes) (small : All IsBy
       (Keeps held (obeyed (image_keys bytes) (f 28) (not (f 29 == 0))) f ring)
       (Until 347 ∷ Go false ∷ Until 352 ∷ Go false ∷ Until 355 ∷ Go false ∷ Until 360 ∷ Go false ∷ Until SCAN ∷ [])
       COMMAND SCAN 68 g ring x m m board f ring safe.0
-      (facts_of g refl refl (omega arith) (three_alone (f 28) (h.cell 28 (omega arith)))
-      (λ i k u. grind (arith, nat_tests, k, u)) (refl, refl)
+      (facts_of g refl refl (omega arith) (three_alone (f 28) (h.cell 28 (omega arith))) inv.fn
+      (λ i k u. grind (arith, nat_tests, k, u)) (λ i k u. grind (arith, nat_tests, k, u)) (refl, refl)
       (ap (λ v. record (kbd_of held g ring) { lights = v }) (three_lights (f 28) (h.cell 28 (omega arith)))
       ∙ rw (right, mode, w, small_byte) refl)) (
         right,
@@ -152,7 +163,8 @@ module _ (d : Board) (bytes : List ℕ) (hk : HasKernel bytes) (small : All IsBy
       (Keeps held (obeyed (image_keys bytes) (f 28) (not (f 29 == 0))) f ring)
       (Until 347 ∷ Go false ∷ Until 352 ∷ Go false ∷ Until 355 ∷ Go true ∷ Until 379 ∷ Go true ∷ Until SCAN ∷ [])
       COMMAND SCAN 68 g ring x m m board f ring safe.0
-      (facts_of g refl refl inv.mode inv.lamps (λ i k u. grind (arith, nat_tests, k, u)) (refl, refl) (by_w w e)) (
+      (facts_of g refl refl inv.mode inv.lamps inv.fn (λ i k u. grind (arith, nat_tests, k, u))
+      (λ i k u. grind (arith, nat_tests, k, u)) (refl, refl) (by_w w e)) (
         right,
         (
           mode,
@@ -182,6 +194,7 @@ module _ (d : Board) (bytes : List ℕ) (hk : HasKernel bytes) (small : All IsBy
         kbd = q.kbd ∙ sym (by_w w e);
         inv = q.inv;
         cells = λ i k u. q.cells i k u ∙ mode_kept f i k u;
+        layers = λ i k u. q.layers i k u ∙ layer_kept f i k u;
         stack = q.stack;
       })
       (seq_just d (kernel_in true bytes) (has_rows true bytes hk) small low x m board READY 25 SCAN 43 (based 70 f0)
@@ -199,7 +212,7 @@ module _ (d : Board) (bytes : List ℕ) (hk : HasKernel bytes) (small : All IsBy
         ),
       ))
       (λ x1 m1 board1 same1 safe1. ready_law d bytes hk small low held x1 m1 board1 f0 ring
-      (record { most = inv.most; started = inv.started; some = inv.some; mode = omega arith; lamps = inv.lamps }) 70
+      (awaits (refl, refl, refl, refl) (omega arith) inv) 70
       safe1))
     where
       by_w : (w : Bool) → (f 70 == 1) ≡ w → obeyed (image_keys bytes) (f 28) (not (f 29 == 0)) (kbd_of held f ring)

@@ -1,284 +1,258 @@
--- The edge of a row: a press, a release, or nothing where scanning is off.
-use Rattle.fw_keys.proofs.Fold.{edge}
+-- The edge of a row: a press, a release, that of the Fn key, or no more than the layer where scanning is off.
 use Rattle.std.proofs.Common.{◌≡◌, ◌≤◌, ◌<◌, ℕ, suc, ◌+◌, ◌-◌, ◌^◌, ◌%◌, ◌/◌, List, [], ◌∷◌, All, Bool}
-use Rattle.std.proofs.Common.{true, false, not, ◌==◌, bit_and, refl, ap}
+use Rattle.std.proofs.Common.{true, false, not, ◌==◌, bit_and, bit_xor, refl, ap, inl, inr}
 use Rattle.std.proofs.Common.{sym, ◌∙◌, arith, slice_index}
+use Rattle.std.proofs.lemmas.Bool.Decides.{nat_tests}
 use Rattle.mcs48_core.specs.Cpu.{Cpu}
 use Rattle.bits.specs.Bits.{bit}
-use Rattle.fw_keys.proofs.Blocks.{Just, leaf, seq_just, recast, bytes_of}
-use Rattle.fw_keys.proofs.Enter.{Entered, enters}
-use Rattle.fw_keys.proofs.Enter2.{enters_two}
+use Rattle.fw_keys.proofs.Blocks.{Just, JustA, leaf, leaf_a, bytes_of}
+use Rattle.fw_keys.proofs.Fold.{fn_cell, with_bit}
 use Rattle.fw_kernel.specs.Places.{HasKernel}
 use Rattle.fw_kernel.specs.declared.labels.TheConstants.{EDGE, ENTER, ENTER2, ENTERED}
 use Rattle.fw_keys.proofs.Block.{Ends, Safe}
-use Rattle.fw_keys.proofs.Patch.{AfterEdge, Patch, over}
-use Rattle.fw_keys.specs.Edges.{image_keys}
-use Rattle.fw_keys.specs.State.{kbd_of, queue_of}
-use Rattle.fw_logic.proofs.Block.{begin_at, memory, put}
+use Rattle.fw_keys.proofs.Patch.{IsFnCell}
+use Rattle.fw_keys.specs.Edges.{image_code, image_keys, IsSilentAlike}
+use Rattle.fw_logic.proofs.Block.{begin_at, put}
 use Rattle.fw_logic.proofs.Kernel.{kernel_in}
 use Rattle.fw_logic.proofs.Leads.{Leads}
 use Rattle.fw_logic.proofs.Path.{Acc, Go, Run, Until}
 use Rattle.fw_logic.proofs.Short.{has_rows}
 use Rattle.mcs48_ranges.specs.Sizes.{IsByte}
 use Rattle.joint_run.specs.Run.{Board}
-use Rattle.kbd_model.specs.Queue.{enter}
 use Rattle.kbd_model.specs.Typematic.{delay}
-use Rattle.fw_keys.proofs.EdgeTests.{row_bit, bit_test, delay_place, delay_read, xor_test, stops, some_delay}
+use Rattle.fw_keys.proofs.EdgeTests.{row_bit, bit_test, bit_test_back, delay_place, delay_read, xor_test}
+use Rattle.fw_keys.proofs.EdgeTests.{upper, fn_upper, index_small, index_byte}
 
-module _ (d : Board) (bytes : List ℕ) (hk : HasKernel bytes) (small : All IsByte bytes)
+-- where a release knows its index
+abbrev pub AT_INDEX : ℕ
+AT_INDEX = 1167
+
+-- the Fn key's cell by whether it is down
+pub cell_is : (v : ℕ) → IsFnCell v → v ≡ fn_cell (not (v == 0))
+cell_is v (inl e) = e ∙ sym (ap (λ u. fn_cell (not (u == 0))) e)
+cell_is v (inr e) = e ∙ sym (ap (λ u. fn_cell (not (u == 0))) e)
+
+module _ (d : Board) (bytes : List ℕ) (hk : HasKernel bytes) (alike : IsSilentAlike bytes) (small : All IsByte bytes)
     (low : (p1 p2 c : ℕ) (s : d.State) → (d.pins p1 p2 c s).bus < 256) (held : List Bool) where
-  abbrev pub code_at : ℕ → ℕ
-  code_at p = slice_index bytes (768 + p)
+  abbrev pub code_at : Bool → ℕ → ℕ
+  code_at b p = slice_index bytes (768 + (upper b + p))
 
-  abbrev pub pressed : ℕ → (ℕ → ℕ) → ℕ → ℕ
-  pressed a f = put (put (put (put (put f 28 a) 26 (code_at (f 30))) 72 (f 30)) 74 (delay (f 73))) 25 74
+  abbrev pub is_silent : ℕ → Bool
+  is_silent p = image_code bytes false p == 0
 
-  abbrev pub released : Bool → ℕ → (ℕ → ℕ) → ℕ → ℕ
-  released true a f = put (put (put (put f 28 a) 26 (code_at (f 30))) 74 0) 25 74
-  released false a f = put (put (put f 28 a) 26 (code_at (f 30))) 25 72
+  abbrev pub is_only : ℕ → Bool
+  is_only p = (image_keys bytes).make_only p
 
-  module _ (k : ℕ) (lk : k < 8) (x : ℕ) (m : Cpu) (board : d.State) (f : ℕ → ℕ) (ring : List ℕ) (r3 : f 27 ≡ suc k)
-      (safe : Safe m EDGE f ring) where
+  -- how a row's pass begins, with its bit, and what is known of the cells
+  pub record AtEdge (k : ℕ) (f : ℕ → ℕ) : Type 0 where
+    pub k_small : k < 8
+    pub r3 : f 27 ≡ suc k
+    pub place : f 30 < 96
+    pub cell : IsFnCell (f 78)
+    pub only : bit (7 - k) (f 24) ≡ is_only (f 30)
+    pub most : f 66 % 128 ≤ 16
+
+  module _ (k : ℕ) (x : ℕ) (m : Cpu) (board : d.State) (f : ℕ → ℕ) (ring : List ℕ) (h : AtEdge k f) where
     bit_read : slice_index bytes ((1024 + f 27) % 2048) ≡ 2 ^ (7 - k)
-    bit_read = ap (λ n. slice_index bytes ((1024 + n) % 2048)) r3 ∙ row_bit bytes hk k lk
+    bit_read = ap (λ n. slice_index bytes ((1024 + n) % 2048)) h.r3 ∙ row_bit bytes hk k h.k_small
 
-    tests_row : (b : Bool) → bit (7 - k) (f 31) ≡ b → (bit_and (2 ^ (7 - k)) (f 31) == 0) ≡ not b
-    tests_row b is = bit_test (7 - k) (f 31) (omega arith) ((bytes_of m EDGE f ring safe).cell 31 (omega arith))
-        ∙ ap not is
+    abbrev pub fn : Bool
+    fn = not (f 78 == 0)
 
-    presses : bit (7 - k) (f 31) ≡ true → m.f0 ≡ true
-        → Leads d (kernel_in true bytes) x (begin_at d EDGE f ring m board)
-        (Ends d x m board ENTER 32 (Just (pressed m.a f) ring))
-    presses down on =
-        leaf d (kernel_in true bytes) (has_rows true bytes hk) small low (Just (pressed m.a f) ring)
-        (Until 1085 ∷ Acc (2 ^ (7 - k)) ∷ Until 1087 ∷ Go false ∷ Until 1092 ∷ Go true ∷ Until 1120 ∷ Acc
-        (206 + f 73 / 32 % 4) ∷ Run 1 ∷ Acc (delay (f 73)) ∷ Until ENTER ∷ [])
-        EDGE ENTER 32 (pressed m.a f) ring x m m board f ring safe.0 (λ a. (refl, refl)) (
-          bit_read,
-          (
-            tests_row true down,
+    abbrev pub sum : Bool → ℕ
+    sum b = upper b + f 30
+
+    abbrev pub byte' : ℕ
+    byte' = with_bit (7 - k) (f 78) (f 29)
+
+    abbrev pub pressed_cells : ℕ → ℕ
+    pressed_cells = put (put (put (put f 28 m.a) 26 (sum fn)) 29 byte') 25 78
+
+    upper_read : bit_and (f 78) 97 ≡ upper fn
+    upper_read = ap (λ v. bit_and v 97) (cell_is (f 78) h.cell) ∙ fn_upper fn
+
+    module _ (safe : Safe m EDGE f ring) where
+      tests_row : (b : Bool) → bit (7 - k) (f 31) ≡ b → (bit_and (2 ^ (7 - k)) (f 31) == 0) ≡ not b
+      tests_row b is = bit_test (7 - k) (f 31) (omega arith) ((bytes_of m EDGE f ring safe).cell 31 (omega arith))
+          ∙ ap not is
+
+      -- the Fn key goes down
+      pub fn_press : bit (7 - k) (f 31) ≡ true → (code_at fn (f 30) == 0) ≡ true
+          → Leads d (kernel_in true bytes) x (begin_at d EDGE f ring m board)
+          (Ends d x m board ENTERED 30 (Just (put pressed_cells 78 255) ring))
+      fn_press down silent =
+          leaf d (kernel_in true bytes) (has_rows true bytes hk) small low (Just (put pressed_cells 78 255) ring)
+          (Until 1085 ∷ Acc (2 ^ (7 - k)) ∷ Until 1087 ∷ Go false ∷ Until 1099 ∷ Acc (upper fn) ∷ Run 1 ∷ Acc
+          (sum fn) ∷ Until 1102 ∷ Go true ∷ Until ENTERED ∷ []) EDGE ENTERED 30 (put pressed_cells 78 255) ring x m m
+          board f ring safe.0 (λ a. (refl, refl)) (
+            bit_read,
             (
-              on,
+              tests_row true down,
+              (upper_read, (index_small fn (upper fn) (f 30) refl h.place, (silent, (refl, refl, refl)))),
+            ),
+          )
+
+      -- a key goes down where scanning is off
+      pub press_off : bit (7 - k) (f 31) ≡ true → (code_at fn (f 30) == 0) ≡ false → m.f0 ≡ false
+          → Leads d (kernel_in true bytes) x (begin_at d EDGE f ring m board)
+          (Ends d x m board ENTERED 28 (Just pressed_cells ring))
+      press_off down some off =
+          leaf d (kernel_in true bytes) (has_rows true bytes hk) small low (Just pressed_cells ring)
+          (Until 1085 ∷ Acc (2 ^ (7 - k)) ∷ Until 1087 ∷ Go false ∷ Until 1099 ∷ Acc (upper fn) ∷ Run 1 ∷ Acc
+          (sum fn) ∷ Until 1102 ∷ Go false ∷ Go false ∷ Until ENTERED ∷ []) EDGE ENTERED 28 pressed_cells ring x m m
+          board f ring safe.0 (λ a. (refl, refl)) (
+            bit_read,
+            (
+              tests_row true down,
+              (upper_read, (index_small fn (upper fn) (f 30) refl h.place, (some, (off, (refl, refl, refl))))),
+            ),
+          )
+
+      -- and where it is on
+      abbrev pub begun_cells : ℕ → ℕ
+      begun_cells =
+          put (put (put (put (put (put f 28 m.a) 26 (code_at fn (f 30))) 29 byte') 72 (sum fn)) 74 (delay (f 73))) 25 74
+
+      pub press_on : bit (7 - k) (f 31) ≡ true → (code_at fn (f 30) == 0) ≡ false → m.f0 ≡ true
+          → Leads d (kernel_in true bytes) x (begin_at d EDGE f ring m board)
+          (Ends d x m board ENTER 42 (Just begun_cells ring))
+      press_on down some on =
+          let rate : f 73 < 256 = (bytes_of m EDGE f ring safe).cell 73 (omega arith) in
+          leaf d (kernel_in true bytes) (has_rows true bytes hk) small low (Just begun_cells ring)
+          (Until 1085 ∷ Acc (2 ^ (7 - k)) ∷ Until 1087 ∷ Go false ∷ Until 1099 ∷ Acc (upper fn) ∷ Run 1 ∷ Acc
+          (sum fn) ∷ Until 1102 ∷ Go false ∷ Go true ∷ Until 1120 ∷ Acc (206 + f 73 / 32 % 4) ∷ Run 1 ∷ Acc
+          (delay (f 73)) ∷ Until ENTER ∷ []) EDGE ENTER 42 begun_cells ring x m m board f ring safe.0
+          (λ a. (refl, refl)) (
+            bit_read,
+            (
+              tests_row true down,
               (
-                delay_place (f 73) ((bytes_of m EDGE f ring safe).cell 73 (omega arith)),
-                (delay_read bytes hk (f 73) ((bytes_of m EDGE f ring safe).cell 73 (omega arith)), (refl, refl, refl)),
+                upper_read,
+                (
+                  index_small fn (upper fn) (f 30) refl h.place,
+                  (
+                    some,
+                    (on, (delay_place (f 73) rate, (delay_read bytes hk (f 73) rate, (refl, refl, refl)))),
+                  ),
+                ),
               ),
             ),
-          ),
-        )
+          )
 
-    releases : (b : Bool) → (f 72 == f 30) ≡ b → bit (7 - k) (f 31) ≡ false → m.f0 ≡ true
-        → Leads d (kernel_in true bytes) x (begin_at d EDGE f ring m board)
-        (Ends d x m board ENTER2 26 (Just (released b m.a f) ring))
-    releases true same down on =
-        let h = bytes_of m EDGE f ring safe in
-        leaf d (kernel_in true bytes) (has_rows true bytes hk) small low (Just (released true m.a f) ring)
-        (Until 1085 ∷ Acc (2 ^ (7 - k)) ∷ Until 1087 ∷ Go true ∷ Until 1161 ∷ Go true ∷ Until 1179 ∷ Go false ∷ Until
-        ENTER2 ∷ [])
-        EDGE ENTER2 26 (released true m.a f) ring x m m board f ring safe.0 (λ a. (refl, refl)) (
-          bit_read,
-          (
-            tests_row false down,
+      -- a release finds its index, by the layer of the press
+      abbrev pub found_cells : ℕ → ℕ
+      found_cells = put (put f 28 m.a) 26 (2 ^ (7 - k))
+
+      layer_test : (b : Bool) → bit (7 - k) (f 29) ≡ b → (bit_and (f 29) (2 ^ (7 - k)) == 0) ≡ not b
+      layer_test b is =
+          bit_test_back (7 - k) (f 29) (omega arith) ((bytes_of m EDGE f ring safe).cell 29 (omega arith)) ∙ ap not is
+
+      pub finds : (b : Bool) → bit (7 - k) (f 29) ≡ b → bit (7 - k) (f 31) ≡ false
+          → Leads d (kernel_in true bytes) x (begin_at d EDGE f ring m board)
+          (Ends d x m board AT_INDEX 15 (JustA (sum b) found_cells ring))
+      finds true on_fn down =
+          leaf_a d (kernel_in true bytes) (has_rows true bytes hk) small low (JustA (sum true) found_cells ring)
+          (Until 1085 ∷ Acc (2 ^ (7 - k)) ∷ Until 1087 ∷ Go true ∷ Until 1160 ∷ Go true ∷ Until AT_INDEX ∷ Acc
+          (sum true) ∷ []) EDGE AT_INDEX 15 (sum true) found_cells ring x m m board f ring safe.0 (refl, refl, refl) (
+            bit_read,
             (
-              on,
+              tests_row false down,
               (
-                xor_test (f 30) (f 72) (h.cell 30 (omega arith)) (h.cell 72 (omega arith)) ∙ ap not same,
-                (refl, refl, refl),
+                ap not (layer_test true on_fn),
+                (index_small true 97 (f 30) refl h.place, ((refl, refl, refl), refl)),
               ),
             ),
-          ),
-        )
-    releases false same down on =
-        let h = bytes_of m EDGE f ring safe in
-        leaf d (kernel_in true bytes) (has_rows true bytes hk) small low (Just (released false m.a f) ring)
-        (Until 1085 ∷ Acc (2 ^ (7 - k)) ∷ Until 1087 ∷ Go true ∷ Until 1161 ∷ Go true ∷ Until 1179 ∷ Go true ∷ Until
-        ENTER2 ∷ [])
-        EDGE ENTER2 26 (released false m.a f) ring x m m board f ring safe.0 (λ a. (refl, refl)) (
-          bit_read,
-          (
-            tests_row false down,
+          )
+      finds false on_fn down =
+          let none : bit_and (f 29) (2 ^ (7 - k)) ≡ 0 =
+          (let e : (bit_and (f 29) (2 ^ (7 - k)) == 0) ≡ true = layer_test false on_fn in grind (arith, nat_tests, e))
+          in
+          leaf_a d (kernel_in true bytes) (has_rows true bytes hk) small low (JustA (sum false) found_cells ring)
+          (Until 1085 ∷ Acc (2 ^ (7 - k)) ∷ Until 1087 ∷ Go true ∷ Until 1160 ∷ Go false ∷ Until AT_INDEX ∷ Acc
+          (sum false) ∷ []) EDGE AT_INDEX 15 (sum false) found_cells ring x m m board f ring safe.0 (refl, refl, refl) (
+            bit_read,
             (
-              on,
+              tests_row false down,
               (
-                xor_test (f 30) (f 72) (h.cell 30 (omega arith)) (h.cell 72 (omega arith)) ∙ ap not same,
-                (refl, refl, refl),
+                ap not (layer_test false on_fn),
+                (
+                  index_small false (bit_and (f 29) (2 ^ (7 - k))) (f 30) none h.place,
+                  ((refl, refl, refl), refl),
+                ),
               ),
             ),
-          ),
-        )
+          )
 
-    abbrev pub unseen : ℕ → ℕ
-    unseen = put (put f 28 m.a) 26 (f 30)
+    -- a release, from its index on
+    module _ (b : Bool) (a_is : m.a ≡ sum b) (safe : Safe m AT_INDEX f ring) where
+      -- the Fn key goes up
+      pub fn_release : (code_at b (f 30) == 0) ≡ true
+          → Leads d (kernel_in true bytes) x (begin_at d AT_INDEX f ring m board)
+          (Ends d x m board ENTERED 11 (Just (put (put (put f 26 (sum b)) 25 78) 78 0) ring))
+      fn_release silent =
+          leaf d (kernel_in true bytes) (has_rows true bytes hk) small low
+          (Just (put (put (put f 26 (sum b)) 25 78) 78 0) ring)
+          (Acc (sum b) ∷ Until 1169 ∷ Go true ∷ Until ENTERED ∷ []) AT_INDEX ENTERED 11
+          (put (put (put f 26 (sum b)) 25 78) 78 0) ring x m m board f ring safe.0 (λ a. (refl, refl))
+          (a_is, (silent, (refl, refl, refl)))
 
-    ignores : (b : Bool) → bit (7 - k) (f 31) ≡ b → m.f0 ≡ false
-        → Leads d (kernel_in true bytes) x (begin_at d EDGE f ring m board)
-        (Ends d x m board ENTERED 18 (Just unseen ring))
-    ignores true down on =
-        leaf d (kernel_in true bytes) (has_rows true bytes hk) small low (Just unseen ring)
-        (Until 1085 ∷ Acc (2 ^ (7 - k)) ∷ Until 1087 ∷ Go false ∷ Until 1092 ∷ Go false ∷ Until ENTERED ∷ [])
-        EDGE ENTERED 18 unseen ring x m m board f ring safe.0 (λ a. (refl, refl))
-        (bit_read, (tests_row true down, (on, (refl, refl, refl))))
-    ignores false down on =
-        leaf d (kernel_in true bytes) (has_rows true bytes hk) small low (Just unseen ring)
-        (Until 1085 ∷ Acc (2 ^ (7 - k)) ∷ Until 1087 ∷ Go true ∷ Until 1161 ∷ Go false ∷ Until ENTERED ∷ [])
-        EDGE ENTERED 18 unseen ring x m m board f ring safe.0 (λ a. (refl, refl))
-        (bit_read, (tests_row false down, (on, (refl, refl, refl))))
+      -- scanning is off
+      pub release_off : (code_at b (f 30) == 0) ≡ false → m.f0 ≡ false
+          → Leads d (kernel_in true bytes) x (begin_at d AT_INDEX f ring m board)
+          (Ends d x m board ENTERED 9 (Just (put f 26 (sum b)) ring))
+      release_off some off =
+          leaf d (kernel_in true bytes) (has_rows true bytes hk) small low (Just (put f 26 (sum b)) ring)
+          (Acc (sum b) ∷ Until 1169 ∷ Go false ∷ Go false ∷ Until ENTERED ∷ []) AT_INDEX ENTERED 9
+          (put f 26 (sum b)) ring x m m board f ring safe.0 (λ a. (refl, refl))
+          (a_is, (some, (off, (refl, refl, refl))))
 
-    abbrev pub EdgeLaw : Bool → Bool → Type 0
-    EdgeLaw on down = Leads d (kernel_in true bytes) x (begin_at d EDGE f ring m board)
-        (Ends d x m board ENTERED 49 (λ acc. AfterEdge held (edge (image_keys bytes) on (f 30) down) m.a f ring))
+      -- it is on: what repeats ends where it is this key
+      abbrev pub ended_cells : Bool → ℕ → ℕ
+      ended_cells true = put (put (put f 26 (code_at b (f 30))) 25 74) 74 0
+      ended_cells false = put (put f 26 (code_at b (f 30))) 25 72
 
-    edge_by : (on down : Bool) → m.f0 ≡ on → bit (7 - k) (f 31) ≡ down → f 66 % 128 ≤ 16 → EdgeLaw on down
-    edge_by false down off is most =
-        recast d (kernel_in true bytes) (has_rows true bytes hk) small low x m board ENTERED 18 49 (Just unseen ring)
-        (λ acc. AfterEdge held (edge (image_keys bytes) false (f 30) down) m.a f ring) (begin_at d EDGE f ring m board)
-        (omega arith)
-        (λ a g r q. let p :
-        Patch = record {
-          r1 = f 25;
-          r2 = f 30;
-          r3 = f 27;
-          r4 = m.a;
-          r6 = f 30;
-          count = f 66;
-          place = f 72;
-          left = f 74;
-        } in record {
-          cells = over f p;
-          same = ap (λ t. memory t r) q.0;
-          facts = record {
-            p = p;
-            is = record { now = refl; kbd = ap (λ t. kbd_of held f t) q.1; most = most; more = omega arith };
-            r3 = refl;
-            r4 = refl;
-            r6 = refl;
-          };
-        })
-        (ignores down is off)
-    edge_by true true on is most =
-        seq_just d (kernel_in true bytes) (has_rows true bytes hk) small low x m board ENTER 32 ENTERED 17
-        (pressed m.a f) ring (λ acc. AfterEdge held (edge (image_keys bytes) true (f 30) true) m.a f ring)
-        (begin_at d EDGE f ring m board) safe.1 (presses is on)
-        (λ x' m' board' same safe'.
-        recast d (kernel_in true bytes) (has_rows true bytes hk) small low x' m' board' ENTERED 17 17
-        (λ a. Entered (code_at (f 30) ∷ []) (pressed m.a f) ring)
-        (λ acc. AfterEdge held (edge (image_keys bytes) true (f 30) true) m.a f ring)
-        (begin_at d ENTER (pressed m.a f) ring m' board') (omega arith)
-        (λ a g r q. let p :
-        Patch = record {
-          r1 = q.pointer;
-          r2 = code_at (f 30);
-          r3 = f 27;
-          r4 = m.a;
-          r6 = f 30;
-          count = q.count;
-          place = f 30;
-          left = delay (f 73);
-        } in record {
-          cells = over f p;
-          same = ap (λ t. memory t r) q.now;
-          facts = record {
-            p = p;
-            is = record {
-              now = refl;
-              kbd = ap (λ t. record (kbd_of held (over f p) r) { queue = t }) q.queue
-                  ∙ ap (λ t. record (kbd_of held f ring) {
-                    queue = enter (code_at (f 30) ∷ []) (queue_of f ring);
-                    repeats = t;
-                  }) (some_delay (f 30) (f 73) ((bytes_of m EDGE f ring safe).cell 73 (omega arith)));
-              most = q.most;
-              more = q.more;
-            };
-            r3 = refl;
-            r4 = refl;
-            r6 = refl;
-          };
-        })
-        (enters d bytes hk small low held x' m' board' (pressed m.a f) ring safe' most))
-    edge_by true false on is most =
-        let b = f 72 == f 30 in
-        seq_just d (kernel_in true bytes) (has_rows true bytes hk) small low x m board ENTER2 26 ENTERED 23
-        (released b m.a f) ring (λ acc. AfterEdge held (edge (image_keys bytes) true (f 30) false) m.a f ring)
-        (begin_at d EDGE f ring m board) safe.1 (releases b refl is on)
-        (λ x' m' board' same safe'. finish x' m' board' b refl safe')
-      where
-        finish : (x' : ℕ) (m' : Cpu) (board' : d.State) (b : Bool) → (f 72 == f 30) ≡ b
-            → Safe m' ENTER2 (released b m.a f) ring
-            → Leads d (kernel_in true bytes) x' (begin_at d ENTER2 (released b m.a f) ring m' board')
-            (Ends d x' m' board' ENTERED 23
-            (λ acc. AfterEdge held (edge (image_keys bytes) true (f 30) false) m.a f ring))
-        finish x' m' board' true e safe' =
-            recast d (kernel_in true bytes) (has_rows true bytes hk) small low x' m' board' ENTERED 23 23
-            (λ a. Entered (240 ∷ code_at (f 30) ∷ []) (released true m.a f) ring)
-            (λ acc. AfterEdge held (edge (image_keys bytes) true (f 30) false) m.a f ring)
-            (begin_at d ENTER2 (released true m.a f) ring m' board') (omega arith)
-            (λ a g r q. let p :
-            Patch = record {
-              r1 = q.pointer;
-              r2 = code_at (f 30);
-              r3 = f 27;
-              r4 = m.a;
-              r6 = f 30;
-              count = q.count;
-              place = f 72;
-              left = 0;
-            } in record {
-              cells = over f p;
-              same = ap (λ t. memory t r) q.now;
-              facts = record {
-                p = p;
-                is = record {
-                  now = refl;
-                  kbd = ap (λ t. record (kbd_of held (over f p) r) { queue = t }) q.queue
-                      ∙ ap (λ t. record (kbd_of held f ring) {
-                        queue = enter (240 ∷ code_at (f 30) ∷ []) (queue_of f ring);
-                        repeats = t;
-                      }) (sym (stops (f 74) (f 72) (f 30) true e (f 74 == 0) refl));
-                  most = q.most;
-                  more = q.more;
-                };
-                r3 = refl;
-                r4 = refl;
-                r6 = refl;
-              };
-            })
-            (enters_two d bytes hk small low held x' m' board' (released true m.a f) ring safe' most)
-        finish x' m' board' false e safe' =
-            recast d (kernel_in true bytes) (has_rows true bytes hk) small low x' m' board' ENTERED 23 23
-            (λ a. Entered (240 ∷ code_at (f 30) ∷ []) (released false m.a f) ring)
-            (λ acc. AfterEdge held (edge (image_keys bytes) true (f 30) false) m.a f ring)
-            (begin_at d ENTER2 (released false m.a f) ring m' board') (omega arith)
-            (λ a g r q. let p :
-            Patch = record {
-              r1 = q.pointer;
-              r2 = code_at (f 30);
-              r3 = f 27;
-              r4 = m.a;
-              r6 = f 30;
-              count = q.count;
-              place = f 72;
-              left = f 74;
-            } in record {
-              cells = over f p;
-              same = ap (λ t. memory t r) q.now;
-              facts = record {
-                p = p;
-                is = record {
-                  now = refl;
-                  kbd = ap (λ t. record (kbd_of held (over f p) r) { queue = t }) q.queue
-                      ∙ ap (λ t. record (kbd_of held f ring) {
-                        queue = enter (240 ∷ code_at (f 30) ∷ []) (queue_of f ring);
-                        repeats = t;
-                      }) (sym (stops (f 74) (f 72) (f 30) false e (f 74 == 0) refl));
-                  most = q.most;
-                  more = q.more;
-                };
-                r3 = refl;
-                r4 = refl;
-                r6 = refl;
-              };
-            })
-            (enters_two d bytes hk small low held x' m' board' (released false m.a f) ring safe' most)
+      abbrev pub goal_of : Bool → ℕ
+      goal_of true = ENTERED
+      goal_of false = ENTER2
 
-    pub edge_law : f 66 % 128 ≤ 16 → EdgeLaw m.f0 (bit (7 - k) (f 31))
-    edge_law most = edge_by m.f0 (bit (7 - k) (f 31)) refl refl most
+      abbrev pub time_of : Bool → ℕ
+      time_of true = 25
+      time_of false = 23
+
+      row_test : (only : Bool) → bit (7 - k) (f 24) ≡ only → (bit_and (2 ^ (7 - k)) (f 24) == 0) ≡ not only
+      row_test only is =
+          bit_test (7 - k) (f 24) (omega arith) ((bytes_of m AT_INDEX f ring safe).cell 24 (omega arith)) ∙ ap not is
+
+      same_test : (same : Bool) → (f 72 == sum b) ≡ same → not (bit_xor (sum b) (f 72) == 0) ≡ not same
+      same_test same is =
+          xor_test (sum b) (f 72) (index_byte b (f 30) h.place)
+          ((bytes_of m AT_INDEX f ring safe).cell 72 (omega arith)) ∙ ap not is
+
+      pub release_on : (same only : Bool) → (code_at b (f 30) == 0) ≡ false → m.f0 ≡ true → (f 72 == sum b) ≡ same
+          → bit (7 - k) (f 24) ≡ only
+          → Leads d (kernel_in true bytes) x (begin_at d AT_INDEX f ring m board)
+          (Ends d x m board (goal_of only) (time_of only) (Just (ended_cells same) ring))
+      release_on true true some on same only =
+          leaf d (kernel_in true bytes) (has_rows true bytes hk) small low (Just (ended_cells true) ring)
+          (Acc (sum b) ∷ Until 1169 ∷ Go false ∷ Go true ∷ Until 1179 ∷ Go false ∷ Until 1187 ∷ Acc
+          (2 ^ (7 - k)) ∷ Until 1188 ∷ Go false ∷ Until ENTERED ∷ []) AT_INDEX ENTERED 25 (ended_cells true) ring x m m
+          board f ring safe.0 (λ a. (refl, refl))
+          (a_is, (some, (on, (same_test true same, (bit_read, (row_test true only, (refl, refl, refl)))))))
+      release_on true false some on same only =
+          leaf d (kernel_in true bytes) (has_rows true bytes hk) small low (Just (ended_cells true) ring)
+          (Acc (sum b) ∷ Until 1169 ∷ Go false ∷ Go true ∷ Until 1179 ∷ Go false ∷ Until 1187 ∷ Acc
+          (2 ^ (7 - k)) ∷ Until 1188 ∷ Go true ∷ Until ENTER2 ∷ []) AT_INDEX ENTER2 23 (ended_cells true) ring x m m
+          board f ring safe.0 (λ a. (refl, refl))
+          (a_is, (some, (on, (same_test true same, (bit_read, (row_test false only, (refl, refl, refl)))))))
+      release_on false true some on same only =
+          leaf d (kernel_in true bytes) (has_rows true bytes hk) small low (Just (ended_cells false) ring)
+          (Acc (sum b) ∷ Until 1169 ∷ Go false ∷ Go true ∷ Until 1179 ∷ Go true ∷ Until 1187 ∷ Acc
+          (2 ^ (7 - k)) ∷ Until 1188 ∷ Go false ∷ Until ENTERED ∷ []) AT_INDEX ENTERED 25 (ended_cells false) ring x m m
+          board f ring safe.0 (λ a. (refl, refl))
+          (a_is, (some, (on, (same_test false same, (bit_read, (row_test true only, (refl, refl, refl)))))))
+      release_on false false some on same only =
+          leaf d (kernel_in true bytes) (has_rows true bytes hk) small low (Just (ended_cells false) ring)
+          (Acc (sum b) ∷ Until 1169 ∷ Go false ∷ Go true ∷ Until 1179 ∷ Go true ∷ Until 1187 ∷ Acc
+          (2 ^ (7 - k)) ∷ Until 1188 ∷ Go true ∷ Until ENTER2 ∷ []) AT_INDEX ENTER2 23 (ended_cells false) ring x m m
+          board f ring safe.0 (λ a. (refl, refl))
+          (a_is, (some, (on, (same_test false same, (bit_read, (row_test false only, (refl, refl, refl)))))))

@@ -16,25 +16,25 @@ use Rattle.kbd_model.specs.declared.meeting.Meeting.{Meeting}
 use Rattle.kbd_model.specs.declared.meeting.Meeting.TheVariants.{Idle, Inhibited}
 use Rattle.kbd_model.specs.Keyboard.{Keyboard, offer}
 use Rattle.kbd_model.specs.Tick.{tested_if}
-use Rattle.fw_keys.specs.State.{kbd_of, Inv}
-use Rattle.fw_keys.specs.Edges.{image_keys}
+use Rattle.fw_keys.specs.State.{kbd_of, layers_of, Inv}
+use Rattle.fw_keys.specs.Edges.{image_keys, IsSilentAlike}
 use Rattle.fw_keys.proofs.Block.{Safe}
-use Rattle.fw_keys.proofs.Scan.{edges_most, keyed}
+use Rattle.fw_keys.proofs.Scan.{after, edges_most, keyed}
 use Rattle.fw_keys.proofs.Tick.{down, changed, begun, lit, shining, Ticked, TickLaw, idle_tick}
 use Rattle.fw_keys.proofs.KeyedTick.{keyed_tick}
 use Rattle.fw_keys.proofs.Tick.{inhibited_tick, test_tick, IsFreeAt, same_kbd}
 
-module _ (d : Board) (bytes : List ℕ) (hk : HasKernel bytes) (small : All IsByte bytes)
+module _ (d : Board) (bytes : List ℕ) (hk : HasKernel bytes) (alike : IsSilentAlike bytes) (small : All IsByte bytes)
     (low : (p1 p2 c : ℕ) (s : d.State) → (d.pins p1 p2 c s).bus < 256) (held : List Bool)
     (y : ℕ) (m : Cpu) (board : d.State) (f : ℕ → ℕ) (ring : List ℕ) where
   abbrev pub downs_now : ℕ → ℕ
-  downs_now = down d bytes hk small low held y m board f ring
+  downs_now = down d bytes hk alike small low held y m board f ring
 
   abbrev pub changes_now : ℕ → ℕ
-  changes_now = changed d bytes hk small low held y m board f ring
+  changes_now = changed d bytes hk alike small low held y m board f ring
 
   abbrev pub lights_on : Cpu
-  lights_on = lit d bytes hk small low held y m board f ring
+  lights_on = lit d bytes hk alike small low held y m board f ring
 
   -- data memory is the model's tick later, but for the held keys; the columns are kept; from a stage on, of which F is
   -- known, no port was written
@@ -46,7 +46,9 @@ module _ (d : Board) (bytes : List ℕ) (hk : HasKernel bytes) (small : All IsBy
     pub cpu : e.cpu ≡ scratched (record lights_on { f0 = e.cpu.f0; f1 = e.cpu.f1; p2 = e.cpu.p2 }) DONE
         (memory now last) e.cpu
     pub short : e.off ≤ last_off
-    pub kbd : kbd_of held now last ≡ keyed_tick (image_keys bytes) meeting changes_now downs_now (kbd_of held f ring)
+    pub kbd : kbd_of held now last ≡ keyed_tick (image_keys bytes) meeting changes_now downs_now (layers_of f)
+        (kbd_of held f ring)
+    pub layers : layers_of now ≡ after (image_keys bytes) changes_now downs_now (layers_of f)
     pub downs : (i : ℕ) → i < 12 → now (32 + i) ≡ downs_now i
     pub inv : Inv now
     pub stack : (now 8 ≡ f 8) × (now 9 ≡ f 9)
@@ -59,22 +61,22 @@ module _ (d : Board) (bytes : List ℕ) (hk : HasKernel bytes) (small : All IsBy
   pub record AtHead (e : Stage d.State) : Type 0 where
     pub off : e.off ≡ 231
     pub p2 : e.cpu.p2 ≡ 255 - f 77
-    pub board_is : e.board ≡ shining d bytes hk small low held y m board f ring
+    pub board_is : e.board ≡ shining d bytes hk alike small low held y m board f ring
 
   abbrev pub Works : Meeting → ℕ → (Stage d.State → Type 0) → Type 0
-  Works meeting last_off F = Leads d (kernel_in true bytes) y (begun d bytes hk small low held y m board f ring)
+  Works meeting last_off F = Leads d (kernel_in true bytes) y (begun d bytes hk alike small low held y m board f ring)
       (Ended meeting last_off F)
 
   silent : (meeting : Meeting) (inhibited : Bool) (max : ℕ) (step : Keyboard → Keyboard)
-      → TickLaw d bytes hk small low held y m board f ring meeting inhibited max step
+      → TickLaw d bytes hk alike small low held y m board f ring meeting inhibited max step
       → Works meeting (231 + (max + (56 + (2 + edges_most changes_now)))) AtHead
   silent meeting inhibited max step h =
       weaken d (kernel_in true bytes) (has_rows true bytes hk) y
-      (λ e. Ticked d bytes hk small low held y m board f ring inhibited max step e
-      × (keyed (image_keys bytes) inhibited changes_now downs_now (step (kbd_of held f ring))
-      ≡ keyed_tick (image_keys bytes) meeting changes_now downs_now (kbd_of held f ring)))
+      (λ e. Ticked d bytes hk alike small low held y m board f ring inhibited max step e
+      × (keyed (image_keys bytes) inhibited changes_now downs_now (layers_of f) (step (kbd_of held f ring))
+      ≡ keyed_tick (image_keys bytes) meeting changes_now downs_now (layers_of f) (kbd_of held f ring)))
       (Ended meeting (231 + (max + (56 + (2 + edges_most changes_now)))) AtHead)
-      (begun d bytes hk small low held y m board f ring)
+      (begun d bytes hk alike small low held y m board f ring)
       (λ e a.
       let t = a.0 in
       let off : e.off ≡ 231 + t.used = t.off in
@@ -82,13 +84,14 @@ module _ (d : Board) (bytes : List ℕ) (hk : HasKernel bytes) (small : All IsBy
       record {
         now = t.now;
         last = t.last;
-        from = record { cpu = lights_on; board = shining d bytes hk small low held y m board f ring; off = 231 };
+        from = record { cpu = lights_on; board = shining d bytes hk alike small low held y m board f ring; off = 231 };
         n = t.used;
         cpu = t.cpu
             ∙ sym (ap (λ (c : Cpu). scratched (record lights_on { f0 = c.f0; f1 = c.f1; p2 = c.p2 }) DONE
             (memory t.now t.last) e.cpu) t.cpu);
         short = omega (arith, off, short);
         kbd = t.kbd ∙ a.1;
+        layers = t.layers;
         downs = t.downs;
         inv = t.inv;
         stack = t.stack;
@@ -100,24 +103,25 @@ module _ (d : Board) (bytes : List ℕ) (hk : HasKernel bytes) (small : All IsBy
 
   -- nothing is offered, and both wires are high
   pub idle_works : Inv f → (f 69 == 0) ≡ true → offer (kbd_of held f ring) ≡ None
-      → IsFreeAt d bytes hk small low held y m board f ring → Safe m 10 f ring
+      → IsFreeAt d bytes hk alike small low held y m board f ring → Safe m 10 f ring
       → Works Idle (231 + (31 + (56 + (2 + edges_most changes_now)))) AtHead
   idle_works inv no_test nothing wires safe =
-      silent Idle false 31 (same_kbd d bytes hk small low held y m board f ring)
-      (idle_tick d bytes hk small low held y m board f ring inv no_test nothing wires safe)
+      silent Idle false 31 (same_kbd d bytes hk alike small low held y m board f ring)
+      (idle_tick d bytes hk alike small low held y m board f ring inv no_test nothing wires safe)
 
   -- the clock is low
   pub inhibited_works : Inv f → (f 69 == 0) ≡ true
       → (d.pins 44 (255 - f 77) (y + 231 + 22)
-      (ticks 22 0 (λ o. d.tick (255 - f 77) (y + 231 + o)) (shining d bytes hk small low held y m board f ring))).t0
+      (ticks 22 0 (λ o. d.tick (255 - f 77) (y + 231 + o)) (shining d bytes hk alike small low held y m board f
+      ring))).t0
       ≡ false → Safe m 10 f ring
       → Works Inhibited (231 + (31 + (56 + (2 + edges_most changes_now)))) AtHead
   inhibited_works inv no_test clock safe =
-      silent Inhibited true 31 (same_kbd d bytes hk small low held y m board f ring)
-      (inhibited_tick d bytes hk small low held y m board f ring inv no_test clock safe)
+      silent Inhibited true 31 (same_kbd d bytes hk alike small low held y m board f ring)
+      (inhibited_tick d bytes hk alike small low held y m board f ring inv no_test clock safe)
 
   -- the power-on test runs, whatever the wires show
   pub test_works : Inv f → (f 69 == 0) ≡ false → Safe m 10 f ring
       → Works Idle (231 + (36 + (56 + (2 + edges_most changes_now)))) AtHead
   test_works inv runs safe = silent Idle false 36 (tested_if true)
-      (test_tick d bytes hk small low held y m board f ring inv runs safe)
+      (test_tick d bytes hk alike small low held y m board f ring inv runs safe)

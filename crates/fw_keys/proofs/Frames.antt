@@ -20,11 +20,12 @@ use Rattle.kbd_model.specs.Keyboard.{Keyboard, offer}
 use Rattle.kbd_model.specs.Commands.{obeyed}
 use Rattle.kbd_model.specs.Tick.{sent_byte, met, tested_if, is_inhibited, is_scanning}
 use Rattle.kbd_model.proofs.Whole.{IsWhole}
-use Rattle.fw_keys.specs.State.{kbd_of, queue_of, Inv}
-use Rattle.fw_keys.specs.Edges.{image_keys}
+use Rattle.fw_keys.specs.State.{kbd_of, layers_of, queue_of, Inv}
+use Rattle.fw_keys.specs.Edges.{image_keys, IsSilentAlike}
 use Rattle.fw_keys.proofs.Block.{Ends, Safe}
 use Rattle.fw_keys.proofs.Blocks.{bytes_of, fine_end, from_stage, safe_at, here}
-use Rattle.fw_keys.proofs.Scan.{edges_most, keyed}
+use Rattle.fw_keys.proofs.Scan.{after, edges_most, keyed}
+use Rattle.fw_keys.proofs.Held.{layers_same}
 use Rattle.fw_keys.proofs.Head.{head_changes, head_helds, offered_in, Headed, head_law}
 use Rattle.fw_keys.proofs.Tick.{begun, shining, headed_by}
 use Rattle.fw_keys.proofs.After.{Over, tail_law}
@@ -34,14 +35,14 @@ use Rattle.fw_keys.proofs.Offered.{offered_byte, first_of_law, code_law}
 use Rattle.fw_keys.proofs.Ended.{downs_now, changes_now, lights_on, Ended, Works}
 use Rattle.fw_keys.proofs.SameCells.{same_cells, same_inv, head_keeps}
 
-module _ (d : Board) (bytes : List ℕ) (hk : HasKernel bytes) (small : All IsByte bytes)
+module _ (d : Board) (bytes : List ℕ) (hk : HasKernel bytes) (alike : IsSilentAlike bytes) (small : All IsByte bytes)
     (low : (p1 p2 c : ℕ) (s : d.State) → (d.pins p1 p2 c s).bus < 256) (held : List Bool)
     (y : ℕ) (m : Cpu) (board : d.State) (f : ℕ → ℕ) (ring : List ℕ) where
   abbrev lights : Cpu
-  lights = lights_on d bytes hk small low held y m board f ring
+  lights = lights_on d bytes hk alike small low held y m board f ring
 
   abbrev cells : ℕ → ℕ → ℕ → ℕ
-  cells r4 r5 = headed_by d bytes hk small low held y m board f ring r4 r5
+  cells r4 r5 = headed_by d bytes hk alike small low held y m board f ring r4 r5
 
   -- offsets from the head's end as offsets from the tick's third instruction
   abbrev pub behind : Stage d.State → Stage d.State
@@ -55,7 +56,7 @@ module _ (d : Board) (bytes : List ℕ) (hk : HasKernel bytes) (small : All IsBy
       (e : Stage d.State) : Type 0 where
     pub now : ℕ → ℕ
     pub cpu : e.cpu ≡ scratched (record lights { f1 = false; p2 = e.cpu.p2 }) to (memory now ring) e.cpu
-    pub kept : (i : ℕ) → 32 ≤ i → i < 78 → now i ≡ g i
+    pub kept : (i : ℕ) → 32 ≤ i → i < 92 → now i ≡ g i
     pub stack : (now 8 ≡ g 8) × (now 9 ≡ g 9)
     pub short : e.off ≤ max
     pub registers : R now
@@ -65,7 +66,8 @@ module _ (d : Board) (bytes : List ℕ) (hk : HasKernel bytes) (small : All IsBy
   abbrev pub FrameLaw : ℕ → ℕ → (Stage d.State → Type 0) → (ℕ → ℕ → (ℕ → ℕ) → Type 0) → Type 0
   FrameLaw to max F R =
       (m' : Cpu) (board' : d.State) (r4 r5 : ℕ) → m' ≡ scratched lights TESTED (memory (cells r4 r5) ring) m'
-      → board' ≡ shining d bytes hk small low held y m board f ring → offered_in r4 r5 ≡ offer (kbd_of held f ring)
+      → board' ≡ shining d bytes hk alike small low held y m board f ring → offered_in r4 r5 ≡ offer
+      (kbd_of held f ring)
       → Safe m' TESTED (cells r4 r5) ring
       → Leads d (kernel_in true bytes) (y + 231) (begin_at d TESTED (cells r4 r5) ring m' board')
       (Framed to max F (R r4 r5) (cells r4 r5))
@@ -74,7 +76,7 @@ module _ (d : Board) (bytes : List ℕ) (hk : HasKernel bytes) (small : All IsBy
   abbrev pub StepLaw : ℕ → ℕ → (ℕ → ℕ → (ℕ → ℕ) → Type 0) → ((ℕ → ℕ) → Keyboard → Keyboard) → Type 0
   StepLaw to most R step =
       (r4 r5 x : ℕ) (m1 : Cpu) (board1 : d.State) (g : ℕ → ℕ) → offered_in r4 r5 ≡ offer (kbd_of held f ring)
-      → R r4 r5 g → ((i : ℕ) → 64 ≤ i → i < 78 → g i ≡ f i) → Inv g → Safe m1 to g ring
+      → R r4 r5 g → ((i : ℕ) → 64 ≤ i → i < 92 → g i ≡ f i) → Inv g → Safe m1 to g ring
       → Leads d (kernel_in true bytes) x (begin_at d to g ring m1 board1)
       (Ends d x m1 board1 SCAN most (Keeps held (step g) g ring))
 
@@ -89,47 +91,52 @@ module _ (d : Board) (bytes : List ℕ) (hk : HasKernel bytes) (small : All IsBy
       (quiet : is_inhibited meeting ≡ false) (frame : FrameLaw to max F R) (law : StepLaw to most R step)
       (model : ModelLaw meeting R step) (inv : Inv f) where
     abbrev last_off : ℕ
-    last_off = 231 + (max + (most + (56 + (2 + edges_most (changes_now d bytes hk small low held y m board f ring)))))
+    last_off = 231 + (max + (most + (56 + (2 + edges_most (changes_now d bytes hk alike small low held y m board f
+        ring)))))
 
     abbrev Goal : Stage d.State → Type 0
-    Goal = Ended d bytes hk small low held y m board f ring meeting last_off F
+    Goal = Ended d bytes hk alike small low held y m board f ring meeting last_off F
 
-    changes : (r4 r5 : ℕ) (now : ℕ → ℕ) → ((i : ℕ) → 32 ≤ i → i < 78 → now i ≡ cells r4 r5 i) → (i : ℕ) → i < 12
-        → now (48 + i) ≡ changes_now d bytes hk small low held y m board f ring i
+    changes : (r4 r5 : ℕ) (now : ℕ → ℕ) → ((i : ℕ) → 32 ≤ i → i < 92 → now i ≡ cells r4 r5 i) → (i : ℕ) → i < 12
+        → now (48 + i) ≡ changes_now d bytes hk alike small low held y m board f ring i
     changes r4 r5 now kept i l = kept (48 + i) (omega arith) (omega (arith, l))
-        ∙ head_changes (downs_now d bytes hk small low held y m board f ring) f r4 r5 i l
+        ∙ head_changes (downs_now d bytes hk alike small low held y m board f ring) f r4 r5 i l
 
-    helds : (r4 r5 : ℕ) (now : ℕ → ℕ) → ((i : ℕ) → 32 ≤ i → i < 78 → now i ≡ cells r4 r5 i) → (i : ℕ) → i < 12
-        → now (32 + i) ≡ downs_now d bytes hk small low held y m board f ring i
+    helds : (r4 r5 : ℕ) (now : ℕ → ℕ) → ((i : ℕ) → 32 ≤ i → i < 92 → now i ≡ cells r4 r5 i) → (i : ℕ) → i < 12
+        → now (32 + i) ≡ downs_now d bytes hk alike small low held y m board f ring i
     helds r4 r5 now kept i l = kept (32 + i) (omega arith) (omega (arith, l))
-        ∙ head_helds (downs_now d bytes hk small low held y m board f ring) f r4 r5 i l
+        ∙ head_helds (downs_now d bytes hk alike small low held y m board f ring) f r4 r5 i l
 
-    same : (r4 r5 : ℕ) (now : ℕ → ℕ) → ((i : ℕ) → 32 ≤ i → i < 78 → now i ≡ cells r4 r5 i) → (i : ℕ) → 64 ≤ i → i < 78
+    same : (r4 r5 : ℕ) (now : ℕ → ℕ) → ((i : ℕ) → 32 ≤ i → i < 92 → now i ≡ cells r4 r5 i) → (i : ℕ) → 64 ≤ i → i < 92
         → now i ≡ f i
     same r4 r5 now kept i l u = kept i (omega (arith, l)) u
-        ∙ head_keeps (downs_now d bytes hk small low held y m board f ring) f r4 r5 i (omega (arith, l))
+        ∙ head_keeps (downs_now d bytes hk alike small low held y m board f ring) f r4 r5 i (omega (arith, l))
 
     from_frame : (r4 r5 : ℕ) → offered_in r4 r5 ≡ offer (kbd_of held f ring) → (e : Stage d.State)
         → Framed to max F (R r4 r5) (cells r4 r5) e → IsFree e.cpu → IsFine e.cpu
         → Leads d (kernel_in true bytes) (y + 231) e (λ e2. Goal (behind e2))
     from_frame r4 r5 offers e a free fine =
-        let ch = changes_now d bytes hk small low held y m board f ring in
-        let hd = downs_now d bytes hk small low held y m board f ring in
+        let ch = changes_now d bytes hk alike small low held y m board f ring in
+        let hd = downs_now d bytes hk alike small low held y m board f ring in
         let n : Cpu = record lights { f1 = false; p2 = e.cpu.p2 } in
         let k : Keyboard = kbd_of held f ring in
         let keys = image_keys bytes in
         let now : ℕ → ℕ = a.now in
-        let alike = same r4 r5 now a.kept in
+        let as_was = same r4 r5 now a.kept in
+        let cells_same : kbd_of held now ring ≡ kbd_of held f ring =
+        same_cells held now f ring (λ i l u. as_was i l (omega (arith, u))) in
+        let layers_was : layers_of now ≡ layers_of f = layers_same now f (λ i l u. as_was i (omega (arith, l)) u) in
         let safe : Safe e.cpu to now ring =
         safe_at d (kernel_in true bytes) (has_rows true bytes hk) small low to n now ring e.cpu a.cpu free fine in
         let on : Bool = is_scanning (step now (kbd_of held now ring)) in
         let x : ℕ = y + 231 + e.off in
-        let tail = tail_law d bytes hk small low held (step now) ch hd to most x e.cpu e.board now ring safe
+        let tail = tail_law d bytes hk alike small low held (step now) ch hd to most x e.cpu e.board now ring safe
         (changes r4 r5 now a.kept) (helds r4 r5 now a.kept)
-        (law r4 r5 x e.cpu e.board now offers a.registers alike (same_inv now f alike inv) safe) in
+        (law r4 r5 x e.cpu e.board now offers a.registers as_was (same_inv now f
+        (λ i l u. as_was i l (omega (arith, u))) inv) safe) in
         from_stage d (kernel_in true bytes) (has_rows true bytes hk) small low (y + 231) to n now ring e
         (Ends d x (record e.cpu { f0 = on }) e.board DONE (most + (56 + (2 + edges_most ch)))
-        (Over d bytes hk small low held e.cpu.f1 ch hd (step now) now ring))
+        (Over d bytes hk alike small low held e.cpu.f1 ch hd (step now) now ring))
         (λ e2. Goal (behind e2)) a.cpu
         (λ e2 b.
         let is : e2.cpu ≡ scratched (record lights { f0 = on; f1 = false; p2 = e.cpu.p2 }) DONE (memory b.now b.ring)
@@ -148,10 +155,14 @@ module _ (d : Board) (bytes : List ℕ) (hk : HasKernel bytes) (small : All IsBy
               (memory b.now b.ring) e2.cpu) is);
           short = omega (arith, first, second);
           kbd =
-              b.facts.kbd ∙ ap (λ v. keyed keys v ch hd (step now (kbd_of held now ring))) (ap (λ (c : Cpu). c.f1) a.cpu
-              ∙ sym quiet)
-              ∙ ap (λ j. keyed keys (is_inhibited meeting) ch hd (step now j)) (same_cells held now f ring alike)
-              ∙ ap (λ j. keyed keys (is_inhibited meeting) ch hd j) (model r4 r5 now offers a.registers);
+              b.facts.kbd
+              ∙ ap (λ v. keyed keys v ch hd (layers_of now) (step now (kbd_of held now ring)))
+              (ap (λ (c : Cpu). c.f1) a.cpu ∙ sym quiet)
+              ∙ ap (λ l. keyed keys (is_inhibited meeting) ch hd l (step now (kbd_of held now ring))) layers_was
+              ∙ ap (λ j. keyed keys (is_inhibited meeting) ch hd (layers_of f) (step now j)) cells_same
+              ∙ ap (λ j. keyed keys (is_inhibited meeting) ch hd (layers_of f) j)
+              (model r4 r5 now offers a.registers);
+          layers = b.facts.layers ∙ ap (λ l. after keys ch hd l) layers_was;
           downs = b.facts.downs;
           inv = b.facts.inv;
           stack = (b.facts.stack.0 ∙ a.stack.0, b.facts.stack.1 ∙ a.stack.1);
@@ -161,11 +172,11 @@ module _ (d : Board) (bytes : List ℕ) (hk : HasKernel bytes) (small : All IsBy
           board_now = b.board_now ∙ ap (λ c. ticks e2.off c (d.tick e.cpu.p2) e.board) at;
         }) tail
 
-    pub framed : Safe m 10 f ring → Works d bytes hk small low held y m board f ring meeting last_off F
+    pub framed : Safe m 10 f ring → Works d bytes hk alike small low held y m board f ring meeting last_off F
     framed safe =
         let h = bytes_of m 10 f ring safe in
         let H = Headed d bytes hk small low held y m board f ring in
-        let start = begun d bytes hk small low held y m board f ring in
+        let start = begun d bytes hk alike small low held y m board f ring in
         chain d (kernel_in true bytes) (has_rows true bytes hk) y (λ e. H e × IsFine e.cpu) Goal start
         (fine_end d (kernel_in true bytes) (has_rows true bytes hk) small low y start H safe.1
         (head_law d bytes hk small low held y m board f ring h safe.0))
@@ -201,25 +212,27 @@ module _ (d : Board) (bytes : List ℕ) (hk : HasKernel bytes) (small : All IsBy
   sent_step g = sent_byte (Some (g 28)) (image_keys bytes)
 
   sends : IsWhole (queue_of f ring) → StepLaw SENT (9 + 48) IsSent sent_step
-  sends codes r4 r5 x m1 board1 g offers is alike inv safe =
+  sends codes r4 r5 x m1 board1 g offers is as_was inv safe =
       let b : offer (kbd_of held f ring) ≡ Some (g 28) = offered_byte r4 r5 (offer (kbd_of held f ring)) offers is.1
       ∙ ap (λ v. Some v) (sym is.0) in
-      let a : g 64 ≡ f 64 = alike 64 (omega arith) (omega arith) in
-      let e : g 65 ≡ f 65 = alike 65 (omega arith) (omega arith) in
-      let c : g 66 ≡ f 66 = alike 66 (omega arith) (omega arith) in
-      let h : g 67 ≡ f 67 = alike 67 (omega arith) (omega arith) in
-      let i : g 68 ≡ f 68 = alike 68 (omega arith) (omega arith) in
+      let a : g 64 ≡ f 64 = as_was 64 (omega arith) (omega arith) in
+      let e : g 65 ≡ f 65 = as_was 65 (omega arith) (omega arith) in
+      let c : g 66 ≡ f 66 = as_was 66 (omega arith) (omega arith) in
+      let h : g 67 ≡ f 67 = as_was 67 (omega arith) (omega arith) in
+      let i : g 68 ≡ f 68 = as_was 68 (omega arith) (omega arith) in
       let whole : IsWhole (queue_of g ring) =
-      subst (λ k. IsWhole k.queue) (sym (same_cells held g f ring alike)) codes in
-      let now : offer (kbd_of held g ring) ≡ Some (g 28) = ap offer (same_cells held g f ring alike) ∙ b in
+      subst (λ k. IsWhole k.queue) (sym (same_cells held g f ring (λ i l u. as_was i l (omega (arith, u))))) codes in
+      let now : offer (kbd_of held g ring) ≡ Some (g 28) = ap offer (same_cells held g f ring
+      (λ i l u. as_was i l (omega (arith, u)))) ∙ b in
       sent_law d bytes hk small low held x m1 board1 g ring inv safe (first_of_law held g ring (g 28) now)
       (code_law held g ring (g 28) now whole)
 
   -- the byte that was offered was sent
   pub sent_works : (max : ℕ) (F : Stage d.State → Type 0) → Inv f → (f 69 == 0) ≡ true → IsWhole (queue_of f ring)
       → FrameLaw SENT max F IsSent → Safe m 10 f ring
-      → Works d bytes hk small low held y m board f ring Sent
-      (231 + (max + (9 + 48 + (56 + (2 + edges_most (changes_now d bytes hk small low held y m board f ring)))))) F
+      → Works d bytes hk alike small low held y m board f ring Sent
+      (231 + (max + (9 + 48 + (56 + (2 + edges_most (changes_now d bytes hk alike small low held y m board f
+      ring)))))) F
   sent_works max F inv no_test codes frame safe =
       framed Sent SENT max (9 + 48) F IsSent sent_step refl frame (sends codes)
       (λ r4 r5 g offers is.
@@ -231,12 +244,12 @@ module _ (d : Board) (bytes : List ℕ) (hk : HasKernel bytes) (small : All IsBy
   -- a byte was received
   pub got_works : (byte : ℕ) (good : Bool) (max : ℕ) (F : Stage d.State → Type 0) → Inv f → (f 69 == 0) ≡ true
       → FrameLaw COMMAND max F (IsGot byte good) → Safe m 10 f ring
-      → Works d bytes hk small low held y m board f ring (Got byte good)
-      (231 + (max + (68 + (56 + (2 + edges_most (changes_now d bytes hk small low held y m board f ring)))))) F
+      → Works d bytes hk alike small low held y m board f ring (Got byte good)
+      (231 + (max + (68 + (56 + (2 + edges_most (changes_now d bytes hk alike small low held y m board f ring)))))) F
   got_works byte good max F inv no_test frame safe =
       framed (Got byte good) COMMAND max 68 F (IsGot byte good)
       (λ g. obeyed (image_keys bytes) (g 28) (not (g 29 == 0))) refl frame
-      (λ r4 r5 x m1 board1 g offers is alike inv1 safe1. command_law d bytes hk small low held x m1 board1 g ring inv1
+      (λ r4 r5 x m1 board1 g offers is as_was inv1 safe1. command_law d bytes hk small low held x m1 board1 g ring inv1
       safe1)
       (λ r4 r5 g offers is.
       let k : Keyboard = kbd_of held f ring in
@@ -246,13 +259,13 @@ module _ (d : Board) (bytes : List ℕ) (hk : HasKernel bytes) (small : All IsBy
   -- the controller cut the frame off
   pub cut_works : (max : ℕ) (F : Stage d.State → Type 0) → Inv f → (f 69 == 0) ≡ true → FrameLaw SCAN max F IsCut
       → Safe m 10 f ring
-      → Works d bytes hk small low held y m board f ring Cut
-      (231 + (max + (0 + (56 + (2 + edges_most (changes_now d bytes hk small low held y m board f ring)))))) F
+      → Works d bytes hk alike small low held y m board f ring Cut
+      (231 + (max + (0 + (56 + (2 + edges_most (changes_now d bytes hk alike small low held y m board f ring)))))) F
   cut_works max F inv no_test frame safe =
       framed Cut SCAN max 0 F IsCut (λ g k. k) refl frame
-      (λ r4 r5 x m1 board1 g offers is alike inv1 safe1.
+      (λ r4 r5 x m1 board1 g offers is as_was inv1 safe1.
       here d (kernel_in true bytes) (has_rows true bytes hk) small low (Keeps held (λ k. k) g ring) x SCAN m1 board1 g
       ring safe1.0
-      (record { kbd = refl; inv = inv1; cells = λ i l u. refl; stack = (refl, refl) }))
+      (record { kbd = refl; inv = inv1; cells = λ i l u. refl; layers = λ i l u. refl; stack = (refl, refl) }))
       (λ r4 r5 g offers is. sym (ap (λ t. tested_if (not t) (met Cut (image_keys bytes) (kbd_of held f ring))) no_test))
       inv safe

@@ -1,20 +1,21 @@
 -- The held keys in the cells: the edges that the columns' bytes show turn what was held into what is.
 use Rattle.fw_keys.proofs.Fold.{turned_all}
-use Rattle.std.proofs.Common.{◌≡◌, ◌<◌, ℕ, suc, zero, ◌+◌, ◌*◌, ◌/◌, ◌%◌, ◌^◌, ◌==◌, nat_lt, Bool, true, false}
+use Rattle.std.proofs.Common.{◌≡◌, ◌≤◌, ◌<◌, not, ℕ, suc, zero, ◌+◌, ◌*◌, ◌/◌, ◌%◌, ◌^◌, ◌==◌, nat_lt, Bool, true}
+use Rattle.std.proofs.Common.{false}
 use Rattle.std.proofs.Common.{if◌then◌else◌, List, [], ◌∷◌, ◌++◌, slice_set, bit_xor, refl, ap, sym, ◌∙◌, arith}
 use Rattle.std.proofs.lemmas.Bool.Decides.{nat_tests}
 use Rattle.std.proofs.lemmas.Nat.Bits.{bit_at_xor}
 use Rattle.bits.specs.Bits.{bit}
 use Rattle.fw_keys.specs.Edges.{row_edges, column_edges, tick_edges}
-use Rattle.fw_keys.specs.State.{flags, down_at, held_by}
+use Rattle.fw_keys.specs.State.{flags, down_at, held_by, layers_of}
 
-flags_same : (g h : ℕ → Bool) (n : ℕ) → ((i : ℕ) → i < n → g i ≡ h i) → flags g n ≡ flags h n
+pub flags_same : (g h : ℕ → Bool) (n : ℕ) → ((i : ℕ) → i < n → g i ≡ h i) → flags g n ≡ flags h n
 flags_same g h zero e = refl
 flags_same g h (suc n) e =
     let a : g 0 ≡ h 0 = e 0 (omega arith) in
     let rest = flags_same (λ i. g (suc i)) (λ i. h (suc i)) n (λ i l. e (suc i) (omega (arith, l))) in rw (a, rest) refl
 
-abbrev set_at : (ℕ → Bool) → ℕ → Bool → ℕ → Bool
+abbrev pub set_at : (ℕ → Bool) → ℕ → Bool → ℕ → Bool
 set_at g q v i = if i == q then v else g i
 
 not_zero : (i : ℕ) → (suc i == 0) ≡ false
@@ -24,7 +25,7 @@ both_more : (i q : ℕ) (b : Bool) → (i == q) ≡ b → (suc i == suc q) ≡ b
 both_more i q true e = let s : i ≡ q = grind (arith, nat_tests, e) in rw s (grind (arith, nat_tests))
 both_more i q false e = grind (arith, nat_tests, e)
 
-flags_set : (g : ℕ → Bool) (n q : ℕ) (v : Bool) → slice_set (flags g n) q v ≡ flags (set_at g q v) n
+pub flags_set : (g : ℕ → Bool) (n q : ℕ) (v : Bool) → slice_set (flags g n) q v ≡ flags (set_at g q v) n
 flags_set g zero q v = refl
 flags_set g (suc n) zero v =
     ap (λ t. v ∷ t) (flags_same (λ i. g (suc i)) (λ i. set_at g 0 v (suc i)) n
@@ -151,3 +152,11 @@ module _ (old new : ℕ → ℕ) where
 pub held_same : (g h : ℕ → ℕ) → ((c : ℕ) → c < 12 → g c ≡ h c) → held_by g ≡ held_by h
 held_same g h e = flags_same (down_at g) (down_at h) 96 (λ p l. let c : p / 8 < 12 = omega (arith, l) in
     ap (λ b. bit (p % 8) b) (e (p / 8) c))
+
+-- and the layers are a matter of their cells
+pub layers_same : (g f : ℕ → ℕ) → ((i : ℕ) → 78 ≤ i → i < 92 → g i ≡ f i) → layers_of g ≡ layers_of f
+layers_same g f e =
+    let fn : g 78 ≡ f 78 = e 78 (omega arith) (omega arith) in
+    ap (λ v. record { fn_down = not (v == 0); pressed_in = held_by (λ c. g (80 + c)) }) fn
+    ∙ ap (λ p. record { fn_down = not (f 78 == 0); pressed_in = p }) (held_same (λ c. g (80 + c)) (λ c. f (80 + c))
+    (λ c l. e (80 + c) (omega arith) (omega (arith, l))))

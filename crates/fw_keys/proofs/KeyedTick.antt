@@ -7,6 +7,7 @@ use Rattle.std.proofs.lemmas.Bool.Decides.{nat_tests}
 use Rattle.mcs48_core.specs.Cpu.{Cpu}
 use Rattle.fw_logic.proofs.Block.{put}
 use Rattle.kbd_model.specs.Keyboard.{Keyboard}
+use Rattle.kbd_model.specs.Layers.{Layers}
 use Rattle.kbd_model.specs.Tick.{tested_if}
 use Rattle.kbd_model.specs.declared.meeting.Meeting.{Meeting}
 
@@ -15,9 +16,9 @@ abbrev pub passed : ℕ → Cpu → Bool → Cpu → Cpu
 passed place m b e = record m { pc = place; t = e.t; pre = e.pre; tf = e.tf; rq = e.rq; last_t1 = e.last_t1 }
 
 -- a whole tick, but for the held keys
-abbrev pub keyed_tick : Keys → Meeting → (ℕ → ℕ) → (ℕ → ℕ) → Keyboard → Keyboard
-keyed_tick keys meeting changed down k =
-    keyed keys (is_inhibited meeting) changed down (tested_if (not (k.test == 0)) (met meeting keys k))
+abbrev pub keyed_tick : Keys → Meeting → (ℕ → ℕ) → (ℕ → ℕ) → Layers → Keyboard → Keyboard
+keyed_tick keys meeting changed down l k =
+    keyed keys (is_inhibited meeting) changed down l (tested_if (not (k.test == 0)) (met meeting keys k))
 
 pub below_cells : (f : ℕ → ℕ) (u v i : ℕ) → 32 ≤ i → put (put f 25 u) 24 v i ≡ f i
 below_cells f u v i l = grind (arith, nat_tests, l)

@@ -6,7 +6,12 @@ pub mod Blocks
 pub mod Enter
 pub mod Enter2
 pub mod Edge
+pub mod Struck
+pub mod Layered
+pub mod Laid
 pub mod Rows
+pub mod ColumnCells
+pub mod ColumnPath
 pub mod Columns
 pub mod Step5
 pub mod Typematic

@@ -54,3 +54,9 @@ code_law held f ring b is codes e64 e65 some f0 none = by (f 66 % 128) refl some
         let long : 1 < length (made g (suc n)) = code_behind (g 0) (made (λ i. g (suc i)) n) test fresh in
         let size : length (made g (suc n)) ≡ suc n = made-length g (suc n) in
         omega (arith, long, size, e)
+
+-- where nothing is offered R5 is 0
+pub unoffered : (r4 r5 : ℕ) (b : Bool) → (r5 == 0) ≡ b → offered_in r4 r5 ≡ None → (r5 == 0) ≡ true
+unoffered r4 r5 true e h = e
+unoffered r4 r5 false e h = let s : offered_in r4 r5 ≡ Some r4 = rw e refl in
+    absurd (let q : Some r4 ≡ None = sym s ∙ h in cc)

@@ -1,8 +1,7 @@
 -- From power-on to the first tick start.
-use Rattle.std.proofs.Common.{◌≡◌, ◌<◌, ℕ, List, All, refl, ap, sym, subst, arith}
-use Rattle.std.proofs.lemmas.List.Elements.{All-replicate}
+use Rattle.std.proofs.Common.{◌≡◌, ◌<◌, ℕ, List, All, refl, inl, ap, sym, subst, arith}
 use Rattle.mcs48_core.specs.Cpu.{Cpu}
-use Rattle.mcs48_core.specs.Reset.{reset_cpu}
+use Rattle.mcs48_core.specs.Reset.{reset_cpu, reset_in}
 use Rattle.fw_kernel.specs.declared.labels.TheConstants.{TICK}
 use Rattle.fw_kernel.specs.Places.{HasKernel}
 use Rattle.joint_run.specs.Run.{Board, World}
@@ -13,20 +12,21 @@ use Rattle.fw_logic.proofs.Fine.{calm_fine}
 use Rattle.fw_logic.proofs.Service.{begun}
 use Rattle.fw_logic.proofs.Laws.{comes_as}
 use Rattle.fw_logic.proofs.Starting.{IsFirst, first_start, powered, empty_ring}
-use Rattle.fw_keys.specs.Quiet.{IsStarted, FromPowerOn, shown_by}
+use Rattle.fw_keys.specs.Quiet.{IsStarted, FromPowerOn, shown_by, layers_by}
 use Rattle.fw_keys.proofs.Begun.{started_is}
 
 module _ (d : Board) (bytes : List ℕ) (hk : HasKernel bytes) (small : All IsByte bytes)
-    (low : (p1 p2 c : ℕ) (s : d.State) → (d.pins p1 p2 c s).bus < 256) (board : d.State) where
-  reset_fine : IsFine reset_cpu
+    (low : (p1 p2 c : ℕ) (s : d.State) → (d.pins p1 p2 c s).bus < 256) (m : Cpu) (fine : IsFine m)
+    (board : d.State) where
+  reset_fine : IsFine (reset_in m)
   reset_fine =
       record {
         pc = omega arith;
-        a = omega arith;
-        ram = All-replicate IsByte 128 0 (omega arith);
-        long = refl;
-        t = omega arith;
-        pre = omega arith;
+        a = fine.a;
+        ram = fine.ram;
+        long = fine.long;
+        t = fine.t;
+        pre = fine.pre;
         p1 = omega arith;
         p2 = omega arith;
         bus = omega arith;
@@ -34,13 +34,13 @@ module _ (d : Board) (bytes : List ℕ) (hk : HasKernel bytes) (small : All IsBy
       }
 
   -- the first tick start, with what stands beside the processor there
-  pub first_started : Comes d TICK bytes (power_on d board) (λ w. IsFirst d bytes board w × FromPowerOn bytes w.cpu)
+  pub first_started : Comes d TICK bytes (power_on d m board) (λ w. IsFirst d bytes board w × FromPowerOn bytes w.cpu)
   first_started =
-      let h = first_start d bytes hk board in
+      let h = first_start d bytes hk m fine.long board in
       let a = h.goal in
-      let fine : IsFine h.end.cpu =
-      calm_fine d TICK bytes small low h.steps (power_on d board) h.end reset_fine h.run in
-      let B : Cpu = begun a.late a.tf a.last (powered bytes) empty_ring (record reset_cpu { a = 130 }) in
+      let fine_there : IsFine h.end.cpu =
+      calm_fine d TICK bytes small low h.steps (power_on d m board) h.end reset_fine h.run in
+      let B : Cpu = begun a.late a.tf a.last (powered bytes) empty_ring (record reset_cpu { a = 142 }) in
       let cpu : h.end.cpu ≡ B = ap (λ (u : World d.State). u.cpu) a.is in
       record {
         steps = h.steps;
@@ -50,23 +50,25 @@ module _ (d : Board) (bytes : List ℕ) (hk : HasKernel bytes) (small : All IsBy
           a,
           record {
             started = subst (λ c. IsStarted c) (sym cpu)
-                (started_is a.late a.most a.tf a.last (powered bytes) empty_ring (record reset_cpu { a = 130 })
-                (subst (λ c. IsFine c) cpu fine)
+                (started_is a.late a.most a.tf a.last (powered bytes) empty_ring (record reset_cpu { a = 142 })
+                (subst (λ c. IsFine c) cpu fine_there)
                 (record {
                   most = omega arith;
                   started = omega arith;
                   some = omega arith;
                   mode = omega arith;
                   lamps = omega arith;
+                  fn = inl refl;
                 }));
             keyboard = ap (λ (c : Cpu). shown_by c.ram) cpu;
+            layers = ap (λ (c : Cpu). layers_by c.ram) cpu;
             latch = ap (λ (c : Cpu). c.p2) cpu;
           },
         );
       }
 
   -- the keyboard that memory shows there is the one at power-on
-  pub starts : Comes d TICK bytes (power_on d board) (λ w. FromPowerOn bytes w.cpu)
+  pub starts : Comes d TICK bytes (power_on d m board) (λ w. FromPowerOn bytes w.cpu)
   starts =
       comes_as d TICK bytes (λ w. IsFirst d bytes board w × FromPowerOn bytes w.cpu) (λ w. FromPowerOn bytes w.cpu)
-      (power_on d board) (λ w g. g.1) first_started
+      (power_on d m board) (λ w g. g.1) first_started

@@ -18,11 +18,15 @@ use Rattle.fw_logic.proofs.Service.{serving, stacked, begun}
 use Rattle.fw_logic.proofs.Serves.{Next}
 use Rattle.kbd_model.specs.declared.meeting.Meeting.{Meeting}
 use Rattle.kbd_model.specs.declared.meeting.Meeting.TheVariants.{Idle, Inhibited, Sent, Cut, Got}
+use Rattle.kbd_model.specs.Codes.{Keys}
+use Rattle.kbd_model.specs.Layers.{layered, all_layers_after}
 use Rattle.kbd_model.specs.Tick.{ticked}
-use Rattle.fw_keys.specs.State.{keyboard_of, Inv}
-use Rattle.fw_keys.specs.Edges.{image_keys, tick_edges}
+use Rattle.fw_keys.proofs.Keyboard.{IsPressedAt, quiet_pressed}
+use Rattle.fw_keys.proofs.Patch.{still}
+use Rattle.fw_keys.specs.State.{keyboard_of, layers_of, Inv}
+use Rattle.fw_keys.specs.Edges.{image_keys, tick_edges, IsSilentAlike}
 use Rattle.fw_keys.specs.Quiet.{cells_in, shown_by, IsStarted, down_now, changed_now, edges_now, latch_now}
-use Rattle.fw_keys.specs.Quiet.{IsQuiet, GoesOn}
+use Rattle.fw_keys.specs.Quiet.{IsQuiet, GoesOn, IsRepeating, layers_by}
 use Rattle.fw_keys.proofs.Step5.{all_edges}
 use Rattle.fw_keys.proofs.Scan.{edges_most}
 use Rattle.fw_keys.proofs.Ended.{AtHead, idle_works, inhibited_works, test_works}
@@ -30,9 +34,12 @@ use Rattle.std.proofs.lemmas.List.Elements.{All-get_or}
 use Rattle.fw_keys.proofs.Serve.{kept_on, down, changed, held, first, first_board, fit, Goes, Work, tick, four_edges}
 use Rattle.fw_keys.proofs.Begun.{columns_same, columns_count, way_back, begun_is, started_is, xor_small}
 
-module _ (d : Board) (bytes : List ℕ) (hk : HasKernel bytes) (small : All IsByte bytes)
+module _ (d : Board) (bytes : List ℕ) (hk : HasKernel bytes) (alike : IsSilentAlike bytes) (small : All IsByte bytes)
     (low : (p1 p2 c : ℕ) (s : d.State) → (d.pins p1 p2 c s).bus < 256)
     (w : World d.State) (s : IsStarted w.cpu) (few : length (edges_now d w) ≤ 4) where
+  abbrev pub keys : Keys
+  keys = image_keys bytes
+
   abbrev pub m : Cpu
   m = w.cpu
 
@@ -49,10 +56,10 @@ module _ (d : Board) (bytes : List ℕ) (hk : HasKernel bytes) (small : All IsBy
   soon = let l : m.pre ≤ 3 = s.late in omega (arith, l)
 
   abbrev pub D : ℕ → ℕ
-  D = down d bytes hk small low w.cycle late soon m.tf m.last_t1 f ring m w.board
+  D = down d bytes hk alike small low w.cycle late soon m.tf m.last_t1 f ring m w.board
 
   abbrev pub C : ℕ → ℕ
-  C = changed d bytes hk small low w.cycle late soon m.tf m.last_t1 f ring m w.board
+  C = changed d bytes hk alike small low w.cycle late soon m.tf m.last_t1 f ring m w.board
 
   abbrev old : ℕ → d.State → d.State
   old = d.tick m.p2
@@ -79,7 +86,7 @@ module _ (d : Board) (bytes : List ℕ) (hk : HasKernel bytes) (small : All IsBy
   edges_is = columns_same C (changed_now d w) D (down_now d w) 0 12 refl (λ i l. changed_is i) (λ i l. down_is i)
 
   -- a tick with four edges at most has its time
-  pub four : edges_most C ≤ 592
+  pub four : edges_most C ≤ 728
   four =
       let count : all_edges C 0 12 ≡ length (edges_now d w) = sym (columns_count C D 0 12) ∙ ap length edges_is in
       let most : length (edges_now d w) ≤ 4 = few in
@@ -97,19 +104,19 @@ module _ (d : Board) (bytes : List ℕ) (hk : HasKernel bytes) (small : All IsBy
   fine = subst (λ c. IsFine c) is s.fine
 
   pub inv : Inv (stacked f)
-  inv = record { most = s.inv.most; started = s.inv.started; some = s.inv.some; mode = s.inv.mode; lamps = s.inv.lamps }
+  inv = still (refl, refl, refl, refl, refl) s.inv
 
   abbrev pub board3 : d.State
-  board3 = first_board d bytes hk small low w.cycle late soon m.tf m.last_t1 f ring m w.board
+  board3 = first_board d bytes hk alike small low w.cycle late soon m.tf m.last_t1 f ring m w.board
 
   abbrev pub H : List Bool
-  H = held d bytes hk small low w.cycle late soon m.tf m.last_t1 f ring m w.board
+  H = held d bytes hk alike small low w.cycle late soon m.tf m.last_t1 f ring m w.board
 
   abbrev pub k : Bool → Cpu
-  k l = first d bytes hk small low w.cycle late soon m.tf m.last_t1 f ring m w.board l
+  k l = first d bytes hk alike small low w.cycle late soon m.tf m.last_t1 f ring m w.board l
 
   abbrev F : Bool → Stage d.State → Type 0
-  F l = AtHead d bytes hk small low H (w.cycle + 3) (k l) board3 (stacked f) ring
+  F l = AtHead d bytes hk alike small low H (w.cycle + 3) (k l) board3 (stacked f) ring
 
   abbrev shone : d.State
   shone = ticks 2 229 (λ o. new (w.cycle + 3 + o)) (ticks 229 0 (λ o. old (w.cycle + 3 + o)) board3)
@@ -134,28 +141,28 @@ module _ (d : Board) (bytes : List ℕ) (hk : HasKernel bytes) (small : All IsBy
       ∙ ap (λ c. d.pins 44 (latch_now d w) c (ticks (2 + n) (x + 232) new (in_tick d w 232))) a
 
   works : (meeting : Meeting) → IsQuiet d w meeting
-      → (max : ℕ) × (max ≤ 36) × ((l : Bool) → Work d bytes hk small low w.cycle late soon m.tf m.last_t1 f ring m
+      → (max : ℕ) × (max ≤ 36) × ((l : Bool) → Work d bytes hk alike small low w.cycle late soon m.tf m.last_t1 f ring m
       w.board l meeting (231 + (max + (56 + (2 + edges_most C)))) (F l))
   works Idle (inl runs) = (
     36,
     omega arith,
-    λ l. test_works d bytes hk small low H (w.cycle + 3) (k l) board3 (stacked f) ring inv runs
-        (fit d bytes hk small low w.cycle late soon m.tf m.last_t1 f ring m w.board l fine),
+    λ l. test_works d bytes hk alike small low H (w.cycle + 3) (k l) board3 (stacked f) ring inv runs
+        (fit d bytes hk alike small low w.cycle late soon m.tf m.last_t1 f ring m w.board l fine),
   )
   works Idle (inr q) = (
     31,
     omega arith,
-    λ l. idle_works d bytes hk small low H (w.cycle + 3) (k l) board3 (stacked f) ring inv q.0 q.3 (
+    λ l. idle_works d bytes hk alike small low H (w.cycle + 3) (k l) board3 (stacked f) ring inv q.0 q.3 (
       ap (λ p. p.t0) (look_is 22) ∙ q.1,
       ap (λ p. p.t1) (look_is 24) ∙ q.2,
-    ) (fit d bytes hk small low w.cycle late soon m.tf m.last_t1 f ring m w.board l fine),
+    ) (fit d bytes hk alike small low w.cycle late soon m.tf m.last_t1 f ring m w.board l fine),
   )
   works Inhibited q = (
     31,
     omega arith,
-    λ l. inhibited_works d bytes hk small low H (w.cycle + 3) (k l) board3 (stacked f) ring inv q.0
+    λ l. inhibited_works d bytes hk alike small low H (w.cycle + 3) (k l) board3 (stacked f) ring inv q.0
         (ap (λ p. p.t0) (look_is 22)
-        ∙ q.1) (fit d bytes hk small low w.cycle late soon m.tf m.last_t1 f ring m w.board l fine),
+        ∙ q.1) (fit d bytes hk alike small low w.cycle late soon m.tf m.last_t1 f ring m w.board l fine),
   )
   works (Got byte good) q = elim q [ ]
   works Sent q = elim q [ ]
@@ -167,7 +174,10 @@ module _ (d : Board) (bytes : List ℕ) (hk : HasKernel bytes) (small : All IsBy
   pub record Came (meeting : Meeting) (G : Bool → Stage d.State → Type 0) (v : World d.State) : Type 0 where
     pub started : IsStarted v.cpu
     pub time : v.cycle + m.pre ≡ w.cycle + 2048 + v.cpu.pre
-    pub keyboard : shown_by v.cpu.ram ≡ ticked (image_keys bytes) meeting (edges_now d w) (shown_by m.ram)
+    pub keyboard : shown_by v.cpu.ram
+        ≡ ticked keys meeting (layered keys.is_fn (edges_now d w) (layers_by m.ram)) (shown_by m.ram)
+    pub layers : layers_by v.cpu.ram ≡ all_layers_after keys.is_fn (edges_now d w) (layers_by m.ram)
+    pub repeating : IsRepeating bytes v.cpu.ram
     pub l : Bool
     pub from : Stage d.State
     pub n : ℕ
@@ -177,7 +187,8 @@ module _ (d : Board) (bytes : List ℕ) (hk : HasKernel bytes) (small : All IsBy
     pub board_now : v.board ≡ ticks n (w.cycle + (3 + from.off)) (d.tick from.cpu.p2) from.board
 
   comes_to : (meeting : Meeting) (G : Bool → Stage d.State → Type 0) (v : World d.State)
-      → Next d w.cycle late (Goes d bytes hk small low w.cycle late soon m.tf m.last_t1 f ring m w.board meeting G) v
+      → Next d w.cycle late (Goes d bytes hk alike small low w.cycle late soon m.tf m.last_t1 f ring m w.board
+      meeting G) v
       → Came meeting G v
   comes_to meeting G v n =
       let g = n.does in
@@ -211,17 +222,16 @@ module _ (d : Board) (bytes : List ℕ) (hk : HasKernel bytes) (small : All IsBy
       record {
         started = subst (λ c. IsStarted c) (sym vcpu)
             (started_is n.late' n.most n.tf n.last n.now n.ring e.cpu fineB
-            (record {
-              most = g.inv.most;
-              started = g.inv.started;
-              some = g.inv.some;
-              mode = g.inv.mode;
-              lamps = g.inv.lamps;
-            }));
+            (still (refl, refl, refl, refl, refl) g.inv));
         time = omega (arith, cycle, time, pre, early);
         keyboard =
-            ap (λ (c : Cpu). shown_by c.ram) vcpu ∙ g.kbd
-            ∙ ap (λ es. ticked (image_keys bytes) meeting es (keyboard_of (stacked f) ring)) edges_is;
+            ap (λ (c : Cpu). shown_by c.ram) vcpu ∙ g.kbd.keyboard
+            ∙ ap (λ es. ticked keys meeting (layered keys.is_fn es (layers_of (stacked f))) (keyboard_of (stacked f)
+            ring)) edges_is;
+        layers =
+            ap (λ (c : Cpu). layers_by c.ram) vcpu ∙ g.kbd.layers
+            ∙ ap (λ es. all_layers_after keys.is_fn es (layers_of (stacked f))) edges_is;
+        repeating = subst (λ (c : Cpu). IsRepeating bytes c.ram) (sym vcpu) g.kbd.pressed;
         l = g.l;
         from = g.from;
         n = g.n + n.waited;
@@ -236,12 +246,15 @@ module _ (d : Board) (bytes : List ℕ) (hk : HasKernel bytes) (small : All IsBy
             ∙ ap (λ c. ticks (g.n + n.waited) c step g.from.board) at;
       }
 
-  pub any_tick : (meeting : Meeting) (last_off : ℕ) → 3 + last_off ≤ 2040 → (G : Bool → Stage d.State → Type 0)
-      → ((l : Bool) → Work d bytes hk small low w.cycle late soon m.tf m.last_t1 f ring m w.board l meeting last_off
+  pub any_tick : (meeting : Meeting) (last_off : ℕ) → IsPressedAt keys meeting (layers_by m.ram) (shown_by m.ram)
+      → 3 + last_off ≤ 2040 → (G : Bool → Stage d.State → Type 0)
+      → ((l : Bool) → Work d bytes hk alike small low w.cycle late soon m.tf m.last_t1 f ring m w.board l meeting
+      last_off
       (G l))
       → Tick d TICK bytes w (Came meeting G)
-  any_tick meeting last_off room G work =
-      let t = tick d bytes hk small low w.cycle late soon m.tf m.last_t1 f ring m w.board fine meeting last_off room G
+  any_tick meeting last_off pressed room G work =
+      let t = tick d bytes hk alike small low w.cycle late soon m.tf m.last_t1 f ring m w.board fine meeting last_off
+      pressed room G
       work in
       let same : record { cpu = begun late m.tf m.last_t1 f ring m; board = w.board; cycle = w.cycle } ≡ w =
       ap (λ c. record { cpu = c; board = w.board; cycle = w.cycle }) (sym is) in
@@ -252,22 +265,33 @@ module _ (d : Board) (bytes : List ℕ) (hk : HasKernel bytes) (small : All IsBy
         first = t.first;
         step = t.step;
         rest = comes_as d TICK bytes
-            (Next d w.cycle late (Goes d bytes hk small low w.cycle late soon m.tf m.last_t1 f ring m w.board meeting
+            (Next d w.cycle late (Goes d bytes hk alike small low w.cycle late soon m.tf m.last_t1 f ring m w.board
+            meeting
             G)) (Came meeting G) t.first (λ v n. comes_to meeting G v n) t.rest;
       } in
       subst (λ u. Tick d TICK bytes u (Came meeting G)) same done
 
-  pub quiet_tick : (meeting : Meeting) → IsQuiet d w meeting → Tick d TICK bytes w (GoesOn d bytes meeting w)
-  quiet_tick meeting q =
+  pub quiet_tick : IsRepeating bytes m.ram → (meeting : Meeting) → IsQuiet d w meeting → Tick d TICK bytes w
+      (GoesOn d bytes meeting w)
+  quiet_tick repeats meeting q =
       let a = works meeting q in
       let max : a.0 ≤ 36 = a.1 in
-      let edges : edges_most C ≤ 592 = four in
-      let t = any_tick meeting (231 + (a.0 + (56 + (2 + edges_most C)))) (omega (arith, max, edges)) F a.2 in
+      let edges : edges_most C ≤ 728 = four in
+      let t = any_tick meeting (231 + (a.0 + (56 + (2 + edges_most C)))) (quiet_pressed d w keys meeting q repeats)
+      (omega (arith, max, edges)) F a.2 in
       record {
         at = t.at;
         first = t.first;
         step = t.step;
         rest = comes_as d TICK bytes (Came meeting F) (GoesOn d bytes meeting w) t.first
-            (λ v c. record { started = c.started; time = c.time; keyboard = c.keyboard; latch = c.p2 ∙ c.facts.p2 })
+            (λ v c. record {
+              started = c.started;
+              time = c.time;
+              keyboard = c.keyboard;
+              layers = c.layers;
+              repeating
+                  = c.repeating;
+              latch = c.p2 ∙ c.facts.p2;
+            })
             t.rest;
       }

@@ -15,6 +15,7 @@ use Rattle.fw_logic.proofs.Kernel.{kernel_in}
 use Rattle.fw_logic.proofs.Short.{has_rows}
 use Rattle.kbd_model.specs.Keyboard.{Keyboard}
 use Rattle.kbd_model.specs.Commands.{commanded}
+use Rattle.fw_keys.proofs.Patch.{awaits, still}
 use Rattle.fw_keys.specs.State.{kbd_of, Inv}
 use Rattle.fw_keys.specs.Edges.{image_keys}
 use Rattle.fw_keys.proofs.Block.{Ends, Safe}
@@ -55,8 +56,9 @@ module _ (d : Board) (bytes : List ℕ) (hk : HasKernel bytes) (small : All IsBy
           other 238 (f 28) (omega arith) e0,
           below (f 28) e0,
         ) refl;
-        inv = record { most = inv.most; started = inv.started; some = inv.some; mode = inv.mode; lamps = inv.lamps };
+        inv = still (refl, refl, refl, refl, refl) inv;
         cells = λ i k u. grind (arith, nat_tests, k, u);
+        layers = λ i k u. grind (arith, nat_tests, k, u);
         stack = (refl, refl);
       })
       (is0 (f 28) l ∙ e0, (refl, refl, refl))
@@ -69,8 +71,9 @@ module _ (d : Board) (bytes : List ℕ) (hk : HasKernel bytes) (small : All IsBy
       (put (put (based v f) 25 70) 70 2) ring x m m board (based v f) ring safe.0
       (λ a. record {
         kbd = sym (ap (λ b. commanded (image_keys bytes) b keyboard) code);
-        inv = record { most = inv.most; started = inv.started; some = inv.some; mode = omega arith; lamps = inv.lamps };
+        inv = awaits (refl, refl, refl, refl) (omega arith) inv;
         cells = λ i k u. grind (arith, nat_tests, k, u);
+        layers = λ i k u. grind (arith, nat_tests, k, u);
         stack = (refl, refl);
       })
       (is0 (f 28) l ∙ e0, (is1 (f 28) l ∙ e1, (refl, refl, refl)))
@@ -83,8 +86,9 @@ module _ (d : Board) (bytes : List ℕ) (hk : HasKernel bytes) (small : All IsBy
       (put (put (based v f) 25 75) 75 238) ring x m m board (based v f) ring safe.0
       (λ a. record {
         kbd = sym (ap (λ b. commanded (image_keys bytes) b keyboard) code);
-        inv = record { most = inv.most; started = inv.started; some = inv.some; mode = inv.mode; lamps = inv.lamps };
+        inv = still (refl, refl, refl, refl, refl) inv;
         cells = λ i k u. grind (arith, nat_tests, k, u);
+        layers = λ i k u. grind (arith, nat_tests, k, u);
         stack = (refl, refl);
       })
       (is0 (f 28) l ∙ e0, (is1 (f 28) l ∙ e1, (is2 (f 28) l ∙ e2, (refl, refl, refl))))
@@ -98,8 +102,9 @@ module _ (d : Board) (bytes : List ℕ) (hk : HasKernel bytes) (small : All IsBy
       (put (put (based v f) 25 70) 70 1) ring x m m board (based v f) ring safe.0
       (λ a. record {
         kbd = sym (ap (λ b. commanded (image_keys bytes) b keyboard) code);
-        inv = record { most = inv.most; started = inv.started; some = inv.some; mode = omega arith; lamps = inv.lamps };
+        inv = awaits (refl, refl, refl, refl) (omega arith) inv;
         cells = λ i k u. grind (arith, nat_tests, k, u);
+        layers = λ i k u. grind (arith, nat_tests, k, u);
         stack = (refl, refl);
       })
       (is0 (f 28) l ∙ e0, (is1 (f 28) l ∙ e1, (is2 (f 28) l ∙ e2, (is3 (f 28) l ∙ e3, (refl, refl, refl)))))
@@ -128,8 +133,10 @@ module _ (d : Board) (bytes : List ℕ) (hk : HasKernel bytes) (small : All IsBy
           some = omega (arith, started);
           mode = inv.mode;
           lamps = inv.lamps;
+          fn = inv.fn;
         };
         cells = λ i k u. grind (arith, nat_tests, k, u);
+        layers = λ i k u. grind (arith, nat_tests, k, u);
         stack = (refl, refl);
       })
       (t0, (t1, (t2, (t3, (t4, (refl, refl, refl))))))
@@ -160,8 +167,10 @@ module _ (d : Board) (bytes : List ℕ) (hk : HasKernel bytes) (small : All IsBy
           some = omega (arith, started);
           mode = inv.mode;
           lamps = inv.lamps;
+          fn = inv.fn;
         };
         cells = λ i k u. grind (arith, nat_tests, k, u);
+        layers = λ i k u. grind (arith, nat_tests, k, u);
         stack = (refl, refl);
       })
       (t0, (t1, (t2, (t3, (t4, (t5, (refl, refl, refl)))))))
@@ -193,8 +202,10 @@ module _ (d : Board) (bytes : List ℕ) (hk : HasKernel bytes) (small : All IsBy
           some = omega (arith, started);
           mode = inv.mode;
           lamps = inv.lamps;
+          fn = inv.fn;
         };
         cells = λ i k u. grind (arith, nat_tests, k, u);
+        layers = λ i k u. grind (arith, nat_tests, k, u);
         stack = (refl, refl);
       })
       (t0, (t1, (t2, (t3, (t4, (t5, (t6, (refl, refl, refl))))))))
@@ -216,8 +227,9 @@ module _ (d : Board) (bytes : List ℕ) (hk : HasKernel bytes) (small : All IsBy
       (put (put (based v f) 75 (f 76)) 25 75) ring x m m board (based v f) ring safe.0
       (λ a. record {
         kbd = sym (ap (λ b. commanded (image_keys bytes) b keyboard) code);
-        inv = record { most = inv.most; started = inv.started; some = inv.some; mode = inv.mode; lamps = inv.lamps };
+        inv = still (refl, refl, refl, refl, refl) inv;
         cells = λ i k u. grind (arith, nat_tests, k, u);
+        layers = λ i k u. grind (arith, nat_tests, k, u);
         stack = (refl, refl);
       })
       (t0, (t1, (t2, (t3, (t4, (t5, (t6, (t7, (refl, refl, refl)))))))))
@@ -241,8 +253,9 @@ module _ (d : Board) (bytes : List ℕ) (hk : HasKernel bytes) (small : All IsBy
       (put (put (based v f) 64 3) 25 64) ring x m m board (based v f) ring safe.0
       (λ a. record {
         kbd = sym (ap (λ b. commanded (image_keys bytes) b keyboard) code);
-        inv = record { most = inv.most; started = inv.started; some = inv.some; mode = inv.mode; lamps = inv.lamps };
+        inv = still (refl, refl, refl, refl, refl) inv;
         cells = λ i k u. grind (arith, nat_tests, k, u);
+        layers = λ i k u. grind (arith, nat_tests, k, u);
         stack = (refl, refl);
       })
       (t0, (t1, (t2, (t3, (t4, (t5, (t6, (t7, (t8, (refl, refl, refl))))))))))
@@ -265,8 +278,9 @@ module _ (d : Board) (bytes : List ℕ) (hk : HasKernel bytes) (small : All IsBy
       (based v f) ring x m m board (based v f) ring safe.0
       (λ a. record {
         kbd = rw (e8, e7, e6, e5, e4, e3, e1, e2, the_rest (f 28) e0 e1 e2) refl;
-        inv = record { most = inv.most; started = inv.started; some = inv.some; mode = inv.mode; lamps = inv.lamps };
+        inv = still (refl, refl, refl, refl, refl) inv;
         cells = λ i k u. grind (arith, nat_tests, k, u);
+        layers = λ i k u. grind (arith, nat_tests, k, u);
         stack = (refl, refl);
       })
       (t0, (t1, (t2, (t3, (t4, (t5, (t6, (t7, (t8, (refl, refl, refl))))))))))

@@ -25,18 +25,20 @@ same_cells held g f ring e =
     let r : g 77 ≡ f 77 = e 77 (omega arith) (omega arith) in
     rw (a, b, c, h, i, j, k, l, m, n, o, p, q, r) refl
 
-pub same_inv : (g f : ℕ → ℕ) → ((i : ℕ) → 64 ≤ i → i < 78 → g i ≡ f i) → Inv f → Inv g
+pub same_inv : (g f : ℕ → ℕ) → ((i : ℕ) → 64 ≤ i → i < 79 → g i ≡ f i) → Inv f → Inv g
 same_inv g f e inv =
     let c : g 66 ≡ f 66 = e 66 (omega arith) (omega arith) in
     let i : g 68 ≡ f 68 = e 68 (omega arith) (omega arith) in
     let k : g 70 ≡ f 70 = e 70 (omega arith) (omega arith) in
     let u : g 77 ≡ f 77 = e 77 (omega arith) (omega arith) in
+    let v : g 78 ≡ f 78 = e 78 (omega arith) (omega arith) in
     record {
       most = rw c inv.most;
       started = rw i inv.started;
       some = rw (c, i) inv.some;
       mode = rw k inv.mode;
       lamps = rw u inv.lamps;
+      fn = rw v inv.fn;
     }
 
 pub head_keeps : (look f : ℕ → ℕ) (r4 r5 i : ℕ) → 60 ≤ i → headed look f r4 r5 i ≡ f i

@@ -12,6 +12,7 @@ use Rattle.fw_kernel.specs.Places.{HasKernel}
 use Rattle.fw_kernel.specs.declared.labels.TheConstants.{DROP, SCAN, SENT}
 use Rattle.fw_keys.proofs.Block.{Ends, Safe}
 use Rattle.fw_keys.specs.Edges.{image_keys}
+use Rattle.fw_keys.proofs.Patch.{still}
 use Rattle.fw_keys.specs.State.{Inv, kbd_of, reply_of}
 use Rattle.fw_logic.proofs.Block.{Shape, begin_at, put}
 use Rattle.bits.proofs.Every.{by_below, tests_by}
@@ -22,7 +23,7 @@ use Rattle.fw_logic.proofs.Short.{has_rows}
 use Rattle.mcs48_ranges.specs.Sizes.{IsByte}
 use Rattle.joint_run.specs.Run.{Board}
 use Rattle.kbd_model.specs.Tick.{sent_byte, without_offered}
-use Rattle.fw_keys.proofs.Dropped.{cleared, dropped, empty, xor_is, kept_last}
+use Rattle.fw_keys.proofs.Dropped.{cleared, dropped, empty, xor_is, kept_last, kept_layers}
 use Rattle.fw_keys.proofs.Bytes.{twice}
 
 module _ (d : Board) (bytes : List ℕ) (hk : HasKernel bytes) (small : All IsByte bytes)
@@ -51,8 +52,9 @@ module _ (d : Board) (bytes : List ℕ) (hk : HasKernel bytes) (small : All IsBy
       by (Until 524 ∷ Go true ∷ Until 558 ∷ Go false ∷ Until SCAN ∷ []) 12 (omega arith) (put (put f 64 0) 25 64) safe
       (λ a. record {
         kbd = rw (due, none) refl;
-        inv = record { most = inv.most; started = inv.started; some = inv.some; mode = inv.mode; lamps = inv.lamps };
+        inv = still (refl, refl, refl, refl, refl) inv;
         cells = λ i l u. grind (arith, nat_tests, l, u);
+        layers = λ i l u. grind (arith, nat_tests, l, u);
         stack = (refl, refl);
       })
       (ap not due, (none, (refl, refl, refl)))
@@ -75,8 +77,10 @@ module _ (d : Board) (bytes : List ℕ) (hk : HasKernel bytes) (small : All IsBy
           some = omega (arith, started);
           mode = omega arith;
           lamps = omega arith;
+          fn = inv.fn;
         };
         cells = λ i l u. grind (arith, nat_tests, l, u);
+        layers = λ i l u. grind (arith, nat_tests, l, u);
         stack = (refl, refl);
       })
       (ap not due, (both, (refl, refl, refl)))
@@ -87,8 +91,9 @@ module _ (d : Board) (bytes : List ℕ) (hk : HasKernel bytes) (small : All IsBy
       by (Until 524 ∷ Go false ∷ Until 528 ∷ Go true ∷ Until SCAN ∷ []) 14 (omega arith) (put (put f 65 0) 25 65) safe
       (λ a. record {
         kbd = rw (none, due) refl;
-        inv = record { most = inv.most; started = inv.started; some = inv.some; mode = inv.mode; lamps = inv.lamps };
+        inv = still (refl, refl, refl, refl, refl) inv;
         cells = λ i l u. grind (arith, nat_tests, l, u);
+        layers = λ i l u. grind (arith, nat_tests, l, u);
         stack = (refl, refl);
       })
       (ap not none, (ap not due, (refl, refl, refl)))
@@ -110,8 +115,10 @@ module _ (d : Board) (bytes : List ℕ) (hk : HasKernel bytes) (small : All IsBy
           some = omega (arith, some, z);
           mode = inv.mode;
           lamps = inv.lamps;
+          fn = inv.fn;
         };
         cells = λ i l u. grind (arith, nat_tests, l, u);
+        layers = λ i l u. grind (arith, nat_tests, l, u);
         stack = (refl, refl);
       })
       (ap not none, (ap not noaa, (twice (f 66) (h.cell 66 (omega arith)) ∙ is, (refl, refl, refl))))
@@ -136,8 +143,10 @@ module _ (d : Board) (bytes : List ℕ) (hk : HasKernel bytes) (small : All IsBy
           some = grind (arith, less, one, code);
           mode = inv.mode;
           lamps = inv.lamps;
+          fn = inv.fn;
         };
         cells = λ i l u. grind (arith, nat_tests, l, u);
+        layers = λ i l u. grind (arith, nat_tests, l, u);
         stack = (refl, refl);
       }
 
@@ -250,8 +259,9 @@ module _ (d : Board) (bytes : List ℕ) (hk : HasKernel bytes) (small : All IsBy
         kbd = q.kbd;
         inv = q.inv;
         cells = λ i k u. q.cells i k u ∙ kept_last f l.0 (if f 28 == 254 then f 76 else f 28) i k u;
+        layers = λ i k u. q.layers i k u ∙ kept_layers f l.0 (if f 28 == 254 then f 76 else f 28) i k u;
         stack = q.stack;
       })
       (takes d bytes hk small low held x1 m1 board1 g1 ring
-      (record { most = inv.most; started = inv.started; some = inv.some; mode = inv.mode; lamps = inv.lamps }) safe1 is
+      (still (refl, refl, refl, refl, refl) inv) safe1 is
       next))

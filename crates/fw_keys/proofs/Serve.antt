@@ -19,17 +19,17 @@ use Rattle.fw_keys.proofs.Blocks.{fine_end}
 use Rattle.fw_logic.proofs.Service.{serving, stacked, begun}
 use Rattle.fw_logic.proofs.Serves.{work_cpu, work_at, IsOver, Next, serves}
 use Rattle.kbd_model.specs.declared.meeting.Meeting.{Meeting}
-use Rattle.kbd_model.specs.Tick.{ticked}
-use Rattle.fw_keys.specs.State.{held_by, keyboard_of, kbd_of, Inv}
-use Rattle.fw_keys.specs.Edges.{image_keys, tick_edges}
+use Rattle.fw_keys.proofs.Patch.{still}
+use Rattle.fw_keys.specs.State.{held_by, keyboard_of, Inv, layers_of}
+use Rattle.fw_keys.specs.Edges.{image_keys, IsSilentAlike}
 use Rattle.fw_keys.proofs.Block.{Safe}
 use Rattle.fw_keys.proofs.Rows.{marks}
 use Rattle.fw_keys.proofs.Step5.{changed_columns, all_edges}
 use Rattle.fw_keys.proofs.Scan.{edges_most}
 use Rattle.fw_keys.proofs.Head.{shown}
 use Rattle.fw_keys.proofs.Ended.{Ended, Works}
-use Rattle.fw_keys.proofs.Held.{held_same}
-use Rattle.fw_keys.proofs.Keyboard.{keyboard_goes}
+use Rattle.fw_keys.proofs.Held.{layers_same}
+use Rattle.fw_keys.proofs.Keyboard.{Gone, IsPressedAt, keyboard_goes}
 
 -- a column has changed only where it has an edge, so four edges bound the time of step 5
 some_bit : (v : ℕ) → v < 256 → (v == 0) ≡ false → 1 ≤ marks 0 8 v
@@ -56,10 +56,10 @@ columns_most ch c (suc n) sum l =
     (one_column (ch c) (l c (omega (arith, sum))) (ch c == 0) refl)
     (columns_most ch (suc c) n (omega (arith, sum)) l)
 
-pub four_edges : (ch : ℕ → ℕ) → ((i : ℕ) → i < 12 → ch i < 256) → all_edges ch 0 12 ≤ 4 → edges_most ch ≤ 592
+pub four_edges : (ch : ℕ → ℕ) → ((i : ℕ) → i < 12 → ch i < 256) → all_edges ch 0 12 ≤ 4 → edges_most ch ≤ 728
 four_edges ch l few = sum (changed_columns ch 0 12) (all_edges ch 0 12) (columns_most ch 0 12 refl l) few
   where
-    sum : (m e : ℕ) → m ≤ e → e ≤ 4 → 9 * 12 + 71 * m + 50 * e ≤ 592
+    sum : (m e : ℕ) → m ≤ e → e ≤ 4 → 9 * 12 + 93 * m + 62 * e ≤ 728
     sum m e h g = omega (arith, h, g)
 
 pub kept_on : (f : ℕ → ℕ) (c : ℕ) → stacked f (32 + c) ≡ f (32 + c)
@@ -68,7 +68,13 @@ kept_on f c =
     let b : (32 + c == 8) ≡ false = grind (arith, nat_tests) in
     put_other (put f 8 252) 9 16 (32 + c) a ∙ put_other f 8 252 (32 + c) b
 
-module _ (d : Board) (bytes : List ℕ) (hk : HasKernel bytes) (small : All IsByte bytes)
+stacked_at : (f : ℕ → ℕ) (i : ℕ) → 78 ≤ i → stacked f i ≡ f i
+stacked_at f i l =
+    let a : (i == 9) ≡ false = grind (arith, nat_tests, l) in
+    let b : (i == 8) ≡ false = grind (arith, nat_tests, l) in
+    put_other (put f 8 252) 9 16 i a ∙ put_other f 8 252 i b
+
+module _ (d : Board) (bytes : List ℕ) (hk : HasKernel bytes) (alike : IsSilentAlike bytes) (small : All IsByte bytes)
     (low : (p1 p2 c : ℕ) (s : d.State) → (d.pins p1 p2 c s).bus < 256)
     (x late : ℕ) (few : late ≤ 1) (tf last : Bool) (f : ℕ → ℕ) (ring : List ℕ) (m : Cpu) (board : d.State) where
   abbrev pub start : World d.State
@@ -93,7 +99,8 @@ module _ (d : Board) (bytes : List ℕ) (hk : HasKernel bytes) (small : All IsBy
 
   -- the work of this tick
   abbrev pub Work : Bool → Meeting → ℕ → (Stage d.State → Type 0) → Type 0
-  Work l meeting last_off F = Works d bytes hk small low held (x + 3) (first l) first_board (stacked f) ring meeting
+  Work l meeting last_off F = Works d bytes hk alike small low held (x + 3) (first l) first_board (stacked f) ring
+      meeting
       last_off F
 
   -- at its end data memory shows the model's keyboard a tick later, as the next tick finds it
@@ -102,8 +109,7 @@ module _ (d : Board) (bytes : List ℕ) (hk : HasKernel bytes) (small : All IsBy
     pub l : Bool
     pub from : Stage d.State
     pub n : ℕ
-    pub kbd : keyboard_of (stacked now) ring' ≡ ticked (image_keys bytes) meeting (tick_edges changed down)
-        (keyboard_of (stacked f) ring)
+    pub kbd : Gone (image_keys bytes) meeting changed down (stacked f) ring (stacked now) ring'
     pub downs : (i : ℕ) → i < 12 → now (32 + i) ≡ down i
     pub inv : Inv (stacked now)
     pub stack : (now 8 ≡ WAIT) × (now 9 ≡ 16)
@@ -131,16 +137,18 @@ module _ (d : Board) (bytes : List ℕ) (hk : HasKernel bytes) (small : All IsBy
     },
   )
 
-  pub tick : IsFine (begun late tf last f ring m) → (meeting : Meeting) (last_off : ℕ) → 3 + last_off ≤ 2040
+  pub tick : IsFine (begun late tf last f ring m) → (meeting : Meeting) (last_off : ℕ)
+      → IsPressedAt (image_keys bytes) meeting (layers_of (stacked f)) (keyboard_of (stacked f) ring)
+      → 3 + last_off ≤ 2040
       → (F : Bool → Stage d.State → Type 0) → ((l : Bool) → Work l meeting last_off (F l))
       → Tick d TICK bytes start (Next d x late (Goes meeting F))
-  tick fine meeting last_off room F work =
+  tick fine meeting last_off pressed room F work =
       serves d bytes hk x late few tf last f ring m board (3 + last_off) room (Goes meeting F)
       (λ l.
       let k : Cpu = first l in
       from_stage d (kernel_in true bytes) (has_rows true bytes hk) x 10 k (stacked f) ring
       (work_at d x late tf l f ring m board)
-      (λ e. Ended d bytes hk small low held (x + 3) k first_board (stacked f) ring meeting last_off (F l) e
+      (λ e. Ended d bytes hk alike small low held (x + 3) k first_board (stacked f) ring meeting last_off (F l) e
       × IsFine e.cpu) (IsOver d (3 + last_off) (Goes meeting F)) refl
       (λ e bf.
       let b = bf.0 in
@@ -157,17 +165,11 @@ module _ (d : Board) (bytes : List ℕ) (hk : HasKernel bytes) (small : All IsBy
           from = b.from;
           n = b.n;
           kbd =
-              ap (λ h. kbd_of h b.now b.last)
-              (held_same (λ c. stacked b.now (32 + c)) (λ c. b.now (32 + c)) (λ c l. kept_on b.now c))
-              ∙ keyboard_goes (image_keys bytes) meeting (stacked f) ring b.now b.last down b.downs b.kbd;
+              keyboard_goes (image_keys bytes) meeting (stacked f) ring (stacked b.now) b.last down
+              (λ i l. kept_on b.now i ∙ b.downs i l) b.kbd
+              (layers_same (stacked b.now) b.now (λ i l u. stacked_at b.now i l) ∙ b.layers) pressed;
           downs = b.downs;
-          inv = record {
-            most = b.inv.most;
-            started = b.inv.started;
-            some = b.inv.some;
-            mode = b.inv.mode;
-            lamps = b.inv.lamps;
-          };
+          inv = still (refl, refl, refl, refl, refl) b.inv;
           stack = b.stack;
           fine = bf.1;
           facts = b.facts;
@@ -178,5 +180,6 @@ module _ (d : Board) (bytes : List ℕ) (hk : HasKernel bytes) (small : All IsBy
       })
       (fine_end d (kernel_in true bytes) (has_rows true bytes hk) small low (x + 3)
       (begin_at d 10 (stacked f) ring k first_board)
-      (Ended d bytes hk small low held (x + 3) k first_board (stacked f) ring meeting last_off (F l)) (fit l fine).1
+      (Ended d bytes hk alike small low held (x + 3) k first_board (stacked f) ring meeting last_off (F l))
+      (fit l fine).1
       (work l)))

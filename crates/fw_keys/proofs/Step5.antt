@@ -5,7 +5,11 @@ use Rattle.std.proofs.lemmas.Bool.Decides.{nat_tests}
 use Rattle.mcs48_core.specs.Cpu.{Cpu}
 use Rattle.fw_keys.proofs.Blocks.{Just, leaf, seq_just, recast, relax}
 use Rattle.fw_keys.proofs.Rows.{marks}
-use Rattle.fw_keys.proofs.Columns.{wide, rows_part, columns_time, AfterColumns, columns_law}
+use Rattle.fw_keys.proofs.Columns.{AfterColumns, columns_law}
+use Rattle.fw_keys.proofs.ColumnCells.{spread, rows_part, columns_time}
+use Rattle.fw_keys.proofs.Laid.{laid}
+use Rattle.fw_keys.proofs.Patch.{IsFnCell}
+use Rattle.fw_keys.specs.Edges.{IsSilentAlike}
 use Rattle.fw_kernel.specs.Places.{HasKernel}
 use Rattle.fw_kernel.specs.declared.labels.TheConstants.{COLUMN, DONE, EDGES}
 use Rattle.fw_keys.proofs.Block.{Ends, Safe}
@@ -31,15 +35,15 @@ all_edges ch c zero = 0
 all_edges ch c (suc n) = marks 0 8 (ch c) + all_edges ch (suc c) n
 
 part_most : (v k : ℕ) (b : Bool) → (v == 0) ≡ b
-    → (if v == 0 then 0 else 71 + 50 * k) ≤ 71 * (if v == 0 then 0 else 1) + 50 * k
+    → (if v == 0 then 0 else 93 + 62 * k) ≤ 93 * (if v == 0 then 0 else 1) + 62 * k
 part_most v k true e = rw e (omega arith)
 part_most v k false e = rw e (omega arith)
 
-sum_most : (a one k rest n m e : ℕ) → a ≤ 71 * one + 50 * k → rest ≤ 9 * n + 71 * m + 50 * e
-    → 4 + a + 5 + rest ≤ 9 * suc n + 71 * (one + m) + 50 * (k + e)
+sum_most : (a one k rest n m e : ℕ) → a ≤ 93 * one + 62 * k → rest ≤ 9 * n + 93 * m + 62 * e
+    → 4 + a + 5 + rest ≤ 9 * suc n + 93 * (one + m) + 62 * (k + e)
 sum_most a one k rest n m e h g = omega (arith, h, g)
 
-pub time_most : (ch : ℕ → ℕ) (c n : ℕ) → columns_time ch c n ≤ 9 * n + 71 * changed_columns ch c n + 50 * all_edges ch c
+pub time_most : (ch : ℕ → ℕ) (c n : ℕ) → columns_time ch c n ≤ 9 * n + 93 * changed_columns ch c n + 62 * all_edges ch c
     n
 time_most ch c zero = omega arith
 time_most ch c (suc n) = sum_most (rows_part (ch c)) (if ch c == 0 then 0 else 1) (marks 0 8 (ch c))
@@ -49,52 +53,58 @@ time_most ch c (suc n) = sum_most (rows_part (ch c)) (if ch c == 0 then 0 else 1
 plus_two : (a b : ℕ) → a ≤ b → 2 + a ≤ 2 + b
 plus_two a b l = omega (arith, l)
 
-module _ (d : Board) (bytes : List ℕ) (hk : HasKernel bytes) (small : All IsByte bytes)
+module _ (d : Board) (bytes : List ℕ) (hk : HasKernel bytes) (alike : IsSilentAlike bytes) (small : All IsByte bytes)
     (low : (p1 p2 c : ℕ) (s : d.State) → (d.pins p1 p2 c s).bus < 256) (held : List Bool) where
   -- step 5, by what changed and what is down
   pub edges_law : (ch hd : ℕ → ℕ) (x : ℕ) (m : Cpu) (board : d.State) (f : ℕ → ℕ) (ring : List ℕ) → f 66 % 128 ≤ 16
-      → Safe m EDGES f ring → ((i : ℕ) → i < 12 → f (48 + i) ≡ ch i) → ((i : ℕ) → i < 12 → f (32 + i) ≡ hd i)
+      → IsFnCell (f 78) → Safe m EDGES f ring → ((i : ℕ) → i < 12 → f (48 + i) ≡ ch i) →
+      ((i : ℕ) → i < 12 → f (32 + i) ≡ hd i)
       → Leads d (kernel_in true bytes) x (begin_at d EDGES f ring m board)
-      (Ends d x m board DONE (2 + (9 * 12 + 71 * changed_columns ch 0 12 + 50 * all_edges ch 0 12))
-      (AfterColumns d bytes hk small low held m.f0 ch hd 0 12 f ring))
-  edges_law ch hd x m board f ring most safe changes helds =
+      (Ends d x m board DONE (2 + (9 * 12 + 93 * changed_columns ch 0 12 + 62 * all_edges ch 0 12))
+      (AfterColumns d bytes hk alike small low held m.f0 ch hd 0 12 f (λ i. f (80 + i)) ring))
+  edges_law ch hd x m board f ring most cell safe changes helds =
+      let layers : ℕ → ℕ = λ i. f (80 + i) in
       let f1 : ℕ → ℕ = put f 24 48 in
       relax d (kernel_in true bytes) (has_rows true bytes hk) small low x m board DONE (2 + columns_time ch 0 12)
-      (2 + (9 * 12 + 71 * changed_columns ch 0 12 + 50 * all_edges ch 0 12))
-      (AfterColumns d bytes hk small low held m.f0 ch hd 0 12 f ring)
-      (AfterColumns d bytes hk small low held m.f0 ch hd 0 12 f ring) (begin_at d EDGES f ring m board)
-      (plus_two (columns_time ch 0 12) (9 * 12 + 71 * changed_columns ch 0 12 + 50 * all_edges ch 0 12)
+      (2 + (9 * 12 + 93 * changed_columns ch 0 12 + 62 * all_edges ch 0 12))
+      (AfterColumns d bytes hk alike small low held m.f0 ch hd 0 12 f (λ i. f (80 + i)) ring)
+      (AfterColumns d bytes hk alike small low held m.f0 ch hd 0 12 f (λ i. f (80 + i)) ring)
+      (begin_at d EDGES f ring m board)
+      (plus_two (columns_time ch 0 12) (9 * 12 + 93 * changed_columns ch 0 12 + 62 * all_edges ch 0 12)
       (time_most ch 0 12)) (λ a g rg h. h)
       (seq_just d (kernel_in true bytes) (has_rows true bytes hk) small low x m board COLUMN 2 DONE
-      (columns_time ch 0 12) f1 ring (AfterColumns d bytes hk small low held m.f0 ch hd 0 12 f ring)
+      (columns_time ch 0 12) (laid f1 layers) ring (AfterColumns d bytes hk alike small low held m.f0 ch hd 0 12 f
+      (λ i. f (80 + i)) ring)
       (begin_at d EDGES f ring m board) safe.1
-      (leaf d (kernel_in true bytes) (has_rows true bytes hk) small low (Just f1 ring) (Run 1 ∷ []) EDGES COLUMN 2 f1
-      ring x m m board f ring safe.0 (λ a. (refl, refl)) (refl, refl, refl))
+      (leaf d (kernel_in true bytes) (has_rows true bytes hk) small low (Just (laid f1 layers) ring) (Run 1 ∷ [])
+      EDGES COLUMN 2
+      (laid f1 layers) ring x m m board f ring safe.0 (λ a. (refl, refl)) (refl, refl, refl))
       (λ x1 m1 board1 same1 safe1.
       recast d (kernel_in true bytes) (has_rows true bytes hk) small low x1 m1 board1 DONE (columns_time ch 0 12)
-      (columns_time ch 0 12) (AfterColumns d bytes hk small low held m.f0 ch hd 0 12 f1 ring)
-      (AfterColumns d bytes hk small low held m.f0 ch hd 0 12 f ring) (begin_at d COLUMN f1 ring m1 board1)
+      (columns_time ch 0 12) (AfterColumns d bytes hk alike small low held m.f0 ch hd 0 12 f1 layers ring)
+      (AfterColumns d bytes hk alike small low held m.f0 ch hd 0 12 f (λ i. f (80 + i)) ring)
+      (begin_at d COLUMN (laid f1 layers) ring m1 board1)
       (omega arith)
       (λ a g rg h.
       record {
-        cells = wide f h.r0 h.r7 h.p;
+        cells = spread f h.w;
         same = ap (λ t. memory t rg) h.now;
         facts = record {
-          r0 = h.r0;
-          r7 = h.r7;
-          p = h.p;
+          w = h.w;
           now = refl;
           r0_is = h.r0_is;
-          kbd = h.kbd;
+          state = h.state;
           most = h.most;
           more = h.more;
+          cell = h.cell;
         };
       })
-      (columns_law d bytes hk small low held m.f0 ch hd 12 0 x1 m1 board1 f1 ring refl
+      (columns_law d bytes hk alike small low held m.f0 ch hd 12 0 x1 m1 board1 f1 layers ring refl
       (record {
         pointer = refl;
         flag = ap (λ k. k.f0) same1;
         most = most;
+        cell = cell;
         changes = λ i l. other_cell f 48 (48 + i) (48 + i) (omega arith) (omega (arith, l)) refl ∙ changes i l;
         helds = λ i l. other_cell f 48 (32 + i) (32 + i) (omega arith) (omega (arith, l)) refl ∙ helds i l;
       }) safe1)))

@@ -9,6 +9,7 @@ use Rattle.fw_keys.proofs.Blocks.{leaf, bytes_of}
 use Rattle.fw_kernel.specs.Places.{HasKernel}
 use Rattle.fw_kernel.specs.declared.labels.TheConstants.{SCAN, TESTED}
 use Rattle.fw_keys.proofs.Block.{Ends, Safe}
+use Rattle.fw_keys.proofs.Patch.{still}
 use Rattle.fw_keys.specs.State.{Inv, kbd_of}
 use Rattle.fw_logic.proofs.Block.{begin_at, put}
 use Rattle.fw_logic.proofs.Kernel.{kernel_in}
@@ -45,8 +46,9 @@ module _ (d : Board) (bytes : List ℕ) (hk : HasKernel bytes) (small : All IsBy
           test = f 69 - 1;
           aa_due = if b then true else not (f 65 == 0);
         }) last);
-        inv = record { most = inv.most; started = inv.started; some = inv.some; mode = inv.mode; lamps = inv.lamps };
+        inv = still (refl, refl, refl, refl, refl) inv;
         cells = λ i l u. grind (arith, nat_tests, l, u);
+        layers = λ i l u. grind (arith, nat_tests, l, u);
         stack = (refl, refl);
       })
       (ap not runs, (refl, (refl, refl, refl, λ e0. (refl, (refl, refl, refl, λ e1. (some, (refl, refl, refl)))))))
@@ -63,8 +65,9 @@ module _ (d : Board) (bytes : List ℕ) (hk : HasKernel bytes) (small : All IsBy
               test = f 69 - 1;
               aa_due = if b then true else not (f 65 == 0);
             }) last);
-        inv = record { most = inv.most; started = inv.started; some = inv.some; mode = inv.mode; lamps = inv.lamps };
+        inv = still (refl, refl, refl, refl, refl) inv;
         cells = λ i l u. grind (arith, nat_tests, l, u);
+        layers = λ i l u. grind (arith, nat_tests, l, u);
         stack = (refl, refl);
       })
       (ap not runs, (refl, (refl, refl, refl, λ e0. (refl, (refl, refl, refl, λ e1. (none, (refl, refl, refl)))))))

@@ -1,30 +1,28 @@
 -- A tick without a frame, from its first instruction to the end of the service.
-use Rattle.fw_keys.proofs.Patch.{Keeps}
-use Rattle.fw_keys.proofs.Head.{board_lit}
-use Rattle.fw_keys.proofs.Scan.{keyed}
-use Rattle.fw_logic.proofs.Path.{Fork}
+use Rattle.fw_keys.proofs.Patch.{Keeps, still}
+use Rattle.fw_keys.proofs.Head.{board_lit, headed, head_changes, head_helds, offered_in, look, started, shone, Headed}
+use Rattle.fw_keys.proofs.Head.{head_law}
+use Rattle.fw_keys.proofs.Scan.{after, keyed, Scanned, scan_law, edges_most}
+use Rattle.fw_logic.proofs.Path.{Fork, Go, Stage, Until}
 use Rattle.std.proofs.Common.{◌≡◌, ◌≤◌, ◌<◌, ℕ, ◌+◌, ◌-◌, ◌%◌, List, [], ◌∷◌, All, Bool, true, false, not, ◌==◌}
-use Rattle.std.proofs.Common.{bit_xor, refl, ap, sym, ◌∙◌, subst, arith}
+use Rattle.std.proofs.Common.{bit_xor, refl, ap, sym, ◌∙◌, subst, arith, None}
 use Rattle.mcs48_core.specs.Cpu.{Cpu}
 use Rattle.mcs48_core.specs.declared.levels.Pins.{Pins}
-use Rattle.fw_keys.proofs.Blocks.{leaf, recast, bytes_of}
-use Rattle.std.proofs.Common.{Some, None}
-use Rattle.fw_logic.proofs.Sound.{weaken}
-use Rattle.fw_logic.proofs.Sound.{chain}
-use Rattle.fw_keys.proofs.Blocks.{from_stage, safe_at, fine_end, seq_f0}
-use Rattle.fw_keys.proofs.Columns.{wide, kept_helds}
-use Rattle.fw_keys.proofs.Scan.{Scanned, scan_law, edges_most}
-use Rattle.fw_keys.proofs.Head.{headed, head_changes, head_helds, offered_in, look, started, shone, Headed, head_law}
+use Rattle.fw_keys.proofs.Blocks.{leaf, recast, bytes_of, from_stage, safe_at, fine_end, seq_f0}
+use Rattle.fw_logic.proofs.Sound.{weaken, chain}
+use Rattle.fw_keys.proofs.ColumnCells.{spread, kept_helds}
+use Rattle.fw_keys.proofs.Held.{layers_same}
+use Rattle.fw_keys.proofs.SameCells.{head_keeps}
+use Rattle.fw_keys.proofs.Offered.{unoffered}
 use Rattle.fw_keys.proofs.Testing.{testing_law}
 use Rattle.fw_kernel.specs.Places.{HasKernel}
 use Rattle.fw_kernel.specs.declared.labels.TheConstants.{DONE, SCAN, TESTED}
 use Rattle.fw_keys.proofs.Block.{Ends, Safe}
-use Rattle.fw_keys.specs.Edges.{image_keys}
-use Rattle.fw_keys.specs.State.{Inv, kbd_of}
+use Rattle.fw_keys.specs.Edges.{image_keys, IsSilentAlike}
+use Rattle.fw_keys.specs.State.{Inv, kbd_of, layers_of}
 use Rattle.fw_logic.proofs.Block.{begin_at, memory, put, scratched}
 use Rattle.fw_logic.proofs.Kernel.{kernel_in}
 use Rattle.fw_logic.proofs.Leads.{Leads}
-use Rattle.fw_logic.proofs.Path.{Go, Stage, Until}
 use Rattle.fw_logic.proofs.Short.{has_rows}
 use Rattle.mcs48_ranges.specs.Sizes.{IsByte, IsFine}
 use Rattle.joint_run.specs.Run.{Board, ticks}
@@ -34,7 +32,7 @@ use Rattle.kbd_model.specs.declared.meeting.Meeting.{Meeting}
 use Rattle.kbd_model.specs.declared.meeting.Meeting.TheVariants.{Idle, Inhibited}
 use Rattle.fw_keys.proofs.KeyedTick.{passed, keyed_tick, below_cells}
 
-module _ (d : Board) (bytes : List ℕ) (hk : HasKernel bytes) (small : All IsByte bytes)
+module _ (d : Board) (bytes : List ℕ) (hk : HasKernel bytes) (alike : IsSilentAlike bytes) (small : All IsByte bytes)
     (low : (p1 p2 c : ℕ) (s : d.State) → (d.pins p1 p2 c s).bus < 256) (held : List Bool) where
   module _ (y : ℕ) (m : Cpu) (board : d.State) (f : ℕ → ℕ) (ring : List ℕ) where
     abbrev pub down : ℕ → ℕ
@@ -65,7 +63,9 @@ module _ (d : Board) (bytes : List ℕ) (hk : HasKernel bytes) (small : All IsBy
       pub off : e.off ≡ 231 + used
       pub short : used ≤ max + (56 + (2 + edges_most changed))
       pub board_now : e.board ≡ ticks used (y + 231) (d.tick (255 - f 77)) shining
-      pub kbd : kbd_of held now last ≡ keyed (image_keys bytes) inhibited changed down (step (kbd_of held f ring))
+      pub kbd : kbd_of held now last ≡ keyed (image_keys bytes) inhibited changed down (layers_of f)
+          (step (kbd_of held f ring))
+      pub layers : layers_of now ≡ after (image_keys bytes) changed down (layers_of f)
       pub downs : (i : ℕ) → i < 12 → now (32 + i) ≡ down i
       pub inv : Inv now
       pub stack : (now 8 ≡ f 8) × (now 9 ≡ f 9)
@@ -78,22 +78,24 @@ module _ (d : Board) (bytes : List ℕ) (hk : HasKernel bytes) (small : All IsBy
         → Leads d (kernel_in true bytes) (y + 231) (begin_at d TESTED (headed_by r4 r5) ring m' board')
         (Ends d (y + 231) (record m' { f1 = inhibited }) board' SCAN max (Keeps held step (headed_by r4 r5) ring))
 
+    -- data memory at the end
+    abbrev Shows : Bool → (Keyboard → Keyboard) → ℕ → (ℕ → ℕ) → List ℕ → Type 0
+    Shows inhibited step a g r =
+        (kbd_of held g r ≡ keyed (image_keys bytes) inhibited changed down (layers_of f) (step (kbd_of held f ring)))
+        × ((i : ℕ) → i < 12 → g (32 + i) ≡ down i) × Inv g × (g 8 ≡ f 8) × (g 9 ≡ f 9)
+        × (layers_of g ≡ after (image_keys bytes) changed down (layers_of f))
+
     rest : (inhibited : Bool) (max : ℕ) (step : Keyboard → Keyboard) → Way inhibited max step
         → (m' : Cpu) (board' : d.State) (r4 r5 : ℕ) → m' ≡ scratched lit TESTED (memory (headed_by r4 r5) ring) m'
         → board' ≡ shining → offered_in r4 r5 ≡ offer (kbd_of held f ring) → Safe m' TESTED (headed_by r4 r5) ring
         → Leads d (kernel_in true bytes) (y + 231) (begin_at d TESTED (headed_by r4 r5) ring m' board')
         (Ends d (y + 231) (record m' { f0 = is_scanning (step (kbd_of held f ring)); f1 = inhibited }) board' DONE
-        (max + (56 + (2 + edges_most changed)))
-        (λ a g r. (kbd_of held g r ≡ keyed (image_keys bytes) inhibited changed down (step (kbd_of held f ring)))
-        × ((i : ℕ) → i < 12 → g (32 + i) ≡ down i) × Inv g × (g 8 ≡ f 8) × (g 9 ≡ f 9)))
+        (max + (56 + (2 + edges_most changed))) (Shows inhibited step))
     rest inhibited max step way m' board' r4 r5 is where_board offers safe =
         let g0 : ℕ → ℕ = headed_by r4 r5 in
-        let N : ℕ → (ℕ → ℕ) → List ℕ → Type 0 =
-        λ a g r. (kbd_of held g r ≡ keyed (image_keys bytes) inhibited changed down (step (kbd_of held f ring)))
-        × ((i : ℕ) → i < 12 → g (32 + i) ≡ down i) × Inv g × (g 8 ≡ f 8) × (g 9 ≡ f 9) in
         let on : Bool = is_scanning (step (kbd_of held f ring)) in
         seq_f0 d (kernel_in true bytes) (has_rows true bytes hk) small low on (y + 231) (record m' { f1 = inhibited })
-        board' SCAN max DONE (56 + (2 + edges_most changed)) (Keeps held step g0 ring) N
+        board' SCAN max DONE (56 + (2 + edges_most changed)) (Keeps held step g0 ring) (Shows inhibited step)
         (begin_at d TESTED g0 ring m' board') safe.1
         (way m' board' r4 r5 is where_board offers safe)
         (λ x1 m1 board1 g r same1 q safe1.
@@ -101,37 +103,44 @@ module _ (d : Board) (bytes : List ℕ) (hk : HasKernel bytes) (small : All IsBy
         let inh : m1.f1 ≡ inhibited = ap (λ k. k.f1) same1 in
         let h : Leads d (kernel_in true bytes) x1 (begin_at d SCAN g r m1 board1)
         (Ends d x1 (record m1 { f0 = is_scanning (kbd_of held g r) }) board1 DONE (56 + (2 + edges_most changed))
-        (Scanned d bytes hk small low held m1.f1 changed down g r)) =
-        scan_law d bytes hk small low held changed down x1 m1 board1 g r q.inv.most safe1
+        (Scanned d bytes hk alike small low held m1.f1 changed down g r)) =
+        scan_law d bytes hk alike small low held changed down x1 m1 board1 g r q.inv.most q.inv.fn safe1
         (λ i l. q.cells (48 + i) (omega arith) (omega (arith, l)) ∙ head_changes down f r4 r5 i l)
         (λ i l. q.cells (32 + i) (omega arith) (omega (arith, l)) ∙ head_helds down f r4 r5 i l) in
         subst (λ b. Leads d (kernel_in true bytes) x1 (begin_at d SCAN g r m1 board1)
-        (Ends d x1 (record m1 { f0 = b }) board1 DONE (56 + (2 + edges_most changed)) N)) flag
+        (Ends d x1 (record m1 { f0 = b }) board1 DONE (56 + (2 + edges_most changed)) (Shows inhibited step))) flag
         (recast d (kernel_in true bytes) (has_rows true bytes hk) small low x1
         (record m1 { f0 = is_scanning (kbd_of held g r) }) board1 DONE (56 + (2 + edges_most changed))
-        (56 + (2 + edges_most changed)) (Scanned d bytes hk small low held m1.f1 changed down g r) N
-        (begin_at d SCAN g r m1 board1) (omega arith)
+        (56 + (2 + edges_most changed)) (Scanned d bytes hk alike small low held m1.f1 changed down g r)
+        (Shows inhibited step) (begin_at d SCAN g r m1 board1) (omega arith)
         (λ a g2 rg s. record {
-          cells = wide g s.r0 s.r7 s.p;
+          cells = spread g s.w;
           same = ap (λ t. memory t rg) s.now;
           facts = (
-            s.kbd ∙ ap (λ b. keyed (image_keys bytes) b changed down (kbd_of held g r)) inh
-                ∙ ap (λ k. keyed (image_keys bytes) inhibited changed down k) q.kbd,
-            (λ i l. kept_helds g s.r0 s.r7 s.p i l
+            s.kbd ∙ ap (λ b. keyed (image_keys bytes) b changed down (layers_of g) (kbd_of held g r)) inh
+                ∙ ap (λ l. keyed (image_keys bytes) inhibited changed down l (kbd_of held g r)) (layers_kept g q.layers)
+                ∙ ap (λ k. keyed (image_keys bytes) inhibited changed down (layers_of f) k) q.kbd,
+            (λ i l. kept_helds g s.w i l
                 ∙ q.cells (32 + i) (omega arith) (omega (arith, l)) ∙ head_helds down f r4 r5 i l),
             record {
               most = s.most;
               started = q.inv.started;
-              some = (let u : g 68 ≤ g 66 % 128 = q.inv.some in let v : g 66 % 128 ≤ s.p.count % 128 = s.more in omega
+              some = (let u : g 68 ≤ g 66 % 128 = q.inv.some in let v : g 66 % 128 ≤ s.w.p.count % 128 = s.more in omega
                   (arith, u, v));
               mode = q.inv.mode;
               lamps = q.inv.lamps;
+              fn = s.cell;
             },
             q.stack.0,
             q.stack.1,
+            s.layers ∙ ap (λ l. after (image_keys bytes) changed down l) (layers_kept g q.layers),
           );
         })
         h))
+      where
+        layers_kept : (g : ℕ → ℕ) → ((i : ℕ) → 78 ≤ i → i < 92 → g i ≡ headed_by r4 r5 i) → layers_of g ≡ layers_of f
+        layers_kept g e =
+            layers_same g f (λ i l u. e i l u ∙ head_keeps down f r4 r5 i (omega (arith, l)))
 
     pub tick_by : (inhibited : Bool) (max : ℕ) (step : Keyboard → Keyboard) → Way inhibited max step → Safe m 10 f ring
         → Leads d (kernel_in true bytes) y begun (Ticked inhibited max step)
@@ -145,12 +154,9 @@ module _ (d : Board) (bytes : List ℕ) (hk : HasKernel bytes) (small : All IsBy
         (λ e af free.
         let a = af.0 in
         let g0 : ℕ → ℕ = headed_by a.r4 a.r5 in
-        let N : ℕ → (ℕ → ℕ) → List ℕ → Type 0 =
-        λ a g r. (kbd_of held g r ≡ keyed (image_keys bytes) inhibited changed down (step (kbd_of held f ring)))
-        × ((i : ℕ) → i < 12 → g (32 + i) ≡ down i) × Inv g × (g 8 ≡ f 8) × (g 9 ≡ f 9) in
         let T : ℕ → Stage d.State → Type 0 =
         λ y. Ends d y (record e.cpu { f0 = is_scanning (step (kbd_of held f ring)); f1 = inhibited }) e.board DONE
-        (max + (56 + (2 + edges_most changed))) N in
+        (max + (56 + (2 + edges_most changed))) (Shows inhibited step) in
         let at : y + 231 ≡ y + e.off = ap (λ o. y + o) (sym a.off) in
         from_stage d (kernel_in true bytes) (has_rows true bytes hk) small low y TESTED lit g0 ring e (T (y + 231))
         (Ticked inhibited max step) a.cpu
@@ -169,6 +175,7 @@ module _ (d : Board) (bytes : List ℕ) (hk : HasKernel bytes) (small : All IsBy
           downs = b.facts.1;
           inv = b.facts.2;
           stack = (b.facts.3, b.facts.4);
+          layers = b.facts.5;
         })
         (subst (λ z. Leads d (kernel_in true bytes) z (begin_at d TESTED g0 ring e.cpu e.board) (T (y + 231))) at
         (rest inhibited max step way e.cpu e.board a.r4 a.r5 a.cpu a.board_now a.offers
@@ -182,11 +189,6 @@ module _ (d : Board) (bytes : List ℕ) (hk : HasKernel bytes) (small : All IsBy
         ≡ true)
         × ((d.pins 44 (255 - f 77) (y + 231 + 24) (ticks 24 0 (λ o. d.tick (255 - f 77) (y + 231 + o)) shining)).t1
         ≡ true)
-
-    unoffered : (r4 r5 : ℕ) (b : Bool) → (r5 == 0) ≡ b → offered_in r4 r5 ≡ None → (r5 == 0) ≡ true
-    unoffered r4 r5 true e h = e
-    unoffered r4 r5 false e h = let s : offered_in r4 r5 ≡ Some r4 = rw e refl in
-        absurd (let q : Some r4 ≡ None = sym s ∙ h in cc)
 
     look_at : (m' : Cpu) (board' : d.State) (r4 r5 k : ℕ) (test : Pins → Bool)
         → m' ≡ scratched lit TESTED (memory (headed_by r4 r5) ring) m' → board' ≡ shining
@@ -213,8 +215,9 @@ module _ (d : Board) (bytes : List ℕ) (hk : HasKernel bytes) (small : All IsBy
         ring safe.0
         (λ a. record {
           kbd = refl;
-          inv = record { most = inv.most; started = inv.started; some = inv.some; mode = inv.mode; lamps = inv.lamps };
+          inv = still (refl, refl, refl, refl, refl) inv;
           cells = λ i l u. below_cells (headed_by r4 r5) 69 0 i l;
+          layers = λ i l u. below_cells (headed_by r4 r5) 69 0 i (omega (arith, l));
           stack = (refl, refl);
         }) (
           ap not no_test,
@@ -238,8 +241,9 @@ module _ (d : Board) (bytes : List ℕ) (hk : HasKernel bytes) (small : All IsBy
         ring safe.0
         (λ a. record {
           kbd = refl;
-          inv = record { most = inv.most; started = inv.started; some = inv.some; mode = inv.mode; lamps = inv.lamps };
+          inv = still (refl, refl, refl, refl, refl) inv;
           cells = λ i l u. below_cells (headed_by r4 r5) 69 0 i l;
+          layers = λ i l u. below_cells (headed_by r4 r5) 69 0 i (omega (arith, l));
           stack = (refl, refl);
         }) (
           ap not no_test,
@@ -252,32 +256,32 @@ module _ (d : Board) (bytes : List ℕ) (hk : HasKernel bytes) (small : All IsBy
     test_way : Inv f → (f 69 == 0) ≡ false → Way false 36 (tested_if true)
     test_way inv runs m' board' r4 r5 is where_board offers safe =
         testing_law d bytes hk small low held (y + 231) m' board' (headed_by r4 r5) ring
-        (record { most = inv.most; started = inv.started; some = inv.some; mode = inv.mode; lamps = inv.lamps }) runs
+        (still (refl, refl, refl, refl, refl) inv) runs
         safe
 
     -- whole ticks: the state goes on as the model's tick
+    abbrev pub IsTick : Meeting → Bool → (Keyboard → Keyboard) → Type 0
+    IsTick meeting inhibited step =
+        keyed (image_keys bytes) inhibited changed down (layers_of f) (step (kbd_of held f ring))
+        ≡ keyed_tick (image_keys bytes) meeting changed down (layers_of f) (kbd_of held f ring)
+
     abbrev pub TickLaw : Meeting → Bool → ℕ → (Keyboard → Keyboard) → Type 0
     TickLaw meeting inhibited max step =
-        Leads d (kernel_in true bytes) y begun
-        (λ e. Ticked inhibited max step e
-        × (keyed (image_keys bytes) inhibited changed down (step (kbd_of held f ring)) ≡ keyed_tick (image_keys bytes)
-        meeting changed down (kbd_of held f ring)))
+        Leads d (kernel_in true bytes) y begun (λ e. Ticked inhibited max step e × IsTick meeting inhibited step)
 
     with_model : (meeting : Meeting) (inhibited : Bool) (max : ℕ) (step : Keyboard → Keyboard)
-        → keyed (image_keys bytes) inhibited changed down (step (kbd_of held f ring)) ≡ keyed_tick (image_keys bytes)
-        meeting changed down (kbd_of held f ring) → Leads d (kernel_in true bytes) y begun (Ticked inhibited max step)
+        → IsTick meeting inhibited step → Leads d (kernel_in true bytes) y begun (Ticked inhibited max step)
         → TickLaw meeting inhibited max step
     with_model meeting inhibited max step same h =
         weaken d (kernel_in true bytes) (has_rows true bytes hk) y (Ticked inhibited max step)
-        (λ e. Ticked inhibited max step e
-        × (keyed (image_keys bytes) inhibited changed down (step (kbd_of held f ring)) ≡ keyed_tick (image_keys bytes)
-        meeting changed down (kbd_of held f ring))) begun (λ e a. (a, same)) h
+        (λ e. Ticked inhibited max step e × IsTick meeting inhibited step) begun (λ e a. (a, same)) h
 
     pub idle_tick : Inv f → (f 69 == 0) ≡ true → offer (kbd_of held f ring) ≡ None → IsFreeAt → Safe m 10 f ring
         → TickLaw Idle false 31 same_kbd
     idle_tick inv no_test nothing wires safe =
         with_model Idle false 31 same_kbd
-        (sym (ap (λ b. keyed (image_keys bytes) false changed down (tested_if (not b) (kbd_of held f ring))) no_test))
+        (sym (ap (λ b. keyed (image_keys bytes) false changed down (layers_of f)
+        (tested_if (not b) (kbd_of held f ring))) no_test))
         (tick_by false 31 same_kbd (idle_way inv no_test nothing wires.0 wires.1) safe)
 
     pub inhibited_tick : Inv f → (f 69 == 0) ≡ true
@@ -285,11 +289,13 @@ module _ (d : Board) (bytes : List ℕ) (hk : HasKernel bytes) (small : All IsBy
         ≡ false → Safe m 10 f ring → TickLaw Inhibited true 31 same_kbd
     inhibited_tick inv no_test low_clock safe =
         with_model Inhibited true 31 same_kbd
-        (sym (ap (λ b. keyed (image_keys bytes) true changed down (tested_if (not b) (kbd_of held f ring))) no_test))
+        (sym (ap (λ b. keyed (image_keys bytes) true changed down (layers_of f)
+        (tested_if (not b) (kbd_of held f ring))) no_test))
         (tick_by true 31 same_kbd (inhibited_way inv no_test low_clock) safe)
 
     pub test_tick : Inv f → (f 69 == 0) ≡ false → Safe m 10 f ring → TickLaw Idle false 36 (tested_if true)
     test_tick inv runs safe =
         with_model Idle false 36 (tested_if true)
-        (sym (ap (λ b. keyed (image_keys bytes) false changed down (tested_if (not b) (kbd_of held f ring))) runs))
+        (sym (ap (λ b. keyed (image_keys bytes) false changed down (layers_of f)
+        (tested_if (not b) (kbd_of held f ring))) runs))
         (tick_by false 36 (tested_if true) (test_way inv runs) safe)

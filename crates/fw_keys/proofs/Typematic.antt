@@ -9,13 +9,16 @@ use Rattle.fw_keys.proofs.Blocks.{Just, leaf, seq_just, recast, relax, bytes_of}
 use Rattle.std.proofs.Common.{◌&&◌, bit_or, Some, None}
 use Rattle.fw_keys.proofs.Enter.{Entered}
 use Rattle.fw_keys.proofs.Enter2.{again}
-use Rattle.fw_keys.proofs.Rows.{self}
+use Rattle.fw_keys.proofs.Patch.{self}
 use Rattle.fw_kernel.specs.Places.{HasKernel, is_table}
 use Rattle.fw_kernel.specs.declared.labels.TheConstants.{AGAIN, EDGES, REPEAT, SCAN}
 use Rattle.fw_keys.proofs.Block.{Ends, Safe}
 use Rattle.fw_keys.proofs.Patch.{Patch, Stepped, over}
 use Rattle.fw_keys.specs.Edges.{image_keys}
-use Rattle.fw_keys.specs.State.{kbd_of, mode_of, queue_of, repeat_of}
+use Rattle.fw_keys.proofs.EdgeTests.{code_of_index}
+use Rattle.fw_keys.specs.State.{kbd_of, mode_of, queue_of, repeat_of, place_of, is_upper}
+use Rattle.kbd_model.specs.declared.state.Repeat.{Repeat}
+use Rattle.std.specs.declared.option.Option.{Option}
 use Rattle.fw_logic.proofs.Block.{begin_at, memory, put}
 use Rattle.bits.proofs.Every.{by_byte, pair_tests, tests_by}
 use Rattle.fw_logic.proofs.Kernel.{byte_in, kernel_in}
@@ -67,19 +70,22 @@ pub period_read : (bytes : List ℕ) → HasKernel bytes → (b : ℕ) → b < 2
 period_read bytes hk b l = let e : 768 + (210 + b % 32) ≡ 978 + b % 32 = omega arith in
     rw e (hk (978 + b % 32) (no_table b l) ∙ sym (byte_is (978 + b % 32) (omega arith)) ∙ period_in b l)
 
-some_period : (place rate : ℕ) → rate < 256
-    → repeat_of (period rate) place ≡ Some (record { place = place; count = period rate })
-some_period place rate l = let h : (period rate == 0) ≡ false =
-    tests_by 256 (λ b. period b == 0) (λ b. false) refl rate l in
-    ap (λ b. if b then None else Some (record { place = place; count = period rate })) h
+-- the key at an index, with a count
+abbrev counting : ℕ → ℕ → Option Repeat
+counting i n = Some (record { place = place_of i; count = n; on_fn = is_upper i })
 
-some_count : (place n : ℕ) → n < 256 → (n == 0) ≡ false → (n == 1) ≡ false → repeat_of ((n + 255) % 256) place
-    ≡ Some (record { place = place; count = n - 1 })
-some_count place n l z o =
+some_period : (i rate : ℕ) → rate < 256 → repeat_of (period rate) i ≡ counting i (period rate)
+some_period i rate l = let h : (period rate == 0) ≡ false =
+    tests_by 256 (λ b. period b == 0) (λ b. false) refl rate l in
+    ap (λ b. if b then None else counting i (period rate)) h
+
+some_count : (i n : ℕ) → n < 256 → (n == 0) ≡ false → (n == 1) ≡ false → repeat_of ((n + 255) % 256) i
+    ≡ counting i (n - 1)
+some_count i n l z o =
     let big : 1 < n = grind (arith, nat_tests, z, o) in
     let less : (n + 255) % 256 ≡ n - 1 = omega (arith, big, l) in
     let h : (n - 1 == 0) ≡ false = (let p : 0 < n - 1 = omega (arith, big) in grind (arith, nat_tests, p)) in
-    rw less (ap (λ b. if b then None else Some (record { place = place; count = n - 1 })) h)
+    rw less (ap (λ b. if b then None else counting i (n - 1)) h)
 
 last_count : (n : ℕ) → n < 256 → ((n + 255) % 256 == 0) ≡ (n == 1)
 last_count = tests_by 256 (λ n. (n + 255) % 256 == 0) (λ n. n == 1) refl
@@ -203,7 +209,11 @@ module _ (d : Board) (bytes : List ℕ) (hk : HasKernel bytes) (small : All IsBy
                 ∙ ap (λ t. record (kbd_of held f ring) {
                   queue = enter (code ∷ []) (queue_of f ring);
                   repeats = t;
-                }) (some_period (f 72) (f 73) (h.cell 73 (omega arith))) ∙ rw (e0, e1) refl;
+                }) (some_period (f 72) (f 73) (h.cell 73 (omega arith)))
+                ∙ ap (λ c. record (kbd_of held f ring) {
+                  queue = enter (c ∷ []) (queue_of f ring);
+                  repeats = counting (f 72) (period (f 73));
+                }) (sym (code_of_index bytes (f 72) (is_upper (f 72)) refl)) ∙ rw (e0, e1) refl;
             most = q.most;
             more = q.more;
           };

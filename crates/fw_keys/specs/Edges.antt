@@ -1,11 +1,28 @@
 -- The edges of a tick as bytes of columns: what changed, and what is down.
-use Rattle.std.specs.Prelude.{ℕ, zero, suc, ◌+◌, ◌*◌, Bool, if◌then◌else◌, List, [], ◌∷◌, ◌++◌, slice_index}
+use Rattle.std.specs.Prelude.{◌≡◌, ◌<◌, ℕ, zero, suc, ◌+◌, ◌*◌, ◌/◌, ◌%◌, ◌==◌, Bool, true, false, if◌then◌else◌}
+use Rattle.std.specs.Prelude.{List, [], ◌∷◌, ◌++◌, slice_index}
 use Rattle.bits.specs.Bits.{bit}
+use Rattle.fw_kernel.specs.Tables.{codes_at, rate_at, fn_codes_at, make_only_at}
 use Rattle.kbd_model.specs.Codes.{Keys}
 
--- the layout in an image
+-- the layout in an image: the codes by layer; a byte a column of the keys that send no break; the Fn key is where there
+-- is no code
+abbrev pub image_code : List ℕ → Bool → ℕ → ℕ
+image_code bytes false place = slice_index bytes (codes_at + place)
+image_code bytes true place = slice_index bytes (fn_codes_at + place)
+
 abbrev pub image_keys : List ℕ → Keys
-image_keys bytes = record { code = λ p. slice_index bytes (768 + p); rate = slice_index bytes 864 }
+image_keys bytes = record {
+  code = image_code bytes;
+  make_only = λ place. bit (place % 8) (slice_index bytes (make_only_at + place / 8));
+  is_fn = λ place. image_code bytes false place == 0;
+  rate = slice_index bytes rate_at;
+}
+
+-- an image whose places without a code have none in either layer
+abbrev pub IsSilentAlike : List ℕ → Type 0
+IsSilentAlike bytes =
+    (place : ℕ) → place < 96 → (image_code bytes true place == 0) ≡ (image_code bytes false place == 0)
 
 -- the edges that they are, with their places and whether the key went down, in order: of n rows from row r on
 abbrev pub row_edges : ℕ → ℕ → ℕ → ℕ → ℕ → List (ℕ × Bool)

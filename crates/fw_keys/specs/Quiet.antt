@@ -1,6 +1,7 @@
 -- Ticks without a frame, from one tick start to the next.
 use Rattle.std.specs.Prelude.{◌≡◌, ◌≤◌, ◌<◌, ◌⊎◌, ℕ, ◌+◌, ◌-◌, ◌==◌, Bool, true, false, List}
-use Rattle.std.specs.Prelude.{All, drop, length, slice_index, bit_xor, None}
+use Rattle.std.specs.Prelude.{All, drop, length, slice_index, slice_index_or, bit_xor, Some, None}
+use Rattle.std.specs.declared.option.Option.{Option}
 use Rattle.mcs48_core.specs.declared.levels.Pins.{Pins}
 use Rattle.mcs48_core.specs.declared.processor.Count.TheVariants.{Timer}
 use Rattle.mcs48_core.specs.Cpu.{Cpu}
@@ -12,11 +13,14 @@ use Rattle.mcs48_ranges.specs.Sizes.{IsByte, IsFine}
 use Rattle.fw_logic.specs.Boards.{numbered, power_on}
 use Rattle.fw_logic.specs.Scan.{levels_in, downs, in_tick, lights_cell}
 use Rattle.kbd_model.specs.declared.meeting.Meeting.{Meeting}
+use Rattle.kbd_model.specs.declared.state.Repeat.{Repeat}
 use Rattle.kbd_model.specs.declared.meeting.Meeting.TheVariants.{Idle, Inhibited, Sent, Cut, Got}
+use Rattle.kbd_model.specs.Codes.{Keys}
 use Rattle.kbd_model.specs.Keyboard.{Keyboard, at_power_on, offer}
+use Rattle.kbd_model.specs.Layers.{Layers, no_layers, layered, all_layers_after}
 use Rattle.kbd_model.specs.Tick.{ticked}
-use Rattle.fw_keys.specs.State.{keyboard_of, Inv}
-use Rattle.fw_keys.specs.Edges.{image_keys, tick_edges}
+use Rattle.fw_keys.specs.State.{keyboard_of, layers_of, Inv}
+use Rattle.fw_keys.specs.Edges.{image_keys, tick_edges, IsSilentAlike}
 
 -- the keyboard that 128 bytes of data memory show
 abbrev pub cells_in : List ℕ → ℕ → ℕ
@@ -24,6 +28,18 @@ cells_in ram i = slice_index ram i
 
 abbrev pub shown_by : List ℕ → Keyboard
 shown_by ram = keyboard_of (cells_in ram) (drop 112 ram)
+
+abbrev pub layers_by : List ℕ → Layers
+layers_by ram = layers_of (cells_in ram)
+
+-- what repeats is a key that sends something, in the layer of the last press at its place
+abbrev pub IsPressed : Keys → Layers → Option Repeat → Type 0
+IsPressed keys layers None = Unit {0}
+IsPressed keys layers (Some r) =
+    (r.place < 96) × (keys.is_fn r.place ≡ false) × (slice_index_or layers.pressed_in r.place false ≡ r.on_fn)
+
+abbrev pub IsRepeating : List ℕ → List ℕ → Type 0
+IsRepeating bytes ram = IsPressed (image_keys bytes) (layers_by ram) (shown_by ram).repeats
 
 -- a tick start: the timer's interrupt has just been entered, at most a cycle late, from the main program at WAIT with
 -- clear flags, and what data memory holds is a keyboard
@@ -81,37 +97,43 @@ IsQuiet d w Sent = ⊥
 IsQuiet d w Cut = ⊥
 IsQuiet d w (Got byte good) = ⊥
 
--- such a tick: the next start is 2,048 cycles later, give or take the one cycle; the keyboard that data memory shows is
--- a tick of the model later; and the latch of port 2 shows the lights and pulls no wire
+-- such a tick: the next start is 2,048 cycles later, give or take the one cycle; the keyboard and the layers that data
+-- memory shows are a tick of the model later; and the latch of port 2 shows the lights and pulls no wire
 pub record GoesOn (d : Board) (bytes : List ℕ) (meeting : Meeting) (w v : World d.State) : Type 0 where
   pub started : IsStarted v.cpu
   pub time : v.cycle + w.cpu.pre ≡ w.cycle + 2048 + v.cpu.pre
-  pub keyboard : shown_by v.cpu.ram ≡ ticked (image_keys bytes) meeting (edges_now d w) (shown_by w.cpu.ram)
+  pub keyboard : shown_by v.cpu.ram ≡ ticked (image_keys bytes) meeting
+      (layered (image_keys bytes).is_fn (edges_now d w) (layers_by w.cpu.ram)) (shown_by w.cpu.ram)
+  pub layers : layers_by v.cpu.ram ≡ all_layers_after (image_keys bytes).is_fn (edges_now d w) (layers_by w.cpu.ram)
+  pub repeating : IsRepeating bytes v.cpu.ram
   pub latch : v.cpu.p2 ≡ latch_now d w
 
 -- a program whose every quiet tick does so, whatever the pins show, where four edges are seen at most
 abbrev pub KeepsQuiet : List ℕ → Type 0
 KeepsQuiet bytes = (pins : ℕ → ℕ → ℕ → ℕ → Pins) (tick : ℕ → ℕ → ℕ → ℕ)
     → ((p1 p2 c s : ℕ) → (pins p1 p2 c s).bus < 256)
-    → (w : World ℕ) → IsStarted w.cpu → length (edges_now (numbered pins tick) w) ≤ 4
+    → (w : World ℕ) → IsStarted w.cpu → IsRepeating bytes w.cpu.ram → length (edges_now (numbered pins tick) w) ≤ 4
     → (meeting : Meeting) → IsQuiet (numbered pins tick) w meeting
     → Tick (numbered pins tick) TICK bytes w (GoesOn (numbered pins tick) bytes meeting w)
 
--- every image that has the kernel's bytes outside the layout's tables is one
+-- every image that has the kernel's bytes outside the layout's tables is one, where a place has codes in both layers or
+-- in neither
 abbrev pub QuietLaw : Type 0
-QuietLaw = (bytes : List ℕ) → HasKernel bytes → All IsByte bytes → KeepsQuiet bytes
+QuietLaw = (bytes : List ℕ) → HasKernel bytes → IsSilentAlike bytes → All IsByte bytes → KeepsQuiet bytes
 
--- a tick start at which data memory shows the keyboard at power-on; no wire is pulled, and no light is lit
+-- a tick start at which data memory shows the keyboard at power-on, before any press; no wire is pulled, and no light
+-- is lit
 pub record FromPowerOn (bytes : List ℕ) (m : Cpu) : Type 0 where
   pub started : IsStarted m
   pub keyboard : shown_by m.ram ≡ at_power_on (slice_index bytes 864)
+  pub layers : layers_by m.ram ≡ no_layers
   pub latch : m.p2 ≡ 255
 
--- a program that comes there from power-on, whatever the pins show
+-- a program that comes there from power-on, whatever the processor held before and whatever the pins show
 abbrev pub PowersOn : List ℕ → Type 0
-PowersOn bytes = (pins : ℕ → ℕ → ℕ → ℕ → Pins) (tick : ℕ → ℕ → ℕ → ℕ) (board : ℕ)
-    → ((p1 p2 c s : ℕ) → (pins p1 p2 c s).bus < 256)
-    → Comes (numbered pins tick) TICK bytes (power_on (numbered pins tick) board) (λ w. FromPowerOn bytes w.cpu)
+PowersOn bytes = (pins : ℕ → ℕ → ℕ → ℕ → Pins) (tick : ℕ → ℕ → ℕ → ℕ) (m : Cpu) (board : ℕ)
+    → IsFine m → ((p1 p2 c s : ℕ) → (pins p1 p2 c s).bus < 256)
+    → Comes (numbered pins tick) TICK bytes (power_on (numbered pins tick) m board) (λ w. FromPowerOn bytes w.cpu)
 
 abbrev pub PowerOnLaw : Type 0
 PowerOnLaw = (bytes : List ℕ) → HasKernel bytes → All IsByte bytes → PowersOn bytes

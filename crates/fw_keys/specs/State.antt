@@ -1,12 +1,15 @@
 -- What data memory means: the keyboard of the model that its cells show.
-use Rattle.std.specs.Prelude.{◌≡◌, ◌≤◌, ℕ, zero, suc, ◌+◌, ◌*◌, ◌/◌, ◌%◌, Bool, not, ◌==◌, if◌then◌else◌, List, [], ◌∷◌}
-use Rattle.std.specs.Prelude.{slice_index, Some, None}
+use Rattle.std.specs.Prelude.{◌≡◌, ◌≤◌, ◌⊎◌, ℕ, zero, suc, ◌+◌, ◌-◌, ◌*◌, ◌/◌, ◌%◌, Bool, not, ◌==◌, nat_le}
+use Rattle.std.specs.Prelude.{if◌then◌else◌, List, [], ◌∷◌, slice_index, Some, None}
 use Rattle.std.specs.declared.option.Option.{Option}
 use Rattle.bits.specs.Bits.{bit}
+use Rattle.fw_kernel.specs.declared.cells.TheConstants.{HELD, REPLYDUE, AADUE, COUNT, HEAD, STARTED, TEST, MODE}
+use Rattle.fw_kernel.specs.declared.cells.TheConstants.{DISABLED, RINDEX, RATE, RCOUNT, REPLY, LAST, LIGHTS, FN, LAYER}
 use Rattle.kbd_model.specs.declared.state.Mode.{Mode}
 use Rattle.kbd_model.specs.declared.state.Mode.TheVariants.{Ready, WantRate, WantLights}
 use Rattle.kbd_model.specs.declared.state.Reply.{Reply}
 use Rattle.kbd_model.specs.declared.state.Repeat.{Repeat}
+use Rattle.kbd_model.specs.Layers.{Layers}
 use Rattle.kbd_model.specs.Queue.{KeyQueue}
 use Rattle.kbd_model.specs.Keyboard.{Keyboard}
 
@@ -24,7 +27,7 @@ queue_by count head started ring = record {
 }
 
 abbrev pub queue_of : (ℕ → ℕ) → List ℕ → KeyQueue
-queue_of f ring = queue_by (f 66) (f 67) (f 68) ring
+queue_of f ring = queue_by (f COUNT) (f HEAD) (f STARTED) ring
 
 -- which byte is awaited
 abbrev pub mode_of : ℕ → Mode
@@ -34,23 +37,30 @@ mode_of n = if n == 0 then Ready else if n == 1 then WantRate else WantLights
 abbrev pub reply_of : ℕ → ℕ → Option Reply
 reply_of due byte = if due == 0 then None else Some (record { byte = byte; resets = bit 1 due })
 
--- what repeats, by its count and place
+-- what repeats, by its count and its index: the place, or in the second layer 97 more
+abbrev pub is_upper : ℕ → Bool
+is_upper index = nat_le 97 index
+
+abbrev pub place_of : ℕ → ℕ
+place_of index = if is_upper index then index - 97 else index
+
 abbrev pub repeat_of : ℕ → ℕ → Option Repeat
-repeat_of count place = if count == 0 then None else Some (record { place = place; count = count })
+repeat_of count index =
+    if count == 0 then None else Some (record { place = place_of index; count = count; on_fn = is_upper index })
 
 -- the keyboard with these keys held, by the cells 40 to 4D (hexadecimal) and the ring
 abbrev pub kbd_of : List Bool → (ℕ → ℕ) → List ℕ → Keyboard
 kbd_of held f ring = record {
-  test = f 69;
-  enabled = f 71 == 0;
-  mode = mode_of (f 70);
-  reply = reply_of (f 64) (f 75);
-  aa_due = not (f 65 == 0);
-  last = f 76;
+  test = f TEST;
+  enabled = f DISABLED == 0;
+  mode = mode_of (f MODE);
+  reply = reply_of (f REPLYDUE) (f REPLY);
+  aa_due = not (f AADUE == 0);
+  last = f LAST;
   queue = queue_of f ring;
-  repeats = repeat_of (f 74) (f 72);
-  rate = f 73;
-  lights = f 77 / 16;
+  repeats = repeat_of (f RCOUNT) (f RINDEX);
+  rate = f RATE;
+  lights = f LIGHTS / 16;
   held = held;
 }
 
@@ -67,13 +77,18 @@ held_by bytes = flags (down_at bytes) 96
 
 -- the whole keyboard that data memory shows: the held keys are the cells 20 to 2B (hexadecimal)
 abbrev pub keyboard_of : (ℕ → ℕ) → List ℕ → Keyboard
-keyboard_of f ring = kbd_of (held_by (λ c. f (32 + c))) f ring
+keyboard_of f ring = kbd_of (held_by (λ c. f (HELD + c))) f ring
+
+-- the layers: whether the Fn key is down is cell 4E, the layers of the last presses are 50 to 5B (hexadecimal)
+abbrev pub layers_of : (ℕ → ℕ) → Layers
+layers_of f = record { fn_down = not (f FN == 0); pressed_in = held_by (λ c. f (LAYER + c)) }
 
 -- what holds of the cells between blocks: the queue's length, a started break whose code is still in the queue, the
--- modes that there are, and that the lights stand at bits 4 to 6 alone
+-- modes that there are, that the lights stand at bits 4 to 6 alone, and that the Fn key's cell is 00 or FF
 pub record Inv (f : ℕ → ℕ) : Type 0 where
-  pub most : f 66 % 128 ≤ 16
-  pub started : f 68 ≤ 1
-  pub some : f 68 ≤ f 66 % 128
-  pub mode : f 70 ≤ 2
-  pub lamps : f 77 ≡ 16 * (f 77 / 16 % 8)
+  pub most : f COUNT % 128 ≤ 16
+  pub started : f STARTED ≤ 1
+  pub some : f STARTED ≤ f COUNT % 128
+  pub mode : f MODE ≤ 2
+  pub lamps : f LIGHTS ≡ 16 * (f LIGHTS / 16 % 8)
+  pub fn : (f FN ≡ 0) ⊎ (f FN ≡ 255)

@@ -1,20 +1,20 @@
--- The joint run's board under a frame's latch: the cycles at the wires, and what the looks see.
+-- The joint run's board, and any above it, under a frame's latch: the cycles at the wires, and what the looks see.
 use Rattle.std.proofs.Common.{◌≡◌, ◌≤◌, ◌<◌, ℕ, suc, zero, ◌+◌, List, [], ◌++◌, true, ◌&&◌, ◌==◌, refl, ap, sym}
 use Rattle.std.proofs.Common.{◌∙◌, arith}
-use Rattle.std.proofs.lemmas.Bool.Decides.{nat_tests}
 use Rattle.std.proofs.lemmas.List.{append-nil}
 use Rattle.board_lines.specs.declared.event.Edge.{Edge}
 use Rattle.board_lines.specs.declared.event.HostEvent.{HostEvent}
 use Rattle.board_lines.specs.declared.lines.Lines.{Lines}
 use Rattle.ctl_wire.specs.Wire.{drive}
 use Rattle.fw_link.proofs.Latches.{driven}
+use Rattle.fw_link.proofs.Over.{IsOver, driven_over}
+use Rattle.fw_link.proofs.Watching.{same_number}
 use Rattle.host_turn.specs.Run.{lights_said}
 use Rattle.joint_run.specs.Joint.{Beside, latch_of, lights_of, joint_cycle, joint_pins, joint_board}
+use Rattle.joint_run.specs.Run.{Board}
+use Rattle.mcs48_core.specs.declared.levels.Pins.{Pins}
 use Rattle.pc_wires.specs.Wires.{board_cycle}
 use Rattle.wires_agree.specs.Cycles.{board_cycles}
-
-same_number : (a b : ℕ) → a ≡ b → (a == b) ≡ true
-same_number a b e = grind (arith, nat_tests, e)
 
 none_said : (now shown lights : ℕ) → lights ≡ shown → lights_said now shown lights ≡ []
 none_said now shown lights e = let s : (lights == shown) ≡ true = same_number lights shown e in rw s refl
@@ -56,13 +56,27 @@ at_wires edges events x latch lines (suc n) from s lit is =
       shown = s.shown;
     }) next
 
--- what a look sees is what both sides drive
-pub clock_is : (edges : List Edge) (events : List HostEvent) (p1 p2 cycle : ℕ) (s : Beside)
-    → ((joint_board edges events).pins p1 p2 cycle s).t0 ≡ ((latch_of p2).clk && (drive s.pc.side.port.link).clk)
-unfolding joint_pins
-clock_is edges events p1 p2 cycle s = refl
+-- any board above the joint board
+module _ (edges : List Edge) (events : List HostEvent) (d : Board) (to : d.State → Beside)
+    (over : IsOver edges events d to) where
+  -- its joint board is known by the cycles at the wires, over a latch that leaves the lights as they are
+  pub over_wires : (x : ℕ) (latch : ℕ → ℕ) (lines : ℕ → Lines) (n : ℕ) (s : d.State)
+      → ((o : ℕ) → lights_of (latch o) ≡ (to s).shown)
+      → ((o : ℕ) → o < n → lines (x + o) ≡ latch_of (latch o))
+      → to (driven d x latch n 0 s) ≡ record { pc = board_cycles events lines n x (to s).pc; shown = (to s).shown }
+  over_wires x latch lines n s lit is =
+      let z : x + 0 ≡ x = omega arith in
+      driven_over edges events d to over x latch n 0 s
+      ∙ at_wires edges events x latch lines n 0 (to s) (λ o a b. lit o) (λ o a b. is o (omega (arith, b)))
+      ∙ ap (λ c. record { pc = board_cycles events lines n c (to s).pc; shown = (to s).shown }) z
 
-pub data_is : (edges : List Edge) (events : List HostEvent) (p1 p2 cycle : ℕ) (s : Beside)
-    → ((joint_board edges events).pins p1 p2 cycle s).t1 ≡ ((latch_of p2).dat && (drive s.pc.side.port.link).dat)
-unfolding joint_pins
-data_is edges events p1 p2 cycle s = refl
+  -- what a look sees is what both sides drive
+  pub clock_is : (p1 p2 cycle : ℕ) (s : d.State)
+      → (d.pins p1 p2 cycle s).t0 ≡ ((latch_of p2).clk && (drive (to s).pc.side.port.link).clk)
+  unfolding joint_pins
+  clock_is p1 p2 cycle s = ap (λ (l : Pins). l.t0) (over.pins p1 p2 cycle s)
+
+  pub data_is : (p1 p2 cycle : ℕ) (s : d.State)
+      → (d.pins p1 p2 cycle s).t1 ≡ ((latch_of p2).dat && (drive (to s).pc.side.port.link).dat)
+  unfolding joint_pins
+  data_is p1 p2 cycle s = ap (λ (l : Pins). l.t1) (over.pins p1 p2 cycle s)

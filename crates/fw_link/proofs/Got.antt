@@ -1,5 +1,5 @@
--- A received frame in the joint run: the byte that the controller sends is the byte that is read, and its parity is
--- right.
+-- A received frame on any board above the joint run's: the byte that the controller sends is the byte that is read, and
+-- its parity is right.
 use Rattle.std.proofs.Common.{◌≡◌, ◌≤◌, ◌<◌, ℕ, ◌+◌, ◌*◌, List, Bool, true, ◌&&◌, refl, ap, ◌∙◌, arith}
 use Rattle.mcs48_core.specs.Cpu.{Cpu}
 use Rattle.board_lines.specs.Bits.{value}
@@ -19,17 +19,19 @@ use Rattle.fw_logic.proofs.Short.{has_rows}
 use Rattle.fw_logic.proofs.Sound.{weaken}
 use Rattle.fw_link.specs.Latch.{frame_bit, received_latch}
 use Rattle.fw_link.proofs.Latches.{driven}
-use Rattle.fw_link.proofs.Board.{at_wires, data_is}
+use Rattle.fw_link.proofs.Board.{over_wires, data_is}
+use Rattle.fw_link.proofs.Over.{IsOver}
 use Rattle.fw_link.proofs.Receive.{is_parity}
 use Rattle.fw_link.proofs.Received.{received_frame, got_cells, byte_read, right_read}
 use Rattle.fw_link.proofs.Taking.{read_bits, bit_read}
 use Rattle.fw_link.proofs.Wired.{IsReleased}
 use Rattle.fw_link.proofs.Wires.{Drives}
 use Rattle.fw_link.proofs.WiresGot.{received_lights, received_is_frame, received_bit}
-use Rattle.joint_run.specs.Joint.{Beside, lights_of, joint_board}
+use Rattle.joint_run.specs.Joint.{Beside, lights_of}
 use Rattle.joint_run.specs.Run.{Board}
 use Rattle.pc_wires.specs.Wires.{Pc}
-use Rattle.wires_agree.proofs.Whole.{cycles_more, frame_shown}
+use Rattle.wires_agree.proofs.Got.{frame_shown}
+use Rattle.wires_agree.proofs.Whole.{cycles_more}
 use Rattle.wires_agree.specs.Cycles.{board_cycles}
 
 -- eight bits that agree with those of a frame
@@ -51,29 +53,26 @@ frame_value = by_byte (λ b. value (read_bits (λ k. frame_bit b (k + 1)))) (λ 
 frame_parity : (byte : ℕ) → byte < 256 → is_parity (frame_bit byte 9) byte ≡ true
 frame_parity = tests_by 256 (λ b. is_parity (frame_bit b 9) b) (λ b. true) refl
 
-module _ (edges : List Edge) (events : List HostEvent) (bytes : List ℕ) (has : HasKernel bytes) (start : ℕ) (m : Cpu)
-    (s : Beside)
+module _ (edges : List Edge) (events : List HostEvent) (d : Board) (to : d.State → Beside)
+    (over : IsOver edges events d to) (bytes : List ℕ) (has : HasKernel bytes) (start : ℕ) (m : Cpu) (s : d.State)
     (f : ℕ → ℕ) (ring : List ℕ) (released : IsReleased m.p2) (small : m.a < 256) (lines : ℕ → Lines) (byte : ℕ)
     (few : byte < 256)
-    (shown : lights_of m.p2 ≡ s.shown) (drives : Drives lines (260 + start) (received_latch m.p2) 366) where
-  abbrev board : Board
-  board = joint_board edges events
-
+    (shown : lights_of m.p2 ≡ (to s).shown) (drives : Drives lines (260 + start) (received_latch m.p2) 366) where
   -- the PC's side after so many cycles of the frame
   abbrev pub pc_in : ℕ → Pc
-  pc_in n = board_cycles events lines n (260 + start) s.pc
+  pc_in n = board_cycles events lines n (260 + start) (to s).pc
 
-  at_offset : (n : ℕ) → n ≤ 366 → driven board (260 + start) (received_latch m.p2) n 0 s
-      ≡ record { pc = pc_in n; shown = s.shown }
+  -- the board then
+  abbrev got_board : ℕ → d.State
+  got_board n = driven d (260 + start) (received_latch m.p2) n 0 s
+
+  pub at_offset : (n : ℕ) → n ≤ 366 → to (got_board n) ≡ record { pc = pc_in n; shown = (to s).shown }
   at_offset n l =
-      let z : 260 + start + 0 ≡ 260 + start = omega arith in
-      at_wires edges events (260 + start) (received_latch m.p2) lines n 0 s
-      (λ o a b. received_lights m.p2 o released.byte ∙ shown)
-      (λ o a b. drives o (omega (arith, b, l)))
-      ∙ ap (λ c. record { pc = board_cycles events lines n c s.pc; shown = s.shown }) z
+      over_wires edges events d to over (260 + start) (received_latch m.p2) lines n s
+      (λ o. received_lights m.p2 o released.byte ∙ shown) (λ o a. drives o (omega (arith, a, l)))
 
   abbrev wire : ℕ → Bool
-  wire k = bit_read board bytes has (260 + start) m s f ring released small k
+  wire k = bit_read d bytes has (260 + start) m s f ring released small k
 
   module _ (requests : (pc_in 28).side.port.link ≡ Request byte) (high : (pc_in 28).clock ≡ true) where
     wire_is : (k : ℕ) → k < 10 → wire k ≡ frame_bit byte (k + 1)
@@ -83,20 +82,20 @@ module _ (edges : List Edge) (events : List HostEvent) (bytes : List ℕ) (has :
         let p : 28 + (260 + start) ≡ 288 + start = omega arith in
         let near : o ≤ 366 = omega (arith, l) in
         let there : pc_in o ≡ board_cycles events lines (32 * k + 18) (288 + start) (pc_in 28) =
-        cycles_more events lines 28 (32 * k + 18) o (260 + start) s.pc e
+        cycles_more events lines 28 (32 * k + 18) o (260 + start) (to s).pc e
         ∙ ap (λ c. board_cycles events lines (32 * k + 18) c (pc_in 28)) p in
-        data_is edges events m.p1 m.p2 (260 + start + o) (driven board (260 + start) (received_latch m.p2) o 0 s)
-        ∙ ap (λ c. c && (drive (driven board (260 + start) (received_latch m.p2) o 0 s).pc.side.port.link).dat)
+        data_is edges events d to over m.p1 m.p2 (260 + start + o) (got_board o)
+        ∙ ap (λ c. c && (drive (to (got_board o)).pc.side.port.link).dat)
         released.data_wire
         ∙ ap (λ (t : Beside). (drive t.pc.side.port.link).dat) (at_offset o near)
         ∙ ap (λ (b : Pc). (drive b.side.port.link).dat) there
         ∙ frame_shown events lines (288 + start) byte received_bit (pc_in 28)
         (received_is_frame lines start m.p2 released drives) requests high k 17 l (omega arith)
 
-    byte_is : byte_read board bytes has (260 + start) m s f ring released small ≡ byte
+    byte_is : byte_read d bytes has (260 + start) m s f ring released small ≡ byte
     byte_is = bits_alike wire (λ k. frame_bit byte (k + 1)) (λ k l. wire_is k (omega (arith, l))) ∙ frame_value byte few
 
-    right_is : right_read board bytes has (260 + start) m s f ring released small ≡ true
+    right_is : right_read d bytes has (260 + start) m s f ring released small ≡ true
     right_is =
         ap (λ b. is_parity (wire 8) b) byte_is ∙ ap (λ b. is_parity b byte) (wire_is 8 (omega arith))
         ∙ frame_parity byte few
@@ -104,23 +103,22 @@ module _ (edges : List Edge) (events : List HostEvent) (bytes : List ℕ) (has :
     -- R4 is the controller's byte, R5 says that its parity was right; the PC's side has gone on by the cycles at its
     -- wires
     pub got_frame : IsFree m
-        → Leads board (kernel_in true bytes) (260 + start) (begin_at board GOT f ring m s)
-        (At board m COMMAND (got_cells f byte true) ring 366 (record { pc = pc_in 366; shown = s.shown }))
+        → Leads d (kernel_in true bytes) (260 + start) (begin_at d GOT f ring m s)
+        (At d m COMMAND (got_cells f byte true) ring 366 (got_board 366))
     got_frame free =
-        weaken board (kernel_in true bytes) (has_rows true bytes has) (260 + start)
-        (At board m COMMAND (got_cells f (byte_read board bytes has (260 + start) m s f ring released small)
-        (right_read board bytes has (260 + start) m s f ring released small)) ring 366
-        (driven board (260 + start) (received_latch m.p2) 366 0 s))
-        (At board m COMMAND (got_cells f byte true) ring 366 (record { pc = pc_in 366; shown = s.shown }))
-        (begin_at board GOT f ring m s)
+        weaken d (kernel_in true bytes) (has_rows true bytes has) (260 + start)
+        (At d m COMMAND (got_cells f (byte_read d bytes has (260 + start) m s f ring released small)
+        (right_read d bytes has (260 + start) m s f ring released small)) ring 366 (got_board 366))
+        (At d m COMMAND (got_cells f byte true) ring 366 (got_board 366))
+        (begin_at d GOT f ring m s)
         (λ e a. record {
           cpu =
               a.cpu
               ∙ ap (λ b. scratched m COMMAND
-              (memory (got_cells f b (right_read board bytes has (260 + start) m s f ring released small)) ring) e.cpu)
+              (memory (got_cells f b (right_read d bytes has (260 + start) m s f ring released small)) ring) e.cpu)
               byte_is
               ∙ ap (λ r. scratched m COMMAND (memory (got_cells f byte r) ring) e.cpu) right_is;
           off = a.off;
-          now = a.now ∙ at_offset 366 (omega arith);
+          now = a.now;
         })
-        (received_frame board bytes has (260 + start) m s f ring released small free)
+        (received_frame d bytes has (260 + start) m s f ring released small free)

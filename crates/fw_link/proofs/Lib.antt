@@ -1,4 +1,5 @@
 pub mod Latches
+pub mod Watching
 pub mod Cell
 pub mod Ends
 pub mod Wired
@@ -9,10 +10,14 @@ pub mod Receive
 pub mod Taking
 pub mod Received
 pub mod Wires
+pub mod Over
 pub mod Board
 pub mod WiresGot
 pub mod Got
 pub mod Sent
+pub mod Lets
 pub mod Outside
+pub mod TickLatch
 pub mod Ticked
 pub mod FrameLaws
+pub mod Reading

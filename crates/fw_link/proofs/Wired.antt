@@ -5,7 +5,7 @@ use Rattle.std.proofs.Common.{if◌then◌else◌, bit_and, bit_or, refl, ap, sy
 use Rattle.std.proofs.lemmas.Bool.Decides.{nat_tests}
 use Rattle.bits.specs.Bits.{bit}
 use Rattle.mcs48_core.specs.Status.{digit}
-use Rattle.fw_logic.proofs.Blocks.{ticks_add}
+use Rattle.fw_logic.proofs.Blocks.{ticks_add, absolute}
 use Rattle.bits.proofs.Every.{every_below, by_byte, tests_by}
 use Rattle.fw_link.specs.Latch.{wired, frame_bit, sent_cell, sent_latch}
 use Rattle.fw_link.proofs.Latches.{driven}
@@ -92,6 +92,28 @@ module _ (d : Board) (x : ℕ) (latch : ℕ → ℕ) where
       (λ i u l.
       let p : y + (b + i) ≡ x + (a + i) = omega (arith, e) in
       ap (λ k. d.tick k (y + (b + i)) u) (sym (h i l)) ∙ ap (λ c. d.tick (latch (a + i)) c u) p)
+      ∙ (let z : 0 + a ≡ a = omega arith in ap (λ c. ticks n c (λ o. d.tick (latch o) (x + o)) (driven d x latch a 0 t))
+      (sym z))
+      ∙ sym (ticks_add a n 0 (λ o. d.tick (latch o) (x + o)) t)
+
+  -- the same where the cycles are counted from the first
+  pub spans_on : (n a y w : ℕ) (s t : d.State) → y ≡ x + a → ((i : ℕ) → i < n → latch (a + i) ≡ w)
+      → s ≡ driven d x latch a 0 t
+      → ticks n y (d.tick w) s ≡ driven d x latch (a + n) 0 t
+  spans_on n a y w s t e h is =
+      sym (absolute n y (d.tick w) s) ∙ spans n a y 0 w s t (omega (arith, e)) h is
+
+  -- and where the latch is another function of another offset
+  pub spans_as : (n a y : ℕ) (other : ℕ → ℕ) (s t : d.State) → y ≡ x + a
+      → ((i : ℕ) → i < n → other i ≡ latch (a + i)) → s ≡ driven d x latch a 0 t
+      → driven d y other n 0 s ≡ driven d x latch (a + n) 0 t
+  spans_as n a y other s t e h is =
+      ap (λ k. driven d y other n 0 k) is
+      ∙ ticks_alike n 0 a (λ o. d.tick (other o) (y + o)) (λ o. d.tick (latch o) (x + o)) (driven d x latch a 0 t)
+      (λ i u l.
+      let z : 0 + i ≡ i = omega arith in
+      let p : y + (0 + i) ≡ x + (a + i) = omega (arith, e) in
+      ap (λ k. d.tick k (y + (0 + i)) u) (ap other z ∙ h i l) ∙ ap (λ c. d.tick (latch (a + i)) c u) p)
       ∙ (let z : 0 + a ≡ a = omega arith in ap (λ c. ticks n c (λ o. d.tick (latch o) (x + o)) (driven d x latch a 0 t))
       (sym z))
       ∙ sym (ticks_add a n 0 (λ o. d.tick (latch o) (x + o)) t)

@@ -1,20 +1,21 @@
 -- Frames told of the joint run: place, time, what is kept, and the PC's side by the cycles at its wires.
-use Rattle.std.specs.Prelude.{◌≡◌, ◌≤◌, ◌<◌, ℕ, ◌+◌, ◌-◌, Bool, true, false, ◌||◌, ◌==◌, List, slice_index, Some}
+use Rattle.std.specs.Prelude.{◌≡◌, ◌≤◌, ◌<◌, ℕ, ◌+◌, ◌-◌, ◌*◌, Bool, true, false, ◌||◌, ◌==◌, List, slice_index, Some}
 use Rattle.board_lines.specs.declared.event.Edge.{Edge}
 use Rattle.board_lines.specs.declared.event.HostEvent.{HostEvent}
 use Rattle.board_lines.specs.declared.lines.Lines.{Lines}
 use Rattle.ctl_link.specs.Pulls.{pulled}
-use Rattle.ctl_link.specs.declared.link.Link.TheVariants.{Free, Request}
+use Rattle.ctl_link.specs.declared.link.Link.TheVariants.{Request}
+use Rattle.ctl_wire.specs.Wire.{drive}
 use Rattle.fw_kernel.specs.Places.{HasKernel}
 use Rattle.fw_kernel.specs.declared.labels.TheConstants.{TICK, SEND, SENT, SCAN, GOT, COMMAND}
 use Rattle.fw_logic.specs.Blocks.{IsAt}
 use Rattle.joint_run.specs.Joint.{Beside, latch_of, lights_of, joint_board}
 use Rattle.joint_run.specs.Run.{World}
-use Rattle.joint_run.specs.Starts.{Comes}
+use Rattle.fw_link.specs.Drives.{Drives}
 use Rattle.bits.specs.Bits.{bit}
 use Rattle.pc_wires.specs.Wires.{Pc}
 use Rattle.wires_agree.specs.Cycles.{board_cycles}
-use Rattle.fw_link.specs.Latch.{sent_latch, cut_latch, received_latch}
+use Rattle.fw_link.specs.Latch.{sent_latch, cut_latch, cut_after, received_latch}
 
 -- R0 to R3 and R6 are written where a byte is sent
 abbrev pub is_sending : ℕ → Bool
@@ -55,25 +56,38 @@ pub record Offers (start byte : ℕ) (w : World Beside) : Type 0 where
 abbrev pub at_edge : List HostEvent → (ℕ → Lines) → World Beside → Pc
 at_edge events lines w = board_cycles events lines 28 w.cycle w.board.pc
 
--- into a free link the frame is sent whole, in 368 cycles
+-- whether the controller leaves the clock alone at the look at it in cell k, 18 cycles into the cell
+abbrev pub is_let : List HostEvent → (ℕ → Lines) → World Beside → ℕ → Bool
+is_let events lines w k = (drive (board_cycles events lines (28 + 32 * k + 18) w.cycle w.board.pc).side.port.link).clk
+
+-- where the controller leaves the clock alone at each of the ten looks, the frame is sent whole, in 368 cycles
 abbrev pub SendsFrames : List ℕ → Type 0
 SendsFrames bytes =
     (edges : List Edge) (events : List HostEvent)
     → (start byte : ℕ) (w : World Beside)
     → Offers start byte w → (lines : ℕ → Lines)
     → ((o : ℕ) → o < 368 → lines (260 + start + o) ≡ latch_of (sent_latch w.cpu.p2 byte o))
-    → (at_edge events lines w).side.port.link ≡ Free → (at_edge events lines w).clock ≡ true
-    → Comes (joint_board edges events) TICK bytes w (Passed events lines is_sending SENT 368 w)
+    → ((k : ℕ) → k < 10 → is_let events lines w k ≡ true)
+    → Drives (joint_board edges events) TICK bytes w (λ c. sent_latch w.cpu.p2 byte (c - w.cycle))
+    (Passed events lines is_sending SENT 368 w)
 
--- where the controller pulls the clock at the first edge, but not before offset 256, it is cut within 52 cycles
+-- where it pulls the clock at the look of a cell, and at none before it, the frame is cut in that cell
 abbrev pub IsCut : List ℕ → Type 0
 IsCut bytes =
     (edges : List Edge) (events : List HostEvent)
-    → (start byte : ℕ) (w : World Beside)
-    → Offers start byte w → (lines : ℕ → Lines)
-    → ((o : ℕ) → o < 52 → lines (260 + start + o) ≡ latch_of (cut_latch w.cpu.p2 byte 0 o))
+    → (start byte cell : ℕ) (w : World Beside)
+    → Offers start byte w → cell < 10 → (lines : ℕ → Lines)
+    → ((o : ℕ) → o < cut_after cell → lines (260 + start + o) ≡ latch_of (cut_latch w.cpu.p2 byte cell o))
+    → ((k : ℕ) → k < cell → is_let events lines w k ≡ true) → is_let events lines w cell ≡ false
+    → Drives (joint_board edges events) TICK bytes w (λ c. cut_latch w.cpu.p2 byte cell (c - w.cycle))
+    (Passed events lines is_sending SCAN (cut_after cell) w)
+
+-- a link that is pulled at the first edge, but wasn't before offset 256, is so at the first look
+abbrev pub PulledLaw : Type 0
+PulledLaw =
+    (events : List HostEvent) (start : ℕ) (w : World Beside) → w.cycle ≡ 260 + start → (lines : ℕ → Lines)
     → (since : ℕ) → 256 + start ≤ since → pulled (at_edge events lines w).side.port.link ≡ Some since
-    → Comes (joint_board edges events) TICK bytes w (Passed events lines is_sending SCAN 52 w)
+    → is_let events lines w 0 ≡ false
 
 -- a byte was received: R4 is the byte, R5 says that its parity was right
 pub record Received (events : List HostEvent) (lines : ℕ → Lines) (byte : ℕ) (w e : World Beside) : Type 0 where
@@ -99,7 +113,8 @@ ReceivesFrames bytes =
     → Awaits start w → byte < 256 → (lines : ℕ → Lines)
     → ((o : ℕ) → o < 366 → lines (260 + start + o) ≡ latch_of (received_latch w.cpu.p2 o))
     → (at_edge events lines w).side.port.link ≡ Request byte → (at_edge events lines w).clock ≡ true
-    → Comes (joint_board edges events) TICK bytes w (Received events lines byte w)
+    → Drives (joint_board edges events) TICK bytes w (λ c. received_latch w.cpu.p2 (c - w.cycle))
+    (Received events lines byte w)
 
 -- so it is in every image that has the kernel's bytes outside the layout's tables
 abbrev pub SentLaw : Type 0

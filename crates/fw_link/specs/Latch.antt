@@ -28,6 +28,10 @@ sent_latch v byte o =
 abbrev pub cut_latch : ℕ → ℕ → ℕ → ℕ → ℕ
 cut_latch v byte j o = if nat_lt o (28 + 32 * j + 20) then sent_latch v byte o else v
 
+-- it takes 24 cycles of that cell
+abbrev pub cut_after : ℕ → ℕ
+cut_after j = 28 + 32 * j + 24
+
 -- a received frame, by the offset from the look at data: ten cells with the clock low for 16 cycles, and an eleventh in
 -- which data is low too
 abbrev pub received_cell : ℕ → ℕ → ℕ → ℕ
@@ -35,3 +39,33 @@ received_cell v k o = wired v (nat_le 16 o) (if nat_lt k 10 then true else nat_l
 
 abbrev pub received_latch : ℕ → ℕ → ℕ
 received_latch v o = if nat_lt o 28 then v else received_cell v ((o - 28) / 32) ((o - 28) % 32)
+
+-- the frame of a tick: none, one that is sent, one that is cut in a cell, or one that is received
+pub data Frame : Type 0 where
+  NoFrame : Frame
+  SentFrame : ℕ → Frame
+  CutFrame : ℕ → ℕ → Frame
+  ReceivedFrame : Frame
+
+-- its latch, by the offset from the look at data
+abbrev pub frame_latch : Frame → ℕ → ℕ → ℕ
+frame_latch NoFrame v o = v
+frame_latch (SentFrame byte) v o = sent_latch v byte o
+frame_latch (CutFrame byte cell) v o = cut_latch v byte cell o
+frame_latch ReceivedFrame v o = received_latch v o
+
+-- the cycles from the look at data to its end
+abbrev pub frame_cycles : Frame → ℕ
+frame_cycles NoFrame = 0
+frame_cycles (SentFrame byte) = 368
+frame_cycles (CutFrame byte cell) = cut_after cell
+frame_cycles ReceivedFrame = 366
+
+-- the latch in each cycle of a tick, by the offset from its start: as it was up to the lights at offset 232, and from
+-- then on with this value, which a frame drives from the look at data on
+abbrev pub tick_latch : ℕ → ℕ → Frame → ℕ → ℕ
+tick_latch old v frame o =
+    if nat_lt o 232 then old
+    else if nat_lt o 260 then v
+    else if nat_lt o (260 + frame_cycles frame) then frame_latch frame v (o - 260)
+    else v

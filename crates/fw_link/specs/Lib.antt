@@ -1,2 +1,4 @@
+pub mod Drives
 pub mod Latch
 pub mod Frames
+pub mod Reading

@@ -1,30 +1,37 @@
 //! Laws of frames in the joint run, for any working processor.
 
-ghost use Rattle.fw_link.specs.Frames.{CutLaw, GotLaw, IsCut, ReceivesFrames, SendsFrames, SentLaw};
+ghost use Rattle.fw_link.specs.Frames.{CutLaw, GotLaw, IsCut, PulledLaw, ReceivesFrames, SendsFrames, SentLaw};
+ghost use Rattle.fw_link.specs.Reading.{ReadsLaw};
 
 use fw_kernel::KERNEL;
 use mcs48_isa::Image;
 
-/// A sent frame: where the link is free at the first edge, the run comes from `SEND` to `SENT` in 368 cycles, and the
-/// PC's side has gone on by the cycles at its wires, over lines that are the byte's frame. Both latches, F1 and memory
-/// but for R0 to R3 and R6 stay. Nothing is done when it is called; the law is its contract.
+/// A sent frame: where the controller leaves the clock alone at the looks of all ten cells, the run comes from `SEND`
+/// to `SENT` in 368 cycles. In each of them the latch of port 2 is that of the byte's frame, and the PC's side has gone
+/// on by the cycles at its wires. Both latches, F1 and memory but for R0 to R3 and R6 stay. Nothing is done when it is
+/// called; the law is its contract.
 pub fn frame_sent()
     ensures sent { SentLaw }
 {}
 
-/// A cut frame: where the controller pulls the clock at the first edge, and didn't before the look at it, the run comes
-/// from `SEND` to `SCAN` in 52 cycles, both wires are released, and the same stays. Nothing is done when it is called;
-/// the law is its contract.
+/// A cut frame: where the controller pulls the clock at the look of a cell, and at none before, as it does at the first
+/// where it began to pull between the looks of the tick and the first edge, the run comes from `SEND` to `SCAN` within
+/// 24 cycles of that cell. In each cycle the latch of port 2 is that of the byte's frame up to two cycles behind the
+/// look, and then both wires are released; the same stays. Nothing is done when it is called; the law is its contract.
 pub fn frame_cut()
     ensures cut { CutLaw }
+    ensures pulled { PulledLaw }
 {}
 
 /// A received frame: where the controller requests at the first edge, the run comes from `GOT` to `COMMAND` in 366
-/// cycles; R4 is the controller's byte, R5 is 255, which says that its parity was right; both wires are released. Both
-/// latches, F1 and memory but for R0, R1, R3, R4 and R5 stay. Nothing is done when it is called; the law is its
-/// contract.
+/// cycles; R4 is the controller's byte, R5 is 255, which says that its parity was right. In each cycle the latch of
+/// port 2 is that of a received frame: the clock falls eleven times, and data is pulled with the eleventh fall alone.
+/// Both latches, F1 and memory but for R0, R1, R3, R4 and R5 stay. Whatever stands beside the processor, R4 is the byte
+/// of the first eight looks at data, and R5 is 255 where the ninth is its parity, and else 0. Nothing is done when it
+/// is called; the laws are its contract.
 pub fn frame_received()
     ensures received { GotLaw }
+    ensures reads { ReadsLaw }
 {}
 
 /// The kernel with empty tables, as an image: it sends, is cut and receives by these laws.

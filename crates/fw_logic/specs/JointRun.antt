@@ -25,15 +25,19 @@ ExecutesTick m answer =
     → stepped bytes (seen (joint_board edges events) w) w.cpu
     ≡ executed (row_at KERNEL TICK) bytes (seen (joint_board edges events) w) w.cpu
 
--- the joint run is never stuck; no tick starts before cycle 4,096; each number has its start, which keeps the cadence,
--- and an interrupt is in service there, with register bank 1; and the run ends at one of them, whatever its end stamp
--- is
-pub record KeepsTime (bytes : List ℕ) (edges : List Edge) (events : List HostEvent) : Type 0 where
-  pub goes_on : (k : ℕ) → (w : World Beside) × (run_at (joint_board edges events) bytes joint_start k ≡ Some w)
-  pub none_early : (k : ℕ) (w : World Beside) → run_at (joint_board edges events) bytes joint_start k ≡ Some w
+-- a joint run is never stuck; no tick starts before cycle 4,096; each number has its start, which keeps the cadence, and
+-- an interrupt is in service there, with register bank 1; and the run ends at one of them, whatever its end stamp is
+pub record KeepsTimeFrom (from : World Beside) (bytes : List ℕ) (edges : List Edge) (events : List HostEvent)
+    : Type 0 where
+  pub goes_on : (k : ℕ) → (w : World Beside) × (run_at (joint_board edges events) bytes from k ≡ Some w)
+  pub none_early : (k : ℕ) (w : World Beside) → run_at (joint_board edges events) bytes from k ≡ Some w
       → at_tick (joint_board edges events) TICK w ≡ true → 4096 ≤ w.cycle
-  pub starts : (n : ℕ) → (stamp : ℕ) × IsStart (joint_board edges events) TICK bytes joint_start n stamp
-  pub near : (n stamp : ℕ) → IsStart (joint_board edges events) TICK bytes joint_start n stamp → IsNear n stamp
-  pub serves : (n stamp : ℕ) (s : IsStart (joint_board edges events) TICK bytes joint_start n stamp)
+  pub starts : (n : ℕ) → (stamp : ℕ) × IsStart (joint_board edges events) TICK bytes from n stamp
+  pub near : (n stamp : ℕ) → IsStart (joint_board edges events) TICK bytes from n stamp → IsNear n stamp
+  pub serves : (n stamp : ℕ) (s : IsStart (joint_board edges events) TICK bytes from n stamp)
       → (s.state.cpu.svc ≡ true) × (s.state.cpu.rb ≡ true)
-  pub ends : (stop : ℕ) → (n : ℕ) × IsEnd (joint_board edges events) TICK bytes joint_start stop n
+  pub ends : (stop : ℕ) → (n : ℕ) × IsEnd (joint_board edges events) TICK bytes from stop n
+
+-- so does the run that begins with cleared memory
+abbrev pub KeepsTime : List ℕ → List Edge → List HostEvent → Type 0
+KeepsTime bytes edges events = KeepsTimeFrom joint_start bytes edges events

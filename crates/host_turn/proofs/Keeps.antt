@@ -4,9 +4,12 @@ use Rattle.std.specs.Prelude.{if◌then◌else◌}
 use Rattle.std.specs.declared.option.Option.{Option}
 use Rattle.ctl_link.specs.declared.link.Link.{Link}
 use Rattle.ctl_link.specs.Empty.{fits, IsEmptyUnlessHeld}
+use Rattle.ctl_link.specs.declared.port.Port.{Port}
+use Rattle.ctl_link.specs.Link.{broken_off}
 use Rattle.ctl_link.specs.Pulls.{KeepsPull, BeginsPull}
+use Rattle.ctl_link.proofs.Breaks.{kept_behind, begun_behind}
 use Rattle.board_lines.specs.declared.event.HostAct.{HostAct}
-use Rattle.board_lines.specs.declared.event.HostAct.TheVariants.{Write60, Write64, Read60, Mask, Unmask, Take, Status}
+use Rattle.board_lines.specs.declared.event.HostAct.TheVariants.{Write60, Write64, Read60, Mask, Unmask, Take, Status, Flip}
 use Rattle.board_lines.specs.declared.event.HostEvent.{HostEvent}
 use Rattle.host_turn.specs.declared.desk.Desk.{Desk}
 use Rattle.host_turn.specs.Host.{Host, acted, acted_where, event_turn, bios_turn, interrupts, read_by_bios, in_silence, is_done}
@@ -21,6 +24,7 @@ module _ (F : Type 0) (l : Link F) where
   acted_fits Unmask h f = f
   acted_fits Take h f = f
   acted_fits Status h f = f
+  acted_fits (Flip bit) h f = f
 
   where_fits : (done : Bool) (act : HostAct) (h : Host) → fits h.core.output_full l ≡ true → fits (acted_where done act h).host.core.output_full l ≡ true
   where_fits true act h f = acted_fits act h f
@@ -48,8 +52,13 @@ module _ (F : Type 0) (now : ℕ) (next : Option HostEvent) (d d1 d2 : Desk F) (
       let after : IsEmptyUnlessHeld d1.port = subst (λ (x : Desk F). IsEmptyUnlessHeld x.port) (sym e1) (event_fits F d.port.link now next (host_of d) f) in
       subst (λ (x : Desk F). IsEmptyUnlessHeld x.port) (sym e2) (bios_fits F d1.port.link now d1.port.filled (host_of d1) after)
 
-  pub kept_before : (l : Link F) → KeepsPull now d2.port.link l → KeepsPull now d.port.link l
-  kept_before l k = subst (λ (x : Link F). KeepsPull now x l) same_link k
+  module _ (breaks : F → Bool) (q : Port F) (e3 : q ≡ broken_off breaks now d2.port) where
+    pub kept_before : (l : Link F) → KeepsPull now q.link l → KeepsPull now d.port.link l
+    kept_before l k =
+        subst (λ (x : Link F). KeepsPull now x l) same_link
+        (kept_behind breaks now d2.port l (subst (λ (r : Port F). KeepsPull now r.link l) e3 k))
 
-  pub begun_before : (l : Link F) → BeginsPull now d2.port.link l → BeginsPull now d.port.link l
-  begun_before l k = subst (λ (x : Link F). BeginsPull now x l) same_link k
+    pub begun_before : (l : Link F) → BeginsPull now q.link l → BeginsPull now d.port.link l
+    begun_before l k =
+        subst (λ (x : Link F). BeginsPull now x l) same_link
+        (begun_behind breaks now d2.port l (subst (λ (r : Port F). BeginsPull now r.link l) e3 k))

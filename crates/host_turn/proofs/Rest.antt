@@ -11,7 +11,8 @@ use Rattle.ctl_core.specs.declared.controller.Did.TheVariants.{Nothing}
 use Rattle.ctl_link.specs.declared.link.Link.{Link}
 use Rattle.ctl_link.specs.declared.link.Link.TheVariants.{Free, Hold, Ask, Request, Busy}
 use Rattle.ctl_link.specs.declared.port.Port.{Port}
-use Rattle.ctl_link.specs.Link.{Settled, settled, took_where, held_since, link_after, moves_link}
+use Rattle.ctl_link.specs.Link.{Settled, broken_off, settled, is_busy, took_where, held_since, link_after, moves_link}
+use Rattle.ctl_link.proofs.Breaks.{unbroken}
 use Rattle.board_lines.specs.declared.event.HostEvent.{HostEvent}
 use Rattle.host_turn.specs.declared.desk.Desk.{Desk}
 use Rattle.host_turn.specs.Host.{Host, Turn, event_turn, bios_turn, turn, acted_where, in_silence, read_by_bios, is_done, waits}
@@ -48,9 +49,17 @@ not_done : (now : ℕ) (next : Option HostEvent) (s : ControllerState) → is_du
 not_done now None s e = refl
 not_done now (Some event) s e = ap (λ c. c && not (waits event.act s)) e
 
-pub rests : {F : Type 0} (now : ℕ) (next : Option HostEvent) (d : Desk F) → (is_at_rest d && not (is_due now next)) ≡ true
-    → cycled now next d ≡ record { desk = d; items = []; done = false }
-rests {F = F} now next d rest =
+-- a free link has no byte under way
+free_idle : {F : Type 0} (l : Link F) → is_free l ≡ true → is_busy l ≡ false
+free_idle Free h = refl
+free_idle (Hold since) h = absurd cc
+free_idle (Ask byte since) h = absurd cc
+free_idle (Request byte) h = absurd cc
+free_idle (Busy x) h = absurd cc
+
+pub rests : {F : Type 0} (breaks : F → Bool) (now : ℕ) (next : Option HostEvent) (d : Desk F) → (is_at_rest d && not (is_due now next)) ≡ true
+    → cycled breaks now next d ≡ record { desk = d; items = []; done = false }
+rests {F = F} breaks now next d rest =
     let p : Port F = d.port in
     let no_in : Bool = not (is_some p.core.input) in
     let no_out : Bool = not p.core.output_full in
@@ -77,6 +86,8 @@ rests {F = F} now next d rest =
     let moved : moves_link now p ≡ p = ap (λ c. record p { link = link_after now c p.awaits p.link }) stop ∙ ap (λ l. record p { link = l }) (stays now p.link p.awaits free) in
     let all : settled now p ≡ record { port = p; did = Nothing } =
     ap (λ (t : Settled F). record { port = moves_link now t.port; did = t.did }) takes ∙ ap (λ q. record { port = q; did = Nothing }) moved in
-    ap (λ (t : Turn). ends_cycle t (is_done now next p.core) (settled now (Rattle.host_turn.specs.Cycle.port_by t p))) turned
-    ∙ ap (λ c. ends_cycle (in_silence h) c (settled now p)) due
-    ∙ ap (λ q. ends_cycle (in_silence h) false q) all
+    let one : settled now (broken_off breaks now p) ≡ record { port = p; did = Nothing } =
+    ap (λ q. settled now q) (unbroken breaks now p (free_idle p.link free)) ∙ all in
+    ap (λ (t : Turn). ends_cycle t (is_done now next p.core) (settled now (broken_off breaks now (Rattle.host_turn.specs.Cycle.port_by t p)))) turned
+    ∙ ap (λ c. ends_cycle (in_silence h) c (settled now (broken_off breaks now p))) due
+    ∙ ap (λ q. ends_cycle (in_silence h) false q) one

@@ -1,11 +1,11 @@
--- A cycle of the PC's side: what came to the controller over its link stands before it, then the host acts and the
--- controller settles.
+-- A cycle of the PC's side: what came to the controller over its link stands before it, then the host acts, then a byte
+-- under way is broken off for a waiting input, and the controller settles.
 use Rattle.std.specs.Prelude.{ℕ, Bool, false, List, [], ◌∷◌, ◌++◌}
 use Rattle.std.specs.declared.option.Option.{Option}
 use Rattle.ctl_core.specs.declared.controller.Did.{Did}
 use Rattle.ctl_core.specs.declared.controller.Did.TheVariants.{Nothing, ToKeyboard, Output, Pulse}
 use Rattle.ctl_link.specs.declared.port.Port.{Port}
-use Rattle.ctl_link.specs.Link.{Settled, settled, port_at_start}
+use Rattle.ctl_link.specs.Link.{Settled, broken_off, settled, port_at_start}
 use Rattle.pc_tables.specs.declared.item.Item.{Item}
 use Rattle.pc_tables.specs.declared.item.Item.TheVariants.{Output as OutputItem, Pulse as PulseItem}
 use Rattle.int09.specs.Bios.{State}
@@ -26,11 +26,15 @@ said_of (Pulse lines) = PulseItem lines ∷ []
 
 -- the host's view of the desk
 abbrev pub host_of : {F : Type 0} → Desk F → Host
-host_of d = record { core = d.port.core; masked = d.masked; bios = d.bios }
+host_of d = record { core = d.port.core; masked = d.masked; bios = d.bios; flip = d.port.flip }
 
 -- the desk after a turn of the host
 abbrev pub with_host : {F : Type 0} → Host → Desk F → Desk F
-with_host h d = record { port = record d.port { core = h.core }; masked = h.masked; bios = h.bios }
+with_host h d = record {
+  port = record d.port { core = h.core; flip = h.flip };
+  masked = h.masked;
+  bios = h.bios;
+}
 
 -- what a cycle comes to: the state after it, what was said, in order, and whether the host's next event was done
 pub record Cycled (F : Type 0) : Type 0 where
@@ -40,7 +44,7 @@ pub record Cycled (F : Type 0) : Type 0 where
 
 -- the controller after the host's turn
 abbrev pub port_by : {F : Type 0} → Turn → Port F → Port F
-port_by t p = record p { core = t.host.core }
+port_by t p = record p { core = t.host.core; flip = t.host.flip }
 
 -- after the host's turn and the settling
 abbrev pub ends_cycle : {F : Type 0} → Turn → Bool → Settled F → Cycled F
@@ -50,8 +54,9 @@ ends_cycle t done q = record {
   done = done;
 }
 
--- a cycle, once it is known what came over the link: the host, and then the controller settles
-abbrev pub cycled : {F : Type 0} → ℕ → Option HostEvent → Desk F → Cycled F
-cycled now next d =
+-- a cycle, once it is known what came over the link: the host, the break of a byte under way, where it may be broken
+-- off by what is known of it, and then the controller settles
+abbrev pub cycled : {F : Type 0} → (F → Bool) → ℕ → Option HostEvent → Desk F → Cycled F
+cycled breaks now next d =
     let t : Turn = turn now d.port.filled next (host_of d) in
-    ends_cycle t (is_done now next d.port.core) (settled now (port_by t d.port))
+    ends_cycle t (is_done now next d.port.core) (settled now (broken_off breaks now (port_by t d.port)))

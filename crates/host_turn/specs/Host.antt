@@ -9,15 +9,17 @@ use Rattle.pc_tables.specs.declared.item.Item.TheVariants.{Port, Read, Taken, St
 use Rattle.int09.specs.Bios.{State, Outcome, first_word, without_first}
 use Rattle.int09.specs.Rules.{fed}
 use Rattle.board_lines.specs.declared.event.HostAct.{HostAct}
-use Rattle.board_lines.specs.declared.event.HostAct.TheVariants.{Write60, Write64, Read60, Mask, Unmask, Take}
+use Rattle.board_lines.specs.declared.event.HostAct.TheVariants.{Write60, Write64, Read60, Mask, Unmask, Take, Flip}
 use Rattle.board_lines.specs.declared.event.HostAct.TheVariants.{Status as AskStatus}
 use Rattle.board_lines.specs.declared.event.HostEvent.{HostEvent}
 
--- what the host sees and changes: the controller's buffers, whether it has masked the interrupt, and INT 09h
+-- what the host sees and changes: the controller's buffers, whether it has masked the interrupt, and INT 09h; and the
+-- bit that noise turns round in the next frame of the keyboard, or none
 pub record Host : Type 0 where
   pub core : ControllerState
   pub masked : Bool
   pub bios : State
+  pub flip : Option ℕ
 
 -- what a turn comes to: the state after it, what was said, in order
 pub record Turn : Type 0 where
@@ -37,6 +39,7 @@ acted Mask h = in_silence (record h { masked = true })
 acted Unmask h = in_silence (record h { masked = false })
 acted Take h = record { host = record h { bios = without_first h.bios }; items = Taken (first_word h.bios) ∷ [] }
 acted AskStatus h = record { host = h; items = Status (status_of h.core) ∷ [] }
+acted (Flip bit) h = in_silence (record h { flip = Some bit })
 
 -- a write waits while the input buffer is full
 abbrev pub waits : HostAct → ControllerState → Bool
@@ -47,6 +50,7 @@ waits Mask s = false
 waits Unmask s = false
 waits Take s = false
 waits AskStatus s = false
+waits (Flip bit) s = false
 
 -- whether the next event is done in this cycle. Cycle 4,096 is stamp 0
 abbrev pub is_done : ℕ → Option HostEvent → ControllerState → Bool

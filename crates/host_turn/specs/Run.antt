@@ -40,9 +40,10 @@ with_cycled now c s = record {
   log = s.log ++ stamped now c.items;
 }
 
--- a cycle of a run, with the events of a history in their order
-unfoldable pub goes_on : {F : Type 0} → List HostEvent → ℕ → Side F → Side F
-goes_on events now s = with_cycled now (cycled now (slice_get events s.done) (desk_of s)) s
+-- a cycle of a run, with the events of a history in their order; a byte under way may be broken off by what is known of
+-- it
+unfoldable pub goes_on : {F : Type 0} → (F → Bool) → List HostEvent → ℕ → Side F → Side F
+goes_on breaks events now s = with_cycled now (cycled breaks now (slice_get events s.done) (desk_of s)) s
 
 -- lights that differ from those shown are said
 abbrev pub lights_said : ℕ → ℕ → ℕ → List Stamped

@@ -10,7 +10,7 @@ use crate::events::is_due;
 use arrayvec::ArrayVec;
 use board_lines::HostEvent;
 use ctl_core::Did;
-use ctl_link::{Link, Port};
+use ctl_link::{Link, Passing, Port};
 use int09::Bios;
 use pc_tables::Item;
 
@@ -37,10 +37,13 @@ impl<F: Drop> Desk<F> {
             bios,
         }
     }
+}
 
+impl<F: Passing + Drop> Desk<F> {
     /// Cycle `now`, once what came over the link in it has been done: the host's next event, if any, where it is due;
-    /// then the read of INT 09h, where the interrupt comes through; then the controller settles. Answers whether the
-    /// event was done. What was said, at most five items, is put behind `items`, in order.
+    /// then the read of INT 09h, where the interrupt comes through; then a waiting input breaks off a byte under way,
+    /// where it may; then the controller settles. Answers whether the event was done. What was said, at most five
+    /// items, is put behind `items`, in order.
     pub fn go_on(
         &mut self,
         now: u64,
@@ -48,9 +51,9 @@ impl<F: Drop> Desk<F> {
         items: &mut ArrayVec<Item, 16>,
     ) -> bool
         requires room { length items.old.items ≤ 11 }
-        ensures desk { self.new ≡ (cycled now next self.old).desk }
-        ensures items { items.new.items ≡ items.old.items ++ (cycled now next self.old).items }
-        ensures done { result ≡ (cycled now next self.old).done }
+        ensures desk { self.new ≡ (cycled F.breaks now next self.old).desk }
+        ensures items { items.new.items ≡ items.old.items ++ (cycled F.breaks now next self.old).items }
+        ensures done { result ≡ (cycled F.breaks now next self.old).done }
         ensures few { length items.new.items ≤ length items.old.items + 5 }
         ensures empty { IsEmptyUnlessHeld self.old.port → IsEmptyUnlessHeld self.new.port }
         ensures pull_kept { KeepsPull now self.old.port.link self.new.port.link }
@@ -61,6 +64,7 @@ impl<F: Drop> Desk<F> {
         }
         let done = self.do_event(now, next, items);
         self.interrupt(now, items);
+        self.port.break_off(now);
         let did = self.port.settle(now);
         say_did(did, items);
         done
@@ -71,7 +75,7 @@ impl<F: Drop> Desk<F> {
     #[inline(always)]
     pub fn rests(&self, now: u64, next: Option<HostEvent>) -> bool
         ensures rests { result ≡ (is_at_rest self.now && not (is_due now next)) }
-        ensures quiet { IsTrue result → cycled now next self.now ≡ record { desk = self.now; items = []; done = false } }
+        ensures quiet { IsTrue result → cycled F.breaks now next self.now ≡ record { desk = self.now; items = []; done = false } }
     {
         matches!(self.port.link, Link::Free) && self.port.core.is_idle() && !is_due(now, next)
     }

@@ -70,6 +70,7 @@ impl<F: Drop> Desk<F> {
                 let status = self.port.core.status();
                 items.push(Item::Status(status));
             }
+            HostAct::Flip(bit) => self.port.flip = Some(bit),
         }
         true
     }

@@ -1,16 +1,28 @@
-//! Worked examples of the host's turn, cycle by cycle. No byte comes over the link here, and what would be known of one
-//! is a number.
+//! Worked examples of the host's turn, cycle by cycle. Of a byte under way no more is known here than whether it may be
+//! broken off.
 
-ghost use Rattle.std.specs.Prelude.{◌≤◌, length};
+ghost use Rattle.std.specs.Prelude.{◌≡◌, ◌≤◌, length};
 
 use crate::Desk;
 use arrayvec::ArrayVec;
 use board_lines::{HostAct, HostEvent};
-use ctl_link::Link;
+use ctl_link::{Link, Passing};
 use int09::Bios;
 use pc_tables::Item;
 use std::process::Abort;
 use std::test::Fail;
+
+/// A byte under way that may be broken off, or not.
+#[derive(Clone, Copy, Debug, PartialEq, Eq, Drop)]
+struct Open(bool);
+
+impl Passing for Open {
+    ghost breaks = { λ byte. byte.0 };
+
+    fn may_break(&self) -> bool {
+        self.0
+    }
+}
 
 /// Stamps count from cycle 4,096 on.
 fn event(stamp: u64, act: HostAct) -> Option<HostEvent> {
@@ -20,7 +32,7 @@ fn event(stamp: u64, act: HostAct) -> Option<HostEvent> {
 /// A cycle with this event next: whether it is done, and what is said.
 fn check(
     rt: &impl Abort,
-    desk: &mut Desk<u8>,
+    desk: &mut Desk<Open>,
     now: u64,
     next: Option<HostEvent>,
     done: bool,
@@ -34,7 +46,7 @@ fn check(
 
 #[test]
 fn an_event_is_done_in_the_cycle_of_its_stamp(rt: HostRuntime) -> Result<(), Fail> {
-    let mut desk: Desk<u8> = Desk::new(Bios::new(rt.alloc())?);
+    let mut desk: Desk<Open> = Desk::new(Bios::new(rt.alloc())?);
     let status = event(10, HostAct::Status);
     check(&rt, &mut desk, 4105, status, false, &[]);
     check(&rt, &mut desk, 4106, status, true, &[Item::Status(0x14)]);
@@ -59,7 +71,7 @@ fn an_event_is_done_in_the_cycle_of_its_stamp(rt: HostRuntime) -> Result<(), Fai
 
 #[test]
 fn a_write_waits_while_the_input_buffer_is_full(rt: HostRuntime) -> Result<(), Fail> {
-    let mut desk: Desk<u8> = Desk::new(Bios::new(rt.alloc())?);
+    let mut desk: Desk<Open> = Desk::new(Bios::new(rt.alloc())?);
     check(&rt, &mut desk, 5000, event(0, HostAct::Mask), true, &[]);
     // the self test's answer fills the output buffer, so what is written next stays in the input buffer
     check(
@@ -99,7 +111,7 @@ fn a_write_waits_while_the_input_buffer_is_full(rt: HostRuntime) -> Result<(), F
 
 #[test]
 fn a_byte_is_read_64_cycles_after_the_filling(rt: HostRuntime) -> Result<(), Fail> {
-    let mut desk: Desk<u8> = Desk::new(Bios::new(rt.alloc())?);
+    let mut desk: Desk<Open> = Desk::new(Bios::new(rt.alloc())?);
     check(
         &rt,
         &mut desk,
@@ -117,7 +129,7 @@ fn a_byte_is_read_64_cycles_after_the_filling(rt: HostRuntime) -> Result<(), Fai
 
 #[test]
 fn a_masked_byte_is_read_in_the_cycle_that_unmasks(rt: HostRuntime) -> Result<(), Fail> {
-    let mut desk: Desk<u8> = Desk::new(Bios::new(rt.alloc())?);
+    let mut desk: Desk<Open> = Desk::new(Bios::new(rt.alloc())?);
     check(&rt, &mut desk, 5000, event(0, HostAct::Mask), true, &[]);
     check(
         &rt,
@@ -141,7 +153,7 @@ fn a_masked_byte_is_read_in_the_cycle_that_unmasks(rt: HostRuntime) -> Result<()
 
 #[test]
 fn the_items_of_a_cycle_stand_in_their_order(rt: HostRuntime) -> Result<(), Fail> {
-    let mut desk: Desk<u8> = Desk::new(Bios::new(rt.alloc())?);
+    let mut desk: Desk<Open> = Desk::new(Bios::new(rt.alloc())?);
     assert!(rt; !desk.port.core.output_full());
     desk.port.receive(5000, Some(0x1c));
     // the read empties the output buffer, so what the host writes is taken in the same cycle
@@ -157,5 +169,46 @@ fn the_items_of_a_cycle_stand_in_their_order(rt: HostRuntime) -> Result<(), Fail
         true,
         &[Item::Taken(Some(0x1e61))],
     );
+    Ok(())
+}
+
+#[test]
+fn the_last_flip_is_pending(rt: HostRuntime) -> Result<(), Fail> {
+    let mut desk: Desk<Open> = Desk::new(Bios::new(rt.alloc())?);
+    check(&rt, &mut desk, 5000, event(0, HostAct::Flip(3)), true, &[]);
+    assert_eq!(rt; desk.port.flip, Some(3));
+    check(
+        &rt,
+        &mut desk,
+        5001,
+        event(905, HostAct::Flip(8)),
+        true,
+        &[],
+    );
+    check(&rt, &mut desk, 5002, None, false, &[]);
+    assert_eq!(rt; desk.port.flip, Some(8));
+    assert_eq!(rt; desk.port.take_flip(), Some(8));
+    assert_eq!(rt; desk.port.flip, None);
+    Ok(())
+}
+
+#[test]
+fn a_write_breaks_off_an_open_byte_and_is_taken_at_once(rt: HostRuntime) -> Result<(), Fail> {
+    for open in [true, false] {
+        let mut desk: Desk<Open> = Desk::new(Bios::new(rt.alloc())?);
+        desk.port.link = Link::Busy(Open(open));
+        check(
+            &rt,
+            &mut desk,
+            5000,
+            event(0, HostAct::Write60(0xed)),
+            true,
+            &[],
+        );
+        let ask = Link::Ask(0xed, 5000);
+        let stays = Link::Busy(Open(open));
+        assert_eq!(rt; desk.port.link, if open { ask } else { stays });
+        assert_eq!(rt; desk.port.core.input_full(), !open);
+    }
     Ok(())
 }

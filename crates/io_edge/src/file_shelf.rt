@@ -1,11 +1,11 @@
 //! The shelf of real files.
 
-ghost use Rattle.std.specs.Prelude.{◌≡◌, ◌⊎◌, ℕ, ◌<◌, ◌≤◌, ◌++◌, length, Err, None, IfOk, IfSome, IsErr, OnOk, vec_len};
+ghost use Rattle.std.specs.Prelude.{◌≡◌, ◌⊎◌, ℕ, ◌+◌, ◌-◌, ◌<◌, ◌≤◌, ◌++◌, length, Err, None, IfOk, IfSome, IsErr, OnOk, vec_len};
 ghost use Rattle.std.specs.declared.option.Option.{Option};
 ghost use Rattle.std.specs.Option.{option_map};
 ghost use Rattle.std.specs.Io.KnownBytes.{IsAtEnd};
 ghost use Rattle.io_edge.specs.Faults.{Rose};
-ghost use Rattle.io_edge.specs.Reading.{GivesFile, NoneLost};
+ghost use Rattle.io_edge.specs.Reading.{GaveAtMost, GivesFile, NoneLost};
 ghost use Rattle.io_edge.specs.Shelf.{Told, after_fetch, faults_after, fetched, IsFetch};
 
 use crate::shelf::{FetchFault, Shelf};
@@ -74,10 +74,12 @@ fn read_opened<F: Read + Drop>(
     read_all(&mut file, alloc, max)
 }
 
-/// What the reader gives up to its end, at most `max` bytes.
+/// What the reader gives up to its end, at most `max` bytes. However long it goes on, it gives up no more than `max`
+/// bytes and one.
 fn read_all<F: Read>(reader: &mut F, alloc: Global, max: usize) -> Result<Vec<u8>, FetchFault>
     ensures size { IfOk result (λ bytes. vec_len bytes ≤ max) }
     ensures gives { GivesFile (F.remaining reader.old) max result }
+    ensures spent { GaveAtMost (max + 1) (F.remaining reader.old) (F.remaining reader.new) }
 {
     let mut bytes = Vec::new(alloc);
     for _turn in 0..u64::MAX {
@@ -95,6 +97,7 @@ fn read_some<F: Read>(reader: &mut F, bytes: &mut Vec<u8>, max: usize) -> Result
     ensures size { OnOk result (vec_len bytes.new ≤ max) }
     ensures read { OnOk result (NoneLost (F.remaining reader.old) bytes.old.items (F.remaining reader.new) bytes.new.items) }
     ensures end { IfOk result (λ count. count ≡ 0 → IsAtEnd (F.remaining reader.new)) }
+    ensures spent { GaveAtMost (max - vec_len bytes.old + 1) (F.remaining reader.old) (F.remaining reader.new) }
     ensures long { result ≡ Err FetchFault.TooLong → IfSome (F.remaining reader.old) (λ left. max < length (bytes.old.items ++ left)) }
 {
     let mut piece = [0; 4096];

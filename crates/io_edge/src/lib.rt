@@ -6,18 +6,22 @@
 #![tactic(auto)]
 
 mod count;
+mod drop_sink;
 mod file_shelf;
 mod memory_shelf;
 mod memory_sink;
+mod saying;
 mod shelf;
 mod sink;
 mod stream_sink;
 #[cfg(test)]
 mod tests;
 
+pub use drop_sink::DropSink;
 pub use file_shelf::FileShelf;
 pub use memory_shelf::MemShelf;
 pub use memory_sink::MemSink;
+pub use saying::{put_all, say};
 pub use shelf::{FetchFault, Shelf};
 pub use sink::{Sink, SinkFault};
 pub use stream_sink::StreamSink;

@@ -1,53 +1,78 @@
 //! A sink into memory.
 
-ghost use Rattle.std.specs.Prelude.{◌≡◌, ℕ, ◌<◌, ◌≤◌, [], length, Some, IfOk, OnErr, OnOk};
+ghost use Rattle.std.specs.Prelude.{◌≡◌, ℕ, ◌<◌, ◌≤◌, length, Some, IfOk, OnErr, OnOk};
 ghost use Rattle.io_edge.specs.Faults.{Rose};
 ghost use Rattle.io_edge.specs.Sink.{Takes};
-ghost use Rattle.io_edge.specs.MemorySink.{after_put, put_answer};
+ghost use Rattle.io_edge.specs.MemorySink.{after_put, empty_sink, put_answer};
 
 use crate::count::is_among;
 use crate::sink::{Sink, SinkFault};
 use std::alloc::{AllocError, Global};
 use std::marker::Model;
 
-/// Room in memory for so many bytes, of which chosen puts fail.
+/// Room in memory for so many bytes, of which a put takes at most so many, and chosen puts fail.
 #[derive(Drop)]
 pub struct MemSink {
     taken: Vec<u8>,
     room: usize,
+    at_most: usize,
     puts: u64,
     fails: Vec<u32>,
     faults: u64,
 }
 
 impl Model for MemSink {
-    ghost use Rattle.std.specs.Prelude.{ℕ, ◌≤◌, length, vec_capacity};
+    ghost use Rattle.std.specs.Prelude.{ℕ, ◌<◌, ◌≤◌, length, vec_capacity};
     ghost use Rattle.io_edge.specs.MemorySink.{HeldBytes};
 
     ghost Value = { HeldBytes };
 
-    ghost view = { λ s. record { taken = s.taken.items; room = s.room; puts = s.puts; fails = s.fails.items; faults = s.faults } };
+    ghost view = { λ s. record { taken = s.taken.items; room = s.room; at_most = s.at_most; puts = s.puts; fails = s.fails.items; faults = s.faults } };
 
-    ghost invariant = { λ s. (length s.taken.items ≤ s.room) × (s.room ≤ vec_capacity s.taken) };
+    ghost invariant = { λ s. (length s.taken.items ≤ s.room) × (s.room ≤ vec_capacity s.taken) × (0 < s.at_most) };
 }
 
 impl MemSink {
-    /// An empty sink with room for so many bytes, all of which it takes from `alloc` at once. The puts whose numbers,
-    /// from 1, stand in `fails` fail, and so does each put for which no room is left.
-    pub fn new(alloc: Global, room: usize, fails: Vec<u32>) -> Result<MemSink, AllocError>
-        ensures taken { IfOk result (λ sink. sink.taken ≡ []) }
-        ensures room { IfOk result (λ sink. sink.room ≡ room) }
-        ensures puts { IfOk result (λ sink. sink.puts ≡ 0) }
-        ensures fails { IfOk result (λ sink. sink.fails ≡ fails.items) }
-        ensures faults { IfOk result (λ sink. sink.faults ≡ 0) }
+    /// An empty sink with room for so many bytes, all of which it takes from `alloc` at once. A put takes at most
+    /// `at_most` bytes. The puts whose numbers, from 1, stand in `fails` fail.
+    fn empty(
+        alloc: Global,
+        room: usize,
+        fails: Vec<u32>,
+        at_most: usize,
+    ) -> Result<MemSink, AllocError>
+        requires { 0 < at_most }
+        ensures { IfOk result (λ sink. sink ≡ empty_sink room fails.items at_most) }
     {
         Ok(MemSink {
             taken: Vec::with_capacity(alloc, room)?,
             room,
+            at_most,
             puts: 0,
             fails,
             faults: 0,
         })
+    }
+
+    /// An empty sink with room for so many bytes, all of which it takes from `alloc` at once. The puts whose numbers,
+    /// from 1, stand in `fails` fail, and so does each put for which no room is left.
+    pub fn new(alloc: Global, room: usize, fails: Vec<u32>) -> Result<MemSink, AllocError>
+        ensures sink { IfOk result (λ sink. sink ≡ empty_sink room fails.items usize.MAX) }
+    {
+        MemSink::empty(alloc, room, fails, usize::MAX)
+    }
+
+    /// The same, but a put takes at most `at_most` bytes, which is at least 1.
+    pub fn short(
+        alloc: Global,
+        room: usize,
+        fails: Vec<u32>,
+        at_most: u32,
+    ) -> Result<MemSink, AllocError>
+        requires some { 0 < at_most }
+        ensures sink { IfOk result (λ sink. sink ≡ empty_sink room fails.items at_most) }
+    {
+        MemSink::empty(alloc, room, fails, at_most as usize)
     }
 
     /// The bytes taken so far.
@@ -84,7 +109,7 @@ impl Sink for MemSink {
             self.faults = self.faults.saturating_add(1);
             return Err(SinkFault::Failed);
         }
-        let size = piece.len().min(left);
+        let size = piece.len().min(left).min(self.at_most);
         let taken = self.taken.extend_from_slice(&piece[..size]);
         taken.map(|_| size).map_err(|_| SinkFault::Failed)
     }

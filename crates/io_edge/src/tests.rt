@@ -1,6 +1,8 @@
 //! The real shelf and sink over a real file, and the ones in memory.
 
-use crate::{FetchFault, FileShelf, MemShelf, MemSink, Shelf, Sink, SinkFault, StreamSink};
+use crate::{
+    DropSink, FetchFault, FileShelf, MemShelf, MemSink, Shelf, Sink, SinkFault, StreamSink, say,
+};
 use std::io::{self, Write};
 use std::test::Fail;
 use std::{env, fs, process};
@@ -40,6 +42,11 @@ fn files_are_read_up_to_the_limit(rt: HostRuntime) -> Result<(), Fail> {
     assert!(rt; gave(shelf.fetch(rt.alloc(), &path, usize::MAX), &text));
     assert!(rt; gave(shelf.fetch(rt.alloc(), &path, 5000), &text));
     assert!(rt; refused(shelf.fetch(rt.alloc(), &path, 4999), FetchFault::TooLong));
+    fs::write(&rt, path.as_str(), b"".as_slice())?;
+    assert!(rt;
+        gave(shelf.fetch(rt.alloc(), &path, 0), b""),
+        "an empty file is no failure"
+    );
     fs::remove_file(&rt, path.as_str())?;
     assert!(rt; refused(shelf.fetch(rt.alloc(), &path, 5000), FetchFault::Failed));
     Ok(())
@@ -120,4 +127,21 @@ fn memory_fails_where_it_is_told_to(rt: HostRuntime) -> Result<(), Fail> {
     assert_eq!(rt; sink.put(b"f"), Err(SinkFault::Failed));
     assert_eq!(rt; sink.taken(), b"abcde".as_slice());
     Ok(())
+}
+
+#[test]
+fn the_rest_is_put_again_until_a_put_fails(rt: HostRuntime) -> Result<(), Fail> {
+    let mut sink = MemSink::short(rt.alloc(), 100, [5].to_vec(rt.alloc())?, 2)?;
+    assert_eq!(rt; sink.put(b"abc"), Ok(2));
+    assert_eq!(rt; say(&mut sink, b"c\ndef\n"), Ok(()));
+    assert_eq!(rt; say(&mut sink, b"ghi\n"), Err(SinkFault::Failed));
+    assert_eq!(rt; sink.taken(), b"abc\ndef\n".as_slice());
+    Ok(())
+}
+
+#[test]
+fn a_sink_that_drops_takes_every_piece_whole(rt: HostRuntime) {
+    let mut sink = DropSink::new();
+    assert_eq!(rt; sink.put(b"64 port AA\n"), Ok(11));
+    assert_eq!(rt; say(&mut sink, b"beep\nbeep\n"), Ok(()));
 }

@@ -8,7 +8,7 @@ use Rattle.joint_run.specs.History.{IsFirstOfRun, IsInRun}
 use Rattle.joint_run.specs.Joint.{joint_start}
 use Rattle.joint_feed.specs.declared.course.Course.{Course}
 use Rattle.joint_feed.specs.Course.{IsOnCourse}
-use Rattle.joint_feed.specs.Feed.{IsFed}
+use Rattle.joint_feed.specs.Ahead.{IsFed}
 use Rattle.joint_feed.specs.Stories.{Story}
 
 -- no edge is made in cycle 0: cycle 4,096 is stamp 0
@@ -19,7 +19,7 @@ none_at_first (e ∷ es) =
     ap (λ b. if b then e ∷ made_first 0 es else []) off
 
 -- at power-on nothing is made or done
-pub begins : (s : Story) (c : Course) → c.joint ≡ powered_on s.bytes → IsFirstOfRun c.joint → IsFed s.edges s.events c.feed → c.feed.made ≡ 0 → c.feed.done ≡ 0
+pub begins : (s : Story) (c : Course) → c.joint ≡ powered_on s.bytes → IsFirstOfRun c.joint → IsFed s.edges s.events c.ahead → c.ahead.made ≡ 0 → c.ahead.done ≡ 0
     → IsOnCourse s c
 begins s c on first fed made done =
     let steps : c.joint.steps ≡ 0 = ap (λ m. m.steps) on in
@@ -28,7 +28,7 @@ begins s c on first fed made done =
       image = ap (λ m. m.image.bytes) on;
       few = let a : c.joint.cycle ≡ 0 = ap (λ m. m.cycle) on in omega (arith, steps, a);
       in_run = subst (λ (n : ℕ). IsInRun s.edges s.events c.joint n joint_start) (sym made) (first s.edges s.events);
-      unreached = none_at_first (drop c.feed.made s.edges);
+      unreached = none_at_first (drop c.ahead.made s.edges);
       fed = fed;
       done = done;
       done_within = omega (arith, done);

@@ -16,21 +16,21 @@ use Rattle.joint_run.specs.Joint.{Beside, joint_board, joint_start, log_of}
 use Rattle.joint_run.specs.Run.{World, run_at}
 use Rattle.mcs48_core.specs.declared.stepping.Stuck.{Stuck}
 use Rattle.joint_feed.specs.declared.course.Course.{Course}
-use Rattle.joint_feed.specs.declared.feed.Feed.{Feed}
+use Rattle.joint_feed.specs.declared.ahead.Ahead.{Ahead}
 use Rattle.joint_feed.specs.Course.{IsOnCourse, IsSaid, IsStepOn}
-use Rattle.joint_feed.specs.Feed.{IsFed}
+use Rattle.joint_feed.specs.Ahead.{IsFed}
 use Rattle.joint_feed.specs.Stories.{Story, state_at}
 use Rattle.joint_feed.proofs.Counts.{made_few, done_few}
 use Rattle.joint_feed.proofs.Feeding.{all_of_four, thin_behind, unmade_before, four_are_all, rest_unmade, drop_more, cut_at_four}
 
 -- what is handed in is what the step asks for
-pub due_of : (s : Story) (it : Course) (h : IsOnCourse s it) → IsThin s.edges → IsDueOf s.edges s.events it.feed.made h.world it.feed.due
+pub due_of : (s : Story) (it : Course) (h : IsOnCourse s it) → IsThin s.edges → IsDueOf s.edges s.events it.ahead.made h.world it.ahead.due
 due_of s it h thin =
-    let left = drop it.feed.made s.edges in
+    let left = drop it.ahead.made s.edges in
     record {
       next = h.fed.edges_next ∙ all_of_four left ∙ ap (λ (v : List Edge). take (length v) left) (sym h.fed.edges_next);
       all = ap (λ (v : List Edge). made_first h.world.cycle (drop (length v) left)) h.fed.edges_next
-          ∙ four_are_all h.world.cycle left (thin_behind it.feed.made s.edges thin) h.unreached;
+          ∙ four_are_all h.world.cycle left (thin_behind it.ahead.made s.edges thin) h.unreached;
       host = h.fed.host_next ∙ ap (λ (n : ℕ). take 2 (drop n s.events)) h.done;
     }
 
@@ -57,18 +57,18 @@ pub same_state : {w v : World Beside} → Some w ≡ Some v → w ≡ v
 same_state h = cc h
 
 module _ (s : Story) (it : Course) (new : Machine) (seen : Seen) (h : IsOnCourse s it) (thin : IsThin s.edges) (order : AreInOrder s.edges)
-    (is : IsJointStep it.feed.due it.joint (due_step it.feed.due it.joint) (Ok seen) new) (run : IsStepOfRun it.feed.due it.joint (Ok seen) new) where
+    (is : IsJointStep it.ahead.due it.joint (due_step it.ahead.due it.joint) (Ok seen) new) (run : IsStepOfRun it.ahead.due it.joint (Ok seen) new) where
   abbrev pub old : World Beside
   old = h.world
 
   abbrev pub left : List Edge
-  left = drop it.feed.made s.edges
+  left = drop it.ahead.made s.edges
 
-  pub on : RunGoesOn s.edges s.events it.feed.made old seen new
-  on = run s.edges s.events it.feed.made old order h.in_run (due_of s it h thin)
+  pub on : RunGoesOn s.edges s.events it.ahead.made old seen new
+  on = run s.edges s.events it.ahead.made old order h.in_run (due_of s it h thin)
 
-  pub step : IsMade it.feed.due it.joint seen new
-  step = made it.feed.due it.joint seen new is
+  pub step : IsMade it.ahead.due it.joint seen new
+  step = made it.ahead.due it.joint seen new is
 
   pub steps_more : new.steps ≡ suc it.joint.steps
   steps_more = ap (λ m. m.steps) step.after ∙ add-one it.joint.steps
@@ -76,35 +76,42 @@ module _ (s : Story) (it : Course) (new : Machine) (seen : Seen) (h : IsOnCourse
   pub cycle_more : it.joint.cycle + seen.cycles ≡ new.cycle
   cycle_more = step.seen_so.cycles ∙ sym (ap (λ m. m.cycle) step.after)
 
-  -- the events that were made and done are there
-  pub edges_there : it.feed.made + seen.edges ≤ length s.edges
+  -- the events that were made and done are among those that were handed in
+  pub edges_few : seen.edges ≤ length it.ahead.due.edges.items
+  edges_few = let a = made_few it.joint.cycle it.ahead.due.edges.items in let b = step.seen_so.edges in omega (arith, a, b)
+
+  pub host_few : seen.host ≤ length it.ahead.due.host.items
+  host_few = let a = done_few it.ahead.due it.joint step.world step.step in let b = step.seen_so.host in omega (arith, a, b)
+
+  -- they are there
+  pub edges_there : it.ahead.made + seen.edges ≤ length s.edges
   edges_there =
-      let a = made_few it.joint.cycle it.feed.due.edges.items in
+      let a = made_few it.joint.cycle it.ahead.due.edges.items in
       let b = step.seen_so.edges in
-      let c : length it.feed.due.edges.items ≡ length (take 4 left) = ap length h.fed.edges_next in
+      let c : length it.ahead.due.edges.items ≡ length (take 4 left) = ap length h.fed.edges_next in
       let d = length-take 4 left in
       let e = h.made_within in
-      let f : length left ≡ length s.edges - it.feed.made = length-drop it.feed.made s.edges in
+      let f : length left ≡ length s.edges - it.ahead.made = length-drop it.ahead.made s.edges in
       omega (arith, a, b, c, d, e, f)
 
-  pub host_there : it.feed.done + seen.host ≤ length s.events
+  pub host_there : it.ahead.done + seen.host ≤ length s.events
   host_there =
-      let a = done_few it.feed.due it.joint step.world step.step in
+      let a = done_few it.ahead.due it.joint step.world step.step in
       let b = step.seen_so.host in
-      let c : length it.feed.due.host.items ≡ length (take 2 (drop it.feed.done s.events)) = ap length h.fed.host_next in
-      let d = length-take 2 (drop it.feed.done s.events) in
+      let c : length it.ahead.due.host.items ≡ length (take 2 (drop it.ahead.done s.events)) = ap length h.fed.host_next in
+      let d = length-take 2 (drop it.ahead.done s.events) in
       let e = h.done_within in
-      let f : length (drop it.feed.done s.events) ≡ length s.events - it.feed.done = length-drop it.feed.done s.events in
+      let f : length (drop it.ahead.done s.events) ≡ length s.events - it.ahead.done = length-drop it.ahead.done s.events in
       omega (arith, a, b, c, d, e, f)
 
   -- no edge that is left was reached at the step's first cycle
-  none_left : made_first old.cycle (drop (it.feed.made + seen.edges) s.edges) ≡ []
+  none_left : made_first old.cycle (drop (it.ahead.made + seen.edges) s.edges) ≡ []
   none_left =
-      let due = it.feed.due.edges.items in
+      let due = it.ahead.due.edges.items in
       let count : seen.edges ≡ length (made_first old.cycle (take 4 left)) =
       step.seen_so.edges ∙ ap (λ (n : ℕ). length (made_first n due)) h.in_run.cycle ∙ ap (λ (v : List Edge). length (made_first old.cycle v)) h.fed.edges_next in
-      let rest = rest_unmade old.cycle (take 4 left) (drop (length (take 4 left)) left) (four_are_all old.cycle left (thin_behind it.feed.made s.edges thin) h.unreached) in
-      ap (made_first old.cycle) (sym (drop_more it.feed.made seen.edges (it.feed.made + seen.edges) s.edges refl))
+      let rest = rest_unmade old.cycle (take 4 left) (drop (length (take 4 left)) left) (four_are_all old.cycle left (thin_behind it.ahead.made s.edges thin) h.unreached) in
+      ap (made_first old.cycle) (sym (drop_more it.ahead.made seen.edges (it.ahead.made + seen.edges) s.edges refl))
       ∙ ap (λ (n : ℕ). made_first old.cycle (drop n left)) count
       ∙ ap (λ (v : List Edge). made_first old.cycle (drop (length (made_first old.cycle (take 4 left))) v)) (sym (cut_at_four left))
       ∙ rest
@@ -128,9 +135,9 @@ module _ (s : Story) (it : Course) (new : Machine) (seen : Seen) (h : IsOnCourse
   later some = let c = cycle_more in omega (arith, c, some)
 
   -- the step is in the course again
-  pub on_again : (feed : Feed) → 0 < seen.cycles → seen.cycles < 3 → IsFed s.edges s.events feed → feed.made ≡ it.feed.made + seen.edges
-      → feed.done ≡ it.feed.done + seen.host → IsOnCourse s (record { joint = new; feed = feed; seen = seen })
-  on_again feed some few fed made_now done_now =
+  pub on_again : (ahead : Ahead) → 0 < seen.cycles → seen.cycles < 3 → IsFed s.edges s.events ahead → ahead.made ≡ it.ahead.made + seen.edges
+      → ahead.done ≡ it.ahead.done + seen.host → IsOnCourse s (record { joint = new; ahead = ahead; seen = seen })
+  on_again ahead some few fed made_now done_now =
       let next_cycle : old.cycle + seen.cycles ≡ on.next.cycle = ap (λ (n : ℕ). n + seen.cycles) (sym h.in_run.cycle) ∙ cycle_more ∙ on.in_run.cycle in
       record {
         world = on.next;
@@ -140,7 +147,7 @@ module _ (s : Story) (it : Course) (new : Machine) (seen : Seen) (h : IsOnCourse
         unreached =
             let soon : on.next.cycle - 2 ≤ old.cycle = omega (arith, next_cycle, few) in
             subst (λ (n : ℕ). made_first (on.next.cycle - 2) (drop n s.edges) ≡ []) (sym made_now)
-            (unmade_before (on.next.cycle - 2) old.cycle (drop (it.feed.made + seen.edges) s.edges) soon none_left);
+            (unmade_before (on.next.cycle - 2) old.cycle (drop (it.ahead.made + seen.edges) s.edges) soon none_left);
         fed = fed;
         done = let a = h.done in let b = on.done in omega (arith, done_now, a, b);
         done_within = let a = host_there in omega (arith, a, done_now);
@@ -149,16 +156,16 @@ module _ (s : Story) (it : Course) (new : Machine) (seen : Seen) (h : IsOnCourse
 
 -- where the processor is stuck the run has no further state
 pub no_further : (s : Story) (it : Course) (new : Machine) (stuck : Stuck) → IsOnCourse s it → IsThin s.edges → AreInOrder s.edges
-    → IsStepOfRun it.feed.due it.joint (Err stuck) new → state_at s (suc it.joint.steps) ≡ None
+    → IsStepOfRun it.ahead.due it.joint (Err stuck) new → state_at s (suc it.joint.steps) ≡ None
 no_further s it new stuck h thin order run =
-    let none = run s.edges s.events it.feed.made h.world order h.in_run (due_of s it h thin) in
+    let none = run s.edges s.events it.ahead.made h.world order h.in_run (due_of s it h thin) in
     subst (λ (bytes : List ℕ). run_at (joint_board s.edges s.events) bytes joint_start (suc it.joint.steps) ≡ None) h.image none
 
 -- where neither machine nor events have changed the course is the same
 pub on_moved : (s : Story) (it : Course) (joint : Machine) (seen : Seen) → joint ≡ it.joint → IsOnCourse s it
-    → IsOnCourse s (record { joint = joint; feed = it.feed; seen = seen })
+    → IsOnCourse s (record { joint = joint; ahead = it.ahead; seen = seen })
 on_moved s it joint seen e h =
-    let still : IsOnCourse s (record { joint = it.joint; feed = it.feed; seen = seen }) = record {
+    let still : IsOnCourse s (record { joint = it.joint; ahead = it.ahead; seen = seen }) = record {
       world = h.world;
       image = h.image;
       few = h.few;
@@ -169,10 +176,10 @@ on_moved s it joint seen e h =
       done_within = h.done_within;
       made_within = h.made_within;
     } in
-    subst (λ (m : Machine). IsOnCourse s (record { joint = m; feed = it.feed; seen = seen })) (sym e) still
+    subst (λ (m : Machine). IsOnCourse s (record { joint = m; ahead = it.ahead; seen = seen })) (sym e) still
 
 -- so it is after a step that could not be made
-pub stands_still : (s : Story) (it new : Course) (r : Result (Unit {0}) Stuck) → IsErr r → IsOnCourse s new → new.joint ≡ it.joint → new.feed ≡ it.feed
+pub stands_still : (s : Story) (it new : Course) (r : Result (Unit {0}) Stuck) → IsErr r → IsOnCourse s new → new.joint ≡ it.joint → new.ahead ≡ it.ahead
     → state_at s (suc it.joint.steps) ≡ None → IsStepOn s it r new
 stands_still s it new (Ok done) is course joint feed none = absurd (cc is)
 stands_still s it new (Err stuck) is course joint feed none = (course, joint, feed, none)

@@ -1,3 +1,3 @@
 pub mod Course
-pub mod Feed
+pub mod Ahead
 pub mod Stories

@@ -1,3 +1,4 @@
+pub mod Cycling
 pub mod Made
 pub mod Numbers
 pub mod OneStep

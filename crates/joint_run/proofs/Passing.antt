@@ -7,6 +7,7 @@ use Rattle.board_lines.specs.declared.lines.Lines.{Lines}
 use Rattle.ctl_link.specs.declared.port.Port.{Port}
 use Rattle.ctl_wire.specs.declared.wire.Wire.{Wire}
 use Rattle.ctl_wire.specs.Cycles.{port_looked}
+use Rattle.ctl_wire.specs.Wire.{is_breakable}
 use Rattle.host_turn.specs.declared.stamped.Stamped.{Stamped}
 use Rattle.host_turn.specs.Cycle.{Cycled, cycled}
 use Rattle.host_turn.specs.Run.{Side, desk_of, goes_on, lights_said, stamped, with_cycled}
@@ -19,7 +20,7 @@ use Rattle.joint_run.specs.Cycle.{Passed, outside_wires, looked_outside, outside
 
 -- the host and the controller, in a run and by the next event alone
 going : (events : List HostEvent) (now : ℕ) (s : Side Wire) →
-    goes_on events now s ≡ with_cycled now (cycled now (slice_get events s.done) (desk_of s)) s
+    goes_on is_breakable events now s ≡ with_cycled now (cycled is_breakable now (slice_get events s.done) (desk_of s)) s
 unfolding goes_on
 going events now s = refl
 
@@ -27,7 +28,7 @@ opened : (events : List HostEvent) (p2 now : ℕ) (o : Outside) (done : ℕ) (lo
     let s : Side Wire = record { port = o.desk.port; masked = o.desk.masked; bios = o.desk.bios; done = done; log = log ++ lights_said now o.shown (lights_of p2) } in
     let line : Lines = outside_wires p2 o in
     joint_cycle events p2 now (beside o done log) ≡ record {
-      pc = record { side = goes_on events now (record s { port = port_looked now o.clock line o.desk.port }); clock = line.clk };
+      pc = record { side = goes_on is_breakable events now (record s { port = port_looked now o.clock line o.desk.port }); clock = line.clk };
       shown = lights_of p2;
     }
 unfolding joint_cycle board_cycle
@@ -41,7 +42,7 @@ cycle_is events p2 now o done log =
     let s : Side Wire = record { port = o.desk.port; masked = o.desk.masked; bios = o.desk.bios; done = done; log = log ++ lights } in
     let line : Lines = outside_wires p2 o in
     let p : Port Wire = port_looked now o.clock line o.desk.port in
-    let c : Cycled Wire = cycled now (slice_get events done) (looked_outside now line o).desk in
+    let c : Cycled Wire = cycled is_breakable now (slice_get events done) (looked_outside now line o).desk in
     opened events p2 now o done log
     ∙ ap (λ t. record { pc = record { side = t; clock = line.clk }; shown = lights_of p2 }) (going events now (record s { port = p }))
     ∙ ap (λ v. beside (record { desk = c.desk; clock = line.clk; shown = lights_of p2 }) (if c.done then done + 1 else done) v) (append_assoc log lights (stamped now c.items))

@@ -10,7 +10,7 @@ use Rattle.board_lines.specs.declared.lines.Lines.{Lines}
 use Rattle.ctl_link.specs.declared.link.Link.{Link}
 use Rattle.ctl_link.specs.declared.link.Link.TheVariants.{Free, Hold, Ask, Request, Busy}
 use Rattle.ctl_wire.specs.declared.wire.Wire.{Wire}
-use Rattle.ctl_wire.specs.Wire.{drive, edge_at}
+use Rattle.ctl_wire.specs.Wire.{drive, edge_at, is_breakable}
 use Rattle.bits.proofs.Every.{and-left, and-right}
 use Rattle.ctl_core.specs.Controller.{is_idle}
 use Rattle.host_turn.specs.Cycle.{Cycled, cycled}
@@ -97,14 +97,14 @@ module _ (line : Lines) (lit now : ℕ) (next : Option HostEvent) (o : Outside) 
 
   -- the same after a look at these wires
   abbrev ended_at : Lines → Passed
-  ended_at l = ended l.clk (cycled now next (looked_outside now l o).desk)
+  ended_at l = ended l.clk (cycled is_breakable now next (looked_outside now l o).desk)
 
   -- the clock doesn't fall
   looks : is_free o.desk.port.link ≡ true → (o.clock && not line.clk) ≡ false
-      → ended_at (joined line (drive o.desk.port.link)) ≡ ended line.clk (cycled now next o.desk)
+      → ended_at (joined line (drive o.desk.port.link)) ≡ ended line.clk (cycled is_breakable now next o.desk)
   looks free level =
       ap ended_at (wires_free line o.desk.port.link free)
-      ∙ ap (λ b. ended line.clk (cycled now next (record o.desk { port = if b then edge_at now line.dat o.desk.port.link o.desk.port else o.desk.port }))) level
+      ∙ ap (λ b. ended line.clk (cycled is_breakable now next (record o.desk { port = if b then edge_at now line.dat o.desk.port.link o.desk.port else o.desk.port }))) level
 
   -- nothing is said
   says : (lit == o.shown) ≡ true → ended line.clk (record { desk = o.desk; items = []; done = false })
@@ -121,7 +121,7 @@ module _ (line : Lines) (lit now : ℕ) (next : Option HostEvent) (o : Outside) 
   quiet_with : is_free o.desk.port.link ≡ true → (o.clock && not line.clk) ≡ false → (is_at_rest o.desk && not (is_due now next)) ≡ true
       → (lit == o.shown) ≡ true
       → ended_at (joined line (drive o.desk.port.link)) ≡ record { outside = record o { clock = line.clk }; items = []; done = false }
-  quiet_with free level rest same = looks free level ∙ ap (ended line.clk) (rests now next o.desk rest) ∙ says same
+  quiet_with free level rest same = looks free level ∙ ap (ended line.clk) (rests is_breakable now next o.desk rest) ∙ says same
 
 -- a quiet cycle notes the level
 quiet_cycle : (now p2 : ℕ) (next : Option HostEvent) (o : Outside) → IsQuiet now p2 next o

@@ -5,7 +5,7 @@ use Rattle.board_lines.specs.declared.event.HostEvent.{HostEvent}
 use Rattle.board_lines.specs.declared.lines.Lines.{Lines}
 use Rattle.ctl_wire.specs.declared.wire.Wire.{Wire}
 use Rattle.ctl_wire.specs.Cycles.{port_looked}
-use Rattle.ctl_wire.specs.Wire.{drive}
+use Rattle.ctl_wire.specs.Wire.{drive, is_breakable}
 use Rattle.host_turn.specs.declared.stamped.Stamped.{Stamped}
 use Rattle.host_turn.specs.Cycle.{Cycled, cycled}
 use Rattle.host_turn.specs.Rest.{is_at_rest, is_due}
@@ -35,7 +35,7 @@ pub record Passed : Type 0 where
 abbrev pub outside_cycle : ℕ → ℕ → Option HostEvent → Outside → Passed
 outside_cycle now p2 next o =
     let l : Outside = looked_outside now (outside_wires p2 o) o in
-    let c : Cycled Wire = cycled now next l.desk in
+    let c : Cycled Wire = cycled is_breakable now next l.desk in
     record {
       outside = record { desk = c.desk; clock = l.clock; shown = lights_of p2 };
       items = lights_said now o.shown (lights_of p2) ++ stamped now c.items;

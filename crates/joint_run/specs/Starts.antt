@@ -6,7 +6,8 @@ use Rattle.mcs48_core.specs.Status.{digit}
 use Rattle.mcs48_core.specs.Step.{takes_external, takes_timer}
 use Rattle.joint_run.specs.Run.{Board, World, seen, joint_step, run_at}
 
--- the next step executes the instruction at this place: the counter is there, and the step is no interrupt's entry
+-- the next step executes the instruction at this place: the counter is there, and the step is no interrupt's entry.
+-- The byte there isn't asked for: where it has no instruction the run has no next state
 abbrev pub at_tick : (d : Board) → ℕ → World d.State → Bool
 at_tick d tick w = (w.cpu.pc % 2048 == tick) && not (takes_external (seen d w) w.cpu) && not (takes_timer w.cpu)
 

@@ -2,7 +2,7 @@
 
 ghost use Rattle.std.specs.Prelude.{◌≡◌, ◌+◌, ◌-◌, ◌<◌, ◌≤◌, ◌^◌, [], ◌++◌, length, slice_get};
 ghost use Rattle.ctl_link.specs.Empty.{IsEmptyUnlessHeld};
-ghost use Rattle.ctl_wire.specs.Wire.{drive, edge_at};
+ghost use Rattle.ctl_wire.specs.Wire.{drive, edge_at, is_breakable};
 ghost use Rattle.int09.specs.Bios.{start};
 ghost use Rattle.host_turn.specs.Cycle.{cycled};
 ghost use Rattle.host_turn.specs.Run.{lights_said, stamped};
@@ -146,9 +146,9 @@ impl Outside {
         items: &mut ArrayVec<Stamped, 16>,
     ) -> bool
         requires room { length items.old.items ≤ 11 }
-        ensures outside { self.new ≡ record self.old { desk = (cycled now next self.old.desk).desk } }
-        ensures items { items.new.items ≡ items.old.items ++ stamped now (cycled now next self.old.desk).items }
-        ensures done { result ≡ (cycled now next self.old.desk).done }
+        ensures outside { self.new ≡ record self.old { desk = (cycled is_breakable now next self.old.desk).desk } }
+        ensures items { items.new.items ≡ items.old.items ++ stamped now (cycled is_breakable now next self.old.desk).items }
+        ensures done { result ≡ (cycled is_breakable now next self.old.desk).done }
         ensures few { length items.new.items ≤ length items.old.items + 5 }
         ensures empty { IsEmptyUnlessHeld self.old.desk.port → IsEmptyUnlessHeld self.new.desk.port }
     {
@@ -172,9 +172,9 @@ impl Outside {
         items: &mut ArrayVec<Stamped, 16>,
     ) -> bool
         requires room { length items.old.items ≤ 11 }
-        ensures outside { self.new ≡ record self.old { desk = (cycled now next self.old.desk).desk } }
-        ensures items { items.new.items ≡ items.old.items ++ stamped now (cycled now next self.old.desk).items }
-        ensures done { result ≡ (cycled now next self.old.desk).done }
+        ensures outside { self.new ≡ record self.old { desk = (cycled is_breakable now next self.old.desk).desk } }
+        ensures items { items.new.items ≡ items.old.items ++ stamped now (cycled is_breakable now next self.old.desk).items }
+        ensures done { result ≡ (cycled is_breakable now next self.old.desk).done }
         ensures few { length items.new.items ≤ length items.old.items + 5 }
         ensures empty { IsEmptyUnlessHeld self.old.desk.port → IsEmptyUnlessHeld self.new.desk.port }
     {

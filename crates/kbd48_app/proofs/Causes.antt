@@ -14,7 +14,7 @@ use Rattle.kbd48_app.specs.declared.words.FileCommand.TheVariants.{Step, Listing
 use Rattle.kbd48_app.specs.Answers.{OnFetched}
 use Rattle.kbd48_app.specs.Causes.{IsStuck}
 use Rattle.kbd48_app.specs.Kinds.{kind_of, limit_of}
-use Rattle.kbd48_app.specs.Plans.{Plan, Gives, Runs, Debugs, Fetches, plan_of, file_said, script_next}
+use Rattle.kbd48_app.specs.Plans.{Plan, Gives, Certifies, Runs, Debugs, Fetches, plan_of, file_said, script_next}
 use Rattle.kbd48_app.specs.Reached.{on_fetched, IsUnserved, IsTooLong, Reads}
 use Rattle.kbd48_app.specs.Says.{exit_said}
 use Rattle.kbd48_app.specs.Words.{name_in, second_in, third_in}
@@ -62,6 +62,7 @@ module _ (n : ℕ) where
   -- a fetch that fails, and a file that is too long
   pub unserved : (p : Plan) (shelf : Told) → IsUnserved p shelf → leads n p shelf ≡ exits.Read
   unserved (Gives said) shelf h = absurd h
+  unserved (Certifies image text) shelf h = absurd h
   unserved (Runs command layout history) shelf h = absurd h
   unserved (Debugs layout history script) shelf h = absurd h
   unserved (Fetches kind name next) shelf h =
@@ -71,6 +72,7 @@ module _ (n : ℕ) where
 
   pub too_long : (long : Kind) (p : Plan) (shelf : Told) → IsTooLong long p shelf → leads n p shelf ≡ exits.Input
   too_long long (Gives said) shelf h = absurd h
+  too_long long (Certifies image text) shelf h = absurd h
   too_long long (Runs command layout history) shelf h = absurd h
   too_long long (Debugs layout history script) shelf h = absurd h
   too_long long (Fetches kind name next) shelf h =

@@ -7,7 +7,8 @@ use Rattle.kbd48_app.specs.declared.exit.Exit.TheVariants as exits
 use Rattle.kbd48_app.specs.declared.kind.Kind.TheVariants as kinds
 use Rattle.kbd48_app.specs.declared.words.Command.{Command}
 use Rattle.kbd48_app.specs.declared.words.PairCommand.TheVariants.{Certify}
-use Rattle.kbd48_app.specs.Plans.{Plan, Gives, cert_next, cert_said, pair_plan, with_image}
+use Rattle.kbd48_app.specs.CertTexts.{cert_said}
+use Rattle.kbd48_app.specs.Plans.{Plan, Certifies, cert_next, pair_plan, with_image}
 use Rattle.kbd48_app.specs.Reached.{Reads}
 use Rattle.kbd48_app.specs.Says.{exit_said}
 use Rattle.kbd48_app.proofs.Caused.{IsCaused, caused_as}
@@ -32,7 +33,7 @@ module _ (n : ℕ) (command : Option Command) (plan : Plan) (shelf : Told) where
       → Reads kinds.Hex bytes plan shelf → IsWithin (with_image (cert_next second) outcome) after plan shelf
       → IsCaused n command plan shelf (leads n (with_image (cert_next second) outcome) after)
   image_exit second bytes after (Ok image) is read within =
-      fetch_caused n command plan shelf kinds.Cert second (λ text. Gives (cert_said image text)) after within
+      fetch_caused n command plan shelf kinds.Cert second (Certifies image) after within
       (λ text read' more. judged bytes image text is read read')
   image_exit second bytes after (Err fault) is read within = inr (inl (fault, (bytes, read, is)))
 

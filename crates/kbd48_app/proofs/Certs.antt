@@ -15,7 +15,8 @@ use Rattle.kbd48_app.specs.declared.refusal.Refusal.TheVariants.{Cert}
 use Rattle.kbd48_app.specs.declared.words.PairCommand.TheVariants.{Certify}
 use Rattle.kbd48_app.specs.Causes.{HasHexFault, HasCertFault}
 use Rattle.kbd48_app.specs.Kinds.{limit_of}
-use Rattle.kbd48_app.specs.Plans.{Plan, Gives, certified, cert_next, cert_said, pair_plan, with_image}
+use Rattle.kbd48_app.specs.CertTexts.{certified, cert_said}
+use Rattle.kbd48_app.specs.Plans.{Plan, Certifies, cert_next, pair_plan, with_image}
 use Rattle.kbd48_app.specs.Reached.{Reads}
 use Rattle.kbd48_app.specs.Says.{exit_said}
 use Rattle.kbd48_app.proofs.Ends.{leads}
@@ -34,7 +35,7 @@ IsReadSecond read file second shelf outcome =
 second_read : (read : Kind) (file second : List ℕ) (shelf : Told) (outcome : HexOutcome)
     → Reads read file (with_image (cert_next second) outcome) shelf → IsReadSecond read file second shelf outcome
 second_read read file second shelf (Ok image) h =
-    elim (fetch_read read file kinds.Cert second (λ text. Gives (cert_said image text)) shelf h) [
+    elim (fetch_read read file kinds.Cert second (Certifies image) shelf h) [
       | inl this ↦ (this.0, image, refl, this.1)
       | inr more ↦ absurd more.2
     ]
@@ -98,7 +99,7 @@ module _ (n : ℕ) (first second : List ℕ) (shelf : Told) where
   leads_both bytes image text found is then =
       leads_found n kinds.Hex first bytes (plan_from second) shelf found
       ∙ (ap (λ (o : HexOutcome). leads n (with_image (cert_next second) o) (after_fetch shelf)) is
-      ∙ leads_found n kinds.Cert second text (λ t. Gives (cert_said image t)) (after_fetch shelf) then)
+      ∙ leads_found n kinds.Cert second text (Certifies image) (after_fetch shelf) then)
 
   -- a fault is answered: that of the image's file
   hex_led : (fault : HexFault) → HasHexFault fault (pair_plan Certify first second) shelf

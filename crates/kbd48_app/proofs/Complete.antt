@@ -1,5 +1,5 @@
 -- Where nothing stands in the way.
-use Rattle.std.proofs.Common.{◌≡◌, ℕ, ◌-◌, ◌^◌, ◌<◌, Bool, List, length, Some, None, Ok, ap, sym, ◌∙◌, subst, inl, inr, refl, arith}
+use Rattle.std.proofs.Common.{◌≡◌, ℕ, ◌-◌, ◌^◌, ◌<◌, Bool, true, false, List, length, Some, None, Ok, IfSome, ap, sym, ◌∙◌, subst, inl, inr, refl, arith}
 use Rattle.layout_reader.specs.Faults.{Refusal as LayoutRefusal}
 use Rattle.layout_reader.specs.Layouts.{KeyLayout}
 use Rattle.std.specs.declared.option.Option.{Option}
@@ -7,6 +7,8 @@ use Rattle.std.specs.declared.result.Result.{Result}
 use Rattle.hexfile.specs.Hex.{HexOutcome}
 use Rattle.fw_debug.specs.Probes.{Watch}
 use Rattle.io_edge.specs.Faults.{Rose}
+use Rattle.io_edge.specs.MemorySink.{HeldBytes}
+use Rattle.io_edge.specs.Said.{said}
 use Rattle.io_edge.specs.Shelf.{Told, Fetched, Found, after_fetch, fetched}
 use Rattle.mcs48_isa.specs.Listing.{listing_of}
 use Rattle.kbd48_app.specs.declared.exit.Exit.{Exit}
@@ -23,7 +25,7 @@ use Rattle.kbd48_app.specs.Debugging.{script_fault}
 use Rattle.kbd48_app.specs.Kinds.{kind_of, limit_of}
 use Rattle.kbd48_app.specs.Plans.{Answer, Runs, assembled, compiled, file_said, of_image, plan_of, run_said, script_next}
 use Rattle.kbd48_app.specs.Reached.{on_fetched, may_lack}
-use Rattle.kbd48_app.specs.Says.{Says, exit_said}
+use Rattle.kbd48_app.specs.Says.{ByLines, Says, exit_said}
 use Rattle.kbd48_app.specs.Stepping.{Progress, Stands, Stopped, after_steps}
 use Rattle.kbd48_app.specs.Words.{command_of, name_in, second_in, third_in}
 use Rattle.kbd48_app.proofs.Certs.{cert_done}
@@ -113,9 +115,27 @@ answers_left words (Some Debug) (Some shelf) after answer probes left faultless 
 not_risen : (before after : ℕ) → after ≡ before → before < 2 ^ 64 - 1 → Rose before after → ⊥
 not_risen before after same below rose = omega (arith, same, below, rose)
 
-pub left : (n : ℕ) (words : List (List ℕ)) (shelf end : Option Told) (probes kept : List Watch) (taken taken' : Option (List ℕ)) (exit : Exit) (before after : ℕ) → length probes ≡ n → IsFaultless n words shelf → after ≡ before → before < 2 ^ 64 - 1 → (exit ≡ exits.Write → Rose before after) → (answer : Answer) × MayAnswer words shelf answer end probes kept × Says answer taken taken' exit → IsLeft (command_of words) exit
-left n words shelf end probes kept taken taken' exit before after many faultless same below write says =
+-- where the call doesn't end with Write
+left_unwritten : (n : ℕ) (words : List (List ℕ)) (shelf end : Option Told) (probes kept : List Watch) (taken taken' : Option (List ℕ)) (exit : Exit) → length probes ≡ n → IsFaultless n words shelf → (exit ≡ exits.Write → ⊥) → (answer : Answer) × MayAnswer words shelf answer end probes kept × Says answer taken taken' exit → IsLeft (command_of words) exit
+left_unwritten n words shelf end probes kept taken taken' exit many faultless unwritten says =
     elim says.2 [
       | inl whole ↦ subst (λ (e : Exit). IsLeft (command_of words) e) (sym whole.0) (answers_left words (command_of words) shelf end says.0 probes kept (subst (λ (k : ℕ). IsFaultless k words shelf) (sym many) faultless) says.1)
-      | inr part ↦ absurd (not_risen before after same below (write part.0))
+      | inr part ↦ absurd (unwritten part.0)
     ]
+
+pub left : (n : ℕ) (words : List (List ℕ)) (shelf end : Option Told) (probes kept : List Watch) (taken taken' : Option (List ℕ)) (exit : Exit) (before after : ℕ) → length probes ≡ n → IsFaultless n words shelf → after ≡ before → before < 2 ^ 64 - 1 → (exit ≡ exits.Write → Rose before after) → (answer : Answer) × MayAnswer words shelf answer end probes kept × Says answer taken taken' exit → IsLeft (command_of words) exit
+left n words shelf end probes kept taken taken' exit before after many faultless same below write says =
+    left_unwritten n words shelf end probes kept taken taken' exit many faultless (λ wrote. not_risen before after same below (write wrote)) says
+
+-- of a sink that tells itself, where no put of what was said failed
+abbrev pub IsLeftUnfailed : ℕ → List (List ℕ) → Option Told → Option HeldBytes → Option HeldBytes → Exit → Type 0
+IsLeftUnfailed n words shelf before after exit =
+    IfSome before (λ sink. IsFaultless n words shelf → (text : List ℕ) × (after ≡ Some (said text sink).sink) × ((said text sink).failed ≡ false → IsLeft (command_of words) exit))
+
+true_false : (b : Bool) → b ≡ true → b ≡ false → ⊥
+true_false b is not_so = cc
+
+pub left_told : (n : ℕ) (words : List (List ℕ)) (shelf end : Option Told) (probes kept : List Watch) (taken taken' : Option (List ℕ)) (exit : Exit) (before after : Option HeldBytes) → length probes ≡ n → (answer : Answer) × MayAnswer words shelf answer end probes kept × Says answer taken taken' exit → (text : List ℕ) → ByLines before after text exit → IsLeftUnfailed n words shelf before after exit
+left_told n words shelf end probes kept taken taken' exit None after many says text lines = tt
+left_told n words shelf end probes kept taken taken' exit (Some sink) after many says text lines =
+    λ faultless. (text, lines.0, λ stood. left_unwritten n words shelf end probes kept taken taken' exit many faultless (λ wrote. true_false (said text sink).failed (lines.1.0 wrote) stood) says)

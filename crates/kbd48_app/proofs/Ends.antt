@@ -10,10 +10,11 @@ use Rattle.kbd48_app.specs.declared.exit.Exit.TheVariants as exits
 use Rattle.kbd48_app.specs.declared.kind.Kind.{Kind}
 use Rattle.kbd48_app.specs.declared.refusal.Refusal.TheVariants.{Read, TooLong, Memory}
 use Rattle.kbd48_app.specs.declared.words.Command.{Command}
-use Rattle.kbd48_app.specs.Answers.{OnFetched, MayAnswerSession, MayEnd, MayEndAs, MayAnswer}
+use Rattle.kbd48_app.specs.Answers.{OnFetched, MayAnswerOf, MayAnswerSession, MayEnd, MayEndAs, MayAnswer}
+use Rattle.kbd48_app.specs.CertTexts.{cert_said}
 use Rattle.kbd48_app.specs.Debugging.{script_fault}
 use Rattle.kbd48_app.specs.Kinds.{limit_of}
-use Rattle.kbd48_app.specs.Plans.{Answer, Plan, Gives, Runs, Debugs, Fetches, plan, plan_of}
+use Rattle.kbd48_app.specs.Plans.{Answer, Plan, Gives, Certifies, Runs, Debugs, Fetches, plan, plan_of}
 use Rattle.kbd48_app.specs.Reached.{on_fetched, may_lack}
 use Rattle.kbd48_app.specs.Says.{Says, exit_said}
 use Rattle.kbd48_app.specs.Words.{command_of}
@@ -26,6 +27,7 @@ script_exit (Some fault) = exits.Input
 -- the exit where memory isn't wanting, and there are so many probes
 abbrev pub leads : ℕ → Plan → Told → Exit
 leads n (Gives said) shelf = exit_said said
+leads n (Certifies image text) shelf = exit_said (cert_said image text)
 leads n (Runs command layout history) shelf = exits.Done
 leads n (Debugs layout history script) shelf = script_exit (script_fault n script)
 leads n (Fetches kind name next) shelf =
@@ -47,8 +49,12 @@ session_led : (first : Option (ℕ × ℕ)) (s : Story) (script : List ℕ) (ans
 session_led None s script answer probes left h = elim h [ inl memory ↦ inr (memory.0, refl) | inr said ↦ inl (ap exit_said said.2) ]
 session_led (Some fault) s script answer probes left h = inl (ap exit_said h.0)
 
+said_led : (said answer : Answer) → MayAnswerOf said answer → IsLed (exit_said said) true answer
+said_led said answer h = elim h [ inl memory ↦ inr (memory, refl) | inr same ↦ inl (ap exit_said same) ]
+
 pub ends_so : (p : Plan) (shelf : Told) (answer : Answer) (after : Option Told) (probes left : List Watch) → MayEnd p (Some shelf) answer after probes left → IsLed (leads (length probes) p shelf) (may_lack p shelf) answer
-ends_so (Gives said) shelf answer after probes left h = elim h.0 [ inl memory ↦ inr (memory, refl) | inr same ↦ inl (ap exit_said same) ]
+ends_so (Gives said) shelf answer after probes left h = said_led said answer h.0
+ends_so (Certifies image text) shelf answer after probes left h = said_led (cert_said image text) answer h.0.0
 ends_so (Runs command layout history) shelf answer after probes left h =
     elim h.0 [ inl memory ↦ inr (memory.0, refl) | inr said ↦ inl (ap exit_said said.2) ]
 ends_so (Debugs layout history script) shelf answer after probes left h =

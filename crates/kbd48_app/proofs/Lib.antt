@@ -1,5 +1,4 @@
 pub mod Numbers
-pub mod Taken
 pub mod Steps
 pub mod Keys
 pub mod Heard
@@ -16,8 +15,6 @@ pub mod Made
 pub mod Refused
 pub mod Complete
 pub mod Told
-pub mod Lines
-pub mod Puts
 pub mod Certs
 pub mod Runs
 pub mod Alike

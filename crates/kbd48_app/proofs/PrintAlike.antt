@@ -11,6 +11,7 @@ use Rattle.key_file.specs.Histories.{KeyHistory}
 use Rattle.layout_reader.specs.Layouts.{KeyLayout}
 use Rattle.link_model.specs.Expected.{expected_log}
 use Rattle.subsystem.specs.Agreement.{IsExpected}
+use Rattle.subsystem.specs.Running.{outcome}
 use Rattle.subsystem.specs.Texts.{log_text}
 use Rattle.subsystem.specs.declared.outcome.Run.{Run}
 use Rattle.subsystem.proofs.Alike.{runs_alike}
@@ -51,7 +52,7 @@ one_for layout history a b probes left others (inr h) (inl none) = absurd (no_re
 one_for layout history a b probes left others (inr h) (inr k) =
     let x : a ≡ h.0 = cc h.2 in
     let y : b ≡ k.0 = cc k.2 in
-    let alike = runs_alike (story (image_of layout) history) h.1.0 k.1.0 h.1.1 k.1.1 in
+    let alike = runs_alike (story (image_of layout) history) (outcome h.1.0) (outcome k.1.0) h.1.1 k.1.1 in
     x ∙ h.1.3 ∙ texts_alike layout history h.1.0 h.1.2
     ∙ ap (λ (starts : List ℕ). log_text (expected_log layout history starts)) alike.starts ∙ sym k.1.3 ∙ sym y
 

@@ -25,7 +25,8 @@ use Rattle.std.specs.Option.{option_map}
 use Rattle.kbd48_app.specs.Answers.{OnFetched, MayAnswerOf, MayAnswerSession, MayAnswer, MayEnd, MayEndAs}
 use Rattle.kbd48_app.specs.Debugging.{script_fault}
 use Rattle.kbd48_app.specs.declared.kind.Kind.{Kind}
-use Rattle.kbd48_app.specs.Plans.{Answer, Plan, Gives, Runs, Debugs, Fetches, cert_next, cert_said, file_said, keys_next, plan_of, script_next, with_history, with_image, with_layout}
+use Rattle.kbd48_app.specs.CertTexts.{cert_said}
+use Rattle.kbd48_app.specs.Plans.{Answer, Plan, Gives, Certifies, Runs, Debugs, Fetches, cert_next, file_said, keys_next, plan_of, script_next, with_history, with_image, with_layout}
 use Rattle.kbd48_app.specs.Says.{Says, exit_said}
 use Rattle.kbd48_app.specs.Words.{command_of, second_in, third_in}
 use Rattle.kbd48_app.proofs.Certs.{cert_exits}
@@ -46,9 +47,14 @@ never_said said answer never h is =
       | inr same ↦ never (sym (ap exit_said same) ∙ is)
     ]
 
+never_certified : (image text : List ℕ) → exit_said (cert_said image text) ≡ exits.Words → ⊥
+never_certified image text is =
+    elim (cert_exits image text) [ inl done ↦ cc | inr fault ↦ let e : exits.Input ≡ exits.Words = sym (ap exit_said fault.1) ∙ is in cc ]
+
 -- a plan never says that the words have no form
 abbrev Never : Plan → Type 0
 Never (Gives said) = exit_said said ≡ exits.Words → ⊥
+Never (Certifies image text) = Unit {0}
 Never (Runs command layout history) = Unit {0}
 Never (Debugs layout history script) = Unit {0}
 Never (Fetches kind name next) = (bytes : List ℕ) → Never (next bytes)
@@ -72,6 +78,8 @@ never_session None s script answer probes left h is =
 
 never_ends : (p : Plan) → Never p → (shelf after : Option Told) (answer : Answer) (probes left : List Watch) → MayEnd p shelf answer after probes left → exit_said answer ≡ exits.Words → ⊥
 never_ends (Gives said) never shelf after answer probes left h is = never_said said answer never h.0 is
+never_ends (Certifies image text) never shelf after answer probes left h is =
+    never_said (cert_said image text) answer (never_certified image text) h.0.0 is
 never_ends (Runs command layout history) never shelf after answer probes left h is =
     elim h.0 [
       | inl memory ↦ let e : exits.Memory ≡ exits.Words = sym (ap exit_said memory.0) ∙ is in cc
@@ -83,12 +91,8 @@ never_ends (Fetches kind name next) never shelf after answer probes left h is =
     never_by kind answer ((after ≡ option_map after_fetch shelf) × (left ≡ probes)) (λ bytes. MayEnd (next bytes) (option_map after_fetch shelf) answer after probes left)
     (λ bytes more. never_ends (next bytes) (never bytes) (option_map after_fetch shelf) after answer probes left more) h.0 h.2 is
 
-never_certified : (image text : List ℕ) → exit_said (cert_said image text) ≡ exits.Words → ⊥
-never_certified image text is =
-    elim (cert_exits image text) [ inl done ↦ cc | inr fault ↦ let e : exits.Input ≡ exits.Words = sym (ap exit_said fault.1) ∙ is in cc ]
-
 never_image : (second : List ℕ) (outcome : HexOutcome) → Never (with_image (cert_next second) outcome)
-never_image second (Ok image) = never_certified image
+never_image second (Ok image) = λ text. tt
 never_image second (Err fault) = λ is. cc
 
 never_history : (next : KeyLayout → KeyHistory → Plan) → ((layout : KeyLayout) (history : KeyHistory) → Never (next layout history)) → (layout : KeyLayout) (outcome : Result KeyHistory KeyFault) → Never (with_history (next layout) outcome)

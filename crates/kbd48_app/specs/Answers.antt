@@ -1,5 +1,5 @@
 -- How a plan ends over a shelf: with which answer, after which fetches, and how it leaves the probes that are handed in.
-use Rattle.std.specs.Prelude.{◌≡◌, ◌⊎◌, ℕ, ◌≤◌, List, length, None, Some, Ok, Err}
+use Rattle.std.specs.Prelude.{◌≡◌, ◌⊎◌, ℕ, ◌≤◌, List, length, None, Some, Ok, Err, IfOk}
 use Rattle.std.specs.Option.{option_map}
 use Rattle.std.specs.declared.alloc.Global.{Global}
 use Rattle.std.specs.declared.option.Option.{Option}
@@ -16,9 +16,10 @@ use Rattle.kbd48_app.specs.declared.words.RunCommand.{RunCommand}
 use Rattle.key_file.specs.Histories.{KeyHistory}
 use Rattle.layout_reader.specs.Layouts.{KeyLayout}
 use Rattle.fw_debug.specs.Obeyed.{IsObeyed, IsObeyedInPart}
+use Rattle.kbd48_app.specs.CertTexts.{cert_said, IsCertText}
 use Rattle.kbd48_app.specs.Debugging.{script_fault}
 use Rattle.kbd48_app.specs.Kinds.{limit_of}
-use Rattle.kbd48_app.specs.Plans.{Answer, Plan, Gives, Runs, Debugs, Fetches, plan_of}
+use Rattle.kbd48_app.specs.Plans.{Answer, Plan, Gives, Certifies, Runs, Debugs, Fetches, plan_of}
 use Rattle.kbd48_app.specs.RunTexts.{IsRunText, HaveLooked}
 use Rattle.kbd48_app.specs.Words.{command_of}
 
@@ -36,6 +37,10 @@ MayFetch None name limit outcome = IsWithin limit outcome
 -- memory may be wanting where something is said
 abbrev pub MayAnswerOf : Answer → Answer → Type 0
 MayAnswerOf said answer = (answer ≡ Err Memory) ⊎ (answer ≡ said)
+
+-- the same of a certificate for an image; where it is found right, its places keep their bounds
+abbrev pub MayAnswerCert : List ℕ → List ℕ → Answer → Type 0
+MayAnswerCert image text answer = MayAnswerOf (cert_said image text) answer × IfOk answer (IsCertText image text)
 
 -- the same of the run of a layout under a history, at which the probes look
 abbrev pub MayAnswerRun : RunCommand → KeyLayout → KeyHistory → Answer → List Watch → List Watch → Type 0
@@ -72,6 +77,8 @@ IsKept on after probes left = (after ≡ on) × (left ≡ probes)
 -- plan goes on. The probes are left as they are, but by a run and a session
 abbrev pub MayEnd : Plan → Option Told → Answer → Option Told → List Watch → List Watch → Type 0
 MayEnd (Gives said) shelf answer after probes left = MayAnswerOf said answer × IsKept shelf after probes left
+MayEnd (Certifies image text) shelf answer after probes left =
+    MayAnswerCert image text answer × IsKept shelf after probes left
 MayEnd (Runs command layout history) shelf answer after probes left =
     MayAnswerRun command layout history answer probes left × (after ≡ shelf)
 MayEnd (Debugs layout history script) shelf answer after probes left =

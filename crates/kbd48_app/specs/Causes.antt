@@ -20,8 +20,9 @@ use Rattle.kbd48_app.specs.declared.refusal.Refusal.TheVariants as refusals
 use Rattle.kbd48_app.specs.declared.words.Command.{Command}
 use Rattle.kbd48_app.specs.declared.words.Command.TheVariants.{OverFile}
 use Rattle.kbd48_app.specs.declared.words.FileCommand.TheVariants.{Step}
+use Rattle.kbd48_app.specs.CertTexts.{cert_said}
 use Rattle.kbd48_app.specs.Debugging.{script_fault}
-use Rattle.kbd48_app.specs.Plans.{Plan, cert_said}
+use Rattle.kbd48_app.specs.Plans.{Plan}
 use Rattle.kbd48_app.specs.Reached.{IsTooLong, Reads}
 use Rattle.kbd48_app.specs.Stepping.{Stopped, after_steps}
 

@@ -2,13 +2,13 @@ pub mod Words
 pub mod Kinds
 pub mod Exits
 pub mod Refusals
-pub mod Said
 pub mod Stepping
 pub mod Feeding
 pub mod TranslationLaw
 pub mod RunTexts
 pub mod Debugging
 pub mod Plans
+pub mod CertTexts
 pub mod Answers
 pub mod PrintAlike
 pub mod Fetching

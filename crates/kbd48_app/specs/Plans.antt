@@ -1,11 +1,7 @@
 -- What a command does with files: which it asks for, in what order, and what it says of their bytes.
-use Rattle.std.specs.Prelude.{ℕ, List, ◌++◌, Ok, Err, None, Some, codes, decimal}
+use Rattle.std.specs.Prelude.{ℕ, List, Ok, Err, None, Some}
 use Rattle.std.specs.declared.option.Option.{Option}
 use Rattle.std.specs.declared.result.Result.{Result}
-use Rattle.cycle_cert.specs.Answers.{answer_of as certificate_said}
-use Rattle.cycle_cert.specs.Faults.{number_of}
-use Rattle.cycle_cert.specs.declared.checking.Proved.{Proved}
-use Rattle.first_fault.specs.FirstFault.{Fault}
 use Rattle.hexfile.specs.Hex.{HexOutcome, hex_of}
 use Rattle.hexfile.specs.Spelling.{hex_text_of}
 use Rattle.mcs48_asm.specs.Assembly.{assembly_of}
@@ -22,7 +18,7 @@ use Rattle.mcs48_core.specs.StateText.{state_text_of}
 use Rattle.kbd48_app.specs.declared.kind.Kind.{Kind}
 use Rattle.kbd48_app.specs.declared.kind.Kind.TheVariants as kinds
 use Rattle.kbd48_app.specs.declared.refusal.Refusal.{Refusal}
-use Rattle.kbd48_app.specs.declared.refusal.Refusal.TheVariants.{Words, Hex, Asm, Layout, Keys, Cert, Timing}
+use Rattle.kbd48_app.specs.declared.refusal.Refusal.TheVariants.{Words, Hex, Asm, Layout, Keys, Timing}
 use Rattle.kbd48_app.specs.declared.refusal.Refusal.TheVariants.{Stuck, Memory}
 use Rattle.kbd48_app.specs.declared.words.Command.{Command}
 use Rattle.kbd48_app.specs.declared.words.Command.TheVariants.{OverFile, OverPair, Debug, Feed}
@@ -40,10 +36,12 @@ use Rattle.kbd48_app.specs.Stepping.{Progress, Stands, Stopped, after_steps}
 abbrev pub Answer : Type 0
 Answer = Result (List ℕ) Refusal
 
--- a plan says something, or what a command says of the run of a layout under a history, or what a script says in a
--- session over such a run, or it fetches the file of this kind and name, and goes on with the file's bytes
+-- a plan says something, or what is found of a certificate for an image, or what a command says of the run of a layout
+-- under a history, or what a script says in a session over such a run, or it fetches the file of this kind and name,
+-- and goes on with the file's bytes
 pub data Plan : Type 0 where
   Gives : Answer → Plan
+  Certifies : List ℕ → List ℕ → Plan
   Runs : RunCommand → KeyLayout → KeyHistory → Plan
   Debugs : KeyLayout → KeyHistory → List ℕ → Plan
   Fetches : Kind → List ℕ → (List ℕ → Plan) → Plan
@@ -80,23 +78,9 @@ abbrev pub with_image : (List ℕ → Plan) → HexOutcome → Plan
 with_image next (Ok image) = next image
 with_image next (Err fault) = Gives (Err (Hex fault))
 
--- how many places a certificate gives a bound, and the greatest bound
-abbrev pub proved_text : Proved → List ℕ
-proved_text proved =
-    codes "ok places " ++ decimal proved.places ++ codes " greatest " ++ decimal proved.greatest ++ codes "\n"
-
--- what is said of a certificate that was judged by rules with these numbers, or its first fault
-abbrev pub certified : {Rule : Type 0} → (Rule → ℕ) → Result Proved (Fault Rule) → Answer
-certified number (Ok proved) = Ok (proved_text proved)
-certified number (Err fault) = Err (Cert fault.item (number fault.rule))
-
--- what is said of a certificate for an image
-abbrev pub cert_said : List ℕ → List ℕ → Answer
-cert_said image text = certified number_of (certificate_said image text)
-
 -- `cert`: the image comes first, and then the certificate
 abbrev pub cert_next : List ℕ → List ℕ → Plan
-cert_next name image = Fetches kinds.Cert name (λ text. Gives (cert_said image text))
+cert_next name image = Fetches kinds.Cert name (Certifies image)
 
 -- what is fetched for a layout, or the document's first fault
 abbrev pub with_layout : (KeyLayout → Plan) → Result KeyLayout LayoutRefusal → Plan

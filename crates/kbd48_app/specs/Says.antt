@@ -1,11 +1,12 @@
 -- What an answer prints, and how it ends the call.
-use Rattle.std.specs.Prelude.{◌≡◌, ◌⊎◌, ℕ, List, Ok, Err}
+use Rattle.std.specs.Prelude.{◌≡◌, ◌↔◌, ◌⊎◌, ℕ, true, List, Some, Ok, Err, IfSome}
 use Rattle.std.specs.declared.option.Option.{Option}
+use Rattle.io_edge.specs.MemorySink.{HeldBytes}
+use Rattle.io_edge.specs.Said.{TakesAll, TakesPart, said}
 use Rattle.kbd48_app.specs.declared.exit.Exit.{Exit}
 use Rattle.kbd48_app.specs.declared.exit.Exit.TheVariants.{Done, Write}
 use Rattle.kbd48_app.specs.Plans.{Answer}
 use Rattle.kbd48_app.specs.Refusals.{exit_of, line_of}
-use Rattle.kbd48_app.specs.Said.{TakesAll, TakesPart}
 
 -- the exit and the text of an answer
 abbrev pub exit_said : Answer → Exit
@@ -21,3 +22,9 @@ abbrev pub Says : Answer → Option (List ℕ) → Option (List ℕ) → Exit �
 Says answer before after exit =
     ((exit ≡ exit_said answer) × TakesAll before after (text_said answer))
     ⊎ ((exit ≡ Write) × TakesPart before after (text_said answer))
+
+-- a sink that tells itself stands as the text, said to it line by line, leaves it, and the call ends with Write exactly
+-- where a put failed
+abbrev pub ByLines : Option HeldBytes → Option HeldBytes → List ℕ → Exit → Type 0
+ByLines before after text exit =
+    IfSome before (λ sink. (after ≡ Some (said text sink).sink) × ((exit ≡ Write) ↔ ((said text sink).failed ≡ true)))

@@ -1,8 +1,8 @@
 //! `cert`: what a certificate without a fault says.
 
 ghost use Rattle.std.specs.Prelude.{◌≡◌, ◌≤◌, length, IfOk};
-ghost use Rattle.kbd48_app.specs.Answers.{answer_of, MayAnswerOf};
-ghost use Rattle.kbd48_app.specs.Plans.{cert_said, proved_text};
+ghost use Rattle.kbd48_app.specs.Answers.{answer_of, MayAnswerCert};
+ghost use Rattle.kbd48_app.specs.CertTexts.{proved_text};
 
 use crate::refusal::Refusal;
 use cycle_cert::{CertFault, Proved, check_cert};
@@ -25,7 +25,7 @@ fn proved_line(alloc: Global, proved: Proved) -> Result<Vec<u8>, AllocError>
 /// Judges a certificate for an image.
 pub fn certify(alloc: Global, image: &Image, text: &[u8]) -> Result<Vec<u8>, Refusal>
     requires { length text.now ≤ 65536 }
-    ensures says { MayAnswerOf (cert_said image.now.bytes text.now) (answer_of result) }
+    ensures says { MayAnswerCert image.now.bytes text.now (answer_of result) }
 {
     match check_cert(alloc, image, text) {
         Err(CertFault::Line { line, number }) => Err(Refusal::Cert { line, number }),

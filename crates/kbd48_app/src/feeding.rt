@@ -8,24 +8,24 @@ ghost use Rattle.kbd48_app.specs.Feeding.{desk_after_read, said_of_read, items_o
 use crate::refusal::Refusal;
 use ctl_core::{Controller, Received};
 use int09::Bios;
-use pc_tables::{Item, item_text};
+use pc_tables::{Item, push_item};
 use std::alloc::{AllocError, Global};
 
 /// Appends an item's line.
-fn push_item(text: &mut Vec<u8>, alloc: Global, item: Item) -> Result<(), AllocError>
+fn push_line(text: &mut Vec<u8>, item: Item) -> Result<(), AllocError>
     ensures { OnOk result (text.new.items ≡ text.old.items ++ line_of_item item) }
 {
-    text.extend_from_slice(&item_text(alloc, item)?)?;
+    push_item(text, item)?;
     text.push(b'\n')?;
     Ok(())
 }
 
 /// Appends a line an item.
-fn push_items(text: &mut Vec<u8>, alloc: Global, items: &[Item]) -> Result<(), AllocError>
+fn push_lines(text: &mut Vec<u8>, items: &[Item]) -> Result<(), AllocError>
     ensures { OnOk result (text.new.items ≡ text.old.items ++ lines_of items.now) }
 {
     for item in items {
-        push_item(text, alloc, *item)?;
+        push_line(text, *item)?;
     }
     Ok(())
 }
@@ -35,7 +35,6 @@ fn push_items(text: &mut Vec<u8>, alloc: Global, items: &[Item]) -> Result<(), A
 #[tactic(auto, using(crate::proofs::Received::is_put, crate::proofs::Received::is_marked))]
 fn hear(
     text: &mut Vec<u8>,
-    alloc: Global,
     controller: &mut Controller,
     bios: &mut Bios,
     byte: u8,
@@ -48,12 +47,12 @@ fn hear(
 {
     match controller.receive(byte, true) {
         Received::Put => {}
-        Received::Marked | Received::Bad => return Ok(()),
+        Received::Marked | Received::Bad | Received::GaveUp => return Ok(()),
     }
     let code = controller.host_read60();
     let items = bios.feed(code);
-    push_item(text, alloc, Item::Port(code))?;
-    push_items(text, alloc, &items)
+    push_line(text, Item::Port(code))?;
+    push_lines(text, &items)
 }
 
 /// What is said of these bytes, to a controller and an INT 09h at their start.
@@ -64,7 +63,7 @@ fn text_of_bytes(alloc: Global, bytes: &[u8]) -> Result<Vec<u8>, AllocError>
     let mut bios = Bios::new(alloc)?;
     let mut text = Vec::new(alloc);
     for byte in bytes {
-        hear(&mut text, alloc, &mut controller, &mut bios, *byte)?;
+        hear(&mut text, &mut controller, &mut bios, *byte)?;
     }
     Ok(text)
 }

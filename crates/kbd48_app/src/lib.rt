@@ -16,7 +16,6 @@ mod fetching;
 mod kind;
 mod law;
 mod refusal;
-mod saying;
 mod stepping;
 mod telling;
 mod top;

@@ -10,6 +10,7 @@ use crate::kind::Kind;
 use arrayvec::ArrayVec;
 use hexfile::HexFault;
 use mcs48_core::Stuck;
+use short_text::{append, begun};
 
 /// Why a call printed one line in place of its text.
 #[derive(Clone, Copy, Debug, Drop)]
@@ -63,29 +64,11 @@ pub enum Refusal {
 /// A refusal's line. None is longer, and none takes memory.
 pub type Line = ArrayVec<u8, 96>;
 
-/// Appends a text, for which there is room.
-fn append(line: &mut Line, text: &[u8])
-    requires { array_vec_len line.old + length text.now ≤ 96 }
-    ensures { line.new.items ≡ line.old.items ++ text.now }
-{
-    let _ = line.try_extend_from_slice(text);
-}
-
-/// A line that is always the same.
-fn fixed_line(text: &str) -> Line
-    requires { length text.now ≤ 96 }
-    ensures { result.items ≡ text.now }
-{
-    let mut line = Line::new();
-    append(&mut line, text.as_bytes());
-    line
-}
-
 /// `input:` and the kind of the file.
 fn input_line(kind: Kind) -> Line
     ensures { result.items ≡ codes "input: " ++ name_of kind }
 {
-    let mut line = fixed_line("input: ");
+    let mut line = begun(b"input: ");
     append(&mut line, kind.name().as_bytes());
     line
 }
@@ -117,7 +100,7 @@ fn fault_line(kind: Kind, unit: &str, at: u32, number: u8) -> Line
 fn timing_line(line: u32, number: u8, first: u64, second: u64) -> Line
     ensures { result.items ≡ timing_line line number first second }
 {
-    let mut text = fixed_line("timing: line ");
+    let mut text = begun(b"timing: line ");
     append(&mut text, itoa::Buffer::new().format(line).as_bytes());
     append(&mut text, b" fault ");
     append(&mut text, itoa::Buffer::new().format(number).as_bytes());
@@ -133,7 +116,7 @@ fn timing_line(line: u32, number: u8, first: u64, second: u64) -> Line
 fn stuck_line(stuck: Stuck) -> Line
     ensures { result.items ≡ line_of (Refusal.Stuck stuck) }
 {
-    let mut line = fixed_line("stuck: pc ");
+    let mut line = begun(b"stuck: pc ");
     append(&mut line, &hex_text::address(stuck.pc));
     append(&mut line, b" byte ");
     append(&mut line, &hex_text::byte(stuck.byte));
@@ -167,8 +150,8 @@ impl Refusal {
         ensures line { result.items ≡ line_of self.now }
     {
         match self {
-            Refusal::Words => fixed_line("words: not a command of kbd48\n"),
-            Refusal::Read => fixed_line("read: the shelf failed\n"),
+            Refusal::Words => begun(b"words: not a command of kbd48\n"),
+            Refusal::Read => begun(b"read: the shelf failed\n"),
             Refusal::TooLong(kind) => long_line(*kind),
             Refusal::Hex(fault) => fault_line(Kind::Hex, " line ", fault.line, fault.number),
             Refusal::Asm { line, number } => fault_line(Kind::Asm, " line ", *line, *number),
@@ -188,7 +171,7 @@ impl Refusal {
                 second,
             } => timing_line(*line, *number, *first, *second),
             Refusal::Stuck(stuck) => stuck_line(*stuck),
-            Refusal::Memory => fixed_line("memory: none left\n"),
+            Refusal::Memory => begun(b"memory: none left\n"),
         }
     }
 }

@@ -1,6 +1,7 @@
 //! `step`: a run of the processor from reset, with all pins high.
 
-ghost use Rattle.std.specs.Prelude.{◌≡◌, MatchResult};
+ghost use Rattle.std.specs.Prelude.{◌≡◌, MatchResult, Ok};
+ghost use Rattle.mcs48_core.specs.StateText.{state_text_of};
 ghost use Rattle.kbd48_app.specs.Answers.{answer_of, MayAnswerOf};
 ghost use Rattle.kbd48_app.specs.Plans.{run_said};
 ghost use Rattle.kbd48_app.specs.Stepping.{after_steps, Stands, Stopped};
@@ -45,14 +46,19 @@ fn run(image: &Image, count: u32) -> Result<Ran, Stuck>
     Ok(Ran { mcu, cycles })
 }
 
+/// The text of the state at which a run stands after so many steps.
+fn shown(alloc: Global, ran: &Ran, steps: u64) -> Result<Vec<u8>, Refusal>
+    ensures says { MayAnswerOf (Ok (state_text_of ran.now.mcu steps ran.now.cycles)) (answer_of result) }
+{
+    state_text(alloc, &ran.mcu, steps, ran.cycles).map_err(|_| Refusal::Memory)
+}
+
 /// The state after so many steps of an image from reset.
 pub fn step(alloc: Global, image: &Image, count: u32) -> Result<Vec<u8>, Refusal>
     ensures says { MayAnswerOf (run_said count (after_steps image.now.bytes count)) (answer_of result) }
 {
     match run(image, count) {
         Err(stuck) => Err(Refusal::Stuck(stuck)),
-        Ok(ran) => state_text(alloc, &ran.mcu, u64::from(count), ran.cycles).map_err(
-            |_| Refusal::Memory,
-        ),
+        Ok(ran) => shown(alloc, &ran, u64::from(count)),
     }
 }

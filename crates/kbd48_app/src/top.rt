@@ -1,8 +1,9 @@
 //! The top call.
 
-ghost use Rattle.std.specs.Prelude.{◌≡◌, ℕ, ◌-◌, ◌^◌, ◌<◌, ◌⊎◌, length, map, string_bytes, true, None, Err, IfSome};
+ghost use Rattle.std.specs.Prelude.{◌≡◌, ℕ, ◌-◌, ◌^◌, ◌<◌, ◌⊎◌, List, length, map, string_bytes, true, false, None, Some, Err, IfSome};
 ghost use Rattle.hexfile.specs.declared.fault.HexFault.{HexFault};
 ghost use Rattle.io_edge.specs.Faults.{Rose};
+ghost use Rattle.io_edge.specs.Said.{TakesAll, TakesPart, said};
 ghost use Rattle.layout_reader.specs.Faults.{Refusal as LayoutRefusal};
 ghost use Rattle.kbd48_app.specs.declared.kind.Kind.{Kind};
 ghost use Rattle.kbd48_app.specs.Answers.{answer_of, MayAnswer};
@@ -12,16 +13,14 @@ ghost use Rattle.kbd48_app.specs.Causes.{MayExit};
 ghost use Rattle.kbd48_app.specs.Complete.{IsFaultless, IsLeft};
 ghost use Rattle.kbd48_app.specs.Plans.{Answer, plan};
 ghost use Rattle.kbd48_app.specs.Reached.{IsTooLong, IsUnserved, fetches_of, Makes, may_lack};
-ghost use Rattle.kbd48_app.specs.Said.{ByLines, TakesAll, TakesPart};
-ghost use Rattle.kbd48_app.specs.Says.{Says, text_said};
+ghost use Rattle.kbd48_app.specs.Says.{ByLines, Says, text_said};
 ghost use Rattle.kbd48_app.specs.Words.{command_of, is_without_run};
 
 use crate::answering::answer;
 use crate::exit::Exit;
 use crate::refusal::Refusal;
-use crate::saying::say;
 use fw_debug::Probe;
-use io_edge::{Shelf, Sink};
+use io_edge::{Shelf, Sink, say};
 use std::alloc::Global;
 
 /// Prints a text, and ends with this exit, or with `Write` where the sink fails.
@@ -31,7 +30,9 @@ fn print<K: Sink>(out: &mut K, text: &[u8], exit: Exit) -> Exit
     ensures write { (result ≡ exit) ⊎ Rose (K.faults out.old) (K.faults out.new) }
     ensures exits { (result ≡ exit) ⊎ (result ≡ Exit.Write) }
     ensures put_failed { K.faults out.old < K.faults out.new → result ≡ Exit.Write }
-    ensures lines { ByLines (K.told out.old) (K.told out.new) text.now }
+    ensures after { IfSome (K.told out.old) (λ sink. K.told out.new ≡ Some (said text.now sink).sink) }
+    ensures one_failed { IfSome (K.told out.old) (λ sink. (said text.now sink).failed ≡ true → result ≡ Exit.Write) }
+    ensures none_failed { IfSome (K.told out.old) (λ sink. (result ≡ exit) ⊎ ((said text.now sink).failed ≡ true)) }
 {
     match say(out, text) {
         Ok(()) => exit,
@@ -45,7 +46,7 @@ fn conclude<K: Sink>(out: &mut K, answer: &Result<Vec<u8>, Refusal>) -> Exit
     ensures read { result ≡ Exit.Read → answer.now ≡ Err Refusal.Read }
     ensures write { result ≡ Exit.Write → Rose (K.faults out.old) (K.faults out.new) }
     ensures put_failed { K.faults out.old < K.faults out.new → result ≡ Exit.Write }
-    ensures lines { ByLines (K.told out.old) (K.told out.new) (text_said (answer_of answer.now)) }
+    ensures lines { ByLines (K.told out.old) (K.told out.new) (text_said (answer_of answer.now)) result }
 {
     match answer {
         Ok(text) => print(out, text, Exit::Done),
@@ -57,8 +58,8 @@ fn conclude<K: Sink>(out: &mut K, answer: &Result<Vec<u8>, Refusal>) -> Exit
 ///
 /// Words outside the accepted forms are refused first. Then the files that the words name are fetched and judged, in
 /// the order of the words, each before the next is fetched; the first refusal ends the call. All that is said goes to
-/// the sink line by line, each line offered whole in one `put`. A sink that fails ends the call with `Write`; want of
-/// memory with `Memory`, which never comes for words outside the forms.
+/// the sink line by line: each line is offered whole in one `put`, and what that didn't take of it again. A sink that
+/// fails ends the call with `Write`; want of memory with `Memory`, which never comes for words outside the forms.
 ///
 /// At each step of the run of `run` and `expect` each probe looks once. `debug` obeys a script with them. Nothing else
 /// is done with them.
@@ -70,11 +71,11 @@ pub fn kbd48<F: Shelf, K: Sink>(
     probes: &mut Vec<Box<dyn Probe>>,
 ) -> Exit
     // What is printed, and how the probes are left: the text of an answer that the words, the shelf and the probes may
-    // give, each line whole in one put.
+    // give, put line by line.
     ensures says { let before = map (λ b. watch b) probes.old.items in let after = map (λ b. watch b) probes.new.items in
         (answer : Answer) × MayAnswer (map string_bytes words.now) (F.told shelf.old) answer (F.told shelf.new) before after
         × Says answer (K.taken out.old) (K.taken out.new) result
-        × ByLines (K.told out.old) (K.told out.new) (text_said answer) }
+        × ByLines (K.told out.old) (K.told out.new) (text_said answer) result }
     // The probes: words without a run leave them as they are.
     ensures untouched { is_without_run (command_of (map string_bytes words.now)) ≡ true
         → map (λ b. watch b) probes.new.items ≡ map (λ b. watch b) probes.old.items }
@@ -128,6 +129,11 @@ pub fn kbd48<F: Shelf, K: Sink>(
     ensures complete { IsFaultless (length probes.old.items) (map string_bytes words.now) (F.told shelf.old)
         → K.faults out.new ≡ K.faults out.old → K.faults out.old < 2 ^ 64 - 1
         → IsLeft (command_of (map string_bytes words.now)) result }
+    // The same, of a sink that tells itself, where no put of what was said failed.
+    ensures complete_told { IfSome (K.told out.old) (λ sink.
+        IsFaultless (length probes.old.items) (map string_bytes words.now) (F.told shelf.old)
+        → (text : List ℕ) × (K.told out.new ≡ Some (said text sink).sink)
+        × ((said text sink).failed ≡ false → IsLeft (command_of (map string_bytes words.now)) result)) }
     // The fetches: those that the words come to, in their order, and no others.
     ensures fetches { IfSome (F.told shelf.old) (λ told.
         Makes (fetches_of (plan (map string_bytes words.now)) told) told (F.told shelf.new) result) }

@@ -2,11 +2,11 @@
 
 use crate::rows::{Row, check};
 use fw_kernel::labels::{
-    AGAIN, BEGIN, BEGINS, CLEAR, COLUMN, COMMAND, CUT, DEFAULT, DONE, DROP, EDGE, EDGES, ENDS,
-    ENTER, ENTER2, ENTERED, FIRE, FOOT, GOT, IDLE, INHIBITED, LAMPS, LOOKS, MORE, MOVED, O_DUE,
-    OFFER, PARAMETER, POWER, PRESS, PULLED, R_ACK, R_CELL, R_PARITY, R_STOP, READ, READY, RECEIVE,
-    RELEASE, REPEAT, RESET, REST, ROW, ROWS, S_CELL, S_STOP, SCAN, SEND, SENT, START, TESTED,
-    TESTING, TICK, WAIT, WAITING,
+    AGAIN, BEGIN, BEGINS, BLANK, CLEAR, COLUMN, COMMAND, CUT, DEFAULT, DONE, DROP, EDGE, EDGES,
+    ENDS, ENTER, ENTER2, ENTERED, FIRE, FN_DOWN, FN_UP, FOOT, GOT, IDLE, INHIBITED, LAMPS, LAYERS,
+    LOOKS, MORE, MOVED, O_DUE, OFFER, PARAMETER, POWER, PRESS, PULLED, R_ACK, R_CELL, R_PARITY,
+    R_STOP, READ, READY, RECEIVE, RELEASE, REPEAT, RESET, REST, ROW, ROWS, S_CELL, S_STOP, SCAN,
+    SEND, SENT, SILENT, START, TESTED, TESTING, TICK, WAIT, WAITING,
 };
 use fw_kernel::{KERNEL, SOURCE};
 use kbd48_app::Exit;
@@ -14,7 +14,7 @@ use mcs48_asm::assemble;
 use std::test::Fail;
 
 /// Layouts that are refused, each with its first fault.
-static REFUSED: [Row; 14] = [
+static REFUSED: [Row; 16] = [
     Row {
         words: &["compile", "f"],
         file: "format = 1\n[[key]]\nkey = \"a\"\ncolumn = 0\nrow = 0\n[[key]]\nkey = \"s\"\ncolumn = 0\nrow = 0\n",
@@ -35,7 +35,7 @@ static REFUSED: [Row; 14] = [
     },
     Row {
         words: &["compile", "f"],
-        file: "format = 2\n[[key]]\nkey = \"a\"\ncolumn = 0\nrow = 0\n",
+        file: "format = 3\n[[key]]\nkey = \"a\"\ncolumn = 0\nrow = 0\n",
         exit: Exit::Input,
         text: "input: layout entry 0 fault 5\n",
     },
@@ -57,10 +57,24 @@ static REFUSED: [Row; 14] = [
         exit: Exit::Input,
         text: "input: layout entry 0 fault 9\n",
     },
+    // The Fn key sends nothing, and doesn't say how.
+    Row {
+        words: &["compile", "f"],
+        file: "format = 2\n[[key]]\nkey = \"sysreq\"\ncolumn = 0\nrow = 0\nfn = true\nmake_only = false\n",
+        exit: Exit::Input,
+        text: "input: layout entry 1 fault 13\n",
+    },
+    // The first format has no Fn key.
+    Row {
+        words: &["compile", "f"],
+        file: "format = 1\n[[key]]\nkey = \"sysreq\"\ncolumn = 0\nrow = 0\nfn = true\n",
+        exit: Exit::Input,
+        text: "input: layout entry 1 fault 2\n",
+    },
     // Of two faults the one that is judged first.
     Row {
         words: &["compile", "f"],
-        file: "format = 2\nkey = 1\n",
+        file: "format = 3\nkey = 1\n",
         exit: Exit::Input,
         text: "input: layout entry 0 fault 4\n",
     },
@@ -134,7 +148,7 @@ fn the_source_is_the_kernels(rt: HostRuntime) -> Result<(), Fail> {
 }
 
 /// The labels' names and places.
-static LABELS: [(&str, u16); 55] = [
+static LABELS: [(&str, u16); 60] = [
     ("tick", TICK),
     ("read", READ),
     ("offer", OFFER),
@@ -174,19 +188,24 @@ static LABELS: [(&str, u16); 55] = [
     ("again", AGAIN),
     ("rest", REST),
     ("power", POWER),
+    ("blank", BLANK),
     ("edges", EDGES),
     ("column", COLUMN),
     ("more", MORE),
     ("done", DONE),
     ("moved", MOVED),
+    ("layers", LAYERS),
     ("rows", ROWS),
     ("row", ROW),
     ("edge", EDGE),
     ("press", PRESS),
     ("begins", BEGINS),
     ("enter", ENTER),
+    ("fn_down", FN_DOWN),
+    ("fn_up", FN_UP),
     ("release", RELEASE),
     ("ends", ENDS),
+    ("silent", SILENT),
     ("enter2", ENTER2),
     ("entered", ENTERED),
     ("foot", FOOT),

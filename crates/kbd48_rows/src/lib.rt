@@ -5,6 +5,8 @@
 #![tactic(auto)]
 
 #[cfg(test)]
+mod any_memory;
+#[cfg(test)]
 mod assembling;
 #[cfg(test)]
 mod certifying;
@@ -17,9 +19,15 @@ mod kernel;
 #[cfg(test)]
 mod keys;
 #[cfg(test)]
+mod layers;
+#[cfg(test)]
 mod listing;
 #[cfg(test)]
+mod noise;
+#[cfg(test)]
 mod probing;
+#[cfg(test)]
+mod putting;
 #[cfg(test)]
 mod rows;
 #[cfg(test)]

@@ -67,7 +67,22 @@ pub fn run_with(
     Ok(Outcome { exit, sink })
 }
 
-/// The same with a probe of each kind, in the order of the program.
+/// Runs the program over this shelf and this sink, with a probe of each kind, in the order of the program.
+pub fn run_into(
+    alloc: Global,
+    words: &[&str],
+    shelf: &mut MemShelf,
+    mut sink: MemSink,
+) -> Result<Outcome, AllocError> {
+    let mut probes: Vec<Box<dyn Probe>> = Vec::new(alloc);
+    probes.push(Box::new(alloc, AddressProbe::new())?)?;
+    probes.push(Box::new(alloc, RegisterProbe::new())?)?;
+    probes.push(Box::new(alloc, CellProbe::new())?)?;
+    let exit = kbd48(alloc, &owned(alloc, words)?, shelf, &mut sink, &mut probes);
+    Ok(Outcome { exit, sink })
+}
+
+/// The same over a sink of so much room, of which the puts with these numbers fail.
 pub fn run(
     alloc: Global,
     words: &[&str],
@@ -75,11 +90,8 @@ pub fn run(
     room: usize,
     fails: &[u32],
 ) -> Result<Outcome, AllocError> {
-    let mut probes: Vec<Box<dyn Probe>> = Vec::new(alloc);
-    probes.push(Box::new(alloc, AddressProbe::new())?)?;
-    probes.push(Box::new(alloc, RegisterProbe::new())?)?;
-    probes.push(Box::new(alloc, CellProbe::new())?)?;
-    run_with(alloc, words, shelf, room, fails, &mut probes)
+    let sink = MemSink::new(alloc, room, Vec::from_slice(alloc, fails)?)?;
+    run_into(alloc, words, shelf, sink)
 }
 
 impl Outcome {

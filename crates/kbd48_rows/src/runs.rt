@@ -36,14 +36,14 @@ fn shelf_for(
 }
 
 /// What the words come to over the sample layout and this key file.
-fn outcome_of(alloc: Global, words: &[&str], keys: &[u8]) -> Result<Outcome, AllocError> {
+pub fn outcome_of(alloc: Global, words: &[&str], keys: &[u8]) -> Result<Outcome, AllocError> {
     let layout = sample_layout(alloc)?;
     let mut shelf = shelf_for(alloc, layout.as_str(), keys, &[])?;
     run(alloc, words, &mut shelf, 8192, &[])
 }
 
 /// Runs each key file, or asks the model, and compares what is printed with the log beside it.
-fn check(
+pub fn check(
     rt: &impl Abort,
     alloc: Global,
     command: &str,

@@ -2,6 +2,7 @@
 use Rattle.std.proofs.Common.{◌≡◌, ℕ, ◌+◌, ◌==◌, Bool, true, false, not, ◌&&◌, ◌||◌, List, [], ◌∷◌, ◌++◌, length, Some, None, refl, ap, sym, ◌∙◌, append_assoc, append-nil}
 use Rattle.std.specs.Prelude.{if◌then◌else◌, nat_lt, slice_get}
 use Rattle.std.specs.declared.option.Option.{Option}
+use Rattle.kbd_model.specs.declared.edge.TickEdge.{TickEdge}
 use Rattle.kbd_model.specs.declared.meeting.Meeting.{Meeting}
 use Rattle.kbd_model.specs.declared.meeting.Meeting.TheVariants.{Cut}
 use Rattle.kbd_model.specs.declared.state.Repeat.{Repeat}
@@ -58,10 +59,10 @@ entered : (code : List ℕ) (q : KeyQueue) → IsBehind (queued q) (queued (ente
 entered code q = entered_by code q q.overrun (nat_lt 16 (length q.bytes + length code)) refl
 
 -- steps that change neither the reply nor a due AA, and add to the queue
-record Adds (before after : Keyboard) : Type 0 where
-  reply : after.reply ≡ before.reply
-  aa_due : after.aa_due ≡ before.aa_due
-  queue : IsBehind (queued before.queue) (queued after.queue)
+pub record Adds (before after : Keyboard) : Type 0 where
+  pub reply : after.reply ≡ before.reply
+  pub aa_due : after.aa_due ≡ before.aa_due
+  pub queue : IsBehind (queued before.queue) (queued after.queue)
 
 -- steps that leave all three as they were
 nothing_added : (a b : Keyboard) → b.reply ≡ a.reply → b.aa_due ≡ a.aa_due → b.queue ≡ a.queue → Adds a b
@@ -88,8 +89,8 @@ repeat_adds (Some r) keys inhibited k =
     record { reply = refl; aa_due = refl; queue = entered_if ((r.count == 1) && not inhibited) }
   where
     entered_if : (c : Bool)
-        → IsBehind (queued k.queue) (queued (if c then enter (make (keys.code r.place)) k.queue else k.queue))
-    entered_if true = entered (make (keys.code r.place)) k.queue
+        → IsBehind (queued k.queue) (queued (if c then enter (make (keys.code r.on_fn r.place)) k.queue else k.queue))
+    entered_if true = entered (make (keys.code r.on_fn r.place)) k.queue
     entered_if false = none_behind (queued k.queue)
 
 -- where scanning is on, and where it is off
@@ -99,24 +100,31 @@ repeats_add true keys inhibited k = repeat_adds k.repeats keys inhibited k
 repeats_add false keys inhibited k = nothing_added k (record k { repeats = None }) refl refl refl
 
 -- the edges
-edge_adds : (scanning : Bool) (keys : Keys) (place : ℕ) (down : Bool) (k : Keyboard)
-    → Adds k (edge_if scanning keys place down k)
-edge_adds true keys place true k =
-    record { reply = refl; aa_due = refl; queue = entered (make (keys.code place)) k.queue }
-edge_adds true keys place false k =
-    record { reply = refl; aa_due = refl; queue = entered (release (keys.code place)) k.queue }
-edge_adds false keys place down k = nothing_added k (edge_if false keys place down k) refl refl refl
+entered_unless : (silent : Bool) (code : List ℕ) (q : KeyQueue) → IsBehind (queued q) (queued (if silent then q else enter code q))
+entered_unless true code q = none_behind (queued q)
+entered_unless false code q = entered code q
+
+edge_adds : (scanning : Bool) (keys : Keys) (place : ℕ) (down on_fn : Bool) (k : Keyboard)
+    → Adds k (edge_if scanning keys place down on_fn k)
+edge_adds true keys place true on_fn k =
+    record { reply = refl; aa_due = refl; queue = entered_unless (keys.is_fn place) (make (keys.code on_fn place)) k.queue }
+edge_adds true keys place false on_fn k = record {
+  reply = refl;
+  aa_due = refl;
+  queue = entered_unless (keys.is_fn place || keys.make_only place) (release (keys.code on_fn place)) k.queue;
+}
+edge_adds false keys place down on_fn k = nothing_added k (edge_if false keys place down on_fn k) refl refl refl
 
 -- all edges, one after another
-edges_add : (scanning : Bool) (keys : Keys) (edges : List (ℕ × Bool)) (k : Keyboard)
+edges_add : (scanning : Bool) (keys : Keys) (edges : List TickEdge) (k : Keyboard)
     → Adds k (edges_if scanning keys edges k)
 edges_add scanning keys [] k = nothing_added k k refl refl refl
 edges_add scanning keys (e ∷ es) k =
-    let k' : Keyboard = edge_if scanning keys e.0 e.1 k in
-    both_add k k' (edges_if scanning keys es k') (edge_adds scanning keys e.0 e.1 k) (edges_add scanning keys es k')
+    let k' : Keyboard = edge_if scanning keys e.place e.down e.on_fn k in
+    both_add k k' (edges_if scanning keys es k') (edge_adds scanning keys e.place e.down e.on_fn k) (edges_add scanning keys es k')
 
 -- steps 4 and 5
-scans_add : (keys : Keys) (inhibited : Bool) (edges : List (ℕ × Bool)) (k : Keyboard)
+pub scans_add : (keys : Keys) (inhibited : Bool) (edges : List TickEdge) (k : Keyboard)
     → Adds k (scanned keys inhibited edges k)
 scans_add keys inhibited edges k =
     let on : Bool = is_scanning k in
@@ -133,7 +141,7 @@ tests true k = record { reply = refl; aa_due = due (k.test == 1); queue = none_b
     due false h = h
 
 -- steps 3 to 5
-pub rest_adds : (keys : Keys) (meeting : Meeting) (edges : List (ℕ × Bool)) (k : Keyboard)
+pub rest_adds : (keys : Keys) (meeting : Meeting) (edges : List TickEdge) (k : Keyboard)
     → OnlyAdds (met meeting keys k) (ticked keys meeting edges k)
 rest_adds keys meeting edges k =
     let a : Keyboard = met meeting keys k in
@@ -162,7 +170,7 @@ in_line a b h =
     }
 
 -- where the test had ended, step 3 does nothing
-pub stays_in_line : (keys : Keys) (meeting : Meeting) (edges : List (ℕ × Bool)) (k : Keyboard) → k.test ≡ 0
+pub stays_in_line : (keys : Keys) (meeting : Meeting) (edges : List TickEdge) (k : Keyboard) → k.test ≡ 0
     → IsBehind (waiting (met meeting keys k)) (waiting (ticked keys meeting edges k))
 stays_in_line keys meeting edges k e =
     let a : Keyboard = met meeting keys k in
@@ -177,7 +185,7 @@ first_of_more [] more byte e = absurd cc
 first_of_more (x ∷ xs) more byte e = e
 
 -- so a byte that was cut off is the first that waits
-pub cut_is_offered : (keys : Keys) (edges : List (ℕ × Bool)) (k : Keyboard) (byte : ℕ) → k.test ≡ 0
+pub cut_is_offered : (keys : Keys) (edges : List TickEdge) (k : Keyboard) (byte : ℕ) → k.test ≡ 0
     → offer k ≡ Some byte → offer (ticked keys Cut edges k) ≡ Some byte
 cut_is_offered keys edges k byte e o =
     let h : IsBehind (waiting k) (waiting (ticked keys Cut edges k)) = stays_in_line keys Cut edges k e in

@@ -69,7 +69,7 @@ record Keeps (byte : ℕ) (k k' : Keyboard) : Type 0 where
   aa_due : k'.aa_due ≡ k.aa_due
   reply : IsSome k'.reply
 
-either : (P : Keyboard → Type 0) (t : Bool) (a b : Keyboard) → (t ≡ true → P a) → (t ≡ false → P b) → P (if t then a else b)
+pub either : (P : Keyboard → Type 0) (t : Bool) (a b : Keyboard) → (t ≡ true → P a) → (t ≡ false → P b) → P (if t then a else b)
 either P true a b f g = f refl
 either P false a b f g = g refl
 

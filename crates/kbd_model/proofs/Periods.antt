@@ -1,5 +1,5 @@
 -- A period is a byte: eight to fifteen, doubled at most three times.
-use Rattle.std.proofs.Common.{◌≡◌, ℕ, zero, suc, ◌+◌, ◌*◌, ◌/◌, ◌%◌, ◌^◌, ◌<◌, ◌≤◌, Fits, w8, arith}
+use Rattle.std.proofs.Common.{◌≡◌, ℕ, zero, suc, ◌*◌, ◌%◌, ◌^◌, ◌<◌, ◌≤◌, arith}
 
 pub doubled : (a b : ℕ) → a ≤ 15 → b < 4 → (a * 2 ^ b % 4294967296 ≡ a * 2 ^ b) × (a * 2 ^ b ≤ 120)
 doubled a zero h k = (omega arith, omega arith)

@@ -1,7 +1,7 @@
 -- Codes are whole in the queue: a started break has its code first, and F0 has its code behind it.
 use Rattle.std.proofs.Common.{◌≡◌, ◌<◌, ℕ, ◌+◌, List, [], ◌∷◌, ◌++◌, length, Bool, true, false, not, ◌&&◌, ◌||◌, ◌==◌, nat_lt, refl, ap, sym, ◌∙◌, arith}
 use Rattle.kbd_model.specs.Queue.{KeyQueue, empty, enter, drop_first, without_first, clear, kept}
-use Rattle.kbd_model.specs.Laws.{QueueStep, Enters, Drops, Clears, stepped, after, whole, enters_codes}
+use Rattle.kbd_model.specs.Laws.{QueueStep, Enters, Drops, Clears, after, whole, enters_codes}
 
 abbrev pub IsWhole : KeyQueue → Type 0
 IsWhole q = whole q.break_started q.bytes ≡ true

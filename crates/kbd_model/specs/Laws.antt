@@ -1,7 +1,6 @@
 -- Laws of the key queue, over any steps in any order.
 use Rattle.std.specs.Prelude.{◌≡◌, ◌≤◌, ℕ, ◌+◌, ◌==◌, nat_lt, Bool, true, false, not, ◌&&◌, ◌||◌, if◌then◌else◌}
 use Rattle.std.specs.Prelude.{List, [], ◌∷◌, ◌++◌, length, take, drop}
-use Rattle.kbd_model.specs.Codes.{make, release}
 use Rattle.kbd_model.specs.Queue.{KeyQueue, empty, enter, drop_first, clear}
 
 pub data QueueStep : Type 0 where

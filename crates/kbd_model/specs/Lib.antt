@@ -1,4 +1,5 @@
 pub mod Codes
+pub mod Layers
 pub mod Queue
 pub mod Typematic
 pub mod Keyboard

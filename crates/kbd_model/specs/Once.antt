@@ -2,6 +2,7 @@
 use Rattle.std.specs.Prelude.{◌≡◌, ℕ, ◌==◌, Bool, true, false, ◌&&◌, ◌||◌, if◌then◌else◌, List, [], ◌∷◌, ◌++◌}
 use Rattle.std.specs.Prelude.{Some, None, IsSome, slice_get}
 use Rattle.std.specs.declared.option.Option.{Option}
+use Rattle.kbd_model.specs.declared.edge.TickEdge.{TickEdge}
 use Rattle.kbd_model.specs.declared.meeting.Meeting.{Meeting}
 use Rattle.kbd_model.specs.declared.meeting.Meeting.TheVariants.{Got, Inhibited, Idle, Sent, Cut}
 use Rattle.kbd_model.specs.declared.state.Reply.{Reply}
@@ -76,17 +77,17 @@ pub record OnlyAdds (before after : Keyboard) : Type 0 where
 
 abbrev pub RestAdds : Type 0
 RestAdds =
-    (keys : Keys) (meeting : Meeting) (edges : List (ℕ × Bool)) (k : Keyboard)
+    (keys : Keys) (meeting : Meeting) (edges : List TickEdge) (k : Keyboard)
     → OnlyAdds (met meeting keys k) (ticked keys meeting edges k)
 
 -- where the test had ended nothing gets ahead of what waits
 abbrev pub StaysInLine : Type 0
 StaysInLine =
-    (keys : Keys) (meeting : Meeting) (edges : List (ℕ × Bool)) (k : Keyboard) → k.test ≡ 0
+    (keys : Keys) (meeting : Meeting) (edges : List TickEdge) (k : Keyboard) → k.test ≡ 0
     → IsBehind (waiting (met meeting keys k)) (waiting (ticked keys meeting edges k))
 
 -- so a byte that was cut off is offered again
 abbrev pub CutIsOffered : Type 0
 CutIsOffered =
-    (keys : Keys) (edges : List (ℕ × Bool)) (k : Keyboard) (byte : ℕ) → k.test ≡ 0 → offer k ≡ Some byte
+    (keys : Keys) (edges : List TickEdge) (k : Keyboard) (byte : ℕ) → k.test ≡ 0 → offer k ≡ Some byte
     → offer (ticked keys Cut edges k) ≡ Some byte

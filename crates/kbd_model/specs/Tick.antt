@@ -1,8 +1,9 @@
 -- A tick of the keyboard: five steps, in this order.
-use Rattle.std.specs.Prelude.{◌≡◌, ℕ, ◌-◌, ◌==◌, Bool, true, false, not, ◌&&◌, if◌then◌else◌}
+use Rattle.std.specs.Prelude.{ℕ, ◌-◌, ◌==◌, Bool, true, false, not, ◌&&◌, ◌||◌, if◌then◌else◌}
 use Rattle.std.specs.Prelude.{List, [], ◌∷◌, Some, None, IsSome}
 use Rattle.std.specs.declared.option.Option.{Option}
 use Rattle.board_lines.specs.Matrix.{turned}
+use Rattle.kbd_model.specs.declared.edge.TickEdge.{TickEdge}
 use Rattle.kbd_model.specs.declared.meeting.Meeting.{Meeting}
 use Rattle.kbd_model.specs.declared.meeting.Meeting.TheVariants.{Got, Inhibited, Idle, Sent, Cut}
 use Rattle.kbd_model.specs.declared.state.Mode.{Mode}
@@ -63,12 +64,12 @@ is_ready WantLights = false
 abbrev pub is_scanning : Keyboard → Bool
 is_scanning k = k.enabled && is_ready k.mode && (k.test == 0)
 
--- step 4: the key that repeats has a tick less to wait; in its last it is entered, unless the line is inhibited, and
--- waits a period
+-- step 4: the key that repeats has a tick less to wait; in its last it is entered, in the layer of its press, unless the
+-- line is inhibited, and waits a period
 abbrev pub repeated : Option Repeat → Keys → Bool → Keyboard → Keyboard
 repeated (Some r) keys inhibited k = record k {
-  repeats = Some (record { place = r.place; count = if r.count == 1 then period k.rate else r.count - 1 });
-  queue = if (r.count == 1) && not inhibited then enter (make (keys.code r.place)) k.queue else k.queue;
+  repeats = Some (record r { count = if r.count == 1 then period k.rate else r.count - 1 });
+  queue = if (r.count == 1) && not inhibited then enter (make (keys.code r.on_fn r.place)) k.queue else k.queue;
 }
 repeated None keys inhibited k = k
 
@@ -82,25 +83,28 @@ abbrev pub ended_at : ℕ → Option Repeat → Option Repeat
 ended_at place (Some r) = if r.place == place then None else Some r
 ended_at place None = None
 
--- an edge, by its place and whether the key went down, changes what is held. Where scanning is on, a press enters the
--- make and is the key that repeats; a release enters the break
-abbrev pub edge_if : Bool → Keys → ℕ → Bool → Keyboard → Keyboard
-edge_if true keys place true k = record k {
+-- an edge, by its place, whether the key went down, and its layer, changes what is held; one of the Fn key does no
+-- more. Where scanning is on, a press enters the make and is the key that repeats; a release enters the break, which a
+-- make-only key hasn't
+abbrev pub edge_if : Bool → Keys → ℕ → Bool → Bool → Keyboard → Keyboard
+edge_if true keys place true on_fn k = record k {
   held = turned place true k.held;
-  queue = enter (make (keys.code place)) k.queue;
-  repeats = Some (record { place = place; count = delay k.rate });
+  queue = if keys.is_fn place then k.queue else enter (make (keys.code on_fn place)) k.queue;
+  repeats =
+      if keys.is_fn place then k.repeats else Some (record { place = place; count = delay k.rate; on_fn = on_fn });
 }
-edge_if true keys place false k = record k {
+edge_if true keys place false on_fn k = record k {
   held = turned place false k.held;
-  queue = enter (release (keys.code place)) k.queue;
-  repeats = ended_at place k.repeats;
+  queue =
+      if keys.is_fn place || keys.make_only place then k.queue else enter (release (keys.code on_fn place)) k.queue;
+  repeats = if keys.is_fn place then k.repeats else ended_at place k.repeats;
 }
-edge_if false keys place down k = record k { held = turned place down k.held }
+edge_if false keys place down on_fn k = record k { held = turned place down k.held }
 
 -- the edges in their order
-abbrev pub edges_if : Bool → Keys → List (ℕ × Bool) → Keyboard → Keyboard
+abbrev pub edges_if : Bool → Keys → List TickEdge → Keyboard → Keyboard
 edges_if scanning keys [] k = k
-edges_if scanning keys (edge ∷ edges) k = edges_if scanning keys edges (edge_if scanning keys edge.0 edge.1 k)
+edges_if scanning keys (e ∷ edges) k = edges_if scanning keys edges (edge_if scanning keys e.place e.down e.on_fn k)
 
 -- steps 4 and 5: whether scanning is on is judged once
 abbrev pub is_inhibited : Meeting → Bool
@@ -110,12 +114,12 @@ is_inhibited Cut = false
 is_inhibited Sent = false
 is_inhibited (Got byte good) = false
 
-abbrev pub scanned : Keys → Bool → List (ℕ × Bool) → Keyboard → Keyboard
+abbrev pub scanned : Keys → Bool → List TickEdge → Keyboard → Keyboard
 scanned keys inhibited edges k =
     edges_if (is_scanning k) keys edges (repeated_if (is_scanning k) keys inhibited k)
 
 -- the whole tick
-abbrev pub ticked : Keys → Meeting → List (ℕ × Bool) → Keyboard → Keyboard
+abbrev pub ticked : Keys → Meeting → List TickEdge → Keyboard → Keyboard
 ticked keys meeting edges k =
     scanned keys (is_inhibited meeting) edges (tested_if (not (k.test == 0)) (met meeting keys k))
 

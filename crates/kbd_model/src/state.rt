@@ -25,11 +25,13 @@ pub struct Reply {
     pub resets: bool,
 }
 
-/// The key that repeats: its place, and the ticks until its code is entered again, at least 1.
+/// The key that repeats: its place, the ticks until its code is entered again, at least 1, and whether it was pressed
+/// in the layer under Fn.
 #[derive(Clone, Copy, Debug, PartialEq, Eq)]
 pub struct Repeat {
     pub place: Place,
     pub count: u8,
+    pub on_fn: bool,
 }
 
 /// The keyboard as a machine of ticks. A clause sees it as a `Keyboard`.

@@ -2,13 +2,13 @@
 
 ghost use Rattle.std.specs.Prelude.{◌≡◌, None, IfSome};
 ghost use Rattle.std.specs.Option.{ForSome};
-ghost use Rattle.kbd_model.specs.Codes.{HasKey};
+ghost use Rattle.kbd_model.specs.Codes.{HasCode};
 
 use crate::state::{Mode, Repeat, TickModel};
 use crate::typematic::{delay, period};
-use crate::{Meeting, Queue};
+use crate::{Meeting, Queue, TickEdge};
 use board_lines::Place;
-use layout_reader::{Layout, us84_layout};
+use layout_reader::{Layout, read_layout, us84_layout};
 use std::process::Abort;
 use std::test::Fail;
 
@@ -205,8 +205,8 @@ fn every_byte_in_every_mode_leaves_what_the_manual_says(rt: HostRuntime) -> Resu
 
 /// A tick in which the offered byte is sent.
 fn send(rt: &impl Abort, model: &mut TickModel, layout: &Layout, byte: u8)
-    requires { ForSome model.old.repeats (λ r. HasKey layout.now r.place) }
-    ensures { IfSome model.new.repeats (λ r. HasKey layout.now r.place) }
+    requires { ForSome model.old.repeats (λ r. HasCode layout.now r.place) }
+    ensures { IfSome model.new.repeats (λ r. HasCode layout.now r.place) }
 {
     match model.offer() {
         Some(offered) => {
@@ -217,13 +217,21 @@ fn send(rt: &impl Abort, model: &mut TickModel, layout: &Layout, byte: u8)
     }
 }
 
-/// A tick in which a key of the layout goes down or up.
-fn key(rt: &impl Abort, model: &mut TickModel, layout: &Layout, place: Place, down: bool)
-    requires { ForSome model.old.repeats (λ r. HasKey layout.now r.place) }
-    ensures { IfSome model.new.repeats (λ r. HasKey layout.now r.place) }
+/// A tick in which a key of the layout that sends something goes down or up, in the layer of its press.
+#[tactic(auto, using(crate::proofs::Silent::has_entry))]
+fn key(
+    rt: &impl Abort,
+    model: &mut TickModel,
+    layout: &Layout,
+    place: Place,
+    down: bool,
+    on_fn: bool,
+)
+    requires { ForSome model.old.repeats (λ r. HasCode layout.now r.place) }
+    ensures { IfSome model.new.repeats (λ r. HasCode layout.now r.place) }
 {
     match layout.code_at(place) {
-        Some(_) => model.advance(Meeting::Idle, &[(place, down)], layout),
+        Some(_) => model.advance(Meeting::Idle, &[TickEdge { place, down, on_fn }], layout),
         None => assert!(rt; false),
     }
 }
@@ -241,21 +249,57 @@ fn a_key_is_sent_and_repeats_until_it_is_released(rt: HostRuntime) -> Result<(),
     model.advance(Meeting::Idle, &[], &layout);
     assert!(rt; model.tested());
     send(&rt, &mut model, &layout, 0xaa);
-    key(&rt, &mut model, &layout, a, true);
+    key(&rt, &mut model, &layout, a, true, false);
     assert_eq!(rt;
         model.repeats,
         Some(Repeat {
             place: a,
-            count: 98
+            count: 98,
+            on_fn: false
         })
     );
     send(&rt, &mut model, &layout, 0x1c);
     model.advance(Meeting::Inhibited, &[], &layout);
     assert_eq!(rt; model.offer(), None);
-    key(&rt, &mut model, &layout, a, false);
+    key(&rt, &mut model, &layout, a, false, false);
     assert_eq!(rt; model.repeats, None);
     send(&rt, &mut model, &layout, 0xf0);
     assert_eq!(rt; model.offer(), Some(0x1c));
+    Ok(())
+}
+
+/// A key with another code under Fn, and a key that sends no break.
+const TWO_LAYERS: &str = "format = 2\nkey = [\
+    {key = \"a\", column = 1, row = 0, fn_sends = \"f1\"},\
+    {key = \"s\", column = 2, row = 0, make_only = true}]\n";
+
+#[test]
+fn a_key_is_sent_in_the_layer_of_its_press(rt: HostRuntime) -> Result<(), Fail> {
+    let layout = read_layout(rt.alloc(), TWO_LAYERS.as_bytes())?;
+    let a = Place::at(1, 0).ok_or("a place")?;
+    let mut model = standing(Mode::Ready);
+    send(&rt, &mut model, &layout, 0x1c);
+    key(&rt, &mut model, &layout, a, true, true);
+    send(&rt, &mut model, &layout, 0x05);
+    key(&rt, &mut model, &layout, a, false, true);
+    send(&rt, &mut model, &layout, 0xf0);
+    send(&rt, &mut model, &layout, 0x05);
+    key(&rt, &mut model, &layout, a, true, false);
+    send(&rt, &mut model, &layout, 0x1c);
+    Ok(())
+}
+
+#[test]
+fn a_release_without_a_break_ends_the_repeating(rt: HostRuntime) -> Result<(), Fail> {
+    let layout = read_layout(rt.alloc(), TWO_LAYERS.as_bytes())?;
+    let s = Place::at(2, 0).ok_or("a place")?;
+    let mut model = standing(Mode::Ready);
+    send(&rt, &mut model, &layout, 0x1c);
+    key(&rt, &mut model, &layout, s, true, false);
+    send(&rt, &mut model, &layout, 0x1b);
+    key(&rt, &mut model, &layout, s, false, false);
+    assert_eq!(rt; model.repeats, None);
+    assert_eq!(rt; model.offer(), None);
     Ok(())
 }
 

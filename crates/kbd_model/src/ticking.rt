@@ -1,26 +1,26 @@
 //! A tick of the keyboard.
 
+use crate::edge::TickEdge;
 use crate::meeting::Meeting;
 use crate::state::{Mode, TEST_PASSED, TEST_TICKS, TickModel};
-use board_lines::Place;
 use layout_reader::Layout;
 
 impl TickModel {
     ghost use Rattle.std.specs.Prelude.{◌≡◌, true, IfSome, IsSome, All};
     ghost use Rattle.std.specs.Option.{ForSome};
-    ghost use Rattle.kbd_model.specs.Codes.{keys_of, HasKey};
+    ghost use Rattle.layout_reader.specs.Layouts.{HasEntry};
+    ghost use Rattle.kbd_model.specs.Codes.{keys_of, HasCode};
     ghost use Rattle.kbd_model.specs.Keyboard.{offer};
     ghost use Rattle.kbd_model.specs.Tick.{reset, sent_byte, met, tested_if, ticked, IsOffered};
 
-    /// A tick, by its meeting with the line and by the edges that it sees, each with its place and whether its key went
-    /// down. They are in the order of their places, and in the layout, as is a key that repeats; a byte is sent or cut
-    /// off only where one is offered.
-    pub fn advance(&mut self, m: Meeting, edges: &[(Place, bool)], layout: &Layout)
+    /// A tick, by its meeting with the line and by the edges that it sees. They are in the order of their places, and in
+    /// the layout; a key that repeats has a code there; a byte is sent or cut off only where one is offered.
+    pub fn advance(&mut self, m: Meeting, edges: &[TickEdge], layout: &Layout)
         requires offered { IsOffered m (offer self.old) }
-        requires repeats { ForSome self.old.repeats (λ r. HasKey layout.now r.place) }
-        requires edges { All (λ e. HasKey layout.now e.0) edges.now }
+        requires repeats { ForSome self.old.repeats (λ r. HasCode layout.now r.place) }
+        requires edges { All (λ e. HasEntry layout.now e.place) edges.now }
         ensures ticked { self.new ≡ ticked (keys_of layout.now) m edges.now self.old }
-        ensures known { IfSome self.new.repeats (λ r. HasKey layout.now r.place) }
+        ensures known { IfSome self.new.repeats (λ r. HasCode layout.now r.place) }
     {
         let was_tested = self.tested();
         self.meet(m, layout);

@@ -3,14 +3,13 @@ use Rattle.std.proofs.Common.{◌≡◌, ◌<◌, ℕ, Bool, true, false, ◌==�
 use Rattle.std.specs.List.{last_or, slice_set}
 use Rattle.std.specs.declared.option.Option.{Option}
 use Rattle.std.proofs.lemmas.Bool.Decides.{nat_tests}
-use Rattle.std.proofs.lemmas.List.{get_or-set_same, get_or-set_other, append-nil, length-set}
+use Rattle.std.proofs.lemmas.List.{get_or-set_same, get_or-set_other, append-nil}
 use Rattle.std.proofs.lemmas.List.Elements.{filter-append}
 use Rattle.board_lines.specs.declared.event.Edge.{Edge}
 use Rattle.board_lines.specs.Edges.{of_place, last_of}
 use Rattle.board_lines.specs.Laws.{ArePlaces}
 use Rattle.key_file.specs.Histories.{last_edge}
 use Rattle.key_file.specs.Rules.{is_down}
-use Rattle.key_file.specs.Keeps.{KeepsLastEdges}
 
 last_is_some : (xs : List Edge) (x : Edge) → last_or (Some x) xs ≡ None → ⊥
 last_is_some [] x h = cc
@@ -28,13 +27,13 @@ up_without : (xs : List Edge) → last_or None xs ≡ None → false ≡ last_of
 up_without [] h = refl
 up_without (x ∷ xs) h = absurd (last_is_some xs x h)
 
--- a key is down as its last edge left it
-pub is_down-last : (place : ℕ) (edges : List Edge) (e : Edge) → last_edge place edges ≡ Some e → e.down ≡ is_down place edges
-is_down-last place edges e h = down_last (of_place place edges) e h
+down_cases : (edges : List Edge) (last : Option Edge) → last_or None edges ≡ last → is_down last ≡ last_of false edges
+down_cases edges None h = up_without edges h
+down_cases edges (Some e) h = down_last edges e h
 
--- a key without an edge is up
-pub is_down-none : (place : ℕ) (edges : List Edge) → last_edge place edges ≡ None → false ≡ is_down place edges
-is_down-none place edges h = up_without (of_place place edges) h
+-- a key is down as its last edge left it, and one without an edge is up
+pub down-last : (place : ℕ) (edges : List Edge) → is_down (last_edge place edges) ≡ last_of false (of_place place edges)
+down-last place edges = down_cases (of_place place edges) (last_edge place edges) refl
 
 -- an edge more is the last one
 pub last_or-push : (before : Option Edge) (xs : List Edge) (e : Edge) → last_or before (xs ++ e ∷ []) ≡ Some e
@@ -53,26 +52,21 @@ of_place-other place edges e h =
     filter-append (λ f. f.place == place) edges (e ∷ []) ∙ rw other (append-nil (of_place place edges))
 
 -- the last edges with one edge more
-each-push : (last : List (Option Edge)) (edges items : List Edge) (e : Edge) (k place : ℕ) → KeepsLastEdges last edges → place < 96 → k ≡ e.place → k < 96 → items ≡ edges ++ e ∷ [] → (b : Bool) → (e.place == place) ≡ b
-    → get_or (slice_set last k (Some e)) place None ≡ last_edge place items
-each-push last edges items e k place keeps within is small pushed true h =
-    let same : e.place ≡ place = grind (arith, nat_tests, h) in
-    let here : k ≡ place = is ∙ same in
-    let inside : k < length last = rw keeps.size small in
-    subst (λ n. get_or (slice_set last k (Some e)) n None ≡ Some e) here (get_or-set_same last k (Some e) None inside)
-    ∙ sym (ap (last_edge place) pushed ∙ ap (last_or None) (of_place-push place edges e same) ∙ last_or-push None (of_place place edges) e)
-each-push last edges items e k place keeps within is small pushed false h =
-    let other : e.place ≡ place → ⊥ = λ same. grind (arith, nat_tests, h, same) in
-    get_or-set_other last k place (Some e) None (λ at. other (sym (at ∙ is)))
-    ∙ keeps.each place within ∙ sym (ap (last_edge place) pushed ∙ ap (last_or None) (of_place-other place edges e other))
+pub last-push : (last : List (Option Edge)) (edges : List Edge) (e : Edge) (k place : ℕ)
+    → get_or last place None ≡ last_edge place edges → k ≡ e.place → k < length last
+    → get_or (slice_set last k (Some e)) place None ≡ last_edge place (edges ++ e ∷ [])
+last-push last edges e k place h is inside =
+    elim (e.place == place) as (λ b. (e.place == place) ≡ b → get_or (slice_set last k (Some e)) place None ≡ last_edge place (edges ++ e ∷ [])) [
+      | true ↦ λ test.
+          let same : e.place ≡ place = grind (arith, nat_tests, test) in
+          subst (λ n. get_or (slice_set last k (Some e)) n None ≡ Some e) (is ∙ same) (get_or-set_same last k (Some e) None inside)
+          ∙ sym (ap (last_or None) (of_place-push place edges e same) ∙ last_or-push None (of_place place edges) e)
+      | false ↦ λ test.
+          let other : e.place ≡ place → ⊥ = λ same. grind (arith, nat_tests, test, same) in
+          get_or-set_other last k place (Some e) None (λ at. other (sym (at ∙ is)))
+          ∙ h ∙ sym (ap (last_or None) (of_place-other place edges e other))
+    ] refl
 
-places-push : (edges : List Edge) (e : Edge) → ArePlaces edges → e.place < 96 → ArePlaces (edges ++ e ∷ [])
+pub places-push : (edges : List Edge) (e : Edge) → ArePlaces edges → e.place < 96 → ArePlaces (edges ++ e ∷ [])
 places-push [] e places within = (within, tt)
 places-push (x ∷ xs) e places within = (places.0, places-push xs e places.1 within)
-
-pub keeps-push : (last : List (Option Edge)) (edges items : List Edge) (e : Edge) (k : ℕ) → KeepsLastEdges last edges → k ≡ e.place → k < 96 → items ≡ edges ++ e ∷ [] → KeepsLastEdges (slice_set last k (Some e)) items
-keeps-push last edges items e k keeps is small pushed = record {
-  size = length-set last k (Some e) ∙ keeps.size;
-  in_matrix = subst ArePlaces (sym pushed) (places-push edges e keeps.in_matrix (omega (arith, is, small)));
-  each = λ place within. each-push last edges items e k place keeps within is small pushed (e.place == place) refl;
-}

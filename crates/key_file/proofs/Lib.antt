@@ -1,7 +1,11 @@
 pub mod LastEdges
+pub mod FlipBits
 pub mod HexBytes
 pub mod Pushes
+pub mod Briefly
 pub mod Unbroken
 pub mod Sound
 pub mod Taken
 pub mod Outcomes
+pub mod Cursors
+pub mod Took

@@ -1,40 +1,60 @@
 -- What lines come to, the first of which is taken or refused.
-use Rattle.std.proofs.Common.{◌≡◌, ℕ, ◌+◌, List, ◌∷◌, Ok, Err, refl, sym, subst}
-use Rattle.std.specs.Prelude.{IfErr}
-use Rattle.std.specs.Result.{IsErrAnd}
+use Rattle.std.proofs.Common.{◌≡◌, ◌≤◌, ℕ, ◌+◌, List, ◌∷◌, length, Ok, Err, refl, ap, sym, ◌∙◌, suc, arith}
+use Rattle.std.specs.Str.Lines.{lines}
 use Rattle.std.specs.declared.result.Result.{Result}
 use Rattle.layout_reader.specs.Layouts.{KeyLayout}
-use Rattle.first_fault.specs.FirstFault.{Fault, at_item, and_then, outcome_from}
+use Rattle.first_fault.specs.FirstFault.{outcome_from}
 use Rattle.key_file.specs.declared.rule.Rule.{Rule}
 use Rattle.key_file.specs.declared.fault.KeyFault.{KeyFault}
-use Rattle.key_file.specs.declared.fault.KeyFault.TheVariants.{Input, Timing, Memory}
-use Rattle.key_file.specs.Histories.{KeyHistory, Before}
-use Rattle.key_file.specs.KeyFile.{take_line, finish, told, with_fault_told, IsFaultOf}
+use Rattle.key_file.specs.declared.brief.Brief.{Brief as Kept}
+use Rattle.key_file.specs.Histories.{KeyHistory, Before, at_first}
+use Rattle.key_file.specs.Keeps.{IsBriefOf, IsBriefAfter}
+use Rattle.key_file.specs.KeyFile.{history_of, take_line, finish, told, with_fault_told}
+use Rattle.key_file.proofs.Sound.{IsSound, sound-first}
+use Rattle.key_file.proofs.Taken.{sound-line}
 
 -- what lines come to, the first of which has this number
 abbrev pub judged : KeyLayout → ℕ → Before → List (List ℕ) → Result KeyHistory KeyFault
 judged layout number before texts = with_fault_told (outcome_from (take_line layout) finish number before texts)
 
 -- a line that is taken
-pub judged-taken : (layout : KeyLayout) (number : ℕ) (before after : Before) (line : List ℕ) (more : List (List ℕ)) → take_line layout before line ≡ Ok after → judged layout number before (line ∷ more) ≡ judged layout (number + 1) after more
+judged-taken : (layout : KeyLayout) (number : ℕ) (before after : Before) (line : List ℕ) (more : List (List ℕ)) → take_line layout before line ≡ Ok after → judged layout number before (line ∷ more) ≡ judged layout (number + 1) after more
 judged-taken layout number before after line more h = rw h refl
 
-fault_stays : (number : ℕ) (r : Result Before Rule) (next : Before → Result KeyHistory (Fault Rule)) (fault : KeyFault)
-    → IsFaultOf (with_fault_told (at_item number r)) fault → IsFaultOf (with_fault_told (and_then (at_item number r) next)) fault
-fault_stays number (Ok after) next (Input line n) h = absurd (cc)
-fault_stays number (Ok after) next (Timing line n a b) h = absurd (cc)
-fault_stays number (Ok after) next Memory h = tt
-fault_stays number (Err rule) next (Input line n) h = let same : told number rule ≡ Input line n = cc in rw same refl
-fault_stays number (Err rule) next (Timing line n a b) h = let same : told number rule ≡ Timing line n a b = cc in rw same refl
-fault_stays number (Err rule) next Memory h = tt
-
 -- a line that is refused
-pub judged-refused : (layout : KeyLayout) (number : ℕ) (before : Before) (line : List ℕ) (more : List (List ℕ)) (fault : KeyFault)
-    → IsFaultOf (with_fault_told (at_item number (take_line layout before line))) fault → IsFaultOf (judged layout number before (line ∷ more)) fault
-judged-refused layout number before line more fault h =
-    fault_stays number (take_line layout before line) (λ after. outcome_from (take_line layout) finish (number + 1) after more) fault h
+judged-refused : (layout : KeyLayout) (number : ℕ) (before : Before) (line : List ℕ) (more : List (List ℕ)) (rule : Rule)
+    → take_line layout before line ≡ Err rule → judged layout number before (line ∷ more) ≡ Err (told number rule)
+judged-refused layout number before line more rule h = rw h refl
 
--- a fault that is handed on
-pub err_gives : {X : Type 0} (r : Result X KeyFault) (fault : KeyFault) (P : KeyFault → Type 0) → IsErrAnd r (λ e. e ≡ fault) → P fault → IfErr r P
-err_gives (Ok x) fault P is h = tt
-err_gives (Err e) fault P is h = subst P (sym is) h
+-- the file comes to what its other lines come to after those so far, which are sound, and what is kept is what the rules
+-- ask of these
+pub record HasCome (layout : KeyLayout) (text : List ℕ) (number : ℕ) (rest : List ℕ) (brief : Kept) : Type 0 where
+  pub before : Before
+  pub kept : IsBriefOf before brief
+  pub meaning : history_of layout text ≡ judged layout number before (lines rest)
+  pub number_in_range : number + length rest ≤ 1 + length text
+  pub sound : IsSound layout before
+
+pub come-first : (layout : KeyLayout) (text : List ℕ) (brief : Kept) → IsBriefOf at_first brief → HasCome layout text 1 text brief
+unfolding history_of
+come-first layout text brief kept = record {
+  before = at_first;
+  kept = kept;
+  meaning = refl;
+  number_in_range = omega arith;
+  sound = sound-first layout;
+}
+
+module _ (layout : KeyLayout) (text : List ℕ) (number : ℕ) (rest after line : List ℕ) (brief : Kept) (h : HasCome layout text number rest brief)
+    (first : lines rest ≡ line ∷ lines after) where
+  pub come-next : (later : Kept) → suc (length after) ≤ length rest → IsBriefAfter layout h.before line later → HasCome layout text (number + 1) after later
+  come-next later shorter taken = record {
+    before = taken.after;
+    kept = taken.brief;
+    meaning = h.meaning ∙ ap (judged layout number h.before) first ∙ judged-taken layout number h.before taken.after line (lines after) taken.taken;
+    number_in_range = omega (arith, shorter, h.number_in_range);
+    sound = sound-line layout h.before taken.after line h.sound taken.taken;
+  }
+
+  pub come-fault : (rule : Rule) → take_line layout h.before line ≡ Err rule → history_of layout text ≡ Err (told number rule)
+  come-fault rule refused = h.meaning ∙ ap (judged layout number h.before) first ∙ judged-refused layout number h.before line (lines after) rule refused

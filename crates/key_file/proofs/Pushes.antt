@@ -7,7 +7,7 @@ use Rattle.board_lines.specs.declared.event.Edge.{Edge}
 use Rattle.board_lines.specs.declared.event.HostEvent.{HostEvent}
 use Rattle.board_lines.specs.Edges.{AreInOrder, last_of}
 use Rattle.key_file.specs.Accepted.{AreHostEventsInOrder, Alternates, Dwells, IsThin}
-use Rattle.key_file.specs.Histories.{fourth_last}
+use Rattle.key_file.specs.Briefs.{from_end}
 
 all_tail : {X : Type 0} (P : X → Type 0) (x : X) (xs : List X) → All P (x ∷ xs) → All P xs
 all_tail P x xs all = λ k d within. all (suc k) d (omega arith)
@@ -35,23 +35,19 @@ dwells-push (x ∷ []) y dwells last = (last x refl, tt)
 dwells-push (x ∷ z ∷ zs) y dwells last = (dwells.0, dwells-push (z ∷ zs) y dwells.1 last)
 
 -- the fourth edge from the end is the same behind one edge more at the start
-fourth_last-cons : (x : Edge) (xs : List Edge) → 4 ≤ length xs → fourth_last (x ∷ xs) ≡ fourth_last xs
-fourth_last-cons x xs long =
+fourth-cons : (x : Edge) (xs : List Edge) → 4 ≤ length xs → from_end 4 (x ∷ xs) ≡ from_end 4 xs
+fourth-cons x xs long =
     let here : nat_le 4 (length xs) ≡ true = grind (arith, nat_tests, long) in
     let more : nat_le 4 (suc (length xs)) ≡ true = grind (arith, nat_tests, long) in
     let place : suc (length xs) - 4 ≡ suc (length xs - 4) = omega arith in
     rw (here, more, place) refl
 
--- few edges have no fourth one
-few_edges : (a b c x : Edge) → fourth_last (a ∷ b ∷ c ∷ []) ≡ Some x → ⊥
-few_edges a b c x h = cc
-
 -- five edges in a row take a while
-pub thin-push : (xs : List Edge) (y : Edge) → IsThin xs → ((x : Edge) → fourth_last xs ≡ Some x → x.stamp + 2240 ≤ y.stamp) → IsThin (xs ++ y ∷ [])
+pub thin-push : (xs : List Edge) (y : Edge) → IsThin xs → ((x : Edge) → from_end 4 xs ≡ Some x → x.stamp + 2240 ≤ y.stamp) → IsThin (xs ++ y ∷ [])
 thin-push [] y thin fourth = (tt, tt)
 thin-push (a ∷ []) y thin fourth = (tt, (tt, tt))
 thin-push (a ∷ b ∷ []) y thin fourth = (tt, (tt, (tt, tt)))
 thin-push (a ∷ b ∷ c ∷ []) y thin fourth = (tt, (tt, (tt, (tt, tt))))
 thin-push (a ∷ b ∷ c ∷ d ∷ []) y thin fourth = (fourth a refl, (tt, (tt, (tt, (tt, tt)))))
 thin-push (a ∷ b ∷ c ∷ d ∷ e ∷ es) y thin fourth =
-    (thin.0, thin-push (b ∷ c ∷ d ∷ e ∷ es) y thin.1 (λ x is. fourth x (fourth_last-cons a (b ∷ c ∷ d ∷ e ∷ es) (omega arith) ∙ is)))
+    (thin.0, thin-push (b ∷ c ∷ d ∷ e ∷ es) y thin.1 (λ x is. fourth x (fourth-cons a (b ∷ c ∷ d ∷ e ∷ es) (omega arith) ∙ is)))

@@ -1,5 +1,5 @@
 -- What the lines of a key file come to is accepted, as far as it goes.
-use Rattle.std.proofs.Common.{◌≡◌, ◌≤◌, ℕ, ◌+◌, Bool, true, false, ◌==◌, List, [], ◌∷◌, ◌++◌, length, None, Some, refl, sym, subst, ◌∙◌, arith, length-append}
+use Rattle.std.proofs.Common.{◌≡◌, ◌≤◌, ℕ, ◌+◌, Bool, true, false, not, ◌==◌, List, [], ◌∷◌, ◌++◌, length, None, Some, refl, ap, sym, subst, ◌∙◌, arith, length-append}
 use Rattle.std.specs.Prelude.{All}
 use Rattle.std.specs.declared.option.Option.{Option}
 use Rattle.std.proofs.lemmas.Bool.Decides.{nat_tests}
@@ -7,12 +7,14 @@ use Rattle.std.proofs.lemmas.List.Elements.{All-push}
 use Rattle.board_lines.specs.declared.event.Edge.{Edge}
 use Rattle.board_lines.specs.declared.event.HostEvent.{HostEvent}
 use Rattle.board_lines.specs.Edges.{of_place, AreInOrder}
+use Rattle.board_lines.specs.Flips.{FlipsDataOrParity, AreFlips}
 use Rattle.board_lines.specs.Laws.{ArePlaces}
 use Rattle.layout_reader.specs.Layouts.{KeyLayout}
 use Rattle.key_file.specs.declared.event.Event.TheVariants.{EdgeOf, HostOf, End}
 use Rattle.key_file.specs.Accepted.{AreHostEventsInOrder, WritesByte, AreWritten, Alternates, Dwells, IsThin, IsPlaceOf, IsAcceptedFor}
 use Rattle.key_file.specs.Histories.{Before, at_first, with_event}
-use Rattle.key_file.proofs.LastEdges.{of_place-push, of_place-other}
+use Rattle.key_file.specs.Briefs.{brief_of}
+use Rattle.key_file.proofs.LastEdges.{down-last, of_place-push, of_place-other}
 use Rattle.key_file.proofs.Pushes.{in_order-push, host_in_order-push, alternates-push, dwells-push, thin-push}
 use Rattle.key_file.proofs.Unbroken.{Fits, EdgeFits, edge_fits}
 
@@ -26,6 +28,7 @@ pub record IsSound (layout : KeyLayout) (before : Before) : Type 0 where
   pub edges_in_order : AreInOrder before.edges
   pub host_in_order : AreHostEventsInOrder before.host
   pub written : AreWritten before.host
+  pub flips : AreFlips before.host
   pub edges_before : All (λ edge. edge.stamp ≤ before.stamp) before.edges
   pub host_before : All (λ event. event.stamp ≤ before.stamp) before.host
   pub stamp_in_range : before.stamp ≤ 240000000
@@ -41,6 +44,7 @@ sound-first layout = record {
   edges_in_order = tt;
   host_in_order = tt;
   written = λ k d within. absurd (omega arith);
+  flips = λ k d within. absurd (omega arith);
   edges_before = λ k d within. absurd (omega arith);
   host_before = λ k d within. absurd (omega arith);
   stamp_in_range = omega arith;
@@ -52,23 +56,24 @@ sound-first layout = record {
   places = λ k d within. absurd (omega arith);
 }
 
-alternate-push : (edges : List Edge) (e : Edge) (place : ℕ) → Alternates false (of_place place edges) → EdgeFits edges e → (b : Bool) → (e.place == place) ≡ b → Alternates false (of_place place (edges ++ e ∷ []))
-alternate-push edges e place turns fits true h =
+alternate-push : (before : Before) (e : Edge) (place : ℕ) → Alternates false (of_place place before.edges) → EdgeFits (brief_of before) e → (b : Bool) → (e.place == place) ≡ b → Alternates false (of_place place (before.edges ++ e ∷ []))
+alternate-push before e place turns fits true h =
     let same : e.place ≡ place = grind (arith, nat_tests, h) in
-    rw (of_place-push place edges e same) (alternates-push false (of_place place edges) e turns (fits.turns ∙ rw same refl))
-alternate-push edges e place turns fits false h =
-    rw (of_place-other place edges e (λ same. grind (arith, nat_tests, h, same))) turns
+    let down = ap not (down-last e.place before.edges) in
+    rw (of_place-push place before.edges e same) (alternates-push false (of_place place before.edges) e turns (fits.turns ∙ down ∙ rw same refl))
+alternate-push before e place turns fits false h =
+    rw (of_place-other place before.edges e (λ same. grind (arith, nat_tests, h, same))) turns
 
-dwell-push : (edges : List Edge) (e : Edge) (place : ℕ) → Dwells (of_place place edges) → EdgeFits edges e → (b : Bool) → (e.place == place) ≡ b → Dwells (of_place place (edges ++ e ∷ []))
-dwell-push edges e place dwells fits true h =
+dwell-push : (before : Before) (e : Edge) (place : ℕ) → Dwells (of_place place before.edges) → EdgeFits (brief_of before) e → (b : Bool) → (e.place == place) ≡ b → Dwells (of_place place (before.edges ++ e ∷ []))
+dwell-push before e place dwells fits true h =
     let same : e.place ≡ place = grind (arith, nat_tests, h) in
-    rw (of_place-push place edges e same) (dwells-push (of_place place edges) e dwells (λ x is. fits.dwell x (rw same is)))
-dwell-push edges e place dwells fits false h =
-    rw (of_place-other place edges e (λ same. grind (arith, nat_tests, h, same))) dwells
+    rw (of_place-push place before.edges e same) (dwells-push (of_place place before.edges) e dwells (λ x is. fits.dwell x (rw same is)))
+dwell-push before e place dwells fits false h =
+    rw (of_place-other place before.edges e (λ same. grind (arith, nat_tests, h, same))) dwells
 
-pub sound-edge : (layout : KeyLayout) (before : Before) (e : Edge) → IsSound layout before → Fits before (EdgeOf e) → IsPlaceOf layout e.place → IsSound layout (with_event before (EdgeOf e))
+pub sound-edge : (layout : KeyLayout) (before : Before) (e : Edge) → IsSound layout before → Fits (brief_of before) (EdgeOf e) → IsPlaceOf layout e.place → IsSound layout (with_event before (EdgeOf e))
 sound-edge layout before e sound fits place =
-    let edge = edge_fits before.edges e fits.key in
+    let edge = edge_fits (brief_of before) e fits.key in
     let order = fits.order in
     let few = fits.few in
     let earlier : All (λ edge. edge.stamp ≤ e.stamp) before.edges = λ k d within. omega (arith, sound.edges_before k d within) in
@@ -76,26 +81,28 @@ sound-edge layout before e sound fits place =
       edges_in_order = in_order-push before.edges e sound.edges_in_order earlier;
       host_in_order = sound.host_in_order;
       written = sound.written;
+      flips = sound.flips;
       edges_before = All-push (λ edge. edge.stamp ≤ e.stamp) before.edges e earlier (omega arith);
       host_before = λ k d within. omega (arith, sound.host_before k d within);
       stamp_in_range = fits.in_range;
       number_in_range = rw (length-append before.edges (e ∷ [])) (grind (arith, nat_tests, few));
-      alternate = λ p. alternate-push before.edges e p (sound.alternate p) edge (e.place == p) refl;
-      dwell = λ p. dwell-push before.edges e p (sound.dwell p) edge (e.place == p) refl;
+      alternate = λ p. alternate-push before e p (sound.alternate p) edge (e.place == p) refl;
+      dwell = λ p. dwell-push before e p (sound.dwell p) edge (e.place == p) refl;
       thin = thin-push before.edges e sound.thin edge.thin;
       ends = subst (EndsAt e.stamp) (sym fits.goes_on) tt;
       places = All-push (λ edge. IsPlaceOf layout edge.place) before.edges e sound.places place;
     }
 
-pub sound-host : (layout : KeyLayout) (before : Before) (e : HostEvent) → IsSound layout before → WritesByte e.act → Fits before (HostOf e) → IsSound layout (with_event before (HostOf e))
-sound-host layout before e sound byte fits =
+pub sound-host : (layout : KeyLayout) (before : Before) (e : HostEvent) → IsSound layout before → WritesByte e.act × FlipsDataOrParity e.act → Fits (brief_of before) (HostOf e) → IsSound layout (with_event before (HostOf e))
+sound-host layout before e sound fit fits =
     let order = fits.order in
     let few = fits.few in
     let earlier : All (λ event. event.stamp ≤ e.stamp) before.host = λ k d within. omega (arith, sound.host_before k d within) in
     record {
       edges_in_order = sound.edges_in_order;
       host_in_order = host_in_order-push before.host e sound.host_in_order earlier;
-      written = All-push (λ event. WritesByte event.act) before.host e sound.written byte;
+      written = All-push (λ event. WritesByte event.act) before.host e sound.written fit.0;
+      flips = All-push (λ event. FlipsDataOrParity event.act) before.host e sound.flips fit.1;
       edges_before = λ k d within. omega (arith, sound.edges_before k d within);
       host_before = All-push (λ event. event.stamp ≤ e.stamp) before.host e earlier (omega arith);
       stamp_in_range = fits.in_range;
@@ -107,13 +114,14 @@ sound-host layout before e sound byte fits =
       places = sound.places;
     }
 
-pub sound-end : (layout : KeyLayout) (before : Before) (stamp : ℕ) → IsSound layout before → Fits before (End stamp) → IsSound layout (with_event before (End stamp))
+pub sound-end : (layout : KeyLayout) (before : Before) (stamp : ℕ) → IsSound layout before → Fits (brief_of before) (End stamp) → IsSound layout (with_event before (End stamp))
 sound-end layout before stamp sound fits =
     let order = fits.order in
     record {
       edges_in_order = sound.edges_in_order;
       host_in_order = sound.host_in_order;
       written = sound.written;
+      flips = sound.flips;
       edges_before = λ k d within. omega (arith, sound.edges_before k d within);
       host_before = λ k d within. omega (arith, sound.host_before k d within);
       stamp_in_range = fits.in_range;
@@ -135,6 +143,7 @@ accepted layout before end places sound is =
         edges_in_order = sound.edges_in_order;
         host_in_order = sound.host_in_order;
         written = sound.written;
+        flips = sound.flips;
         edges_before_end = λ k d within. omega (arith, last, sound.edges_before k d within);
         host_before_end = λ k d within. omega (arith, last, sound.host_before k d within);
         end_in_range = omega (arith, last, sound.stamp_in_range);

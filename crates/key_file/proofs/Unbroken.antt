@@ -8,8 +8,9 @@ use Rattle.first_fault.specs.FirstFault.{Judgement, judge, first_broken}
 use Rattle.key_file.specs.declared.event.Event.{Event}
 use Rattle.key_file.specs.declared.rule.Rule.{Rule}
 use Rattle.key_file.specs.declared.rule.Rule.TheVariants.{Order, Held, Dwell, Density, AfterEnd, Late, TooMany}
-use Rattle.key_file.specs.Histories.{Before, stamp_at, last_edge, fourth_last}
-use Rattle.key_file.specs.Rules.{is_down, is_held, soon_after, edge_judgements, key_judgements, is_too_many, judgements}
+use Rattle.key_file.specs.Histories.{stamp_at}
+use Rattle.key_file.specs.Briefs.{Brief}
+use Rattle.key_file.specs.Rules.{is_down, is_held, soon_after, fourth_back, edge_judgements, key_judgements, is_too_many, judgements}
 
 unbroken_head : (rule : Rule) (broken : Bool) (more : List (Judgement Rule)) → first_broken (judge rule broken ∷ more) ≡ None → (broken ≡ false) × (first_broken more ≡ None)
 unbroken_head rule true more h = absurd (cc)
@@ -41,14 +42,14 @@ no_end None h = refl
 no_end (Some e) h = absurd (cc)
 
 -- what any event keeps that breaks no rule
-pub record Fits (before : Before) (event : Event) : Type 0 where
+pub record Fits (before : Brief) (event : Event) : Type 0 where
   pub order : before.stamp ≤ stamp_at event
   pub in_range : stamp_at event ≤ 240000000
   pub goes_on : before.end ≡ None
   pub few : is_too_many before event ≡ false
   pub key : first_broken (key_judgements before event) ≡ None
 
-pub fits : (before : Before) (event : Event) → first_broken (judgements before event) ≡ None → Fits before event
+pub fits : (before : Brief) (event : Event) → first_broken (judgements before event) ≡ None → Fits before event
 fits before event h =
     let last = judge TooMany (is_too_many before event) ∷ [] in
     let late = judge (Late (stamp_at event)) (nat_lt 240000000 (stamp_at event)) ∷ last in
@@ -61,19 +62,19 @@ fits before event h =
     record { order = grind (arith, nat_tests, a.0); in_range = grind (arith, nat_tests, d.0); goes_on = no_end before.end c.0; few = e.0; key = b.0 }
 
 -- what an edge keeps besides
-pub record EdgeFits (edges : List Edge) (e : Edge) : Type 0 where
-  pub turns : e.down ≡ not (is_down e.place edges)
-  pub dwell : (x : Edge) → last_edge e.place edges ≡ Some x → x.stamp + 2240 ≤ e.stamp
-  pub thin : (x : Edge) → fourth_last edges ≡ Some x → x.stamp + 2240 ≤ e.stamp
+pub record EdgeFits (before : Brief) (e : Edge) : Type 0 where
+  pub turns : e.down ≡ not (is_down (before.last e.place))
+  pub dwell : (x : Edge) → before.last e.place ≡ Some x → x.stamp + 2240 ≤ e.stamp
+  pub thin : (x : Edge) → fourth_back before ≡ Some x → x.stamp + 2240 ≤ e.stamp
 
-pub edge_fits : (edges : List Edge) (e : Edge) → first_broken (edge_judgements edges e) ≡ None → EdgeFits edges e
-edge_fits edges e h =
-    let dwell = soon_after Dwell (last_edge e.place edges) e in
-    let density = soon_after Density (fourth_last edges) e in
-    let a = unbroken_head Held (is_held e edges) (dwell ++ density) h in
+pub edge_fits : (before : Brief) (e : Edge) → first_broken (edge_judgements before e) ≡ None → EdgeFits before e
+edge_fits before e h =
+    let dwell = soon_after Dwell (before.last e.place) e in
+    let density = soon_after Density (fourth_back before) e in
+    let a = unbroken_head Held (is_held e (before.last e.place)) (dwell ++ density) h in
     let b = unbroken_append dwell density a.1 in
     record {
-      turns = turned e.down (is_down e.place edges) a.0;
-      dwell = λ x is. not_soon Dwell (last_edge e.place edges) e x b.0 is;
-      thin = λ x is. not_soon Density (fourth_last edges) e x b.1 is;
+      turns = turned e.down (is_down (before.last e.place)) a.0;
+      dwell = λ x is. not_soon Dwell (before.last e.place) e x b.0 is;
+      thin = λ x is. not_soon Density (fourth_back before) e x b.1 is;
     }

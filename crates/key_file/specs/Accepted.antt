@@ -2,9 +2,10 @@
 use Rattle.std.specs.Prelude.{◌≡◌, ◌≤◌, ◌<◌, ℕ, ◌+◌, Bool, false, not, List, [], ◌∷◌, length, All, IsSome}
 use Rattle.board_lines.specs.declared.event.Edge.{Edge}
 use Rattle.board_lines.specs.declared.event.HostAct.{HostAct}
-use Rattle.board_lines.specs.declared.event.HostAct.TheVariants.{Write60, Write64, Read60, Mask, Unmask, Take, Status}
+use Rattle.board_lines.specs.declared.event.HostAct.TheVariants.{Write60, Write64, Read60, Mask, Unmask, Take, Status, Flip}
 use Rattle.board_lines.specs.declared.event.HostEvent.{HostEvent}
 use Rattle.board_lines.specs.Edges.{of_place, AreInOrder}
+use Rattle.board_lines.specs.Flips.{AreFlips}
 use Rattle.board_lines.specs.Laws.{ArePlaces}
 use Rattle.layout_reader.specs.Layouts.{KeyLayout, entry_at}
 use Rattle.key_file.specs.Histories.{KeyHistory}
@@ -24,6 +25,7 @@ WritesByte Mask = Unit {0}
 WritesByte Unmask = Unit {0}
 WritesByte Take = Unit {0}
 WritesByte Status = Unit {0}
+WritesByte (Flip bit) = Unit {0}
 
 -- the same of each event
 abbrev pub AreWritten : List HostEvent → Type 0
@@ -57,6 +59,7 @@ pub record IsAccepted (history : KeyHistory) : Type 0 where
   pub edges_in_order : AreInOrder history.edges
   pub host_in_order : AreHostEventsInOrder history.host
   pub written : AreWritten history.host
+  pub flips : AreFlips history.host
   pub edges_before_end : All (λ edge. edge.stamp ≤ history.end) history.edges
   pub host_before_end : All (λ event. event.stamp ≤ history.end) history.host
   pub end_in_range : history.end ≤ 240000000

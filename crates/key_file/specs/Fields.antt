@@ -48,8 +48,9 @@ word_named name =
     else (if bytes_eq name (codes "unmask") then Some word.Unmask
     else (if bytes_eq name (codes "take") then Some word.Take
     else (if bytes_eq name (codes "status") then Some word.Status
+    else (if bytes_eq name (codes "flip") then Some word.Flip
     else (if bytes_eq name (codes "end") then Some word.End
-    else None)))))))))
+    else None))))))))))
 
 -- the one argument of a word; none where it has none or more
 abbrev pub only : List (List ℕ) → Option (List ℕ)
@@ -73,6 +74,16 @@ write_of stamp act arguments =
     and_then (some_or Form (option_and_then (hexadecimal_of 2) (only arguments)))
     (λ byte. Ok (HostOf (record { stamp = stamp; act = act byte })))
 
+-- the number of a bit that noise turns round: one digit from 1 to 9
+abbrev pub bit_of : List ℕ → Option ℕ
+bit_of field = option_and_then (λ bit. if bit == 0 then None else Some bit) (decimal_of 1 field)
+
+-- noise that turns round the bit that the argument gives
+abbrev pub flip_of : ℕ → List (List ℕ) → Result Event Rule
+flip_of stamp arguments =
+    and_then (some_or Form (option_and_then bit_of (only arguments)))
+    (λ bit. Ok (HostOf (record { stamp = stamp; act = act.Flip bit })))
+
 -- an event without an argument
 abbrev pub alone : Event → List (List ℕ) → Result Event Rule
 alone event [] = Ok event
@@ -92,6 +103,7 @@ event_of layout stamp word.Mask arguments = act_of stamp act.Mask arguments
 event_of layout stamp word.Unmask arguments = act_of stamp act.Unmask arguments
 event_of layout stamp word.Take arguments = act_of stamp act.Take arguments
 event_of layout stamp word.Status arguments = act_of stamp act.Status arguments
+event_of layout stamp word.Flip arguments = flip_of stamp arguments
 event_of layout stamp word.End arguments = alone (End stamp) arguments
 
 -- the event of a line, or the first of the first three rules that it breaks: its form; its word; its key
@@ -100,3 +112,8 @@ event_in layout (first ∷ second ∷ arguments) =
     and_then (some_or Form (stamp_of first))
     (λ stamp. and_then (some_or UnknownWord (word_named second)) (λ word. event_of layout stamp word arguments))
 event_in layout fields = Err Form
+
+-- what a line says: nothing where it is skipped
+abbrev pub said_by : KeyLayout → List (List ℕ) → Result (Option Event) Rule
+said_by layout fields =
+    if is_skipped fields then Ok None else and_then (event_in layout fields) (λ event. Ok (Some event))

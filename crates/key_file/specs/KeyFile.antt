@@ -1,5 +1,5 @@
 -- What a key file means: its history, or its first fault.
-use Rattle.std.specs.Prelude.{ℕ, ◌≡◌, List, None, Some, Ok, Err, if◌then◌else◌}
+use Rattle.std.specs.Prelude.{ℕ, ◌≡◌, List, None, Some, Ok, Err}
 use Rattle.std.specs.Str.Lines.{lines}
 use Rattle.std.specs.declared.option.Option.{Option}
 use Rattle.std.specs.declared.result.Result.{Result}
@@ -11,21 +11,24 @@ use Rattle.key_file.specs.declared.rule.Rule.{Rule}
 use Rattle.key_file.specs.declared.rule.Rule.TheVariants.{Order, Dwell, Density, Late, NoEnd}
 use Rattle.key_file.specs.declared.fault.KeyFault.{KeyFault}
 use Rattle.key_file.specs.declared.fault.KeyFault.TheVariants.{Input, Timing, Memory}
+use Rattle.key_file.specs.declared.fault.FileFault.{FileFault}
+use Rattle.key_file.specs.declared.fault.FileFault.TheVariants as file
 use Rattle.key_file.specs.Histories.{KeyHistory, Before, at_first, with_event}
-use Rattle.key_file.specs.Fields.{is_skipped, event_in}
+use Rattle.key_file.specs.Briefs.{brief_of}
+use Rattle.key_file.specs.Fields.{said_by}
 use Rattle.key_file.specs.Rules.{number_of, judgements}
 
 -- what an event makes of those before it, or the first rule that it breaks
 abbrev pub take_event : Before → Event → Result Before Rule
-take_event before event = unless (first_broken (judgements before event)) (with_event before event)
+take_event before event = unless (first_broken (judgements (brief_of before) event)) (with_event before event)
 
--- the same of a line by its fields; one that is skipped does nothing
-abbrev pub take_fields : KeyLayout → Before → List (List ℕ) → Result Before Rule
-take_fields layout before fields =
-    if is_skipped fields then Ok before else and_then (event_in layout fields) (take_event before)
+-- the same of what a line says; one that is skipped does nothing
+abbrev pub take_said : Before → Option Event → Result Before Rule
+take_said before None = Ok before
+take_said before (Some event) = take_event before event
 
 abbrev pub take_line : KeyLayout → Before → List ℕ → Result Before Rule
-take_line layout before line = take_fields layout before (fields line)
+take_line layout before line = and_then (said_by layout (fields line)) (take_said before)
 
 -- the history of events that have an end
 abbrev pub history_at : Before → Option ℕ → Result KeyHistory Rule
@@ -57,3 +60,8 @@ abbrev pub IsFaultOf : {X : Type 0} → Result X KeyFault → KeyFault → Type 
 IsFaultOf meaning (Input line number) = meaning ≡ Err (Input line number)
 IsFaultOf meaning (Timing line number a b) = meaning ≡ Err (Timing line number a b)
 IsFaultOf meaning Memory = Unit {0}
+
+-- the fault of a reader that takes no memory, among those of one that does
+abbrev pub key_fault : FileFault → KeyFault
+key_fault (file.Input line number) = Input line number
+key_fault (file.Timing line number a b) = Timing line number a b

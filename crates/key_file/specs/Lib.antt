@@ -1,6 +1,10 @@
-pub mod Fields
 pub mod Histories
-pub mod Rules
-pub mod KeyFile
+pub mod Briefs
 pub mod Accepted
+pub mod Fields
+pub mod Rules
 pub mod Keeps
+pub mod KeyFile
+pub mod Feeds
+pub mod Cursors
+pub mod Places

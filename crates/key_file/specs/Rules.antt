@@ -1,16 +1,16 @@
--- The rules of an event, each judged against the events before it.
-use Rattle.std.specs.Prelude.{ℕ, ◌+◌, nat_le, nat_lt, not, Bool, false, List, [], ◌∷◌, ◌++◌, length, None, Some}
-use Rattle.std.specs.Prelude.{is_some, if◌then◌else◌}
+-- The rules of an event, each judged against what those before it came to.
+use Rattle.std.specs.Prelude.{ℕ, ◌+◌, nat_le, nat_lt, not, Bool, false, List, [], ◌∷◌, ◌++◌, None, Some}
+use Rattle.std.specs.Prelude.{is_some, slice_index_or, if◌then◌else◌}
 use Rattle.std.specs.declared.option.Option.{Option}
 use Rattle.board_lines.specs.declared.event.Edge.{Edge}
-use Rattle.board_lines.specs.Edges.{of_place, last_of}
 use Rattle.first_fault.specs.FirstFault.{Judgement, judge}
 use Rattle.key_file.specs.declared.event.Event.{Event}
 use Rattle.key_file.specs.declared.event.Event.TheVariants.{EdgeOf, End}
 use Rattle.key_file.specs.declared.rule.Rule.{Rule}
 use Rattle.key_file.specs.declared.rule.Rule.TheVariants.{Form, UnknownWord, UnknownKey, Order, Held, Dwell}
 use Rattle.key_file.specs.declared.rule.Rule.TheVariants.{Density, NoEnd, AfterEnd, Late, TooMany}
-use Rattle.key_file.specs.Histories.{Before, stamp_at, last_edge, fourth_last}
+use Rattle.key_file.specs.Histories.{stamp_at}
+use Rattle.key_file.specs.Briefs.{Brief}
 
 -- the number of each rule
 abbrev pub number_of : Rule → ℕ
@@ -26,13 +26,14 @@ number_of AfterEnd = 9
 number_of (Late stamp) = 10
 number_of TooMany = 11
 
--- the key at a place is down; all are up at first
-abbrev pub is_down : ℕ → List Edge → Bool
-is_down place edges = last_of false (of_place place edges)
+-- a key is down as its last edge left it; all are up at first
+abbrev pub is_down : Option Edge → Bool
+is_down None = false
+is_down (Some last) = last.down
 
 -- press of a key that is down, or release of one that is up
-abbrev pub is_held : Edge → List Edge → Bool
-is_held edge edges = if edge.down then is_down edge.place edges else not (is_down edge.place edges)
+abbrev pub is_held : Edge → Option Edge → Bool
+is_held edge last = if edge.down then is_down last else not (is_down last)
 
 -- fewer than 2,240 cycles since an earlier edge, where there is one; the rule names both stamps
 abbrev pub soon_after : (ℕ → ℕ → Rule) → Option Edge → Edge → List (Judgement Rule)
@@ -40,25 +41,29 @@ soon_after rule None edge = []
 soon_after rule (Some earlier) edge =
     judge (rule earlier.stamp edge.stamp) (nat_lt edge.stamp (earlier.stamp + 2240)) ∷ []
 
--- the rules of edges: the key's state, the dwell since its last edge, and the density of five edges in a row
-abbrev pub edge_judgements : List Edge → Edge → List (Judgement Rule)
-edge_judgements edges edge =
-    judge Held (is_held edge edges)
-    ∷ soon_after Dwell (last_edge edge.place edges) edge
-    ++ soon_after Density (fourth_last edges) edge
+-- the fourth edge from the end
+abbrev pub fourth_back : Brief → Option Edge
+fourth_back before = slice_index_or before.latest 0 None
 
-abbrev pub key_judgements : Before → Event → List (Judgement Rule)
-key_judgements before (EdgeOf edge) = edge_judgements before.edges edge
+-- the rules of edges: the key's state, the dwell since its last edge, and the density of five edges in a row
+abbrev pub edge_judgements : Brief → Edge → List (Judgement Rule)
+edge_judgements before edge =
+    judge Held (is_held edge (before.last edge.place))
+    ∷ soon_after Dwell (before.last edge.place) edge
+    ++ soon_after Density (fourth_back before) edge
+
+abbrev pub key_judgements : Brief → Event → List (Judgement Rule)
+key_judgements before (EdgeOf edge) = edge_judgements before edge
 key_judgements before event = []
 
 -- it would be event 65,537; `end` isn't counted
-abbrev pub is_too_many : Before → Event → Bool
+abbrev pub is_too_many : Brief → Event → Bool
 is_too_many before (End stamp) = false
-is_too_many before event = nat_le 65536 (length before.edges + length before.host)
+is_too_many before event = nat_le 65536 before.count
 
 -- the rules from the fourth on, in the order of their numbers: the stamp is less than the one before; the rules of
 -- edges; `end` has come; the stamp is greater than 240,000,000; there are too many events
-abbrev pub judgements : Before → Event → List (Judgement Rule)
+abbrev pub judgements : Brief → Event → List (Judgement Rule)
 judgements before event =
     judge (Order before.stamp (stamp_at event)) (nat_lt (stamp_at event) before.stamp)
     ∷ key_judgements before event

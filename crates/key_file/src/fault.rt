@@ -1,7 +1,7 @@
 //! Why a key file gives no history.
 
 ghost use Rattle.std.specs.Prelude.{◌≡◌};
-ghost use Rattle.key_file.specs.KeyFile.{told};
+ghost use Rattle.key_file.specs.KeyFile.{key_fault, told};
 ghost use Rattle.key_file.specs.Rules.{number_of};
 ghost use Rattle.key_file.specs.declared.fault.KeyFault.TheVariants.{Memory};
 
@@ -18,6 +18,23 @@ pub(crate) const LAST_STAMP: u64 = 240_000_000;
 /// The numbers are 1 form, 2 unknown word, 3 unknown key, 4 a falling stamp, 5 press of a key that is down or release
 /// of one that is up, 6 dwell, 7 density, 8 no end (at the number of lines plus one), 9 a line after the end, 10 a
 /// stamp past 240,000,000, 11 more than 65,536 events.
+#[derive(Clone, Copy, Debug, PartialEq, Eq, Drop)]
+pub enum FileFault {
+    /// A rule other than those of time is broken.
+    Input {
+        line: u32,
+        number: u8,
+    },
+    /// Rule 4, 6, 7 or 10 is broken, by the stamps `a` and `b`, in cycles.
+    Timing {
+        line: u32,
+        number: u8,
+        a: u64,
+        b: u64,
+    },
+}
+
+/// The same, where memory may also be wanting.
 #[derive(Clone, Copy, Debug, PartialEq, Eq, Drop, Error)]
 pub enum KeyFault {
     /// A rule other than those of time is broken.
@@ -37,6 +54,16 @@ pub enum KeyFault {
     /// There is no memory.
     #[error("out of memory")]
     Memory,
+}
+
+/// The fault of a reader that takes memory.
+pub(crate) fn key_fault(fault: FileFault) -> KeyFault
+    ensures { result ≡ key_fault fault }
+{
+    match fault {
+        FileFault::Input { line, number } => KeyFault::Input { line, number },
+        FileFault::Timing { line, number, a, b } => KeyFault::Timing { line, number, a, b },
+    }
 }
 
 impl From<AllocError> for KeyFault {
@@ -67,20 +94,20 @@ fn number_of(rule: Rule) -> u8
 }
 
 /// The fault of a line that breaks a rule.
-pub(crate) fn told(line: u32, rule: Rule) -> KeyFault
-    ensures { result ≡ told line rule }
+pub(crate) fn told(line: u32, rule: Rule) -> FileFault
+    ensures { key_fault result ≡ told line rule }
 {
     let number = number_of(rule);
     match rule {
         Rule::Order(a, b) | Rule::Dwell(a, b) | Rule::Density(a, b) => {
-            KeyFault::Timing { line, number, a, b }
+            FileFault::Timing { line, number, a, b }
         }
-        Rule::Late(b) => KeyFault::Timing {
+        Rule::Late(b) => FileFault::Timing {
             line,
             number,
             a: LAST_STAMP,
             b,
         },
-        _ => KeyFault::Input { line, number },
+        _ => FileFault::Input { line, number },
     }
 }

@@ -1,22 +1,31 @@
 //! Key files: which keys go down and up, and what the host does, each at its stamp.
 //!
-//! This layer reads a key file for a layout, and gives its history, or its first fault. It knows lines, stamps, the
-//! names of keys by the layout, and the rules by which a history is accepted. It knows no code, no wire and no run.
-//! Source: our own.
+//! This layer judges a key file for a layout, and gives its history, or its first fault. A history is kept in memory, or
+//! its events are handed out one after another from the file's own bytes, which takes no memory; a feed is either. It
+//! knows lines, stamps, the names of keys by the layout, and the rules by which a history is accepted. It knows no code,
+//! no wire and no run. Source: our own.
 #![tactic(auto)]
 
+mod brief;
+mod byte_feed;
+mod checking;
 mod event;
 mod fault;
+mod feed;
 mod history;
 mod line;
-mod progress;
+mod list_feed;
 mod reading;
 mod rule;
 mod rules;
 mod word;
 
-pub use fault::KeyFault;
+pub use byte_feed::ByteFeed;
+pub use checking::check_history;
+pub use fault::{FileFault, KeyFault};
+pub use feed::Feed;
 pub use history::History;
+pub use list_feed::ListFeed;
 pub use reading::read_history;
 
 #[cfg(test)]

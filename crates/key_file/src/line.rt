@@ -5,8 +5,8 @@ ghost use Rattle.std.specs.Option.{option_map, option_and_then};
 ghost use Rattle.text_lines.specs.Fields.{fields};
 ghost use Rattle.text_lines.specs.Numbers.{hexadecimal_of};
 ghost use Rattle.key_file.specs.declared.event.Event.TheVariants.{HostOf};
-ghost use Rattle.key_file.specs.Fields.{stamp_of, only, place_named, edge_of, write_of, act_of, alone, event_of};
-ghost use Rattle.key_file.specs.Fields.{event_in};
+ghost use Rattle.key_file.specs.Fields.{stamp_of, only, place_named, edge_of, write_of, bit_of, flip_of, act_of, alone};
+ghost use Rattle.key_file.specs.Fields.{event_of, event_in, said_by};
 
 use crate::event::Event;
 use crate::rule::Rule;
@@ -69,6 +69,24 @@ fn byte_of(arguments: &[u8]) -> Option<u8>
     Some(number as u8)
 }
 
+/// The number of a bit, 1 to 9, that a field writes by one digit; None for any other field.
+fn bit_of(field: &[u8]) -> Option<u8>
+    ensures { result ≡ bit_of field.now }
+{
+    match decimal(1, field)? {
+        0 => None,
+        bit => Some(bit as u8),
+    }
+}
+
+/// Noise that turns round the bit that the argument gives, or the rule of form, where there is none.
+fn flip_of(stamp: u64, arguments: &[u8]) -> Result<Event, Rule>
+    ensures { result ≡ flip_of stamp (fields arguments.now) }
+{
+    let bit = only(arguments).and_then(bit_of).ok_or(Rule::Form)?;
+    Ok(host(stamp, HostAct::Flip(bit)))
+}
+
 /// An event of the host.
 fn host(stamp: u64, act: HostAct) -> Event
     ensures { result ≡ HostOf (record { stamp = stamp; act = act }) }
@@ -113,6 +131,7 @@ fn event_of(layout: &Layout, stamp: u64, word: Word, arguments: &[u8]) -> Result
         Word::Unmask => act_of(stamp, HostAct::Unmask, arguments),
         Word::Take => act_of(stamp, HostAct::Take, arguments),
         Word::Status => act_of(stamp, HostAct::Status, arguments),
+        Word::Flip => flip_of(stamp, arguments),
         Word::End => alone(Event::End(stamp), arguments),
     }
 }
@@ -126,4 +145,17 @@ pub(crate) fn event_in(layout: &Layout, first: &[u8], others: &[u8]) -> Result<E
     let stamp = stamp_of(first).ok_or(Rule::Form)?;
     let word = word_named(second).ok_or(Rule::UnknownWord)?;
     event_of(layout, stamp, word, arguments)
+}
+
+/// What a line says, or the first of the rules of form, word and key that it breaks; None where the line is skipped.
+pub(crate) fn said_by(layout: &Layout, text: &[u8]) -> Result<Option<Event>, Rule>
+    ensures { result ≡ said_by layout.now (fields text.now) }
+{
+    let Some((first, others)) = next_field(text) else {
+        return Ok(None);
+    };
+    if first.starts_with(b"#") {
+        return Ok(None);
+    }
+    Ok(Some(event_in(layout, first, others)?))
 }

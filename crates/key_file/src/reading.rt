@@ -1,78 +1,59 @@
 //! From the bytes of a key file to its history, or to its first fault.
 
 ghost use Rattle.std.specs.Prelude.{◌≡◌, ◌≤◌, Ok, length, IfOk, IfErr};
-ghost use Rattle.first_fault.specs.FirstFault.{at_item};
-ghost use Rattle.key_file.specs.KeyFile.{take_event, take_fields, take_line, finish, history_of, with_fault_told};
-ghost use Rattle.key_file.specs.KeyFile.{IsFaultOf};
-ghost use Rattle.key_file.specs.Accepted.{IsAcceptedFor};
-ghost use Rattle.text_lines.specs.Fields.{fields};
+ghost use Rattle.key_file.specs.Accepted.{IsAccepted, IsAcceptedFor};
+ghost use Rattle.key_file.specs.Feeds.{Fed};
+ghost use Rattle.key_file.specs.KeyFile.{history_of, IsFaultOf};
 
-use crate::event::Event;
-use crate::fault::{KeyFault, told};
+use crate::byte_feed::ByteFeed;
+use crate::checking::check_history;
+use crate::fault::{KeyFault, key_fault};
+use crate::feed::Feed;
 use crate::history::History;
-use crate::line::event_in;
-use crate::progress::Progress;
-use crate::rule::Rule;
-use crate::rules::broken_by;
+use board_lines::{Edge, HostEvent};
 use layout_reader::Layout;
-use std::alloc::Global;
-use text_lines::{next_field, next_line};
+use std::alloc::{AllocError, Global};
 
-/// Takes an event of a line; where it breaks a rule, nothing is taken.
-fn take_event(progress: &mut Progress, line: u32, event: &Event) -> Result<(), KeyFault>
-    ensures taken { IfOk result (λ _. take_event progress.old event.now ≡ Ok progress.new) }
-    ensures fault { IfErr result (IsFaultOf (with_fault_told (at_item line (take_event progress.old event.now)))) }
+/// The edges of a feed of which none was taken.
+fn edges_of(alloc: Global, feed: &mut ByteFeed) -> Result<Vec<Edge>, AllocError>
+    requires { feed.old.edges ≡ 0 }
+    ensures edges { IfOk result (λ edges. edges.items ≡ feed.old.history.edges) }
+    ensures history { feed.new.history ≡ feed.old.history }
+    ensures host { feed.new.host ≡ feed.old.host }
 {
-    if let Some(rule) = broken_by(progress, event) {
-        return Err(told(line, rule));
+    let mut edges = Vec::new(alloc);
+    while let Some(edge) = feed.next_edge() {
+        edges.push(edge)?;
     }
-    progress.push(event)?;
-    Ok(())
+    Ok(edges)
 }
 
-/// Takes what a line says.
-fn take_line(
-    progress: &mut Progress,
-    layout: &Layout,
-    line: u32,
-    text: &[u8],
-) -> Result<(), KeyFault>
-    ensures taken { IfOk result (λ _. take_line layout.now progress.old text.now ≡ Ok progress.new) }
-    ensures fault { IfErr result (IsFaultOf (with_fault_told (at_item line (take_line layout.now progress.old text.now)))) }
+/// The host events of a feed of which none was taken.
+fn host_of(alloc: Global, feed: &mut ByteFeed) -> Result<Vec<HostEvent>, AllocError>
+    requires { feed.old.host ≡ 0 }
+    ensures events { IfOk result (λ events. events.items ≡ feed.old.history.host) }
+    ensures history { feed.new.history ≡ feed.old.history }
 {
-    let Some((first, others)) = next_field(text) else {
-        return Ok(());
-    };
-    if first.starts_with(b"#") {
-        return Ok(());
+    let mut events = Vec::new(alloc);
+    while let Some(event) = feed.next_host() {
+        events.push(event)?;
     }
-    match event_in(layout, first, others) {
-        Ok(event) => take_event(progress, line, &event),
-        Err(rule) => Err(told(line, rule)),
-    }
+    Ok(events)
 }
 
 /// Reads a key file of at most 4,194,304 bytes for a layout.
 ///
 /// Ok is exactly the file's history, and it is accepted for the layout. `KeyFault::Input` and `KeyFault::Timing` are
 /// exactly the first faulty line with the lowest number of a rule that it breaks: each line is judged after those
-/// before it. Want of memory may come at any time, and says nothing of the file.
+/// before it. Want of memory may come where the file has no fault, and says nothing of it.
 pub fn read_history(alloc: Global, bytes: &[u8], layout: &Layout) -> Result<History, KeyFault>
     requires within { length bytes.now ≤ 4194304 }
     ensures history { IfOk result (λ history. history_of layout.now bytes.now ≡ Ok history) }
     ensures accepted { IfOk result (IsAcceptedFor layout.now) }
     ensures fault { IfErr result (IsFaultOf (history_of layout.now bytes.now)) }
 {
-    let mut progress = Progress::new(alloc);
-    let mut rest = bytes;
-    let mut number = 1;
-    while let Some((line, after)) = next_line(rest) {
-        take_line(&mut progress, layout, number, line)?;
-        rest = after;
-        number += 1;
-    }
-    match progress.end() {
-        Some(end) => Ok(progress.into_history(end)),
-        None => Err(told(number, Rule::NoEnd)),
-    }
+    let mut feed = check_history(bytes, layout).map_err(key_fault)?;
+    let edges = edges_of(alloc, &mut feed)?;
+    let host = host_of(alloc, &mut feed)?;
+    Ok(History::new(edges, host, feed.end()))
 }

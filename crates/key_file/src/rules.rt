@@ -1,15 +1,15 @@
-//! The rules of an event, each judged against the events before it.
+//! The rules of an event, each judged against what those before it came to.
 
 ghost use Rattle.std.specs.Prelude.{◌≡◌, ◌+◌, nat_lt};
 ghost use Rattle.first_fault.specs.FirstFault.{first_broken};
-ghost use Rattle.key_file.specs.Histories.{last_edge, fourth_last};
-ghost use Rattle.key_file.specs.Rules.{is_down, is_held, soon_after, edge_judgements, key_judgements};
+ghost use Rattle.key_file.specs.Rules.{fourth_back, is_down, is_held, soon_after, edge_judgements, key_judgements};
 ghost use Rattle.key_file.specs.Rules.{is_too_many, judgements};
+ghost use Rattle.key_file.specs.Keeps.{asked};
 ghost use Rattle.key_file.specs.declared.rule.Rule.TheVariants.{Dwell, Density};
 
+use crate::brief::Brief;
 use crate::event::Event;
 use crate::fault::LAST_STAMP;
-use crate::progress::Progress;
 use crate::rule::Rule;
 use board_lines::{Edge, Place};
 
@@ -20,10 +20,10 @@ const LEAST_TIME: u64 = 2_240;
 const MOST_EVENTS: usize = 65_536;
 
 /// Whether the key at a place is down.
-fn is_down(progress: &Progress, place: Place) -> bool
-    ensures { result ≡ is_down place progress.now.edges }
+fn is_down(brief: &Brief, place: Place) -> bool
+    ensures { result ≡ is_down ((asked brief.now).last place) }
 {
-    match progress.last_edge(place) {
+    match brief.last_edge(place) {
         Some(edge) => edge.down,
         None => false,
     }
@@ -37,71 +37,71 @@ fn is_soon(earlier: &Edge, edge: &Edge) -> bool
 }
 
 /// The rule of dwell, where an edge breaks it.
-fn breaks_dwell(progress: &Progress, edge: &Edge) -> Option<Rule>
-    ensures { result ≡ first_broken (soon_after Dwell (last_edge edge.now.place progress.now.edges) edge.now) }
+fn breaks_dwell(brief: &Brief, edge: &Edge) -> Option<Rule>
+    ensures { result ≡ first_broken (soon_after Dwell ((asked brief.now).last edge.now.place) edge.now) }
 {
-    let earlier = progress.last_edge(edge.place)?;
+    let earlier = brief.last_edge(edge.place)?;
     is_soon(&earlier, edge).then_some(Rule::Dwell(earlier.stamp, edge.stamp))
 }
 
 /// The rule of density, where an edge breaks it.
-fn breaks_density(progress: &Progress, edge: &Edge) -> Option<Rule>
-    ensures { result ≡ first_broken (soon_after Density (fourth_last progress.now.edges) edge.now) }
+fn breaks_density(brief: &Brief, edge: &Edge) -> Option<Rule>
+    ensures { result ≡ first_broken (soon_after Density (fourth_back (asked brief.now)) edge.now) }
 {
-    let earlier = progress.fourth_last()?;
+    let earlier = brief.fourth_back()?;
     is_soon(&earlier, edge).then_some(Rule::Density(earlier.stamp, edge.stamp))
 }
 
 /// The first rule of edges that an edge breaks.
-fn broken_by_edge(progress: &Progress, edge: &Edge) -> Option<Rule>
-    ensures { result ≡ first_broken (edge_judgements progress.now.edges edge.now) }
+fn broken_by_edge(brief: &Brief, edge: &Edge) -> Option<Rule>
+    ensures { result ≡ first_broken (edge_judgements (asked brief.now) edge.now) }
 {
-    if edge.down == is_down(progress, edge.place) {
+    if edge.down == is_down(brief, edge.place) {
         return Some(Rule::Held);
     }
-    match breaks_dwell(progress, edge) {
+    match breaks_dwell(brief, edge) {
         Some(rule) => Some(rule),
-        None => breaks_density(progress, edge),
+        None => breaks_density(brief, edge),
     }
 }
 
 /// The first rule of edges that an event breaks.
-fn broken_by_key(progress: &Progress, event: &Event) -> Option<Rule>
-    ensures { result ≡ first_broken (key_judgements progress.now event.now) }
+fn broken_by_key(brief: &Brief, event: &Event) -> Option<Rule>
+    ensures { result ≡ first_broken (key_judgements (asked brief.now) event.now) }
 {
     match event {
-        Event::EdgeOf(edge) => broken_by_edge(progress, edge),
+        Event::EdgeOf(edge) => broken_by_edge(brief, edge),
         _ => None,
     }
 }
 
 /// Whether it would be one event too many.
-fn is_too_many(progress: &Progress, event: &Event) -> bool
-    ensures { result ≡ is_too_many progress.now event.now }
+fn is_too_many(brief: &Brief, event: &Event) -> bool
+    ensures { result ≡ is_too_many (asked brief.now) event.now }
 {
     match event {
         Event::End(_) => false,
-        _ => progress.count() >= MOST_EVENTS,
+        _ => brief.count() >= MOST_EVENTS,
     }
 }
 
 /// The first rule, from the fourth on, that an event breaks.
-pub(crate) fn broken_by(progress: &Progress, event: &Event) -> Option<Rule>
-    ensures { result ≡ first_broken (judgements progress.now event.now) }
+pub(crate) fn broken_by(brief: &Brief, event: &Event) -> Option<Rule>
+    ensures { result ≡ first_broken (judgements (asked brief.now) event.now) }
 {
     let stamp = event.stamp();
-    if stamp < progress.stamp() {
-        return Some(Rule::Order(progress.stamp(), stamp));
+    if stamp < brief.stamp() {
+        return Some(Rule::Order(brief.stamp(), stamp));
     }
-    let rule = broken_by_key(progress, event);
+    let rule = broken_by_key(brief, event);
     if rule.is_some() {
         return rule;
     }
-    if progress.end().is_some() {
+    if brief.end().is_some() {
         return Some(Rule::AfterEnd);
     }
     if stamp > LAST_STAMP {
         return Some(Rule::Late(stamp));
     }
-    is_too_many(progress, event).then_some(Rule::TooMany)
+    is_too_many(brief, event).then_some(Rule::TooMany)
 }

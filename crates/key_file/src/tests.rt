@@ -2,7 +2,8 @@
 
 ghost use Rattle.std.specs.Prelude.{◌≤◌, length};
 
-use super::{History, KeyFault, read_history};
+use super::{Feed, History, KeyFault, ListFeed, check_history, read_history};
+use crate::fault::key_fault;
 use board_lines::{Edge, HostAct, HostEvent, Place};
 use layout_reader::{Layout, us84_layout};
 use std::alloc::{AllocError, Global};
@@ -36,7 +37,7 @@ fn timing(text: &'static str, line: u32, number: u8, a: u64, b: u64) -> Refused 
 }
 
 /// Each fault at small files.
-fn one_fault() -> [Refused; 36] {
+fn one_fault() -> [Refused; 41] {
     [
         input("x mask", 1, 1),
         input("400", 1, 1),
@@ -52,6 +53,11 @@ fn one_fault() -> [Refused; 36] {
         input("400 write60 0ED", 1, 1),
         input("400 mask x", 1, 1),
         input("400 end x", 1, 1),
+        input("5 flip 0", 1, 1),
+        input("5 flip", 1, 1),
+        input("5 flip 10", 1, 1),
+        input("5 flip a", 1, 1),
+        input("5 flip 3 3", 1, 1),
         input("\r", 1, 1),
         input("5 jump", 1, 2),
         input("5 Press a", 1, 2),
@@ -137,6 +143,21 @@ fn refuses(rt: &impl Abort, alloc: Global, layout: &Layout, text: &[u8], fault: 
     assert!(rt; text.len() <= LIMIT);
     let read = read_history(alloc, text, layout);
     assert!(rt; read.err() == Some(fault), "{text:?}");
+    let checked = check_history(text, layout);
+    assert!(rt; checked.err().map(key_fault) == Some(fault), "{text:?}");
+}
+
+/// Asserts that a feed hands out the events of a history, and then none.
+fn hands_out<F: Feed>(rt: &impl Abort, feed: &mut F, history: &History) {
+    assert_eq!(rt; feed.end(), history.end());
+    for edge in history.edges() {
+        assert!(rt; feed.next_edge() == Some(*edge));
+    }
+    for event in history.host() {
+        assert!(rt; feed.next_host() == Some(*event));
+    }
+    assert!(rt; feed.next_edge().is_none());
+    assert!(rt; feed.next_host().is_none());
 }
 
 #[test]
@@ -169,7 +190,7 @@ fn a_history_has_the_events_of_its_lines(rt: HostRuntime) -> Result<(), Fail> {
         KeyFault::Input { line: 6, number: 1 },
     );
     let text =
-        b" \t0\tpress a \r\n\n # a comment\n2240 release  a\n3000 write60 eD\n10ms take\n10ms end\n\n#\n";
+        b" \t0\tpress a \r\n\n # a comment\n2240 release  a\n3000 write60 eD\n10ms take\n10ms flip 7\n10ms end\n\n#\n";
     let history = read_history(rt.alloc(), text, &layout)?;
     let place = Place::at(3, 5).ok_or("no place")?;
     let press = Edge {
@@ -191,8 +212,17 @@ fn a_history_has_the_events_of_its_lines(rt: HostRuntime) -> Result<(), Fail> {
         stamp: 4000,
         act: HostAct::Take,
     };
-    assert!(rt; history.host() == [write, take].as_slice());
+    let flip = HostEvent {
+        stamp: 4000,
+        act: HostAct::Flip(7),
+    };
+    assert!(rt; history.host() == [write, take, flip].as_slice());
     assert_eq!(rt; history.end(), 4000);
+    hands_out(&rt, &mut ListFeed::new(&history), &history);
+    match check_history(text, &layout) {
+        Ok(mut feed) => hands_out(&rt, &mut feed, &history),
+        Err(_) => assert!(rt; false, "a fault"),
+    }
     Ok(())
 }
 

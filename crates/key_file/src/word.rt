@@ -15,6 +15,7 @@ pub(crate) enum Word {
     Unmask,
     Take,
     Status,
+    Flip,
     End,
 }
 
@@ -32,6 +33,7 @@ pub(crate) fn word_named(name: &[u8]) -> Option<Word>
         b"unmask" => Some(Word::Unmask),
         b"take" => Some(Word::Take),
         b"status" => Some(Word::Status),
+        b"flip" => Some(Word::Flip),
         b"end" => Some(Word::End),
         _ => None,
     }

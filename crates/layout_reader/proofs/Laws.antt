@@ -1,10 +1,10 @@
 -- Laws of the entries of a layout.
-use Rattle.std.proofs.Common.{◌≡◌, ℕ, zero, suc, ◌+◌, ◌<◌, ◌≤◌, Bool, true, false, ◌==◌, ◌||◌, eqb, List, [], ◌∷◌, ◌++◌, map, length, Some, refl, ap, ◌∙◌, arith, subst}
-use Rattle.std.specs.Prelude.{All}
-use Rattle.std.specs.List.{IsDistinct, list_any, range_with_len}
+use Rattle.std.proofs.Common.{◌≡◌, ℕ, zero, suc, ◌+◌, ◌<◌, ◌≤◌, Bool, true, false, ◌==◌, ◌||◌, eqb, List, [], ◌∷◌, ◌++◌, map, length, Some, refl, ap, ◌∙◌, arith, subst, ◌&&◌}
+use Rattle.std.specs.Prelude.{All, cond}
+use Rattle.std.specs.List.{IsDistinct, list_any, filter, range_with_len}
 use Rattle.std.specs.Cmp.{nat_eq_equiv}
-use Rattle.std.proofs.lemmas.List.{map-append}
-use Rattle.std.proofs.lemmas.List.Elements.{All-push, All-nil}
+use Rattle.std.proofs.lemmas.List.{map-append, append-nil}
+use Rattle.std.proofs.lemmas.List.Elements.{All-push, All-nil, filter-append}
 use Rattle.std.proofs.lemmas.List.FromFn.{map-range_with_len_more}
 use Rattle.std.proofs.lemmas.List.Quantifiers.{position-Some}
 use Rattle.std.proofs.lemmas.Map.Keys.{IsDistinct-push}
@@ -14,7 +14,7 @@ use Rattle.pc_tables.specs.Keys.{Row, row, keys, key_with_name}
 use Rattle.pc_tables.proofs.KeyLaws.{key_count}
 use Rattle.std.specs.Str.{bytes_eq}
 use Rattle.layout_reader.specs.declared.entry.Entry.{Entry}
-use Rattle.layout_reader.specs.Entries.{IsEntry, is_place_taken, is_key_named}
+use Rattle.layout_reader.specs.Entries.{IsEntry, is_fn, is_place_taken, is_key_named, has_fn}
 use Rattle.layout_reader.specs.Layouts.{AreEntries, places_of, keys_of, sample_entry}
 
 -- a key that has a name is one of the 84
@@ -22,7 +22,7 @@ pub key_range : (name : List ℕ) (key : ℕ) → key_with_name name ≡ Some ke
 key_range name key h =
     let found = position-Some (λ (k : Row). bytes_eq k.name name) keys key (row [] 0 0) h in omega (arith, found.0, key_count)
 
-eqb-swap : (a b : ℕ) → eqb a b ≡ eqb b a
+pub eqb-swap : (a b : ℕ) → eqb a b ≡ eqb b a
 eqb-swap a b = grind (arith, nat_tests)
 
 -- the entry's field is among the numbers of the list exactly where an entry has it
@@ -30,18 +30,39 @@ among : (f : Entry → ℕ) (n : ℕ) (entries : List Entry) → list_any (eqb n
 among f n [] = refl
 among f n (e ∷ es) = rw (eqb-swap n (f e), among f n es) refl
 
--- one more entry, whose place and key are new
-pub AreEntries-push : (entries : List Entry) (entry : Entry) → AreEntries entries → IsEntry entry → is_place_taken entries entry.place ≡ false → is_key_named entries entry.key ≡ false → AreEntries (entries ++ entry ∷ [])
-unfolding is_place_taken is_key_named
-AreEntries-push entries entry before sound place key = record {
+-- where there is no Fn key, none is among the entries
+fn_none : (entries : List Entry) → list_any is_fn entries ≡ false → filter is_fn entries ≡ []
+fn_none [] h = refl
+fn_none (e ∷ es) h = by (is_fn e) h (fn_none es)
+  where
+    by : (b : Bool) → (b || list_any is_fn es) ≡ false → (list_any is_fn es ≡ false → filter is_fn es ≡ [])
+        → cond b (e ∷ filter is_fn es) (filter is_fn es) ≡ []
+    by true g more = absurd cc
+    by false g more = more g
+
+-- one more Fn key, where there was none
+fn_one : (entries : List Entry) (entry : Entry) → length (filter is_fn entries) ≤ 1 → (is_fn entry && list_any is_fn entries) ≡ false
+    → length (filter is_fn (entries ++ entry ∷ [])) ≤ 1
+fn_one entries entry few h = rw (filter-append is_fn entries (entry ∷ [])) (by (is_fn entry) h)
+  where
+    by : (b : Bool) → (b && list_any is_fn entries) ≡ false → length (filter is_fn entries ++ cond b (entry ∷ []) []) ≤ 1
+    by true g = rw (fn_none entries g) (omega arith)
+    by false g = rw (append-nil (filter is_fn entries)) few
+
+-- one more entry, whose place and key are new, and which is no second Fn key
+pub AreEntries-push : (entries : List Entry) (entry : Entry) → AreEntries entries → IsEntry entry → is_place_taken entries entry.place ≡ false
+    → is_key_named entries entry.key ≡ false → (is_fn entry && has_fn entries) ≡ false → AreEntries (entries ++ entry ∷ [])
+unfolding is_place_taken is_key_named has_fn
+AreEntries-push entries entry before sound place key one = record {
   each = All-push IsEntry entries entry before.each sound;
   own_places = rw (map-append (λ (e : Entry). e.place) entries (entry ∷ [])) (IsDistinct-push nat_eq_equiv (places_of entries) entry.place before.own_places (among (λ (e : Entry). e.place) entry.place entries ∙ place));
   own_keys = rw (map-append (λ (e : Entry). e.key) entries (entry ∷ [])) (IsDistinct-push nat_eq_equiv (keys_of entries) entry.key before.own_keys (among (λ (e : Entry). e.key) entry.key entries ∙ key));
+  one_fn = fn_one entries entry before.one_fn one;
 }
 
 pub AreEntries-nil : AreEntries []
 unfolding IsDistinct
-AreEntries-nil = record { each = All-nil IsEntry; own_places = tt; own_keys = tt }
+AreEntries-nil = record { each = All-nil IsEntry; own_places = tt; own_keys = tt; one_fn = omega arith }
 
 or-cases : (a b : Bool) → (a || b) ≡ true → (a ≡ false → b ≡ true)
 or-cases true b h e = absurd cc
@@ -82,5 +103,5 @@ sample-sound (suc n) h =
     let next : n + 1 ≡ suc n = omega arith in
     subst (λ m. AreEntries (map sample_entry (range_with_len 0 m))) next
     (rw (map-range_with_len_more sample_entry 0 n n (omega arith))
-    (AreEntries-push _ (sample_entry n) before (record { place = omega arith; key = omega arith; sends = omega arith })
-    (apart (λ (e : Entry). e.place) (λ k. refl) 0 n n (omega arith)) (apart (λ (e : Entry). e.key) (λ k. refl) 0 n n (omega arith))))
+    (AreEntries-push _ (sample_entry n) before (record { place = omega arith; key = omega arith; sends = omega arith; fn_sends = omega arith; both = refl; of_fn = refl })
+    (apart (λ (e : Entry). e.place) (λ k. refl) 0 n n (omega arith)) (apart (λ (e : Entry). e.key) (λ k. refl) 0 n n (omega arith)) refl))

@@ -8,6 +8,7 @@ use Rattle.toml.specs.Data.{Members}
 use Rattle.toml.specs.Parse.{parse_document}
 use Rattle.toml.specs.View.{view, items_view}
 use Rattle.layout_reader.specs.declared.entry.Entry.{Entry}
+use Rattle.layout_reader.specs.declared.fields.Format.{Format}
 use Rattle.layout_reader.specs.declared.cause.Cause.{Cause}
 use Rattle.layout_reader.specs.declared.cause.Cause.TheVariants.{NotToml}
 use Rattle.layout_reader.specs.Faults.{number_of}
@@ -15,14 +16,16 @@ use Rattle.layout_reader.specs.Entries.{entry_from}
 use Rattle.layout_reader.specs.Documents.{entries_from, layout_of, tree_of, layout_of_document}
 
 -- an element that gives an entry, and the elements after it
-pub entries_step : (earlier : List Entry) (elements rest : List Value) (i : ℕ) (element : Value) (entry : Entry) → drop i elements ≡ element ∷ rest → entry_from earlier (view element) ≡ Ok entry
-    → entries_from earlier (items_view (drop i elements)) ≡ entries_from (earlier ++ entry ∷ []) (items_view rest)
-entries_step earlier elements rest i element entry here gives = rw (here, gives) refl
+pub entries_step : (format : Format) (earlier : List Entry) (elements rest : List Value) (i : ℕ) (element : Value) (entry : Entry)
+    → drop i elements ≡ element ∷ rest → entry_from format earlier (view element) ≡ Ok entry
+    → entries_from format earlier (items_view (drop i elements)) ≡ entries_from format (earlier ++ entry ∷ []) (items_view rest)
+entries_step format earlier elements rest i element entry here gives = rw (here, gives) refl
 
 -- an element with a fault
-pub entries_stop : (earlier : List Entry) (elements rest : List Value) (i : ℕ) (element : Value) (cause : Cause) → drop i elements ≡ element ∷ rest → entry_from earlier (view element) ≡ Err cause
-    → entries_from earlier (items_view (drop i elements)) ≡ Err (record { entry = length earlier + 1; number = number_of cause })
-entries_stop earlier elements rest i element cause here gives = rw (here, gives) refl
+pub entries_stop : (format : Format) (earlier : List Entry) (elements rest : List Value) (i : ℕ) (element : Value) (cause : Cause)
+    → drop i elements ≡ element ∷ rest → entry_from format earlier (view element) ≡ Err cause
+    → entries_from format earlier (items_view (drop i elements)) ≡ Err (record { entry = length earlier + 1; number = number_of cause })
+entries_stop format earlier elements rest i element cause here gives = rw (here, gives) refl
 
 -- bytes that `toml` reads
 pub document_read : (bytes : List ℕ) (top : Members) → IsUtf8 bytes → parse_document bytes ≡ Some top → layout_of_document bytes ≡ layout_of top

@@ -6,25 +6,27 @@ use Rattle.toml.specs.Data.{Items, no_items, item, Members}
 use Rattle.toml.specs.Parse.{parse_document}
 use Rattle.layout_reader.specs.declared.entry.Entry.{Entry as LayoutEntry}
 use Rattle.layout_reader.specs.declared.cause.Cause.TheVariants.{NotToml}
+use Rattle.layout_reader.specs.declared.fields.Format.{Format}
 use Rattle.layout_reader.specs.declared.fault.LayoutFault.{LayoutFault}
 use Rattle.layout_reader.specs.declared.fault.LayoutFault.TheVariants.{Entry, Memory}
 use Rattle.layout_reader.specs.Faults.{Refusal, at_entry, and_then}
 use Rattle.layout_reader.specs.Entries.{entry_from}
-use Rattle.layout_reader.specs.TopLevel.{rate_from, elements_in}
+use Rattle.layout_reader.specs.TopLevel.{header_from, elements_in}
 use Rattle.layout_reader.specs.Layouts.{KeyLayout}
 
 -- the entries after the earlier ones, each judged in its turn; they count from 1
-abbrev pub entries_from : List LayoutEntry → Items → Result (List LayoutEntry) Refusal
-entries_from earlier no_items = Ok earlier
-entries_from earlier (item element more) =
-    and_then (at_entry (length earlier + 1) (entry_from earlier element))
-    (λ entry. entries_from (earlier ++ entry ∷ []) more)
+abbrev pub entries_from : Format → List LayoutEntry → Items → Result (List LayoutEntry) Refusal
+entries_from format earlier no_items = Ok earlier
+entries_from format earlier (item element more) =
+    and_then (at_entry (length earlier + 1) (entry_from format earlier element))
+    (λ entry. entries_from format (earlier ++ entry ∷ []) more)
 
 -- the layout of a tree, or its first fault: first the top level, which is entry 0, then the entries
 unfoldable pub layout_of : Members → Result KeyLayout Refusal
 layout_of top =
-    and_then (at_entry 0 (rate_from top))
-    (λ rate. and_then (entries_from [] (elements_in top)) (λ entries. Ok (record { rate = rate; entries = entries })))
+    and_then (at_entry 0 (header_from top))
+    (λ header. and_then (entries_from header.format [] (elements_in top))
+    (λ entries. Ok (record { rate = header.rate; entries = entries })))
 
 -- the tree of the bytes, as `toml` reads it; bytes that aren't UTF-8 have none
 unfoldable pub tree_of : List ℕ → Option Members

@@ -4,7 +4,7 @@ use Rattle.layout_reader.specs.declared.cause.Cause.{Cause}
 use Rattle.layout_reader.specs.declared.cause.Cause.TheVariants.{NotToml, UnknownField, MissingField, WrongKind}
 use Rattle.layout_reader.specs.declared.cause.Cause.TheVariants.{WrongFormat, UnknownKey, PlaceOutOfRange}
 use Rattle.layout_reader.specs.declared.cause.Cause.TheVariants.{PlaceTaken, RateOutOfRange, NoEntries}
-use Rattle.layout_reader.specs.declared.cause.Cause.TheVariants.{KeyNamedBefore}
+use Rattle.layout_reader.specs.declared.cause.Cause.TheVariants.{KeyNamedBefore, FnNamedBefore, FnSends}
 
 -- the number by which a message names the fault
 abbrev pub number_of : Cause → ℕ
@@ -19,6 +19,8 @@ number_of PlaceTaken = 8
 number_of RateOutOfRange = 9
 number_of NoEntries = 10
 number_of KeyNamedBefore = 11
+number_of FnNamedBefore = 12
+number_of FnSends = 13
 
 -- one question of the judgement: the fault, and whether it is there
 pub record Judgement : Type 0 where

@@ -6,16 +6,22 @@ use Rattle.toml.specs.Data.{Items, no_items, item, Members}
 use Rattle.layout_reader.specs.declared.cause.Cause.{Cause}
 use Rattle.layout_reader.specs.declared.cause.Cause.TheVariants.{UnknownField, MissingField, WrongKind}
 use Rattle.layout_reader.specs.declared.cause.Cause.TheVariants.{WrongFormat, RateOutOfRange, NoEntries}
+use Rattle.layout_reader.specs.declared.fields.Format.{Format}
+use Rattle.layout_reader.specs.declared.fields.Format.TheVariants.{One, Two}
 use Rattle.layout_reader.specs.declared.fields.Level.TheVariants.{Top}
+use Rattle.layout_reader.specs.declared.top_level.Header.{Header}
 use Rattle.layout_reader.specs.Faults.{Judgement, judge, first_of, unless}
 use Rattle.layout_reader.specs.Fields.{has_other_field, has_field, is_not_text, is_not_whole, is_not_list}
 use Rattle.layout_reader.specs.Fields.{whole_at, byte_at, list_at}
 
--- whether the whole number is this one
-abbrev pub is_whole : ℕ → Option ℤ → Bool
-is_whole n (Some (pos m)) = m == n
-is_whole n (Some (negsuc m)) = false
-is_whole n None = false
+-- the format with a number
+abbrev pub format_numbered : ℤ → Option Format
+format_numbered (pos n) = if n == 1 then Some One else if n == 2 then Some Two else None
+format_numbered (negsuc n) = None
+
+-- the format of the document
+unfoldable pub format_in : Members → Option Format
+format_in top = option_and_then format_numbered (whole_at (codes "format") top)
 
 -- a rate is below 128
 abbrev pub rate_of : ℕ → Option ℕ
@@ -45,11 +51,15 @@ top_judgements top =
     judge UnknownField (has_other_field Top top)
     ∷ judge MissingField (not (has_field (codes "format") top) || not (has_field (codes "key") top))
     ∷ judge WrongKind (has_wrong_kind top)
-    ∷ judge WrongFormat (not (is_whole 1 (whole_at (codes "format") top)))
+    ∷ judge WrongFormat (is_none (format_in top))
     ∷ judge RateOutOfRange (is_none (rate_in top))
     ∷ judge NoEntries (is_empty (elements_in top))
     ∷ []
 
--- the rate, or the first fault of the top level
-unfoldable pub rate_from : Members → Result ℕ Cause
-rate_from top = unless (first_of (top_judgements top)) (unwrap_or (rate_in top) 0)
+-- what the top level says of the document, where nothing is wrong with it
+abbrev pub header_of : Members → Header
+header_of top = record { format = unwrap_or (format_in top) One; rate = unwrap_or (rate_in top) 0 }
+
+-- that, or the first fault of the top level
+unfoldable pub header_from : Members → Result Header Cause
+header_from top = unless (first_of (top_judgements top)) (header_of top)

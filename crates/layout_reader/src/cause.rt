@@ -17,6 +17,8 @@ pub(crate) enum Cause {
     RateOutOfRange,
     NoEntries,
     KeyNamedBefore,
+    FnNamedBefore,
+    FnSends,
 }
 
 impl Cause {
@@ -36,6 +38,8 @@ impl Cause {
             Cause::RateOutOfRange => 9,
             Cause::NoEntries => 10,
             Cause::KeyNamedBefore => 11,
+            Cause::FnNamedBefore => 12,
+            Cause::FnSends => 13,
         }
     }
 }

@@ -9,7 +9,7 @@ use thiserror::Error;
 /// Why a document gives no layout.
 #[derive(Clone, Copy, Debug, PartialEq, Eq, Drop, Error)]
 pub enum LayoutFault {
-    /// The first entry with a fault, and the number (1 to 11) of its first fault. Entry 0 is the document's top level;
+    /// The first entry with a fault, and the number (1 to 13) of its first fault. Entry 0 is the document's top level;
     /// the entries count from 1.
     #[error("entry {entry} has fault {number}")]
     Entry { entry: u32, number: u8 },

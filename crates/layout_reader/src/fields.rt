@@ -4,17 +4,24 @@ ghost use Rattle.std.specs.Prelude.{◌≡◌, ◌<◌, IfSome, option_map};
 ghost use Rattle.toml.specs.Data.{get_member};
 ghost use Rattle.toml.specs.View.{array_view, table_view, view};
 ghost use Rattle.layout_reader.specs.Fields.{is_field, has_other_field, has_field, text_at, whole_at, byte_at, key_at};
-ghost use Rattle.layout_reader.specs.Fields.{list_at, is_not_text, is_not_whole, is_not_list};
+ghost use Rattle.layout_reader.specs.Fields.{list_at, truth_at, is_set, is_not_text, is_not_whole, is_not_list, is_not_truth};
 
 use pc_tables::{Key, key_named};
 use toml::value::Array;
 use toml::{Table, Value};
 
-/// The two levels of the document at which fields stand.
+/// The formats of a document. The second knows an Fn key with a second layer, and keys that send no break.
+#[derive(Clone, Copy, Debug, PartialEq, Eq, Drop)]
+pub(crate) enum Format {
+    One,
+    Two,
+}
+
+/// The two levels of the document at which fields stand; an entry's fields depend on the format.
 #[derive(Clone, Copy, Debug, PartialEq, Eq, Drop)]
 pub(crate) enum Level {
     Top,
-    Entry,
+    Entry(Format),
 }
 
 impl Level {
@@ -25,7 +32,17 @@ impl Level {
     {
         match self {
             Level::Top => name == "format" || name == "key" || name == "name" || name == "rate",
-            Level::Entry => name == "key" || name == "column" || name == "row" || name == "sends",
+            Level::Entry(Format::One) => name == "key"
+                || name == "column"
+                || name == "row"
+                || name == "sends",
+            Level::Entry(Format::Two) => name == "key"
+                || name == "column"
+                || name == "row"
+                || name == "sends"
+                || name == "fn"
+                || name == "fn_sends"
+                || name == "make_only",
         }
     }
 }
@@ -90,6 +107,25 @@ pub(crate) fn list_at<'a>(fields: &'a Table, name: &str) -> Option<&'a Array>
     }
 }
 
+/// The truth value at a name, where there is one.
+#[tactic(auto, unfolding(crate::specs::Fields::truth_at))]
+fn truth_at(fields: &Table, name: &str) -> Option<bool>
+    ensures { result ≡ truth_at name.now (table_view fields.now) }
+{
+    match value_at(fields, name) {
+        Some(value) => value.as_bool(),
+        None => None,
+    }
+}
+
+/// Whether the truth value at a name is true; it is false where none stands.
+#[tactic(auto, unfolding(crate::specs::Fields::is_set))]
+pub(crate) fn is_set(fields: &Table, name: &str) -> bool
+    ensures { result ≡ is_set name.now (table_view fields.now) }
+{
+    truth_at(fields, name).unwrap_or(false)
+}
+
 /// The whole number at a name, where there is one from 0 to 255.
 #[tactic(auto, unfolding(crate::specs::Fields::byte_at))]
 pub(crate) fn byte_at(fields: &Table, name: &str) -> Option<u8>
@@ -135,4 +171,12 @@ pub(crate) fn is_not_list(fields: &Table, name: &str) -> bool
     ensures { result ≡ is_not_list name.now (table_view fields.now) }
 {
     has_field(fields, name) && list_at(fields, name).is_none()
+}
+
+/// Whether something else than a truth value stands at the name.
+#[tactic(auto, unfolding(crate::specs::Fields::is_not_truth))]
+pub(crate) fn is_not_truth(fields: &Table, name: &str) -> bool
+    ensures { result ≡ is_not_truth name.now (table_view fields.now) }
+{
+    has_field(fields, name) && truth_at(fields, name).is_none()
 }

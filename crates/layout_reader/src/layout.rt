@@ -1,17 +1,18 @@
 //! A layout as the layers above see it.
 
-ghost use Rattle.std.specs.Prelude.{◌≡◌, ◌≤◌, ◌<◌, nat_eq, length, All};
-ghost use Rattle.std.specs.List.{IsDistinct};
-ghost use Rattle.layout_reader.specs.Entries.{IsEntry};
+ghost use Rattle.std.specs.Prelude.{◌≡◌, ◌≤◌, ◌<◌, nat_eq, length, is_none, All};
+ghost use Rattle.std.specs.List.{IsDistinct, filter};
+ghost use Rattle.layout_reader.specs.Entries.{IsEntry, is_fn};
 ghost use Rattle.layout_reader.specs.Layouts.{KeyLayout, places_of, keys_of, code_at, place_of, entry_at};
-ghost use Rattle.layout_reader.specs.Layouts.{entry_of_key, AreEntries};
+ghost use Rattle.layout_reader.specs.Layouts.{entry_of_key, AreEntries, fn_code_at, fn_place, is_make_only, IsSilentAtFn};
 
 use crate::entry::Entry;
 use board_lines::Place;
 use pc_tables::{Key, code_of};
 use std::marker::Model;
 
-/// A layout: a rate and entries in the order of the document, in which no place and no key stands twice.
+/// A layout: a rate and entries in the order of the document, in which no place and no key stands twice, and at most
+/// one is the Fn key's.
 #[derive(Debug, Drop)]
 pub struct Layout {
     rate: u8,
@@ -53,18 +54,62 @@ impl Layout {
         ensures each { All IsEntry result.now }
         ensures own_places { IsDistinct nat_eq (places_of result.now) }
         ensures own_keys { IsDistinct nat_eq (keys_of result.now) }
+        ensures one_fn { length (filter is_fn result.now) ≤ 1 }
         ensures limit { length result.now ≤ 84 }
     {
         self.entries.as_slice()
     }
 
     /// The code that the keyboard sends for this place (scan set 2), which is that of the key that its entry sends;
-    /// None exactly where no entry has the place.
+    /// None exactly where no entry has the place or the Fn key stands there.
+    #[tactic(auto, unfolding(crate::specs::Layouts::code_at))]
     pub fn code_at(&self, place: Place) -> Option<u8>
         ensures code { result ≡ code_at place self.now }
     {
+        let key = self.entry_at(place)?.sends?;
+        Some(code_of(key))
+    }
+
+    /// The code that it sends for this place under Fn, which is that of the key that its entry sends then; None exactly
+    /// where it sends none without Fn either: where no entry has the place or the Fn key stands there.
+    #[tactic(auto, unfolding(crate::specs::Layouts::fn_code_at))]
+    pub fn fn_code_at(&self, place: Place) -> Option<u8>
+        ensures code { result ≡ fn_code_at place self.now }
+        ensures silent { is_none result ≡ is_none (code_at place self.now) }
+    {
+        let key = self.entry_at(place)?.fn_sends?;
+        Some(code_of(key))
+    }
+
+    /// Whether the key at this place sends no break; false where no entry has the place.
+    #[tactic(auto, unfolding(crate::specs::Layouts::is_make_only))]
+    pub fn make_only(&self, place: Place) -> bool
+        ensures make_only { result ≡ is_make_only place self.now }
+    {
+        match self.entry_at(place) {
+            Some(entry) => entry.make_only,
+            None => false,
+        }
+    }
+
+    /// The place of the Fn key; None exactly where there is none.
+    pub fn fn_place(&self) -> Option<Place>
+        ensures place { result ≡ fn_place self.now }
+        ensures silent { IsSilentAtFn self.now }
+    {
+        match self.entries.iter().find(|entry| entry.sends.is_none()) {
+            Some(entry) => Some(entry.place),
+            None => None,
+        }
+    }
+
+    /// The entry at this place; None exactly where none has it.
+    fn entry_at(&self, place: Place) -> Option<Entry>
+        ensures entry { result ≡ entry_at place self.now.entries }
+        ensures silent { IsSilentAtFn self.now }
+    {
         match self.entries.iter().find(|entry| entry.place == place) {
-            Some(entry) => Some(code_of(entry.sends)),
+            Some(entry) => Some(*entry),
             None => None,
         }
     }

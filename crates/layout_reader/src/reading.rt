@@ -8,21 +8,26 @@ ghost use Rattle.layout_reader.specs.Documents.{entries_from, layout_of, layout_
 use crate::cause::Cause;
 use crate::entry::{Entry, entry_from};
 use crate::fault::LayoutFault;
+use crate::fields::Format;
 use crate::layout::Layout;
-use crate::top_level::{elements_in, rate_from};
+use crate::top_level::{elements_in, header_from};
 use std::alloc::Global;
 use toml::{Table, Value};
 
 /// The entries of the elements, each judged after the earlier ones, or the first fault.
 #[tactic(auto, using(crate::proofs::Laws::entries_limit))]
-fn read_entries(alloc: Global, elements: &[Value]) -> Result<Vec<Entry>, LayoutFault>
-    ensures entries { IfOk result (λ entries. entries_from [] (items_view elements.now) ≡ Ok entries.items) }
+fn read_entries(
+    alloc: Global,
+    format: Format,
+    elements: &[Value],
+) -> Result<Vec<Entry>, LayoutFault>
+    ensures entries { IfOk result (λ entries. entries_from format [] (items_view elements.now) ≡ Ok entries.items) }
     ensures sound { IfOk result (λ entries. AreEntries entries.items) }
-    ensures fault { IfErr result (IsFaultOf (entries_from [] (items_view elements.now))) }
+    ensures fault { IfErr result (IsFaultOf (entries_from format [] (items_view elements.now))) }
 {
     let mut entries = Vec::new(alloc);
     for element in elements {
-        match entry_from(entries.as_slice(), element) {
+        match entry_from(format, entries.as_slice(), element) {
             Ok(entry) => {
                 if entries.push(entry).is_err() {
                     return Err(LayoutFault::Memory);
@@ -45,10 +50,10 @@ fn layout_of(alloc: Global, top: &Table) -> Result<Layout, LayoutFault>
     ensures layout { IfOk result (λ layout. layout_of (table_view top.now) ≡ Ok layout) }
     ensures fault { IfErr result (IsFaultOf (layout_of (table_view top.now))) }
 {
-    match rate_from(top) {
-        Ok(rate) => {
-            let entries = read_entries(alloc, elements_in(top))?;
-            Ok(Layout::new(rate, entries))
+    match header_from(top) {
+        Ok(header) => {
+            let entries = read_entries(alloc, header.format, elements_in(top))?;
+            Ok(Layout::new(header.rate, entries))
         }
         Err(cause) => Err(LayoutFault::Entry {
             entry: 0,

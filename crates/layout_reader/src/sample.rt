@@ -10,29 +10,32 @@ use board_lines::Place;
 use pc_tables::Key;
 use std::alloc::{AllocError, Global};
 
-/// The entry of the key with this number, below 84, at the place with the same number.
-fn sample_entry(number: u8) -> Entry
-    requires { number < 84 }
-    ensures { result ≡ sample_entry number }
+/// The entry of a key, at the place with the same number.
+fn sample_entry(key: Key) -> Entry
+    requires { key < 84 }
+    ensures { result ≡ sample_entry key }
 {
+    let number = key.number();
     let place = Place::at(number / 8, number % 8).unwrap();
-    let key = Key::numbered(number).unwrap();
     Entry {
         place,
         key,
-        sends: key,
+        sends: Some(key),
+        fn_sends: Some(key),
+        make_only: false,
     }
 }
 
-/// The sample layout `us84`: each of the 84 keys stands at the place of its number and sends its own code, at the rate
-/// 44. It is made from the numbers of the keys; no text is read.
+/// The sample layout `us84`: each of the 84 keys stands at the place of its number and sends its own code, also under
+/// Fn, at the rate 44. It is made from the numbers of the keys; no text is read.
 #[tactic(auto, unfolding(crate::specs::Layouts::us84))]
 pub fn us84_layout(alloc: Global) -> Result<Layout, AllocError>
     ensures layout { IfOk result (λ layout. layout ≡ us84) }
 {
     let mut entries = Vec::new(alloc);
     for number in 0..84 {
-        entries.push(sample_entry(number))?;
+        let key = Key::numbered(number).unwrap();
+        entries.push(sample_entry(key))?;
     }
     Ok(Layout::new(DEFAULT_RATE, entries))
 }

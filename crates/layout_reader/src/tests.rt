@@ -71,13 +71,14 @@ fn faults_of_the_top_level(rt: HostRuntime) -> Result<(), Fail> {
         ("x = 1", 2),
         ("format = 1", 3),
         ("format = \"1\"\nkey = []", 4),
-        ("format = 2\nkey = []", 5),
+        ("format = 3\nkey = []", 5),
         ("format = 1\nrate = 128\nkey = []", 9),
         ("format = 1\nkey = []", 10),
         // the first fault in the order of judgement
-        ("format = 2\nx = 1", 2),
+        ("format = 3\nx = 1", 2),
         ("key = 1", 3),
-        ("format = 2\nkey = []\nrate = -1", 5),
+        ("format = 3\nkey = []\nrate = -1", 5),
+        ("format = 2\nkey = []", 10),
     ];
     for (text, number) in cases {
         assert_eq!(rt; fault_of(alloc, text), Some((0, number)));
@@ -122,10 +123,97 @@ fn faults_of_an_entry(rt: HostRuntime) -> Result<(), Fail> {
             8,
         ),
         ("{key = \"a\", column = 0, row = 8, sends = \"no\"}", 1, 6),
+        // what the first format doesn't know
+        ("{key = \"a\", column = 0, row = 0, fn = true}", 1, 2),
+        (
+            "{key = \"a\", column = 0, row = 0, fn_sends = \"f1\"}",
+            1,
+            2,
+        ),
+        (
+            "{key = \"a\", column = 0, row = 0, make_only = false}",
+            1,
+            2,
+        ),
     ];
     for (entries, entry, number) in cases {
         let text = format!(in alloc; "format = 1\nkey = [{entries}]\n")?;
         assert_eq!(rt; fault_of(alloc, text.as_str()), Some((entry, number)));
     }
+    Ok(())
+}
+
+#[test]
+fn faults_of_an_entry_of_the_second_format(rt: HostRuntime) -> Result<(), Fail> {
+    let alloc = rt.alloc();
+    let cases = [
+        ("fn = 1", 4),
+        ("fn_sends = true", 4),
+        ("make_only = \"true\"", 4),
+        ("fn_sends = \"no\"", 6),
+        ("fn = true, sends = \"no\"", 6),
+        ("fn = true, fn_sends = \"f1\"", 12),
+        ("fn = true", 12),
+        ("fn = false, make_only = true, fn_sends = \"f1\", x = 1", 2),
+    ];
+    for (fields, number) in cases {
+        let text = format!(in alloc;
+            "format = 2\nkey = [{{key = \"sysreq\", column = 0, row = 0, fn = true}}, {{key = \"a\", column = 1, row = 0, {fields}}}]\n"
+        )?;
+        assert_eq!(rt; fault_of(alloc, text.as_str()), Some((2, number)));
+    }
+    for beside in [
+        "sends = \"a\"",
+        "fn_sends = \"a\"",
+        "make_only = true",
+        "make_only = false",
+    ] {
+        let text = format!(in alloc;
+            "format = 2\nkey = [{{key = \"sysreq\", column = 0, row = 0, fn = true, {beside}}}]\n"
+        )?;
+        assert_eq!(rt; fault_of(alloc, text.as_str()), Some((1, 13)));
+    }
+    Ok(())
+}
+
+#[test]
+fn the_second_layer_and_a_key_without_a_break(rt: HostRuntime) -> Result<(), Fail> {
+    let alloc = rt.alloc();
+    let text = "format = 2\nkey = [\
+        {key = \"sysreq\", column = 0, row = 0, fn = true},\
+        {key = \"a\", column = 1, row = 0, fn_sends = \"f1\"},\
+        {key = \"s\", column = 2, row = 0, sends = \"d\", make_only = true}]\n";
+    let layout = read_layout(alloc, text.as_bytes())?;
+    let fn_key = Place::at(0, 0).ok_or("no place")?;
+    let a = Place::at(1, 0).ok_or("no place")?;
+    let s = Place::at(2, 0).ok_or("no place")?;
+    let other = Place::at(3, 0).ok_or("no place")?;
+    assert_eq!(rt; layout.fn_place(), Some(fn_key));
+    assert_eq!(rt;
+        (layout.code_at(fn_key), layout.fn_code_at(fn_key)),
+        (None, None)
+    );
+    assert_eq!(rt;
+        (layout.code_at(a), layout.fn_code_at(a)),
+        (Some(0x1c), Some(0x05))
+    );
+    // what is sent under Fn is what is sent without, and not the key's own code
+    assert_eq!(rt;
+        (layout.code_at(s), layout.fn_code_at(s)),
+        (Some(0x23), Some(0x23))
+    );
+    assert_eq!(rt; layout.fn_code_at(other), None);
+    assert_eq!(rt;
+        (
+            layout.make_only(fn_key),
+            layout.make_only(a),
+            layout.make_only(s),
+            layout.make_only(other)
+        ),
+        (false, false, true, false)
+    );
+    let sample = us84_layout(alloc)?;
+    assert_eq!(rt; sample.fn_place(), None);
+    assert_eq!(rt; sample.fn_code_at(fn_key), Some(0x0e));
     Ok(())
 }

@@ -2,17 +2,36 @@
 
 ghost use Rattle.std.specs.Prelude.{◌≡◌, ◌<◌, IfSome, IfOk};
 ghost use Rattle.toml.specs.View.{table_view, items_view};
-ghost use Rattle.layout_reader.specs.TopLevel.{rate_in, elements_in, is_empty, rate_from};
+ghost use Rattle.layout_reader.specs.TopLevel.{format_in, rate_in, elements_in, is_empty, header_from};
 
 use crate::cause::Cause;
 use crate::fields::{
-    Level, byte_at, has_field, has_other_field, is_not_list, is_not_text, is_not_whole, list_at,
-    whole_at,
+    Format, Level, byte_at, has_field, has_other_field, is_not_list, is_not_text, is_not_whole,
+    list_at, whole_at,
 };
 use toml::{Table, Value};
 
 /// The keyboard's rate byte where the document names none: a delay of 500 ms, then 10 characters a second.
 pub(crate) const DEFAULT_RATE: u8 = 44;
+
+/// What the top level says of the whole document: its format, and the keyboard's rate byte at power-on.
+#[derive(Clone, Copy, Debug, PartialEq, Eq)]
+pub(crate) struct Header {
+    pub(crate) format: Format,
+    pub(crate) rate: u8,
+}
+
+/// The format of the document; None where its number is another.
+#[tactic(auto, unfolding(crate::specs::TopLevel::format_in))]
+fn format_in(top: &Table) -> Option<Format>
+    ensures { result ≡ format_in (table_view top.now) }
+{
+    match whole_at(top, "format") {
+        Some(1) => Some(Format::One),
+        Some(2) => Some(Format::Two),
+        _ => None,
+    }
+}
 
 /// The rate of the document; None where it is out of range.
 #[tactic(auto, unfolding(crate::specs::TopLevel::rate_in))]
@@ -48,11 +67,11 @@ fn has_no_entries(top: &Table) -> bool
     elements_in(top).is_empty()
 }
 
-/// The rate, or the first fault of the top level in the order of judgement.
-#[tactic(auto, unfolding(crate::specs::TopLevel::rate_from))]
-pub(crate) fn rate_from(top: &Table) -> Result<u8, Cause>
-    ensures rate { result ≡ rate_from (table_view top.now) }
-    ensures range { IfOk result (λ rate. rate < 128) }
+/// What the top level says, or its first fault in the order of judgement.
+#[tactic(auto, unfolding(crate::specs::TopLevel::header_from))]
+pub(crate) fn header_from(top: &Table) -> Result<Header, Cause>
+    ensures header { result ≡ header_from (table_view top.now) }
+    ensures range { IfOk result (λ header. header.rate < 128) }
 {
     if has_other_field(top, Level::Top) {
         return Err(Cause::UnknownField);
@@ -67,14 +86,14 @@ pub(crate) fn rate_from(top: &Table) -> Result<u8, Cause>
     {
         return Err(Cause::WrongKind);
     }
-    if whole_at(top, "format") != Some(1) {
+    let Some(format) = format_in(top) else {
         return Err(Cause::WrongFormat);
-    }
+    };
     let Some(rate) = rate_in(top) else {
         return Err(Cause::RateOutOfRange);
     };
     if has_no_entries(top) {
         return Err(Cause::NoEntries);
     }
-    Ok(rate)
+    Ok(Header { format, rate })
 }

@@ -1,18 +1,14 @@
 -- The edges of a tick are of keys of the layout, where all edges are.
-use Rattle.std.proofs.Common.{refl, arith, get_or, true, Some, None, ◌-◌, ◌*◌, ◌≤◌, ◌<◌, ◌^◌, ◌≡◌, ℕ, suc, zero, List, Bool, ◌==◌, ◌+◌, ap, sym, ◌∙◌, add-one}
-use Rattle.std.specs.Prelude.{All, is_some}
-use Rattle.std.specs.Option.{option_map}
-use Rattle.std.specs.declared.option.Option.{Option}
+use Rattle.std.proofs.Common.{arith, [], ◌∷◌, ◌-◌, ◌*◌, ◌≤◌, ◌<◌, ◌^◌, ◌≡◌, ℕ, suc, zero, List, Bool, ◌==◌, ◌+◌, ap, sym, ◌∙◌, add-one}
+use Rattle.std.specs.Prelude.{All}
 use Rattle.std.specs.List.{filter}
-use Rattle.std.proofs.lemmas.List.Elements.{All-filter, All-map, All-append, All-nil}
+use Rattle.std.proofs.lemmas.List.Elements.{All-filter, All-map, All-append, All-cons, All-nil}
 use Rattle.board_lines.specs.declared.event.Edge.{Edge}
 use Rattle.board_lines.specs.Edges.{of_place}
 use Rattle.board_lines.specs.declared.event.HostEvent.{HostEvent}
 use Rattle.board_lines.specs.Cadence.{KeepsCadenceTo, IsLast}
-use Rattle.pc_tables.specs.Keys.{code_at as code_of_key}
-use Rattle.layout_reader.specs.Layouts.{KeyLayout, code_at, entry_at}
-use Rattle.key_file.specs.Accepted.{IsPlaceOf}
-use Rattle.kbd_model.specs.Codes.{HasKey}
+use Rattle.kbd_model.specs.declared.edge.TickEdge.{TickEdge}
+use Rattle.kbd_model.specs.Layers.{Layers, in_layer, layers_after, layered}
 use Rattle.link_model.specs.TickEdges.{is_seen, by_place, change_of, tick_edges}
 use Rattle.link_model.specs.Machine.{Machine}
 use Rattle.link_model.specs.Expected.{Whole, next_tick, whole_at}
@@ -36,17 +32,13 @@ pub whole_next : {S : Type 0} (kb : Machine S) (edges : List Edge) (host : List 
 whole_next kb edges host starts n before after so_far next =
     next ∙ ap (λ w. next_tick kb edges host starts n w) so_far ∙ ap (λ k. whole_at kb edges host starts k) (sym (add-one n))
 
--- a place of the layout has a code
-is_mapped : {X Y : Type 0} (f : X → Y) (o : Option X) → is_some o ≡ true → is_some (option_map f o) ≡ true
-is_mapped f None h = h
-is_mapped f (Some x) h = refl
-
-pub has_key : (layout : KeyLayout) (place : ℕ) → IsPlaceOf layout place → HasKey layout place
-unfolding code_at
-has_key layout place h = is_mapped (λ entry. code_of_key entry.sends) (entry_at place layout.entries) h
-
-pub all_known : (layout : KeyLayout) (edges : List Edge) → All (λ (e : Edge). IsPlaceOf layout e.place) edges → All (λ (e : Edge). HasKey layout e.place) edges
-all_known layout edges h = λ k d l. has_key layout (get_or edges k d).place (h k d l)
+-- the edges with their layers are at the same places
+pub layered_known : (Q : ℕ → Type 0) (is_fn : ℕ → Bool) (changes : List (ℕ × Bool)) (layers : Layers) → All (λ (c : ℕ × Bool). Q c.0) changes
+    → All (λ (e : TickEdge). Q e.place) (layered is_fn changes layers)
+layered_known Q is_fn [] layers h = All-nil (λ (e : TickEdge). Q e.place)
+layered_known Q is_fn (c ∷ cs) layers h =
+    All-cons (λ (e : TickEdge). Q e.place) (in_layer layers c) (layered is_fn cs (layers_after is_fn c layers))
+    (h 0 c (omega arith)) (layered_known Q is_fn cs (layers_after is_fn c layers) (λ k d l. h (suc k) d (omega (arith, l))))
 
 -- the starts of a run are few
 pub few_starts : (starts : ℕ → ℕ) (stop count : ℕ) → stop ≤ 240000000 → 0 < count → KeepsCadenceTo starts (count - 1) → IsLast starts stop (count - 1) → count < 2 ^ 32

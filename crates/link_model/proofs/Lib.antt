@@ -9,3 +9,4 @@ pub mod Carried
 pub mod Windows
 pub mod Ticks
 pub mod Known
+pub mod Layers

@@ -11,15 +11,15 @@ use Rattle.ctl_core.specs.declared.controller.Did.TheVariants.{Nothing}
 use Rattle.ctl_link.specs.declared.link.Link.{Link}
 use Rattle.ctl_link.specs.declared.link.Link.TheVariants.{Free, Hold, Ask, Request, Busy}
 use Rattle.ctl_link.specs.declared.port.Port.{Port}
-use Rattle.ctl_link.specs.Link.{Settled, settled, took_where, held_since, link_after, moves_link}
+use Rattle.ctl_link.specs.Link.{Settled, settled, took_where, held_since, link_after, moves_link, may_break, broken_off}
 use Rattle.board_lines.specs.declared.event.HostEvent.{HostEvent}
 use Rattle.host_turn.specs.declared.desk.Desk.{Desk}
 use Rattle.host_turn.specs.Host.{Host, Turn, event_turn, bios_turn, turn, acted_where, in_silence, interrupts, read_by_bios, is_done, waits}
-use Rattle.host_turn.specs.Cycle.{Cycled, cycled, ends_cycle, host_of}
+use Rattle.host_turn.specs.Cycle.{ends_cycle, host_of, port_by}
 use Rattle.host_turn.specs.Run.{Side, goes_on, with_cycled, desk_of}
 use Rattle.byte_time.specs.declared.UnderWay.{UnderWay}
-use Rattle.byte_time.specs.ByteTime.{Quiet, byte_cycle, quietly}
-use Rattle.link_model.specs.Wakes.{event_wake, read_wake, take_wake, link_wake, wakes, SleepsTo}
+use Rattle.byte_time.specs.ByteTime.{Quiet, byte_cycle, is_open, quietly}
+use Rattle.link_model.specs.Wakes.{event_wake, read_wake, break_wake, take_wake, link_wake, wakes, SleepsTo}
 
 and-false : (a : Bool) → (a && false) ≡ false
 and-false true = refl
@@ -69,44 +69,71 @@ module _ {F : Type 0} where
   no_move y (Request byte) awaits stop end l = refl
   no_move y (Busy u) awaits stop end l = refl
 
-  pub sleeps : (next : Option HostEvent) (d : Desk F) (end from to : ℕ) → to ≤ wakes next d end → SleepsTo next d from to
-  sleeps next d end from to low y l u =
+  no_break : (breaks : F → Bool) (y : ℕ) (p : Port F) (end : ℕ)
+      → y < break_wake breaks p.link p.awaits (is_some p.core.input) end → broken_off breaks y p ≡ p
+  no_break breaks y p end l =
+      elim (may_break breaks p.link && not p.awaits && is_some p.core.input) as (λ c. y < (if c then 0 else end)
+      → (if c then record p { link = Hold y } else p) ≡ p) [
+        | true ↦ λ k. absurd (omega (arith, k))
+        | false ↦ λ k. refl
+      ] l
+
+  pub sleeps : (breaks : F → Bool) (next : Option HostEvent) (d : Desk F) (end from to : ℕ)
+      → to ≤ wakes breaks next d end → SleepsTo breaks next d from to
+  sleeps breaks next d end from to low y l u =
       let p : Port F = d.port in
       let h : Host = host_of d in
       let stop : Bool = p.core.output_full || is_disabled p.core in
       let a : ℕ = event_wake next p.core end in
       let b : ℕ = read_wake p.filled d.masked p.core end in
+      let e : ℕ = break_wake breaks p.link p.awaits (is_some p.core.input) end in
       let c : ℕ = take_wake p.link p.awaits p.core.output_full (is_some p.core.input) end in
       let k : ℕ = link_wake p.link p.awaits stop end in
-      let all : y < min (min a b) (min c k) = omega (arith, low, u) in
+      let all : y < min (min a b) (min e (min c k)) = omega (arith, low, u) in
       let due : is_done y next p.core ≡ false = no_event y next p.core end (grind (arith, all)) in
       let event : event_turn y next h ≡ in_silence h = silent y next h due in
       let unread : interrupts y p.filled h ≡ false = no_read y p.filled h end (grind (arith, all)) in
-      let no_bios : bios_turn y p.filled h ≡ in_silence h = ap (λ v. if v then read_by_bios h else in_silence h) unread in
+      let no_bios : bios_turn y p.filled h ≡ in_silence h =
+      ap (λ v. if v then read_by_bios h else in_silence h) unread in
       let turned : turn y p.filled next h ≡ in_silence h =
       ap (λ (t : Turn). record { host = (bios_turn y p.filled t.host).host; items = t.items ++ (bios_turn y p.filled t.host).items }) event
       ∙ ap (λ (t : Turn). record { host = t.host; items = t.items }) no_bios in
       let nothing : Option Taken = None in
-      let takes : took_where y (held_since y p.awaits p.link) (if p.core.output_full then nothing else taken_from p.core.input p.core) p ≡ record { port = p; did = Nothing } =
+      let takes : took_where y (held_since y p.awaits p.link) (if p.core.output_full then nothing else taken_from p.core.input p.core) p
+      ≡ record { port = p; did = Nothing } =
       no_take y p.link p.awaits p.core.output_full p.core.input p.core p end nothing refl (grind (arith, all)) in
-      let moved : moves_link y p ≡ p = ap (λ v. record p { link = v }) (no_move y p.link p.awaits stop end (grind (arith, all))) in
+      let moved : moves_link y p ≡ p =
+      ap (λ v. record p { link = v }) (no_move y p.link p.awaits stop end (grind (arith, all))) in
       let ends : settled y p ≡ record { port = p; did = Nothing } =
-      ap (λ (t : Settled F). record { port = moves_link y t.port; did = t.did }) takes ∙ ap (λ q. record { port = q; did = Nothing }) moved in
-      ap (λ (t : Turn). ends_cycle t (is_done y next p.core) (settled y (Rattle.host_turn.specs.Cycle.port_by t p))) turned
-      ∙ ap (λ v. ends_cycle (in_silence h) v (settled y p)) due
-      ∙ ap (λ q. ends_cycle (in_silence h) false q) ends
+      ap (λ (t : Settled F). record { port = moves_link y t.port; did = t.did }) takes
+      ∙ ap (λ q. record { port = q; did = Nothing }) moved in
+      let whole : settled y (broken_off breaks y p) ≡ record { port = p; did = Nothing } =
+      ap (λ v. settled y v) (no_break breaks y p end (grind (arith, all))) ∙ ends in
+      ap (λ (t : Turn). ends_cycle t (is_done y next p.core) (settled y (broken_off breaks y (port_by t p)))) turned
+      ∙ ap (λ v. ends_cycle (in_silence h) v (settled y (broken_off breaks y p))) due
+      ∙ ap (λ q. ends_cycle (in_silence h) false q) whole
 
 -- so the cycles up to there may be left out
-pub leaps : (events : List HostEvent) (n now : ℕ) (s : Side UnderWay) → SleepsTo (slice_get events s.done) (desk_of s) now (now + n) → quietly events n now s ≡ s
+pub leaps : (events : List HostEvent) (n now : ℕ) (s : Side UnderWay)
+    → SleepsTo is_open (slice_get events s.done) (desk_of s) now (now + n) → quietly events n now s ≡ s
 unfolding byte_cycle goes_on
 leaps events zero now s h = refl
 leaps events (suc n) now s h =
     let one : byte_cycle events now Quiet s ≡ s =
     ap (λ c. with_cycled now c s) (h now (omega arith) (omega arith)) ∙ ap (λ v. record s { log = v }) (append-nil s.log) in
-    ap (λ v. quietly events n (suc now) v) one ∙ leaps events n (suc now) s (λ y l u. h y (omega (arith, l)) (omega (arith, u)))
+    ap (λ v. quietly events n (suc now) v) one
+    ∙ leaps events n (suc now) s (λ y l u. h y (omega (arith, l)) (omega (arith, u)))
 
-pub sleeps_by : {F : Type 0} (next : Option HostEvent) (d : Desk F) (end from to : ℕ) → to ≡ max from (min (wakes next d end) end) → SleepsTo next d from to
-sleeps_by next d end from to e y l u =
-    let w : suc y ≤ wakes next d end = omega (arith, e, l, u) in
+pub sleeps_by : {F : Type 0} (breaks : F → Bool) (next : Option HostEvent) (d : Desk F) (end from to : ℕ)
+    → to ≡ max from (min (wakes breaks next d end) end) → SleepsTo breaks next d from to
+sleeps_by breaks next d end from to e y l u =
+    let w : suc y ≤ wakes breaks next d end = omega (arith, e, l, u) in
     let s : y < suc y = omega arith in
-    sleeps next d end from (suc y) w y l s
+    sleeps breaks next d end from (suc y) w y l s
+
+-- the first of two cycles, each no later than the end
+pub first_of : (a b end x y : ℕ) → x ≡ min a end → y ≡ min b end → min x y ≡ min (min a b) end
+first_of a b end x y h g = omega (arith, h, g)
+
+pub turned_round : (x y : ℕ) → max x y ≡ max y x
+turned_round x y = omega arith

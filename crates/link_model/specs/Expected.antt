@@ -10,7 +10,7 @@ use Rattle.host_turn.specs.declared.stamped.Stamped.{Stamped}
 use Rattle.host_turn.specs.Run.{Side, side_at_start, says_lights}
 use Rattle.byte_time.specs.declared.UnderWay.{UnderWay}
 use Rattle.byte_time.specs.declared.meeting.Meeting.{Meeting}
-use Rattle.byte_time.specs.ByteTime.{quietly, carried, meeting_in}
+use Rattle.byte_time.specs.ByteTime.{quietly, carried, ended_as, meeting_in}
 use Rattle.link_model.specs.declared.line.LogLine.{LogLine}
 use Rattle.link_model.specs.TickEdges.{tick_edges}
 use Rattle.link_model.specs.Machine.{Machine, keyboard}
@@ -30,26 +30,30 @@ to_look events shown lights start m =
 abbrev pub to_meeting : List HostEvent → ℕ → Side UnderWay → Side UnderWay
 to_meeting events start m = quietly events 32 (256 + start) m
 
--- from offset 288 on, once the meeting is known
+-- from offset 288 on, once it is known what begins there
 abbrev pub from_meeting : List HostEvent → ℕ → ℕ → Meeting → Side UnderWay → Side UnderWay
-from_meeting events start rest meeting m = quietly events rest (609 + start) (carried events meeting (288 + start) m)
+from_meeting events start rest begins m = quietly events rest (609 + start) (carried events begins (288 + start) m)
 
--- the meeting of a tick that starts in this cycle
-abbrev pub meeting_from : {S : Type 0} → Machine S → List HostEvent → ℕ → Whole S → Meeting
-meeting_from kb events start w =
+-- what begins in a tick that starts in this cycle
+abbrev pub begins_from : {S : Type 0} → Machine S → List HostEvent → ℕ → Whole S → Meeting
+begins_from kb events start w =
     let earlier : Side UnderWay = to_look events w.shown (kb.lights w.keys) start w.side in
     meeting_in (kb.tested w.keys) (kb.offer w.keys) earlier (to_meeting events start earlier)
 
+-- its meeting: a byte of the keyboard that begins is sent, or is broken off
+abbrev pub meeting_from : {S : Type 0} → Machine S → List HostEvent → ℕ → Whole S → Meeting
+meeting_from kb events start w =
+    ended_as events (begins_from kb events start w) (288 + start)
+    (to_meeting events start (to_look events w.shown (kb.lights w.keys) start w.side))
+
 -- a tick of 609 and `rest` cycles
 abbrev pub whole_tick : {S : Type 0} → Machine S → List HostEvent → List (ℕ × Bool) → ℕ → ℕ → Whole S → Whole S
-whole_tick kb events edges start rest w =
-    let meeting : Meeting = meeting_from kb events start w in
-    record {
-      keys = kb.ticked meeting edges w.keys;
-      side = from_meeting events start rest meeting
-          (to_meeting events start (to_look events w.shown (kb.lights w.keys) start w.side));
-      shown = kb.lights w.keys;
-    }
+whole_tick kb events edges start rest w = record {
+  keys = kb.ticked (meeting_from kb events start w) edges w.keys;
+  side = from_meeting events start rest (begins_from kb events start w)
+      (to_meeting events start (to_look events w.shown (kb.lights w.keys) start w.side));
+  shown = kb.lights w.keys;
+}
 
 -- tick n, from its start to the next
 abbrev pub next_tick : {S : Type 0} → Machine S → List Edge → List HostEvent → (ℕ → ℕ) → ℕ → Whole S → Whole S

@@ -9,11 +9,15 @@ use Rattle.host_turn.specs.Run.{Side, says_lights}
 use Rattle.byte_time.specs.declared.UnderWay.{UnderWay}
 use Rattle.byte_time.specs.declared.meeting.Meeting.{Meeting}
 use Rattle.byte_time.specs.declared.meeting.Meeting.TheVariants.{Got, Inhibited, Idle, Sent, Cut}
-use Rattle.byte_time.specs.ByteTime.{Event, Quiet, Begins, Arrives, IsWhole, byte_cycle, meeting_in}
+use Rattle.byte_time.specs.ByteTime.{Event, Quiet, Begins, Closes, Arrives, IsWhole, byte_cycle, ended_as, meeting_in, sent_or_cut}
+use Rattle.ctl_link.specs.declared.link.Link.{Link}
+use Rattle.layout_reader.specs.Layouts.{KeyLayout, is_fn_place}
+use Rattle.kbd_model.specs.Layers.{no_layers, all_layers_after}
 use Rattle.key_file.specs.Histories.{KeyHistory}
 use Rattle.key_file.specs.Accepted.{IsAccepted}
-use Rattle.link_model.specs.TickEdges.{is_seen, tick_edges, shown, downs_in, downs_before, read_at}
-use Rattle.link_model.specs.Expected.{to_look, to_meeting, from_meeting}
+use Rattle.link_model.specs.TickEdges.{is_seen, tick_edges, edges_before, shown, downs_in, downs_before, read_at}
+use Rattle.link_model.specs.Machine.{keyboard}
+use Rattle.link_model.specs.Expected.{to_look, to_meeting, from_meeting, whole_at}
 
 -- by rising place, no place twice
 abbrev pub RisesFrom : ℕ → List (ℕ × Bool) → Type 0
@@ -42,13 +46,29 @@ pub record SeenOnce (starts : ℕ → ℕ) (n : ℕ) (e : Edge) : Type 0 where
 abbrev pub EachSeenOnce : Type 0
 EachSeenOnce = (starts : ℕ → ℕ) (n : ℕ) (e : Edge) → e.stamp ≤ read_at starts e.place n → SeenOnce starts n e
 
--- what comes over the link at an offset of a tick with this meeting
+-- the layers at the start of tick n are what all edges of the earlier ticks leave, one after the other
+abbrev pub LayersFollow : Type 0
+LayersFollow =
+    (layout : KeyLayout) (edges : List Edge) (host : List HostEvent) (starts : ℕ → ℕ) (n : ℕ)
+    → (whole_at (keyboard layout) edges host starts n).keys.layers
+    ≡ all_layers_after (is_fn_place layout) (edges_before starts edges n) no_layers
+
+-- what comes over the link at an offset of a tick, by what begins in it
 abbrev pub event_at : Meeting → ℕ → Event
 event_at (Got byte) o = if o == 288 then Begins false else if o == 608 then IsWhole else Quiet
 event_at Inhibited o = Quiet
 event_at Idle o = Quiet
-event_at (Sent byte) o = if o == 288 then Begins true else if o == 608 then Arrives byte else Quiet
+event_at (Sent byte) o =
+    if o == 288 then Begins true else if o == 576 then Closes else if o == 608 then Arrives byte else Quiet
 event_at Cut o = Quiet
+
+-- the meeting, by what begins, and by the link after offset 607
+abbrev pub ended_by : Meeting → Link UnderWay → Meeting
+ended_by (Got byte) last = Got byte
+ended_by Inhibited last = Inhibited
+ended_by Idle last = Idle
+ended_by (Sent byte) last = sent_or_cut byte last
+ended_by Cut last = Cut
 
 -- the lights are put before the cycle at offset 232
 abbrev pub lit_at : ℕ → ℕ → ℕ → ℕ → Side UnderWay → Side UnderWay
@@ -61,11 +81,18 @@ pub record EachCycle (events : List HostEvent) (tested : Bool) (offer : Option �
       byte_cycle events (o + start) (event_at (meeting_in tested offer (at 256) (at 288)) o)
       (lit_at start shown lights o (at o))
 
--- a tick in which each cycle does what is said of it comes to what the spans say
+-- so many cycles come to what the spans of a tick say, by what begins in it; and so does the meeting
+pub record ComesToSpans (events : List HostEvent) (begins : Meeting) (shown lights start rest end : ℕ)
+    (at : ℕ → Side UnderWay) : Type 0 where
+  pub side : at end ≡ from_meeting events start rest begins
+      (to_meeting events start (to_look events shown lights start (at 0)))
+  pub meeting : ended_by begins (at 608).port.link
+      ≡ ended_as events begins (288 + start) (to_meeting events start (to_look events shown lights start (at 0)))
+
+-- so does a tick in which each cycle does what is said of it
 abbrev pub CycleByCycle : Type 0
 CycleByCycle =
     (events : List HostEvent) (start : ℕ) (at : ℕ → Side UnderWay) (rest : ℕ) (tested : Bool) (offer : Option ℕ)
     (shown lights end : ℕ) → end ≡ 609 + rest
     → EachCycle events tested offer shown lights start end at
-    → at end ≡ from_meeting events start rest (meeting_in tested offer (at 256) (at 288))
-    (to_meeting events start (to_look events shown lights start (at 0)))
+    → ComesToSpans events (meeting_in tested offer (at 256) (at 288)) shown lights start rest end at

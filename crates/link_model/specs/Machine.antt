@@ -1,11 +1,12 @@
 -- The keyboard as a machine of ticks, as far as the link's model knows it.
 use Rattle.std.specs.Prelude.{ℕ, ◌==◌, Bool, true, List}
 use Rattle.std.specs.declared.option.Option.{Option}
-use Rattle.layout_reader.specs.Layouts.{KeyLayout}
+use Rattle.layout_reader.specs.Layouts.{KeyLayout, is_fn_place}
 use Rattle.kbd_model.specs.declared.meeting.Meeting.{Meeting as KeyboardMeeting}
 use Rattle.kbd_model.specs.declared.meeting.Meeting.TheVariants as kbd
 use Rattle.kbd_model.specs.Codes.{keys_of}
 use Rattle.kbd_model.specs.Keyboard.{Keyboard, at_power_on, offer, is_held}
+use Rattle.kbd_model.specs.Layers.{Layers, no_layers, layered, all_layers_after}
 use Rattle.kbd_model.specs.Tick.{ticked}
 use Rattle.byte_time.specs.declared.meeting.Meeting.{Meeting}
 use Rattle.byte_time.specs.declared.meeting.Meeting.TheVariants.{Got, Inhibited, Idle, Sent, Cut}
@@ -28,13 +29,22 @@ met_as Idle = kbd.Idle
 met_as (Sent byte) = kbd.Sent
 met_as Cut = kbd.Cut
 
--- the keyboard with a layout
-abbrev pub keyboard : KeyLayout → Machine Keyboard
+-- the keyboard, and the layers of its keys' presses up to now
+pub record LayeredKeyboard : Type 0 where
+  pub keyboard : Keyboard
+  pub layers : Layers
+
+-- the keyboard with a layout. Each edge of a tick has its layer, which is no concern of scanning or of the test
+abbrev pub keyboard : KeyLayout → Machine LayeredKeyboard
 keyboard layout = record {
-  start = at_power_on layout.rate;
-  tested = λ k. k.test == 0;
-  offer = offer;
-  lights = λ k. k.lights;
-  held = is_held;
-  ticked = λ meeting edges k. ticked (keys_of layout) (met_as meeting) edges k;
+  start = record { keyboard = at_power_on layout.rate; layers = no_layers };
+  tested = λ k. k.keyboard.test == 0;
+  offer = λ k. offer k.keyboard;
+  lights = λ k. k.keyboard.lights;
+  held = λ k. is_held k.keyboard;
+  ticked = λ meeting edges k. record {
+    keyboard =
+        ticked (keys_of layout) (met_as meeting) (layered (is_fn_place layout) edges k.layers) k.keyboard;
+    layers = all_layers_after (is_fn_place layout) edges k.layers;
+  };
 }

@@ -4,7 +4,7 @@ ghost use Rattle.std.specs.Prelude.{◌≡◌, ◌<◌, ◌-◌, ◌^◌, length
 ghost use Rattle.board_lines.specs.Cadence.{IsLast, KeepsCadenceTo, listed};
 ghost use Rattle.board_lines.specs.Edges.{AreInOrder};
 ghost use Rattle.key_file.specs.Accepted.{IsAcceptedFor};
-ghost use Rattle.kbd_model.specs.Codes.{HasKey};
+ghost use Rattle.layout_reader.specs.Layouts.{HasEntry};
 ghost use Rattle.link_model.specs.Expected.{expected, expected_log};
 ghost use Rattle.link_model.specs.Machine.{keyboard};
 
@@ -44,7 +44,7 @@ fn expect_events(
     starts: &[u64],
 ) -> Result<Vec<LogLine>, AllocError>
     requires order { AreInOrder edges.now }
-    requires keys { All (λ e. HasKey layout.now e.place) edges.now }
+    requires keys { All (λ e. HasEntry layout.now e.place) edges.now }
     requires some { 0 < length starts.now }
     requires near { length starts.now < 2 ^ 32 }
     requires cadence { KeepsCadenceTo (listed starts.now) (length starts.now - 1) }

@@ -3,11 +3,11 @@
 ghost use Rattle.std.specs.Prelude.{◌≡◌, ◌≤◌, ◌<◌, ◌+◌, ◌^◌, ◌||◌, min, max, is_some};
 ghost use Rattle.ctl_core.specs.Controller.{is_disabled};
 ghost use Rattle.host_turn.specs.Host.{waits};
-ghost use Rattle.link_model.specs.Wakes.{event_wake, read_wake, take_wake, link_wake, wakes, SleepsTo};
+ghost use Rattle.link_model.specs.Wakes.{event_wake, read_wake, break_wake, take_wake, link_wake, wakes, SleepsTo};
 
 use board_lines::{HostAct, HostEvent};
 use ctl_core::Controller;
-use ctl_link::Link;
+use ctl_link::{Link, Passing};
 use host_turn::Desk;
 
 /// A cycle and so many more, but no later than the end.
@@ -27,8 +27,12 @@ fn is_waiting(act: HostAct, core: &Controller) -> bool
 {
     match act {
         HostAct::Write60(_) | HostAct::Write64(_) => core.input_full(),
-        HostAct::Read60 | HostAct::Mask | HostAct::Unmask | HostAct::Take | HostAct::Status =>
-            false,
+        HostAct::Read60
+        | HostAct::Mask
+        | HostAct::Unmask
+        | HostAct::Take
+        | HostAct::Status
+        | HostAct::Flip(_) => false,
     }
 }
 
@@ -52,6 +56,20 @@ fn read_stir(filled: u64, masked: bool, core: &Controller, end: u64) -> u64
 {
     if core.output_full() && core.interrupt_enabled() && !masked {
         later(filled, 64, end)
+    } else {
+        end
+    }
+}
+
+/// When a waiting input may break off a byte under way.
+fn break_stir<F: Passing + Drop>(link: &Link<F>, awaits: bool, core: &Controller, end: u64) -> u64
+    ensures { result ≡ min (break_wake F.breaks link.now awaits (is_some core.now.input) end) end }
+{
+    let Link::Busy(under_way) = link else {
+        return end;
+    };
+    if under_way.may_break() && !awaits && core.input_full() {
+        0
     } else {
         end
     }
@@ -88,7 +106,7 @@ fn link_stir<F: Drop>(link: &Link<F>, awaits: bool, core: &Controller, end: u64)
 
 /// The first cycle from `now` on in which something may happen on the PC's side, and `end` where there is none before
 /// it.
-pub(crate) fn first_stir<F: Drop>(
+pub(crate) fn first_stir<F: Passing + Drop>(
     desk: &Desk<F>,
     next: Option<HostEvent>,
     now: u64,
@@ -97,7 +115,7 @@ pub(crate) fn first_stir<F: Drop>(
     requires order { now ≤ end }
     ensures from { now ≤ result }
     ensures to { result ≤ end }
-    ensures is { result ≡ max now (min (wakes next desk.now end) end) }
+    ensures is { result ≡ max now (min (wakes F.breaks next desk.now end) end) }
 {
     let by_host = event_stir(next, &desk.port.core, end).min(read_stir(
         desk.port.filled,
@@ -105,21 +123,28 @@ pub(crate) fn first_stir<F: Drop>(
         &desk.port.core,
         end,
     ));
-    let by_link = take_stir(&desk.port.link, desk.port.awaits, &desk.port.core, end).min(link_stir(
-        &desk.port.link,
-        desk.port.awaits,
-        &desk.port.core,
+    let port = &desk.port;
+    let by_itself = take_stir(&port.link, port.awaits, &port.core, end).min(link_stir(
+        &port.link,
+        port.awaits,
+        &port.core,
         end,
     ));
+    let by_link = break_stir(&port.link, port.awaits, &port.core, end).min(by_itself);
     by_host.min(by_link).max(now)
 }
 
 /// From `now` on nothing happens before the first stir.
-pub(crate) fn sleeps_to<F: Drop>(desk: &Desk<F>, next: Option<HostEvent>, now: u64, end: u64) -> u64
+pub(crate) fn sleeps_to<F: Passing + Drop>(
+    desk: &Desk<F>,
+    next: Option<HostEvent>,
+    now: u64,
+    end: u64,
+) -> u64
     requires order { now ≤ end }
     ensures from { now ≤ result }
     ensures to { result ≤ end }
-    ensures sleeps { SleepsTo next desk.now now result }
+    ensures sleeps { SleepsTo F.breaks next desk.now now result }
 {
     first_stir(desk, next, now, end)
 }

@@ -9,6 +9,7 @@
 mod carrying;
 mod expecting;
 mod laws;
+mod layering;
 mod leaping;
 mod line;
 mod lines;
@@ -17,7 +18,7 @@ mod seeing;
 mod whole;
 
 pub use expecting::expect;
-pub use laws::{cycle_by_cycle, each_seen_once, edges_shown};
+pub use laws::{cycle_by_cycle, each_seen_once, edges_shown, layers_follow};
 pub use line::LogLine;
 
 #[cfg(test)]

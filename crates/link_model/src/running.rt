@@ -39,7 +39,7 @@ impl Model for Running {
 impl Running {
     ghost use Rattle.std.specs.Prelude.{◌≡◌, ◌≤◌, ◌<◌, ◌-◌, ◌^◌, IfOk, slice_get};
     ghost use Rattle.host_turn.specs.Run.{side_at_start, desk_of, goes_on, says_lights};
-    ghost use Rattle.byte_time.specs.ByteTime.{quietly};
+    ghost use Rattle.byte_time.specs.ByteTime.{is_open, quietly};
     ghost use Rattle.link_model.specs.Wakes.{SleepsTo};
 
     /// At the start of a run.
@@ -116,14 +116,14 @@ impl Running {
         requires order { now ≤ to }
         ensures from { now ≤ result }
         ensures to { result ≤ to }
-        ensures sleeps { SleepsTo next (desk_of self.now) now result }
+        ensures sleeps { SleepsTo is_open next (desk_of self.now) now result }
     {
         sleeps_to(&self.desk, next, now, to)
     }
 
     /// One cycle, once what came over the link has been done.
     fn cycle(&mut self, events: &[HostEvent], now: u64) -> Result<(), AllocError>
-        ensures { IfOk result (λ u. self.new ≡ goes_on events.now now self.old) }
+        ensures { IfOk result (λ u. self.new ≡ goes_on is_open events.now now self.old) }
     {
         let next = self.next(events);
         let mut items: ArrayVec<Item, 16> = ArrayVec::new();

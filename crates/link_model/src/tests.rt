@@ -5,7 +5,7 @@ ghost use Rattle.board_lines.specs.Cadence.{IsLast, KeepsCadenceTo, listed};
 
 use crate::expect;
 use key_file::read_history;
-use layout_reader::us84_layout;
+use layout_reader::{Layout, read_layout, us84_layout};
 use pc_tables::item_text;
 use std::alloc::{AllocError, Global};
 use std::process::Abort;
@@ -27,12 +27,11 @@ fn even_starts(alloc: Global, end: u64) -> Result<Vec<u64>, AllocError>
 }
 
 /// The log of a key file, each line a tick and an item, parted by semicolons.
-fn log_of(alloc: Global, rt: &impl Abort, keys: &str) -> Result<String, Fail> {
-    let layout = us84_layout(alloc)?;
+fn log_of(alloc: Global, rt: &impl Abort, layout: &Layout, keys: &str) -> Result<String, Fail> {
     assert!(rt; keys.len() < 4_000_000);
-    let history = read_history(alloc, keys.as_bytes(), &layout)?;
+    let history = read_history(alloc, keys.as_bytes(), layout)?;
     let starts = even_starts(alloc, history.end())?;
-    let log = expect(alloc, &layout, &history, starts.as_slice())?;
+    let log = expect(alloc, layout, &history, starts.as_slice())?;
     let mut text = String::new(alloc);
     for line in log.iter() {
         let tick = line.tick;
@@ -82,6 +81,26 @@ fn rows(rt: HostRuntime) -> Result<(), Fail> {
             "64 port AA; 82 port FA; 83 port 1E; 83 word 1E61; 85 lights 2; 85 port FA; 100 port 9E; ",
         ),
         (
+            "400ms press a\n164240 write60 ED\n430ms write60 02\n500ms release a\n600ms end",
+            "64 port AA; 82 port FA; 83 port 1E; 83 word 1E61; 85 lights 2; 85 port FA; 100 port 9E; ",
+        ),
+        (
+            "400ms press a\n164430 write60 ED\n430ms write60 02\n500ms release a\n600ms end",
+            "64 port AA; 80 port 1E; 80 word 1E61; 82 port FA; 85 lights 2; 85 port FA; 100 port 9E; ",
+        ),
+        (
+            "400ms press a\n164240 write64 AE\n430ms end",
+            "64 port AA; 81 port 1E; 81 word 1E61; ",
+        ),
+        (
+            "400ms press a\n409ms flip 3\n500ms release a\n600ms end",
+            "64 port AA; 82 port 1E; 82 word 1E61; 100 port 9E; ",
+        ),
+        (
+            "400ms press a\n409ms flip 3\n166912 flip 9\n171008 flip 1\n175104 flip 8\n177152 status\n500ms release a\n600ms end",
+            "64 port AA; 86 port FF; 86 overrun; 86 beep; 86 status 94; 100 port 9E; ",
+        ),
+        (
             "401ms write60 ED\n420ms write60 F3\n440ms write60 00\n600ms end",
             "64 port AA; 80 port FA; 83 port FA; 87 port FA; ",
         ),
@@ -115,8 +134,9 @@ fn rows(rt: HostRuntime) -> Result<(), Fail> {
             "64 port AA; 80 port 2A; 89 port 23; 89 word 2348; 100 port A3; 110 port AA; 119 port 17; 119 word 1769; 128 port 97; 138 port 1C; 138 word 1C0D; 148 port 9C; 152 taken 2348; 152 taken 1769; 152 taken 1C0D; 152 taken none; ",
         ),
     ];
+    let layout = us84_layout(alloc)?;
     for (keys, log) in rows {
-        let text = log_of(alloc, &rt, keys)?;
+        let text = log_of(alloc, &rt, &layout, keys)?;
         assert_eq!(rt; text.as_str(), log);
     }
     Ok(())
@@ -139,7 +159,40 @@ fn sixteen_words(rt: HostRuntime) -> Result<(), Fail> {
     }
     keys.push_str("492544 take\n501760 end")?;
     log.push_str("231 port 1E; 231 beep; 237 port 9E; 240 taken 1E61; ")?;
-    let text = log_of(alloc, &rt, keys.as_str())?;
+    let text = log_of(alloc, &rt, &us84_layout(alloc)?, keys.as_str())?;
     assert_eq!(rt; text.as_str(), log.as_str());
+    Ok(())
+}
+
+/// An Fn key, a key with another code under Fn, and one that sends no break.
+const TWO_LAYERS: &str = "format = 2\nkey = [\
+    {key = \"sysreq\", column = 0, row = 0, fn = true},\
+    {key = \"a\", column = 1, row = 0, fn_sends = \"f1\"},\
+    {key = \"s\", column = 2, row = 0, make_only = true}]\n";
+
+#[test]
+fn a_second_layer_and_a_key_without_a_break(rt: HostRuntime) -> Result<(), Fail> {
+    let alloc = rt.alloc();
+    let rows = [
+        (
+            "400ms press sysreq\n420ms press a\n430ms release sysreq\n450ms release a\n500ms press s\n520ms release s\n600ms end",
+            "64 port AA; 84 port 3B; 84 word 3B00; 90 port BB; 99 port 1F; 99 word 1F73; ",
+        ),
+        // Fn goes down in the power-on test, and a held key keeps its layer while it repeats
+        (
+            "100ms press sysreq\n400ms press a\n500ms release sysreq\n1100ms release a\n1110ms press a\n1200ms end",
+            "64 port AA; 80 port 3B; 80 word 3B00; 178 port 3B; 178 word 3B00; 198 port 3B; 198 word 3B00; 217 port BB; 218 port 1E; 218 word 1E61; ",
+        ),
+        // of one tick's edges, that of the lower place is first
+        (
+            "400ms press a\n400ms press sysreq\n430ms release sysreq\n430ms release a\n500ms end",
+            "64 port AA; 80 port 3B; 80 word 3B00; 86 port BB; ",
+        ),
+    ];
+    let layout = read_layout(alloc, TWO_LAYERS.as_bytes())?;
+    for (keys, log) in rows {
+        let text = log_of(alloc, &rt, &layout, keys)?;
+        assert_eq!(rt; text.as_str(), log);
+    }
     Ok(())
 }

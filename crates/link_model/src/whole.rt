@@ -3,6 +3,7 @@
 ghost use Rattle.std.specs.Prelude.{◌≡◌};
 ghost use Rattle.link_model.specs.Machine.{met_as as met_as_of};
 
+use crate::layering::Layering;
 use crate::lines::FIRST_STAMP;
 use crate::running::Running;
 use crate::seeing::tick_edges;
@@ -26,26 +27,31 @@ const MEETING: u64 = 288;
 /// The offset behind the cycle in which a byte ends.
 const REST: u64 = 609;
 
-/// The keyboard, the PC's side, and the lights shown. A clause sees it as a `Whole`.
+/// The keyboard, the layers of its keys' presses, the PC's side, and the lights shown. A clause sees it as a `Whole`.
 #[derive(Drop)]
 pub(crate) struct Together {
     keys: TickModel,
+    layers: Layering,
     side: Running,
     shown: u8,
 }
 
 impl Model for Together {
-    ghost use Rattle.kbd_model.specs.Keyboard.{Keyboard};
     ghost use Rattle.link_model.specs.Expected.{Whole};
+    ghost use Rattle.link_model.specs.Machine.{LayeredKeyboard};
 
-    ghost Value = { Whole Keyboard };
+    ghost Value = { Whole LayeredKeyboard };
 
-    ghost view = { λ w. record { keys = w.keys; side = w.side; shown = w.shown } };
+    ghost view = { λ w. record {
+      keys = record { keyboard = w.keys; layers = w.layers };
+      side = w.side;
+      shown = w.shown;
+    } };
 }
 
 impl Running {
     ghost use Rattle.std.specs.Prelude.{◌≡◌, ◌+◌, ◌-◌, ◌≤◌, ◌<◌, ◌^◌, IfOk};
-    ghost use Rattle.byte_time.specs.ByteTime.{meeting_in};
+    ghost use Rattle.byte_time.specs.ByteTime.{ended_as, meeting_in};
     ghost use Rattle.link_model.specs.Expected.{to_look, to_meeting, from_meeting};
 
     /// A tick's cycles up to its first look at the link.
@@ -77,13 +83,18 @@ impl Running {
     ) -> Result<Meeting, AllocError>
         requires long { start + 609 ≤ end }
         requires near { end < 2 ^ 62 }
-        ensures meeting { IfOk result (λ m. m ≡ meeting_in tested offer self.old (to_meeting events.now start self.old)) }
-        ensures side { IfOk result (λ m. self.new ≡ from_meeting events.now start (end - start - 609) m (to_meeting events.now start self.old)) }
+        ensures meeting { IfOk result (λ m.
+            let later = to_meeting events.now start self.old in
+            m ≡ ended_as events.now (meeting_in tested offer self.old later) (288 + start) later) }
+        ensures side { IfOk result (λ m.
+            let later = to_meeting events.now start self.old in
+            let begins = meeting_in tested offer self.old later in
+            self.new ≡ from_meeting events.now start (end - start - 609) begins later) }
     {
         let earlier = self.link();
         self.run_on(events, start + LOOK, start + MEETING)?;
-        let meeting = meeting_of(tested, offer, earlier, self.link());
-        self.carry(events, meeting, start + MEETING)?;
+        let begins = meeting_of(tested, offer, earlier, self.link());
+        let meeting = self.carry(events, begins, start + MEETING)?;
         self.run_on(events, start + REST, end)?;
         Ok(meeting)
     }
@@ -94,8 +105,10 @@ impl Together {
     ghost use Rattle.std.specs.Option.{ForSome};
     ghost use Rattle.host_turn.specs.Run.{side_at_start};
     ghost use Rattle.byte_time.specs.declared.UnderWay.{UnderWay};
-    ghost use Rattle.kbd_model.specs.Codes.{HasKey};
+    ghost use Rattle.layout_reader.specs.Layouts.{HasEntry};
+    ghost use Rattle.kbd_model.specs.Codes.{HasCode};
     ghost use Rattle.kbd_model.specs.Keyboard.{at_power_on};
+    ghost use Rattle.kbd_model.specs.Layers.{no_layers};
     ghost use Rattle.board_lines.specs.Cadence.{KeepsCadenceTo, listed};
     ghost use Rattle.board_lines.specs.Edges.{AreInOrder};
     ghost use Rattle.byte_time.specs.ByteTime.{quietly};
@@ -104,10 +117,11 @@ impl Together {
 
     /// At power-on, with a layout's rate byte.
     pub(crate) fn new(alloc: Global, rate: u8) -> Result<Together, AllocError>
-        ensures { IfOk result (λ w. w ≡ record { keys = at_power_on rate; side = side_at_start UnderWay; shown = 0 }) }
+        ensures { IfOk result (λ w. w ≡ record { keys = record { keyboard = at_power_on rate; layers = no_layers }; side = side_at_start UnderWay; shown = 0 }) }
     {
         Ok(Together {
             keys: TickModel::power_on(rate),
+            layers: Layering::new(),
             side: Running::new(alloc)?,
             shown: 0,
         })
@@ -116,25 +130,27 @@ impl Together {
     /// A tick from its first cycle up to that of the next, with the edges that it sees.
     fn tick(
         &mut self,
+        alloc: Global,
         layout: &Layout,
         events: &[HostEvent],
-        edges: &[(Place, bool)],
+        changes: &[(Place, bool)],
         start: u64,
         end: u64,
     ) -> Result<(), AllocError>
         requires long { start + 609 ≤ end }
         requires near { end < 2 ^ 62 }
-        requires repeats { ForSome self.old.keys.repeats (λ r. HasKey layout.now r.place) }
-        requires edges { All (λ e. HasKey layout.now e.0) edges.now }
-        ensures ticked { IfOk result (λ u. self.new ≡ whole_tick (keyboard layout.now) events.now edges.now start (end - start - 609) self.old) }
-        ensures known { IfOk result (λ u. ForSome self.new.keys.repeats (λ r. HasKey layout.now r.place)) }
+        requires repeats { ForSome self.old.keys.keyboard.repeats (λ r. HasCode layout.now r.place) }
+        requires edges { All (λ c. HasEntry layout.now c.0) changes.now }
+        ensures ticked { IfOk result (λ u. self.new ≡ whole_tick (keyboard layout.now) events.now changes.now start (end - start - 609) self.old) }
+        ensures known { IfOk result (λ u. ForSome self.new.keys.keyboard.repeats (λ r. HasCode layout.now r.place)) }
     {
         let lights = self.keys.lights();
         self.side.look(events, start, self.shown, lights)?;
         let meeting = self
             .side
             .meet(events, start, end, self.keys.tested(), self.keys.offer())?;
-        self.keys.advance(met_as(meeting), edges, layout);
+        let edges = self.layers.follow(alloc, changes, layout)?;
+        self.keys.advance(met_as(meeting), edges.as_slice(), layout);
         self.shown = lights;
         Ok(())
     }
@@ -159,18 +175,18 @@ impl Together {
         n: usize,
     ) -> Result<(), AllocError>
         requires order { AreInOrder edges.now }
-        requires keys { All (λ e. HasKey layout.now e.place) edges.now }
+        requires keys { All (λ e. HasEntry layout.now e.place) edges.now }
         requires within { n + 1 < length starts.now }
         requires near { length starts.now < 2 ^ 32 }
         requires cadence { KeepsCadenceTo (listed starts.now) (length starts.now - 1) }
-        requires repeats { ForSome self.old.keys.repeats (λ r. HasKey layout.now r.place) }
+        requires repeats { ForSome self.old.keys.keyboard.repeats (λ r. HasCode layout.now r.place) }
         ensures ticked { IfOk result (λ u. self.new ≡ next_tick (keyboard layout.now) edges.now host.now (listed starts.now) n self.old) }
-        ensures known { IfOk result (λ u. ForSome self.new.keys.repeats (λ r. HasKey layout.now r.place)) }
+        ensures known { IfOk result (λ u. ForSome self.new.keys.keyboard.repeats (λ r. HasCode layout.now r.place)) }
     {
         let seen = tick_edges(alloc, edges, starts, n)?;
         let start = FIRST_STAMP + starts[n];
         let end = FIRST_STAMP + starts[n + 1];
-        self.tick(layout, host, seen.as_slice(), start, end)?;
+        self.tick(alloc, layout, host, seen.as_slice(), start, end)?;
         Ok(())
     }
 

@@ -30,3 +30,8 @@ reset_cpu = record {
   clk = false;
   last_t1 = true;
 }
+
+-- reset in a processor, whatever it held: it leaves A, both carries, T, the prescaler and data memory, in which a part
+-- that was just switched on may hold anything; all else is as above
+abbrev pub reset_in : Cpu → Cpu
+reset_in m = record reset_cpu { a = m.a; c = m.c; ac = m.ac; ram = m.ram; t = m.t; pre = m.pre }

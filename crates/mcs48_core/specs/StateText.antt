@@ -1,5 +1,5 @@
 -- The text that shows a processor's state, in five lines.
-use Rattle.std.specs.Prelude.{ℕ, Bool, if◌then◌else◌, List, [], ◌∷◌, ◌++◌, codes}
+use Rattle.std.specs.Prelude.{ℕ, Bool, if◌then◌else◌, List, [], ◌∷◌, ◌++◌, codes, flat_map, slice_index_or}
 use Rattle.std.specs.Fmt.{decimal}
 use Rattle.hex_text.specs.Digits.{hex_byte, hex_address}
 use Rattle.mcs48_core.specs.declared.processor.Count.{Count}
@@ -63,7 +63,12 @@ register_line m =
 abbrev pub count_line : ℕ → ℕ → List ℕ
 count_line steps cycles = codes "steps " ++ decimal steps ++ codes " cycles " ++ decimal cycles ++ line_end
 
--- the whole text
+-- a line by its number, counted from 0
+abbrev pub state_row : Cpu → ℕ → ℕ → ℕ → List ℕ
+state_row m steps cycles row =
+    let rows = counter_line m ∷ timer_line m ∷ latch_line m ∷ register_line m ∷ count_line steps cycles ∷ []
+    in slice_index_or rows row []
+
+-- the whole text: the five lines
 abbrev pub state_text_of : Cpu → ℕ → ℕ → List ℕ
-state_text_of m steps cycles =
-    counter_line m ++ timer_line m ++ latch_line m ++ register_line m ++ count_line steps cycles
+state_text_of m steps cycles = flat_map (state_row m steps cycles) (0 ∷ 1 ∷ 2 ∷ 3 ∷ 4 ∷ [])

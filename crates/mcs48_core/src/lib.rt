@@ -26,4 +26,4 @@ pub use levels::Pins;
 pub use processor::{Count, Mcu};
 pub use resetting::reset;
 pub use stepping::Stuck;
-pub use text::state_text;
+pub use text::{state_line, state_text};

@@ -57,6 +57,19 @@ fn reset_text(rt: HostRuntime) -> Result<(), Fail> {
 }
 
 #[test]
+fn lines_without_memory(rt: HostRuntime) {
+    let mcu = reset();
+    assert_eq!(rt;
+        state_line(&mcu, 0, 0, 1).as_slice(),
+        b"t 00 pre 00 tf 0 run off ext off tim off rq 0 svc 0\n".as_slice()
+    );
+    assert_eq!(rt;
+        state_line(&mcu, u64::MAX, 999_999_999, 4).as_slice(),
+        b"steps 18446744073709551615 cycles 999999999\n".as_slice()
+    );
+}
+
+#[test]
 fn timer_interrupt_after_its_return(rt: HostRuntime) -> Result<(), Fail> {
     let text = text_after(rt.alloc(), &timer_program(), 25)?;
     assert_eq!(rt;

@@ -1,5 +1,6 @@
--- The text of an item of the log.
+-- The text of an item of the log, and its line.
 use Rattle.std.specs.Prelude.{ℕ, ◌%◌, List, [], ◌∷◌, ◌++◌, codes, Some, None}
+use Rattle.std.specs.Fmt.{decimal}
 use Rattle.hex_text.specs.Digits.{hex_digit, hex_byte, hex_word}
 use Rattle.pc_tables.specs.declared.item.Item.{Item}
 use Rattle.pc_tables.specs.declared.item.Item.TheVariants.{Port, Read, Word, Beep, Overrun, Lights, Taken, Status}
@@ -30,3 +31,7 @@ text_of Print = codes "print"
 text_of Boot = codes "boot"
 text_of SysMake = codes "sysreq make"
 text_of SysBreak = codes "sysreq break"
+
+-- the line of an item that arose in a tick
+abbrev pub line_of : ℕ → Item → List ℕ
+line_of tick item = decimal tick ++ 32 ∷ text_of item ++ 10 ∷ []

@@ -1,9 +1,10 @@
 //! The items of a log, and their texts.
 
-ghost use Rattle.std.specs.Prelude.{◌≡◌, ◌++◌, IfOk, is_ok, if◌then◌else◌};
-ghost use Rattle.hex_text.specs.Digits.{hex_byte, hex_word};
-ghost use Rattle.pc_tables.specs.Items.{low_digit, text_of};
+ghost use Rattle.std.specs.Prelude.{◌≡◌, ◌+◌, ◌≤◌, ◌++◌, length, IfOk, is_ok, if◌then◌else◌};
+ghost use Rattle.pc_tables.specs.Items.{line_of, text_of};
 
+use arrayvec::ArrayVec;
+use short_text::{append, begun};
 use std::alloc::{AllocError, Global};
 
 /// One thing that the log says.
@@ -46,74 +47,69 @@ pub enum Item {
     SysBreak,
 }
 
-/// Appends a name and the digits behind it. Where memory runs out the text is as before.
-fn push_named(text: &mut Vec<u8>, name: &[u8], digits: &[u8]) -> Result<(), AllocError>
-    ensures { text.new.items ≡ (if is_ok result then text.old.items ++ (name.now ++ digits.now) else text.old.items) }
+/// The text of an item, without the tick before it and the line's end behind it. None is longer.
+type ItemText = ArrayVec<u8, 12>;
+
+/// A name and the digits behind it.
+fn named(name: &[u8], digits: &[u8]) -> ItemText
+    requires { length name.now + length digits.now ≤ 12 }
+    ensures { result.items ≡ name.now ++ digits.now }
 {
-    let before = text.len();
-    text.extend_from_slice(name)?;
-    let pushed = text.extend_from_slice(digits);
-    if pushed.is_err() {
-        text.truncate(before);
+    let mut text = begun(name);
+    append(&mut text, digits);
+    text
+}
+
+/// The item's text, in upper-case hexadecimal.
+fn spelled(item: Item) -> ItemText
+    ensures { result.items ≡ text_of item }
+{
+    match item {
+        Item::Port(byte) => named(b"port ", &hex_text::byte(byte)),
+        Item::Read(byte) => named(b"read ", &hex_text::byte(byte)),
+        Item::Word(word) => named(b"word ", &hex_text::word(word)),
+        Item::Beep => begun(b"beep"),
+        Item::Overrun => begun(b"overrun"),
+        Item::Lights(value) => named(b"lights ", &[hex_text::digit(value % 16)]),
+        Item::Taken(Some(word)) => named(b"taken ", &hex_text::word(word)),
+        Item::Taken(None) => begun(b"taken none"),
+        Item::Status(byte) => named(b"status ", &hex_text::byte(byte)),
+        Item::Output(byte) => named(b"output ", &hex_text::byte(byte)),
+        Item::Pulse(value) => named(b"pulse ", &[hex_text::digit(value % 16)]),
+        Item::Broke => begun(b"break"),
+        Item::Pause => begun(b"pause"),
+        Item::Resume => begun(b"resume"),
+        Item::Print => begun(b"print"),
+        Item::Boot => begun(b"boot"),
+        Item::SysMake => begun(b"sysreq make"),
+        Item::SysBreak => begun(b"sysreq break"),
     }
-    pushed
 }
 
-/// Appends a name and the low digit of a value.
-fn push_digit(text: &mut Vec<u8>, name: &[u8], value: u8) -> Result<(), AllocError>
-    ensures { text.new.items ≡ (if is_ok result then text.old.items ++ (name.now ++ low_digit value) else text.old.items) }
+/// The item's line in a log: the tick in decimal, a space, the item's text in upper-case hexadecimal, LF.
+///
+/// Source: the spelling of the log is our own.
+pub fn item_line(tick: u32, item: Item) -> ArrayVec<u8, 32>
+    ensures line { result.items ≡ line_of tick item }
 {
-    push_named(text, name, &[hex_text::digit(value % 16)])
-}
-
-/// Appends a name and the two digits of a byte.
-fn push_byte(text: &mut Vec<u8>, name: &[u8], byte: u8) -> Result<(), AllocError>
-    ensures { text.new.items ≡ (if is_ok result then text.old.items ++ (name.now ++ hex_byte byte) else text.old.items) }
-{
-    push_named(text, name, &hex_text::byte(byte))
-}
-
-/// Appends a name and the four digits of a word.
-fn push_word(text: &mut Vec<u8>, name: &[u8], word: u16) -> Result<(), AllocError>
-    ensures { text.new.items ≡ (if is_ok result then text.old.items ++ (name.now ++ hex_word word) else text.old.items) }
-{
-    push_named(text, name, &hex_text::word(word))
+    let mut line = begun(itoa::Buffer::new().format(tick).as_bytes());
+    append(&mut line, b" ");
+    append(&mut line, &spelled(item));
+    append(&mut line, b"\n");
+    line
 }
 
 /// Appends the item's text, in upper-case hexadecimal, without the tick before it and the line's end behind it. Where
 /// memory runs out the text is as before.
-///
-/// Source: the spelling of the log is our own.
 pub fn push_item(text: &mut Vec<u8>, item: Item) -> Result<(), AllocError>
     ensures text { text.new.items ≡ (if is_ok result then text.old.items ++ text_of item else text.old.items) }
 {
-    match item {
-        Item::Port(byte) => push_byte(text, b"port ", byte),
-        Item::Read(byte) => push_byte(text, b"read ", byte),
-        Item::Word(word) => push_word(text, b"word ", word),
-        Item::Beep => text.extend_from_slice(b"beep"),
-        Item::Overrun => text.extend_from_slice(b"overrun"),
-        Item::Lights(value) => push_digit(text, b"lights ", value),
-        Item::Taken(Some(word)) => push_word(text, b"taken ", word),
-        Item::Taken(None) => text.extend_from_slice(b"taken none"),
-        Item::Status(byte) => push_byte(text, b"status ", byte),
-        Item::Output(byte) => push_byte(text, b"output ", byte),
-        Item::Pulse(value) => push_digit(text, b"pulse ", value),
-        Item::Broke => text.extend_from_slice(b"break"),
-        Item::Pause => text.extend_from_slice(b"pause"),
-        Item::Resume => text.extend_from_slice(b"resume"),
-        Item::Print => text.extend_from_slice(b"print"),
-        Item::Boot => text.extend_from_slice(b"boot"),
-        Item::SysMake => text.extend_from_slice(b"sysreq make"),
-        Item::SysBreak => text.extend_from_slice(b"sysreq break"),
-    }
+    text.extend_from_slice(&spelled(item))
 }
 
 /// The item's text, as `push_item` appends it. An error where memory runs out.
 pub fn item_text(alloc: Global, item: Item) -> Result<Vec<u8>, AllocError>
     ensures text { IfOk result (λ text. text.items ≡ text_of item) }
 {
-    let mut text = Vec::new(alloc);
-    push_item(&mut text, item)?;
-    Ok(text)
+    Vec::from_slice(alloc, &spelled(item))
 }

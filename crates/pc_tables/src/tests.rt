@@ -57,3 +57,19 @@ fn texts(rt: HostRuntime) -> Result<(), Fail> {
     assert_eq!(rt; line.as_slice(), b"1 port AA".as_slice());
     Ok(())
 }
+
+#[test]
+fn lines(rt: HostRuntime) {
+    assert_eq!(rt;
+        item_line(64, Item::Port(0xaa)).as_slice(),
+        b"64 port AA\n".as_slice()
+    );
+    assert_eq!(rt;
+        item_line(0, Item::Taken(None)).as_slice(),
+        b"0 taken none\n".as_slice()
+    );
+    assert_eq!(rt;
+        item_line(u32::MAX, Item::SysBreak).as_slice(),
+        b"4294967295 sysreq break\n".as_slice()
+    );
+}

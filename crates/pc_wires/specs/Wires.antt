@@ -4,7 +4,7 @@ use Rattle.board_lines.specs.declared.event.HostEvent.{HostEvent}
 use Rattle.board_lines.specs.declared.lines.Lines.{Lines}
 use Rattle.ctl_wire.specs.declared.wire.Wire.{Wire}
 use Rattle.ctl_wire.specs.Cycles.{port_looked}
-use Rattle.ctl_wire.specs.Wire.{drive}
+use Rattle.ctl_wire.specs.Wire.{drive, is_breakable}
 use Rattle.host_turn.specs.Run.{Side, side_at_start, goes_on}
 
 -- the controller with a byte under way as bits on the wires, the host and INT 09h; and the level of the clock at the
@@ -32,9 +32,9 @@ looked now line b = record {
   clock = line.clk;
 }
 
--- the host acts and the controller settles
+-- the host acts, a waiting input breaks off the keyboard's byte where it may, and the controller settles
 abbrev pub went_on : List HostEvent → ℕ → Pc → Pc
-went_on events now b = record { side = goes_on events now b.side; clock = b.clock }
+went_on events now b = record { side = goes_on is_breakable events now b.side; clock = b.clock }
 
 -- a cycle: the controller looks at the wires as its last cycle left them; the host acts; the controller settles
 unfoldable pub board_cycle : List HostEvent → ℕ → Lines → Pc → Pc

@@ -5,13 +5,13 @@ use Rattle.std.specs.declared.option.Option.{Option}
 use Rattle.std.proofs.lemmas.List.{append_assoc}
 use Rattle.ctl_link.specs.declared.link.Link.TheVariants.{Free}
 use Rattle.board_lines.specs.declared.event.HostAct.{HostAct}
-use Rattle.board_lines.specs.declared.event.HostAct.TheVariants.{Write60, Write64, Read60, Mask, Unmask, Take, Status as AskStatus}
+use Rattle.board_lines.specs.declared.event.HostAct.TheVariants.{Write60, Write64, Read60, Mask, Unmask, Take, Flip, Status as AskStatus}
 use Rattle.board_lines.specs.declared.event.HostEvent.{HostEvent}
 use Rattle.host_turn.specs.declared.stamped.Stamped.{Stamped}
 use Rattle.host_turn.specs.Host.{waits, acted_where}
 use Rattle.host_turn.specs.Cycle.{cycled, host_of}
 use Rattle.host_turn.specs.Run.{stamped, desk_of, with_cycled}
-use Rattle.byte_time.specs.ByteTime.{quietly}
+use Rattle.byte_time.specs.ByteTime.{is_open, quietly}
 use Rattle.quiet_log.specs.Quiet.{IsQuietAct}
 use Rattle.quiet_log.proofs.Calm.{Pc, core_of, bios_by, items_by, after_event, items_now, pc_after}
 use Rattle.quiet_log.proofs.Undue.{side, cycle_by, cycle_is, relogged}
@@ -43,10 +43,11 @@ acts_by now true Take q filled log h = refl
 acts_by now false Take q filled log h = refl
 acts_by now true AskStatus q filled log h = refl
 acts_by now false AskStatus q filled log h = refl
+acts_by now c (Flip bit) q filled log h = absurd h
 
 -- the same of the next event, where there is one
 acts_next : (now : ℕ) (o : Option HostEvent) (q : Pc) (filled : ℕ) (log : List Stamped) → IsQuietNext o
-    → with_cycled now (cycled now o (desk_of (side Free false q filled log))) (side Free false q filled log)
+    → with_cycled now (cycled is_open now o (desk_of (side Free false q filled log))) (side Free false q filled log)
     ≡ side Free false (after_event now o q) filled (log ++ stamped now (items_now now o q))
 acts_next now None q filled log h = refl
 acts_next now (Some e) q filled log h = acts_by now (nat_le (e.stamp + 4096) now) e.act q filled log h

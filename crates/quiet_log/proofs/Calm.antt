@@ -10,7 +10,7 @@ use Rattle.pc_tables.specs.declared.item.Item.TheVariants.{Port, Taken, Status, 
 use Rattle.int09.specs.Bios.{State, start, first_word, without_first}
 use Rattle.int09.specs.Rules.{fed}
 use Rattle.board_lines.specs.declared.event.HostAct.{HostAct}
-use Rattle.board_lines.specs.declared.event.HostAct.TheVariants.{Write60, Write64, Read60, Mask, Unmask, Take, Status as AskStatus}
+use Rattle.board_lines.specs.declared.event.HostAct.TheVariants.{Write60, Write64, Read60, Mask, Unmask, Take, Flip, Status as AskStatus}
 use Rattle.board_lines.specs.declared.event.HostEvent.{HostEvent}
 use Rattle.byte_time.specs.declared.meeting.Meeting.{Meeting}
 use Rattle.byte_time.specs.declared.meeting.Meeting.TheVariants.{Got, Inhibited, Idle, Sent, Cut}
@@ -39,6 +39,7 @@ bios_by Mask s = s
 bios_by Unmask s = s
 bios_by Take s = without_first s
 bios_by AskStatus s = s
+bios_by (Flip bit) s = s
 
 abbrev pub items_by : HostAct → Pc → List Item
 items_by (Write60 byte) q = []
@@ -48,6 +49,7 @@ items_by Mask q = []
 items_by Unmask q = []
 items_by Take q = Taken (first_word q.bios) ∷ []
 items_by AskStatus q = Status (status_of (core_of false q)) ∷ []
+items_by (Flip bit) q = []
 
 -- the same in a cycle, where the next event is due
 abbrev pub after_event : ℕ → Option HostEvent → Pc → Pc

@@ -13,10 +13,10 @@ use Rattle.host_turn.specs.declared.stamped.Stamped.{Stamped}
 use Rattle.host_turn.specs.Run.{Side, stamped}
 use Rattle.byte_time.specs.declared.UnderWay.{UnderWay}
 use Rattle.byte_time.specs.declared.meeting.Meeting.TheVariants.{Sent}
-use Rattle.byte_time.specs.ByteTime.{Quiet, Begins, Arrives, byte_cycle, quietly, carried}
+use Rattle.byte_time.specs.ByteTime.{Quiet, Begins, Closes, Arrives, byte_cycle, quietly, sends, carried}
 use Rattle.byte_time.proofs.Quiet.{quiet_more}
 use Rattle.quiet_log.proofs.Calm.{Pc, core_of, marked, read_of, said_of_read, met_by, items_of_meeting}
-use Rattle.quiet_log.proofs.Undue.{side, undue_cycle, relogged, hold_empty, full_read, IsUndue, busy_span, full_span, empty_span}
+use Rattle.quiet_log.proofs.Undue.{side, passing, undue_cycle, relogged, hold_empty, full_read, IsUndue, busy_span, full_span, empty_span}
 
 -- the side once the link is free again, whenever the output buffer was filled last
 pub record Freed (q : Pc) (s : Side UnderWay) (log : List Stamped) : Type 0 where
@@ -29,7 +29,7 @@ module _ (events : List HostEvent) where
   come now o mark q filled log =
       let core : ControllerState = arrived (record { byte = o; mark = mark }) (core_of false q) in
       record {
-        port = record { core = core; filled = filled_by now core filled; link = Hold now; awaits = false };
+        port = record { core = core; filled = filled_by now core filled; link = Hold now; awaits = false; flip = None };
         masked = false;
         bios = q.bios;
         done = q.done;
@@ -72,20 +72,42 @@ module _ (events : List HostEvent) where
             ∙ full_read last now p now log t t;
       }
 
-  -- the cycle in which it arrives, and the one in which it begins
-  arrives : (now byte : ℕ) (w : UnderWay) (q : Pc) (filled : ℕ) (log : List Stamped)
-      → byte_cycle events now (Arrives byte) (side (Busy w) false q filled log)
+  -- the cycle in which it arrives
+  arrives : (now byte : ℕ) (q : Pc) (filled : ℕ) (log : List Stamped)
+      → byte_cycle events now (Arrives byte) (side (Busy (passing false)) false q filled log)
       ≡ byte_cycle events now Quiet
       (come now (translation true q.mark byte).byte (translation true q.mark byte).mark q filled log)
   unfolding byte_cycle
-  arrives now byte w q filled log = refl
+  arrives now byte q filled log = refl
 
   -- the cycle in which it begins
   begins : (now : ℕ) (q : Pc) (filled : ℕ) (log : List Stamped)
       → byte_cycle events now (Begins true) (side Free false q filled log)
-      ≡ byte_cycle events now Quiet (side (Busy (record { from_keyboard = true })) false q filled log)
+      ≡ byte_cycle events now Quiet (side (Busy (passing true)) false q filled log)
   unfolding byte_cycle
   begins now q filled log = refl
+
+  -- and the one from which on it can't be broken off
+  closes : (now : ℕ) (q : Pc) (filled : ℕ) (log : List Stamped)
+      → byte_cycle events now Closes (side (Busy (passing true)) false q filled log)
+      ≡ byte_cycle events now Quiet (side (Busy (passing false)) false q filled log)
+  unfolding byte_cycle
+  closes now q filled log = refl
+
+  -- nothing breaks it off: it is still under way in its last cycle
+  pub stays_under_way : (now : ℕ) (q : Pc) (filled : ℕ) (log : List Stamped) → IsUndue events q now 320
+      → sends events now (side Free false q filled log) ≡ side (Busy (passing false)) false q filled log
+  stays_under_way now q filled log h =
+      let s : Side UnderWay = side (Busy (passing true)) false q filled log in
+      let s' : Side UnderWay = side (Busy (passing false)) false q filled log in
+      let z : suc (288 + now) ≡ 289 + now = omega arith in
+      ap (λ v. quietly events 31 (289 + now) (byte_cycle events (288 + now) Closes (quietly events 287 (suc now) v)))
+      (begins now q filled log)
+      ∙ ap (λ v. quietly events 31 (289 + now) (byte_cycle events (288 + now) Closes v))
+      (busy_span events true q filled log 288 now (λ y l u. h y l (omega (arith, u))))
+      ∙ ap (λ v. quietly events 31 (289 + now) v) (closes (288 + now) q filled log)
+      ∙ ap (λ y. quietly events 31 y (byte_cycle events (288 + now) Quiet s')) (sym z)
+      ∙ busy_span events false q filled log 32 (288 + now) (λ y l u. h y (omega (arith, l)) (omega (arith, u)))
 
   -- the whole of it
   pub sent : (now last : ℕ) (byte : ℕ) (q : Pc) (filled : ℕ) (log : List Stamped) → last ≡ now + 384
@@ -94,18 +116,13 @@ module _ (events : List HostEvent) where
       (quietly events 64 (321 + now) (carried events (Sent byte) now (side Free false q filled log)))
       (log ++ stamped last (items_of_meeting (Sent byte) q))
   sent now last byte q filled log e h =
-      let w : UnderWay = record { from_keyboard = true } in
-      let s : Side UnderWay = side (Busy w) false q filled log in
       let t : Translated = translation true q.mark byte in
       let x : Side UnderWay = come (320 + now) t.byte t.mark q filled log in
       let z : 321 + now ≡ suc (320 + now) = omega arith in
-      let all : quietly events 320 now s ≡ s =
-      busy_span events w q filled log 320 now (λ y l u. h y l (omega (arith, u))) in
       let first : carried events (Sent byte) now (side Free false q filled log)
       ≡ byte_cycle events (320 + now) Quiet x =
-      ap (λ v. byte_cycle events (320 + now) (Arrives byte) (quietly events 319 (suc now) v))
-      (begins now q filled log)
-      ∙ ap (λ v. byte_cycle events (320 + now) (Arrives byte) v) all ∙ arrives (320 + now) byte w q filled log in
+      ap (λ v. byte_cycle events (320 + now) (Arrives byte) v)
+      (stays_under_way now q filled log (λ y l u. h y l (omega (arith, u)))) ∙ arrives (320 + now) byte q filled log in
       let r : Freed (met_by (Sent byte) q) (quietly events 65 (320 + now) x)
       (log ++ stamped last (items_of_meeting (Sent byte) q)) =
       read_span (320 + now) last t.byte t.mark q filled log (omega (arith, e))

@@ -9,3 +9,8 @@ pub mod Saying
 pub mod Ticking
 pub mod Ran
 pub mod Once
+pub mod Silent
+pub mod EachOnce
+pub mod Counted
+pub mod InLine
+pub mod InOrder

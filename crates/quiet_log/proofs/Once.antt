@@ -1,34 +1,35 @@
 -- A byte arrives where the keyboard takes it away, and nowhere else.
-use Rattle.std.proofs.Common.{◌≡◌, ℕ, suc, zero, ◌+◌, ◌-◌, ◌≤◌, ◌<◌, List, [], ◌++◌, Bool, true, false, ◌==◌, Some, None, refl, ap, sym, ◌∙◌, subst, arith, append_assoc, append-nil}
+use Rattle.std.proofs.Common.{◌≡◌, ℕ, ◌+◌, List, Bool, true, false, ◌==◌, ◌⊎◌, inl, inr, Some, None, refl, ap, sym, ◌∙◌, subst}
 use Rattle.std.specs.Prelude.{if◌then◌else◌}
 use Rattle.std.specs.declared.option.Option.{Option}
 use Rattle.std.proofs.lemmas.Bool.{eqb-true}
 use Rattle.board_lines.specs.declared.event.HostEvent.{HostEvent}
 use Rattle.byte_time.specs.declared.UnderWay.{UnderWay}
 use Rattle.host_turn.specs.Run.{Side}
-use Rattle.byte_time.specs.ByteTime.{Event, Quiet, Begins, Arrives, IsWhole, meeting_by}
+use Rattle.byte_time.specs.ByteTime.{Event, Quiet, Begins, Closes, Arrives, IsWhole, arrived_in, meeting_by, sends, sent_or_cut, ended_as}
 use Rattle.byte_time.specs.declared.meeting.Meeting.{Meeting}
 use Rattle.byte_time.specs.declared.meeting.Meeting.TheVariants.{Got, Inhibited, Idle, Sent, Cut}
+use Rattle.ctl_link.specs.Link.{is_busy}
 use Rattle.ctl_link.specs.declared.link.Link.{Link}
 use Rattle.ctl_link.specs.declared.link.Link.TheVariants.{Free, Hold, Ask, Request, Busy}
-use Rattle.key_file.specs.Histories.{KeyHistory}
-use Rattle.layout_reader.specs.Layouts.{KeyLayout}
-use Rattle.kbd_model.specs.Codes.{Keys, keys_of}
-use Rattle.kbd_model.specs.Keyboard.{Keyboard, offer}
-use Rattle.kbd_model.specs.Tick.{met, ticked}
-use Rattle.kbd_model.specs.Once.{waiting, IsBehind}
-use Rattle.kbd_model.proofs.Once.{sent_leaves}
-use Rattle.kbd_model.proofs.Adds.{stays_in_line}
-use Rattle.link_model.specs.Machine.{keyboard, met_as}
-use Rattle.link_model.specs.Expected.{Whole, to_look, to_meeting, meeting_from, whole_tick}
-use Rattle.link_model.specs.TickEdges.{tick_edges}
+use Rattle.ctl_link.specs.declared.port.Port.{Port}
+use Rattle.layout_reader.specs.Layouts.{KeyLayout, is_fn_place}
+use Rattle.kbd_model.specs.declared.edge.TickEdge.{TickEdge}
+use Rattle.kbd_model.specs.Layers.{layered}
+use Rattle.kbd_model.specs.Codes.{keys_of}
+use Rattle.kbd_model.specs.Keyboard.{offer}
+use Rattle.kbd_model.specs.Tick.{ticked}
+use Rattle.kbd_model.proofs.Adds.{cut_is_offered}
+use Rattle.link_model.specs.Machine.{LayeredKeyboard, keyboard, met_as}
+use Rattle.link_model.specs.Expected.{Whole, to_look, to_meeting, begins_from, meeting_from, whole_tick}
 use Rattle.link_model.specs.Laws.{event_at}
-use Rattle.quiet_log.specs.Once.{ArrivalLaw, arrived, Passes, IsPlain, at_tick, meeting_at, all_arrived, IsPlainTick}
+use Rattle.quiet_log.specs.Once.{ArrivalLaw}
 
--- a byte arrives at offset 608 of a tick in which it passes
+-- whether a byte arrives
 is_arrival : Event → Bool
 is_arrival Quiet = false
 is_arrival (Begins from) = false
+is_arrival Closes = false
 is_arrival (Arrives byte) = true
 is_arrival IsWhole = false
 
@@ -41,12 +42,13 @@ no_arrival e byte X h g = let k : true ≡ false = sym (ap is_arrival g) ∙ h i
 byte_in : Event → ℕ
 byte_in Quiet = 0
 byte_in (Begins from) = 0
+byte_in Closes = 0
 byte_in (Arrives byte) = byte
 byte_in IsWhole = 0
 
--- by the meeting, and by its two offsets
-only_arrival : (meeting : Meeting) (offset byte : ℕ) → event_at meeting offset ≡ Arrives byte
-    → (meeting ≡ Sent byte) × (offset ≡ 608)
+-- by what begins, and by its offsets
+only_arrival : (begins : Meeting) (offset byte : ℕ) → event_at begins offset ≡ Arrives byte
+    → (begins ≡ Sent byte) × (offset ≡ 608)
 unfolding is_arrival byte_in
 only_arrival (Got b) offset byte h =
     elim (offset == 288) as (λ c. (if c then Begins false else if offset == 608 then IsWhole else Quiet) ≡ Arrives byte
@@ -61,108 +63,108 @@ only_arrival (Got b) offset byte h =
 only_arrival Inhibited offset byte h = no_arrival Quiet byte _ refl h
 only_arrival Idle offset byte h = no_arrival Quiet byte _ refl h
 only_arrival (Sent b) offset byte h =
-    elim (offset == 288) as (λ c. (if c then Begins true else if offset == 608 then Arrives b else Quiet) ≡ Arrives byte
-    → (Sent b ≡ Sent byte) × (offset ≡ 608)) [
+    elim (offset == 288) as (λ c.
+    (if c then Begins true else if offset == 576 then Closes else if offset == 608 then Arrives b else Quiet)
+    ≡ Arrives byte → (Sent b ≡ Sent byte) × (offset ≡ 608)) [
       | true ↦ λ g. no_arrival (Begins true) byte _ refl g
-      | false ↦ λ g. elim (offset == 608) as (λ c. (offset == 608) ≡ c → (if c then Arrives b else Quiet) ≡ Arrives byte
+      | false ↦ λ g.
+          elim (offset == 576) as (λ c.
+          (if c then Closes else if offset == 608 then Arrives b else Quiet) ≡ Arrives byte
           → (Sent b ≡ Sent byte) × (offset ≡ 608)) [
-            | true ↦ λ e f. (ap (λ v. Sent (byte_in v)) f, eqb-true offset 608 e)
-            | false ↦ λ e f. no_arrival Quiet byte _ refl f
-          ] refl g
+            | true ↦ λ f. no_arrival Closes byte _ refl f
+            | false ↦ λ f.
+                elim (offset == 608) as (λ c. (offset == 608) ≡ c → (if c then Arrives b else Quiet) ≡ Arrives byte
+                → (Sent b ≡ Sent byte) × (offset ≡ 608)) [
+                  | true ↦ λ e a. (ap (λ v. Sent (byte_in v)) a, eqb-true offset 608 e)
+                  | false ↦ λ e a. no_arrival Quiet byte _ refl a
+                ] refl f
+          ] g
     ] h
 only_arrival Cut offset byte h = no_arrival Quiet byte _ refl h
 
+-- a link without a byte under way
+nothing_arrives : (now byte : ℕ) (l : Link UnderWay) (p : Port UnderWay) → is_busy l ≡ false
+    → (arrived_in now byte l p ≡ p) × (sent_or_cut byte l ≡ Cut)
+nothing_arrives now byte Free p h = (refl, refl)
+nothing_arrives now byte (Hold since) p h = (refl, refl)
+nothing_arrives now byte (Ask b since) p h = (refl, refl)
+nothing_arrives now byte (Request b) p h = (refl, refl)
+nothing_arrives now byte (Busy u) p h = absurd cc
+
 pub arrival_law : ArrivalLaw
-arrival_law = record { arrives = λ byte. refl; only = only_arrival }
+arrival_law = record {
+  arrives = λ byte. refl;
+  only = only_arrival;
+  under_way = λ now byte p u e. (ap (λ l. arrived_in now byte l p) e, ap (λ l. sent_or_cut byte l) e);
+  broken_off = λ now byte p e. nothing_arrives now byte p.link p e;
+}
 
--- what passes is what was offered, once the test had ended
-sent_offered : (tested : Bool) (offer : Option ℕ) (earlier later : Link UnderWay) (byte : ℕ)
+-- what begins was offered, once the test had ended
+begun_offered : (tested : Bool) (offer : Option ℕ) (earlier later : Link UnderWay) (byte : ℕ)
     → meeting_by tested offer earlier later ≡ Sent byte → (tested ≡ true) × (offer ≡ Some byte)
-sent_offered false o earlier later byte h = absurd cc
-sent_offered true None Free later byte h = absurd cc
-sent_offered true (Some b) Free Free byte h = let e : b ≡ byte = cc in (refl, ap (λ v. Some v) e)
-sent_offered true (Some b) Free (Hold since) byte h = absurd cc
-sent_offered true (Some b) Free (Ask c since) byte h = absurd cc
-sent_offered true (Some b) Free (Request c) byte h = absurd cc
-sent_offered true (Some b) Free (Busy u) byte h = absurd cc
-sent_offered true o (Hold since) later byte h = absurd cc
-sent_offered true o (Ask c since) later byte h = absurd cc
-sent_offered true o (Request c) later byte h = absurd cc
-sent_offered true o (Busy u) later byte h = absurd cc
+begun_offered false o earlier later byte h = absurd cc
+begun_offered true None Free later byte h = absurd cc
+begun_offered true (Some b) Free Free byte h = let e : b ≡ byte = cc in (refl, ap (λ v. Some v) e)
+begun_offered true (Some b) Free (Hold since) byte h = absurd cc
+begun_offered true (Some b) Free (Ask c since) byte h = absurd cc
+begun_offered true (Some b) Free (Request c) byte h = absurd cc
+begun_offered true (Some b) Free (Busy u) byte h = absurd cc
+begun_offered true o (Hold since) later byte h = absurd cc
+begun_offered true o (Ask c since) later byte h = absurd cc
+begun_offered true o (Request c) later byte h = absurd cc
+begun_offered true o (Busy u) later byte h = absurd cc
+
+-- what is sent had begun
+sent_begun : (l : Link UnderWay) (b byte : ℕ) → sent_or_cut b l ≡ Sent byte → Sent b ≡ Sent byte
+sent_begun Free b byte h = absurd cc
+sent_begun (Hold since) b byte h = absurd cc
+sent_begun (Ask c since) b byte h = absurd cc
+sent_begun (Request c) b byte h = absurd cc
+sent_begun (Busy u) b byte h = h
+
+begun : (events : List HostEvent) (begins : Meeting) (now byte : ℕ) (m : Side UnderWay)
+    → ended_as events begins now m ≡ Sent byte → begins ≡ Sent byte
+begun events (Got b) now byte m h = absurd cc
+begun events Inhibited now byte m h = absurd cc
+begun events Idle now byte m h = absurd cc
+begun events (Sent b) now byte m h = sent_begun (sends events now m).port.link b byte h
+begun events Cut now byte m h = absurd cc
 
 -- so it is in the model of a layout
-pub arrives_as_offered : (layout : KeyLayout) (events : List HostEvent) (start byte : ℕ) (w : Whole Keyboard)
-    → meeting_from (keyboard layout) events start w ≡ Sent byte → (w.keys.test ≡ 0) × (offer w.keys ≡ Some byte)
+pub arrives_as_offered : (layout : KeyLayout) (events : List HostEvent) (start byte : ℕ) (w : Whole LayeredKeyboard)
+    → meeting_from (keyboard layout) events start w ≡ Sent byte → (w.keys.keyboard.test ≡ 0) × (offer w.keys.keyboard ≡ Some byte)
 arrives_as_offered layout events start byte w h =
-    let earlier : Side UnderWay = to_look events w.shown w.keys.lights start w.side in
-    let o = sent_offered (w.keys.test == 0) (offer w.keys) earlier.port.link
-    (to_meeting events start earlier).port.link byte h in
-    (eqb-true w.keys.test 0 o.0, o.1)
+    let earlier : Side UnderWay = to_look events w.shown w.keys.keyboard.lights start w.side in
+    let later : Side UnderWay = to_meeting events start earlier in
+    let b : begins_from (keyboard layout) events start w ≡ Sent byte =
+    begun events (begins_from (keyboard layout) events start w) (288 + start) byte later h in
+    let o = begun_offered (w.keys.keyboard.test == 0) (offer w.keys.keyboard) earlier.port.link later.port.link byte b in
+    (eqb-true w.keys.keyboard.test 0 o.0, o.1)
 
--- in a plain tick of the keyboard what arrives leaves
-passes_by : (keys : Keys) (edges : List (ℕ × Bool)) (k : Keyboard) (meeting : Meeting) → k.test ≡ 0
-    → ((byte : ℕ) → meeting ≡ Sent byte → offer k ≡ Some byte) → IsPlain meeting k
-    → Passes (arrived meeting) (waiting k) (waiting (ticked keys (met_as meeting) edges k))
-passes_by keys edges k (Got byte) e o p = absurd p
-passes_by keys edges k Inhibited e o p =
-    record { others = waiting k; leaves = refl; behind = stays_in_line keys (met_as Inhibited) edges k e }
-passes_by keys edges k Idle e o p =
-    record { others = waiting k; leaves = refl; behind = stays_in_line keys (met_as Idle) edges k e }
-passes_by keys edges k (Sent byte) e o p =
-    record {
-      others = waiting (met (met_as (Sent byte)) keys k);
-      leaves = sent_leaves keys k byte (o byte refl) p;
-      behind = stays_in_line keys (met_as (Sent byte)) edges k e;
-    }
-passes_by keys edges k Cut e o p =
-    record { others = waiting k; leaves = refl; behind = stays_in_line keys (met_as Cut) edges k e }
+-- as long as the test runs nothing passes
+idle_in_test : (tested : Bool) (offer : Option ℕ) (earlier later : Link UnderWay)
+    → (tested ≡ true) ⊎ (meeting_by tested offer earlier later ≡ Idle)
+idle_in_test true o earlier later = inl refl
+idle_in_test false o earlier later = inr refl
 
--- so it is in the model of a layout
-pub each_byte_once : (layout : KeyLayout) (events : List HostEvent) (edges : List (ℕ × Bool)) (start rest : ℕ)
-    (w : Whole Keyboard) → w.keys.test ≡ 0 → IsPlain (meeting_from (keyboard layout) events start w) w.keys
-    → Passes (arrived (meeting_from (keyboard layout) events start w)) (waiting w.keys)
-    (waiting (whole_tick (keyboard layout) events edges start rest w).keys)
-each_byte_once layout events edges start rest w e p =
-    passes_by (keys_of layout) edges w.keys (meeting_from (keyboard layout) events start w) e
-    (λ byte h. (arrives_as_offered layout events start byte w h).1) p
+pub tested_or_idle : (layout : KeyLayout) (events : List HostEvent) (start : ℕ) (w : Whole LayeredKeyboard)
+    → (w.keys.keyboard.test ≡ 0) ⊎ (meeting_from (keyboard layout) events start w ≡ Idle)
+tested_or_idle layout events start w =
+    let earlier : Side UnderWay = to_look events w.shown w.keys.keyboard.lights start w.side in
+    let later : Side UnderWay = to_meeting events start earlier in
+    elim (idle_in_test (w.keys.keyboard.test == 0) (offer w.keys.keyboard) earlier.port.link later.port.link) [
+      | inl t ↦ inl (eqb-true w.keys.keyboard.test 0 t)
+      | inr i ↦ inr (ap (λ v. ended_as events v (288 + start) later) i)
+    ]
 
--- from tick to tick
-one_more : (before now next all : List ℕ) (a : List ℕ) → IsBehind before (all ++ now) → Passes a now next
-    → IsBehind before ((all ++ a) ++ next)
-one_more before now next all a h p =
-    let more : List ℕ = p.behind.more in
-    record {
-      more = h.more ++ more;
-      is = append_assoc all a next ∙ ap (λ v. all ++ (a ++ v)) p.behind.is
-          ∙ ap (λ v. all ++ v) (sym (append_assoc a p.others more) ∙ ap (λ v. v ++ more) (sym p.leaves))
-          ∙ sym (append_assoc all now more) ∙ ap (λ v. v ++ more) h.is ∙ append_assoc before h.more more;
-    }
-
--- and over ticks in a row
-pub all_in_order : (layout : KeyLayout) (history : KeyHistory) (starts : ℕ → ℕ) (n count : ℕ)
-    → ((j : ℕ) → n ≤ j → j < count + n → IsPlainTick layout history starts j)
-    → IsBehind (waiting (at_tick layout history starts n).keys)
-    (all_arrived layout history starts n count ++ waiting (at_tick layout history starts (count + n)).keys)
-all_in_order layout history starts n zero h =
-    let z : n ≡ zero + n = omega arith in
-    record {
-      more = [];
-      is = ap (λ v. waiting (at_tick layout history starts v).keys) (sym z)
-          ∙ sym (append-nil (waiting (at_tick layout history starts n).keys));
-    }
-all_in_order layout history starts n (suc count) h =
-    let m : ℕ = count + n in
-    let z : suc m ≡ suc count + n = omega arith in
-    let t : IsPlainTick layout history starts m = h m (omega arith) (omega arith) in
-    let w : Whole Keyboard = at_tick layout history starts m in
-    let a : List ℕ = arrived (meeting_at layout history starts m) in
-    let all : List ℕ = all_arrived layout history starts n count in
-    let p : Passes a (waiting w.keys) (waiting (at_tick layout history starts (suc m)).keys) =
-    each_byte_once layout history.host (tick_edges starts history.edges m) (4096 + starts m)
-    (starts (suc m) - starts m - 609) w t.tested t.plain in
-    let before : IsBehind (waiting (at_tick layout history starts n).keys) (all ++ waiting w.keys) =
-    all_in_order layout history starts n count (λ j l u. h j l (omega (arith, u))) in
-    subst (λ v. IsBehind (waiting (at_tick layout history starts n).keys)
-    ((all ++ a) ++ waiting (at_tick layout history starts v).keys))
-    z (one_more (waiting (at_tick layout history starts n).keys) (waiting w.keys)
-    (waiting (at_tick layout history starts (suc m)).keys) all a before p)
+-- what was cut off waits on
+pub cut_offered : (layout : KeyLayout) (events : List HostEvent) (edges : List (ℕ × Bool)) (start rest byte : ℕ)
+    (w : Whole LayeredKeyboard) → meeting_from (keyboard layout) events start w ≡ Cut → offer w.keys.keyboard ≡ Some byte
+    → offer (whole_tick (keyboard layout) events edges start rest w).keys.keyboard ≡ Some byte
+cut_offered layout events edges start rest byte w c o =
+    let edges' : List TickEdge = layered (is_fn_place layout) edges w.keys.layers in
+    subst (λ m. offer (ticked (keys_of layout) (met_as m) edges' w.keys.keyboard) ≡ Some byte) (sym c)
+    (elim (tested_or_idle layout events start w) [
+      | inl t ↦ cut_is_offered (keys_of layout) edges' w.keys.keyboard byte t o
+      | inr i ↦ let e : Cut ≡ Idle = sym c ∙ i in absurd cc
+    ])

@@ -5,12 +5,13 @@ use Rattle.std.proofs.lemmas.List.{append-nil}
 use Rattle.ctl_link.specs.declared.link.Link.TheVariants.{Free}
 use Rattle.board_lines.specs.declared.event.HostEvent.{HostEvent}
 use Rattle.host_turn.specs.declared.stamped.Stamped.{Stamped}
-use Rattle.host_turn.specs.Run.{stamped}
+use Rattle.host_turn.specs.Run.{Side, stamped}
 use Rattle.byte_time.specs.declared.meeting.Meeting.TheVariants.{Sent}
-use Rattle.byte_time.specs.ByteTime.{quietly, carried, meeting_in}
+use Rattle.byte_time.specs.declared.UnderWay.{UnderWay}
+use Rattle.byte_time.specs.ByteTime.{quietly, carried, meeting_in, sent_or_cut, ended_as}
 use Rattle.quiet_log.proofs.Calm.{Pc, calm_meeting, met_by, items_of_meeting}
 use Rattle.quiet_log.proofs.Undue.{side, IsUndue, free_span}
-use Rattle.quiet_log.proofs.Carrying.{Freed, sent}
+use Rattle.quiet_log.proofs.Carrying.{Freed, stays_under_way, sent}
 
 -- over a free link it depends on the test and the offer alone
 pub meets_calm : (tested : Bool) (offer : Option ℕ) (q : Pc) (filled : ℕ) (log : List Stamped)
@@ -20,6 +21,15 @@ meets_calm true (Some byte) q filled log = refl
 meets_calm false offer q filled log = refl
 
 module _ (events : List HostEvent) where
+  -- what begins isn't broken off
+  pub ends_calm : (tested : Bool) (offer : Option ℕ) (now : ℕ) (q : Pc) (filled : ℕ) (log : List Stamped)
+      → IsUndue events q now 320
+      → ended_as events (calm_meeting tested offer) now (side Free false q filled log) ≡ calm_meeting tested offer
+  ends_calm true None now q filled log h = refl
+  ends_calm true (Some byte) now q filled log h =
+      ap (λ (s : Side UnderWay). sent_or_cut byte s.port.link) (stays_under_way events now q filled log h)
+  ends_calm false offer now q filled log h = refl
+
   -- a tick in which nothing passes
   idle : (start : ℕ) (q : Pc) (filled : ℕ) (log : List Stamped) → IsUndue events q (288 + start) 385
       → quietly events 64 (609 + start) (quietly events 321 (288 + start) (side Free false q filled log))

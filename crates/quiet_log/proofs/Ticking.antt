@@ -8,19 +8,19 @@ use Rattle.host_turn.specs.declared.stamped.Stamped.{Stamped}
 use Rattle.host_turn.specs.Run.{Side, stamped, lights_said, says_lights}
 use Rattle.byte_time.specs.declared.UnderWay.{UnderWay}
 use Rattle.byte_time.specs.declared.meeting.Meeting.{Meeting}
-use Rattle.byte_time.specs.ByteTime.{quietly, carried, meeting_in}
+use Rattle.byte_time.specs.ByteTime.{quietly, carried, meeting_in, ended_as}
 use Rattle.byte_time.proofs.Quiet.{quiet_more}
 use Rattle.key_file.specs.Histories.{KeyHistory}
 use Rattle.link_model.specs.declared.line.LogLine.{LogLine}
 use Rattle.link_model.specs.Machine.{Machine}
-use Rattle.link_model.specs.Expected.{Whole, to_look, to_meeting, from_meeting, meeting_from, whole_tick, lines}
+use Rattle.link_model.specs.Expected.{Whole, to_look, to_meeting, from_meeting, begins_from, meeting_from, whole_tick, lines}
 use Rattle.quiet_log.specs.Quiet.{IsQuiet}
 use Rattle.quiet_log.proofs.Calm.{Pc, pc_after, items_in, met_by, items_of_meeting, light_items, Calm, meets, calm_items, in_tick}
 use Rattle.quiet_log.proofs.Undue.{side, IsUndue, free_span}
 use Rattle.quiet_log.proofs.Acting.{said_in, acts_span}
 use Rattle.quiet_log.proofs.Ahead.{IsAhead, nothing_due, quiet_next, ahead_met, ahead_next}
 use Rattle.quiet_log.proofs.Carrying.{Freed}
-use Rattle.quiet_log.proofs.Passing.{meets_calm, passes}
+use Rattle.quiet_log.proofs.Passing.{meets_calm, ends_calm, passes}
 use Rattle.quiet_log.proofs.Saying.{tick_is, stamped_at, lights_at, said_at}
 
 -- the model at rest
@@ -116,12 +116,22 @@ module _ {S : Type 0} (kb : Machine S) (h : KeyHistory) (quiet : IsQuiet h) (sta
         ∙ free_span h.host c.pc filled lit 32 (256 + (4096 + starts n))
         (quiet_from (256 + (4096 + starts n)) 32 (omega (arith, hi)))
 
-    -- the meeting
-    met : meeting_from kb h.host (4096 + starts n) (whole_of c filled log) ≡ meets kb c
-    met =
+    -- what begins
+    begins : begins_from kb h.host (4096 + starts n) (whole_of c filled log) ≡ meets kb c
+    begins =
         ap (λ v. meeting_in (kb.tested c.keys) (kb.offer c.keys) v (to_meeting h.host (4096 + starts n) looked)) look
         ∙ ap (λ v. meeting_in (kb.tested c.keys) (kb.offer c.keys) (side Free false c.pc filled lit) v) meet
         ∙ meets_calm (kb.tested c.keys) (kb.offer c.keys) c.pc filled lit
+
+    -- the meeting
+    met : meeting_from kb h.host (4096 + starts n) (whole_of c filled log) ≡ meets kb c
+    met =
+        let hi : starts n ≤ 2048 * n + 5 = (cadence n (omega (arith, l))).most in
+        let now : ℕ = 288 + (4096 + starts n) in
+        ap (λ v. ended_as h.host v now (to_meeting h.host (4096 + starts n) looked)) begins
+        ∙ ap (λ v. ended_as h.host (meets kb c) now v) meet
+        ∙ ends_calm h.host (kb.tested c.keys) (kb.offer c.keys) now c.pc filled lit
+        (quiet_from now 320 (omega (arith, hi)))
 
     -- and the link is free again at the next start
     passed : Freed (pc_after h.host 1024 (5120 + 2048 * n) (met_by (meets kb c) c.pc))
@@ -165,7 +175,9 @@ module _ {S : Type 0} (kb : Machine S) (h : KeyHistory) (quiet : IsQuiet h) (sta
         (to_meeting h.host (4096 + starts n) looked) in
         record {
           filled = passed.filled;
-          is = ap (λ m. whole_by changes m (from m)) met ∙ ap (λ s. whole_by changes (meets kb c) s) passed.is;
+          is = ap (λ m. whole_by changes m (from (begins_from kb h.host (4096 + starts n) (whole_of c filled log)))) met
+              ∙ ap (λ m. whole_by changes (meets kb c) (from m)) begins
+              ∙ ap (λ s. whole_by changes (meets kb c) s) passed.is;
         }
 
   -- what the tick says, with its number

@@ -6,7 +6,7 @@ use Rattle.std.proofs.lemmas.Bool.Decides.{nat_tests}
 use Rattle.std.proofs.lemmas.List.{append-nil}
 use Rattle.ctl_link.specs.declared.link.Link.{Link}
 use Rattle.ctl_link.specs.declared.link.Link.TheVariants.{Free, Hold, Busy}
-use Rattle.ctl_link.specs.Link.{settled}
+use Rattle.ctl_link.specs.Link.{broken_off, settled}
 use Rattle.pc_tables.specs.declared.item.Item.TheVariants.{Port as PortItem}
 use Rattle.board_lines.specs.declared.event.HostEvent.{HostEvent}
 use Rattle.host_turn.specs.declared.stamped.Stamped.{Stamped}
@@ -16,13 +16,13 @@ use Rattle.host_turn.specs.Run.{Side, stamped, desk_of, with_cycled, goes_on}
 use Rattle.host_turn.specs.Rest.{is_due}
 use Rattle.int09.specs.Rules.{fed}
 use Rattle.byte_time.specs.declared.UnderWay.{UnderWay}
-use Rattle.byte_time.specs.ByteTime.{Quiet, byte_cycle, quietly}
+use Rattle.byte_time.specs.ByteTime.{Quiet, byte_cycle, is_open, quietly}
 use Rattle.quiet_log.proofs.Calm.{Pc, core_of}
 
 -- the side of a quiet run
 abbrev pub side : Link UnderWay → Bool → Pc → ℕ → List Stamped → Side UnderWay
 side l full q filled log = record {
-  port = record { core = core_of full q; filled = filled; link = l; awaits = false };
+  port = record { core = core_of full q; filled = filled; link = l; awaits = false; flip = None };
   masked = false;
   bios = q.bios;
   done = q.done;
@@ -41,12 +41,12 @@ abbrev pub cycle_by : ℕ → Turn → Bool → Side UnderWay → Side UnderWay
 cycle_by now first done s =
     with_cycled now
     (ends_cycle (turn_by now s.port.filled first) done
-    (settled now (port_by (turn_by now s.port.filled first) s.port)))
+    (settled now (broken_off is_open now (port_by (turn_by now s.port.filled first) s.port))))
     s
 
 -- a quiet cycle is a cycle of the PC's side
 pub cycle_is : (events : List HostEvent) (now : ℕ) (s : Side UnderWay)
-    → byte_cycle events now Quiet s ≡ with_cycled now (cycled now (slice_get events s.done) (desk_of s)) s
+    → byte_cycle events now Quiet s ≡ with_cycled now (cycled is_open now (slice_get events s.done) (desk_of s)) s
 unfolding byte_cycle goes_on
 cycle_is events now s = refl
 
@@ -56,7 +56,7 @@ undue now s = cycle_by now (in_silence (host_of (desk_of s))) false s
 
 -- by the next event, where there is one
 undue_by : (now : ℕ) (o : Option HostEvent) (s : Side UnderWay) → is_due now o ≡ false
-    → with_cycled now (cycled now o (desk_of s)) s ≡ undue now s
+    → with_cycled now (cycled is_open now o (desk_of s)) s ≡ undue now s
 undue_by now None s h = refl
 undue_by now (Some e) s h =
     let w : Bool = waits e.act s.port.core in
@@ -72,14 +72,20 @@ pub relogged : (l : Link UnderWay) (full : Bool) (q : Pc) (filled : ℕ) (log : 
     → side l full q filled (log ++ []) ≡ side l full q filled log
 relogged l full q filled log = ap (λ v. side l full q filled v) (append-nil log)
 
--- a free link, and one with a byte under way, stay so
+-- a byte of the keyboard whose frame took no flip, and that may still be broken off, or not
+abbrev pub passing : Bool → UnderWay
+passing breaks = record { from_keyboard = true; flip = None; breakable = breaks }
+
+-- a free link, and one with a byte under way, stay so: no input waits
 free_rests : (now : ℕ) (q : Pc) (filled : ℕ) (log : List Stamped)
     → undue now (side Free false q filled log) ≡ side Free false q filled log
 free_rests now q filled log = relogged Free false q filled log
 
-busy_rests : (now : ℕ) (u : UnderWay) (q : Pc) (filled : ℕ) (log : List Stamped)
-    → undue now (side (Busy u) false q filled log) ≡ side (Busy u) false q filled log
-busy_rests now u q filled log = relogged (Busy u) false q filled log
+busy_rests : (now : ℕ) (breakable : Bool) (q : Pc) (filled : ℕ) (log : List Stamped)
+    → undue now (side (Busy (passing breakable)) false q filled log)
+    ≡ side (Busy (passing breakable)) false q filled log
+busy_rests now true q filled log = relogged (Busy (passing true)) false q filled log
+busy_rests now false q filled log = relogged (Busy (passing false)) false q filled log
 
 -- a hold with nothing put out ends after 64 cycles
 pub hold_empty : (now since : ℕ) (q : Pc) (filled : ℕ) (log : List Stamped)
@@ -90,14 +96,14 @@ hold_empty now since q filled log = relogged (if nat_le (since + 64) now then Fr
 -- a byte that is put out is read after 64 cycles
 abbrev full_turn : Pc → Bool → Turn
 full_turn q c =
-    let h : Host = record { core = core_of true q; masked = false; bios = q.bios } in
+    let h : Host = record { core = core_of true q; masked = false; bios = q.bios; flip = None } in
     if c then read_by_bios h else in_silence h
 
 abbrev full_by : ℕ → ℕ → Pc → ℕ → List Stamped → Bool → Side UnderWay
 full_by now since q filled log c =
     let t : Turn = record { host = (full_turn q c).host; items = [] ++ (full_turn q c).items } in
     let s : Side UnderWay = side (Hold since) true q filled log in
-    with_cycled now (ends_cycle t false (settled now (port_by t s.port))) s
+    with_cycled now (ends_cycle t false (settled now (broken_off is_open now (port_by t s.port)))) s
 
 -- by whether it is read
 hold_full : (now since : ℕ) (q : Pc) (filled : ℕ) (log : List Stamped)
@@ -157,11 +163,12 @@ module _ (events : List HostEvent) where
       stays s n now (λ y l u. undue_cycle events y s (h y l u) ∙ free_rests y q filled log)
 
   -- a byte under way
-  pub busy_span : (w : UnderWay) (q : Pc) (filled : ℕ) (log : List Stamped) (n now : ℕ) → IsUndue q now n
-      → quietly events n now (side (Busy w) false q filled log) ≡ side (Busy w) false q filled log
-  busy_span w q filled log n now h =
-      let s : Side UnderWay = side (Busy w) false q filled log in
-      stays s n now (λ y l u. undue_cycle events y s (h y l u) ∙ busy_rests y w q filled log)
+  pub busy_span : (breakable : Bool) (q : Pc) (filled : ℕ) (log : List Stamped) (n now : ℕ) → IsUndue q now n
+      → quietly events n now (side (Busy (passing breakable)) false q filled log)
+      ≡ side (Busy (passing breakable)) false q filled log
+  busy_span breakable q filled log n now h =
+      let s : Side UnderWay = side (Busy (passing breakable)) false q filled log in
+      stays s n now (λ y l u. undue_cycle events y s (h y l u) ∙ busy_rests y breakable q filled log)
 
   -- a hold ends no earlier
   early : (since y : ℕ) → y < since + 64 → nat_le (since + 64) y ≡ false

@@ -1,7 +1,7 @@
 -- Quiet histories, and the one log that each has.
 use Rattle.std.specs.Prelude.{◌≡◌, ◌≤◌, ◌<◌, ℕ, ◌+◌, ◌-◌, ◌*◌, ◌/◌, ◌%◌, ◌⊎◌, List, [], ◌∷◌, length, All}
 use Rattle.board_lines.specs.declared.event.HostAct.{HostAct}
-use Rattle.board_lines.specs.declared.event.HostAct.TheVariants.{Write60, Write64, Read60, Mask, Unmask, Take, Status}
+use Rattle.board_lines.specs.declared.event.HostAct.TheVariants.{Write60, Write64, Read60, Mask, Unmask, Take, Status, Flip}
 use Rattle.board_lines.specs.declared.event.HostEvent.{HostEvent}
 use Rattle.board_lines.specs.Cadence.{KeepsCadence, KeepsCadenceTo, IsLast, listed}
 use Rattle.layout_reader.specs.Layouts.{KeyLayout}
@@ -10,7 +10,8 @@ use Rattle.link_model.specs.declared.line.LogLine.{LogLine}
 use Rattle.link_model.specs.Machine.{keyboard}
 use Rattle.link_model.specs.Expected.{expected, expected_log}
 
--- the host takes words from INT 09h's buffer and reads the status; it writes to no port, reads no byte, masks nothing
+-- the host takes words from INT 09h's buffer and reads the status; it writes to no port, reads no byte, masks nothing,
+-- and no noise turns a bit round
 abbrev pub IsQuietAct : HostAct → Type 0
 IsQuietAct Take = Unit {0}
 IsQuietAct Status = Unit {0}
@@ -19,6 +20,7 @@ IsQuietAct (Write64 byte) = ⊥
 IsQuietAct Read60 = ⊥
 IsQuietAct Mask = ⊥
 IsQuietAct Unmask = ⊥
+IsQuietAct (Flip bit) = ⊥
 
 -- a stamp in the second half of a tick: behind the reads of the columns, the byte, and INT 09h's read of it
 abbrev pub IsLate : ℕ → Type 0

@@ -2,13 +2,14 @@
 //! wherever in the cadence its ticks start.
 //!
 //! A tick may start up to five cycles past its multiple of 2,048, as the run comes to it. A history is quiet where the
-//! host writes, reads and masks nothing and its stamps keep away from the starts: then its expected log is the same for
-//! each list of starts, a function of layout and history alone. This layer knows the keyboard's model and the link's,
-//! and proves laws of them; nothing of it is computed. It must not know how a run is made, nor the text of a log.
-//! Source: our own.
+//! host writes, reads and masks nothing, its stamps lie in the second halves of the ticks, and its end isn't one to
+//! five cycles behind a multiple of 2,048. Then its expected log is the same for each list of starts, a function of
+//! layout and history alone. This layer knows the keyboard's model and the link's, and proves laws of them; nothing of
+//! it is computed. It must not know how a run is made, nor the text of a log. Source: our own.
 #![tactic(auto)]
 
-ghost use Rattle.quiet_log.specs.Once.{AllInOrder, ArrivalLaw, ArrivesAsOffered, EachByteOnce};
+ghost use Rattle.quiet_log.specs.Once.{AllCounted, AllInOrder, ArrivalLaw, ArrivesAsOffered, CutIsOffered};
+ghost use Rattle.quiet_log.specs.Once.{EachByteOnce, LineInOrder, SilentInTest};
 ghost use Rattle.quiet_log.specs.Quiet.{EvenLaw, ListedLaw, QuietLaw};
 
 /// The expected log of a quiet history is the same wherever in the cadence its ticks start: the one of the starts at
@@ -21,11 +22,18 @@ pub fn quiet_histories()
 {}
 
 /// A byte passes over the link exactly once: it arrives at the controller in one cycle of the tick in which the
-/// keyboard takes it away, and in a tick without an arrival nothing is taken away, but where a command or a reset says
-/// so. Over ticks without these each byte arrives once, in its order, or still waits.
+/// keyboard takes it away, and it is the byte that was offered. In each tick, whatever its meeting, what waited arrives,
+/// is taken away by a command or a reset, or waits on in its order; in a tick without an arrival or a command nothing is
+/// taken away. Over any ticks each byte that waited or came to wait has arrived once, or was taken away once,
+/// or waits still. Over ticks that clear nothing what waits behind the reply arrives in its order, or waits still; over
+/// ticks without a command or a reset, once the test has ended, so does all that waits, and nothing comes in between.
 pub fn once_over_the_link()
     ensures arrival { ArrivalLaw }
     ensures offered { ArrivesAsOffered }
+    ensures silent { SilentInTest }
     ensures tick { EachByteOnce }
-    ensures run { AllInOrder }
+    ensures cut { CutIsOffered }
+    ensures run { AllCounted }
+    ensures line { LineInOrder }
+    ensures plain { AllInOrder }
 {}

@@ -14,11 +14,10 @@ use Rattle.joint_feed.specs.Stories.{Story, state_at, starts_tick}
 use Rattle.joint_feed.specs.declared.course.Course.{Course}
 use Rattle.joint_run.specs.Joint.{Beside, joint_board, log_of}
 use Rattle.joint_run.specs.Run.{World, step_on, joint_step}
-use Rattle.subsystem.specs.declared.account.Account.{Account}
-use Rattle.subsystem.specs.declared.progress.Progress.{Progress}
+use Rattle.subsystem.specs.declared.pace.Pace.{Pace}
 use Rattle.subsystem.specs.Account.{in_tick}
-use Rattle.subsystem.specs.Progress.{AreIn, IsStanding, IsTold, IsSoFar, IsJudged, line_so_far}
-use Rattle.subsystem.specs.Running.{GoesOnTo, start_stamp, starts_among}
+use Rattle.subsystem.specs.Progress.{AreIn, IsStanding, AreStarts, IsSoFar, IsJudged, line_so_far, lines_to}
+use Rattle.subsystem.specs.Running.{GoesOnTo, logged, start_stamp, starts_among}
 use Rattle.subsystem.proofs.Lines.{lines_now, one_longer}
 use Rattle.subsystem.proofs.Said.{Said, said_then, step_log}
 use Rattle.subsystem.proofs.Timekeeping.{one_grows}
@@ -31,10 +30,10 @@ never_stuck s k time none =
     absurd (cc (none, there))
 
 -- the run goes on at a state that was judged so
-pub goes_on_here : (s : Story) (p : Progress) (h : IsJudged s false p) → GoesOnTo s (suc p.course.joint.steps)
+pub goes_on_here : (s : Story) (p : Pace) (h : IsJudged s false p) → GoesOnTo s (suc p.course.joint.steps)
 goes_on_here s p h = (h.stands.on, h.stands.course.world, here s p.course h.stands.course, h.over_so)
 
-module _ (s : Story) (p : Progress) (new : Course) (h : IsJudged s false p) (on : IsOnCourse s new) (steps_more : new.joint.steps ≡ suc p.course.joint.steps)
+module _ (s : Story) (p : Pace) (new : Course) (h : IsJudged s false p) (on : IsOnCourse s new) (steps_more : new.joint.steps ≡ suc p.course.joint.steps)
     (tells : IsSaid s p.course.joint.steps new.seen.items.items) (time : KeepsTime s.bytes s.edges s.events) where
   abbrev pub old : World Beside
   old = h.stands.course.world
@@ -101,54 +100,53 @@ module _ (s : Story) (p : Progress) (new : Course) (h : IsJudged s false p) (on 
                   ap (λ (v : List ℕ). listed v j) put ∙ ap (listed (xs ++ (old.cycle - 4096) ∷ [])) e ∙ get_or-append_seam xs (old.cycle - 4096) [] 0 in
                   omega (arith, last, in_time)
               | false ↦ λ f. let m : j < length xs = grind (arith, nat_tests, f) in
-                  let same : listed (starts_among s (suc p.course.joint.steps)) j ≡ listed p.account.starts.items j = ap (λ (v : List ℕ). listed v j) (sym h.told.starts) in
+                  let same : listed (starts_among s (suc p.course.joint.steps)) j ≡ listed p.starts.items j = ap (λ (v : List ℕ). listed v j) (sym h.told.among) in
                   let earlier = h.told.before j m in
                   omega (arith, same, earlier)
             ] refl
         | false ↦ λ g.
             let put : starts_among s (suc p.course.joint.steps) ≡ xs = among ∙ ap (λ b. xs ++ (if b then (old.cycle - 4096) ∷ [] else [])) g ∙ append-nil xs in
             let m : j < length xs = subst (λ (v : List ℕ). j < length v) put below in
-            let same : listed (starts_among s (suc p.course.joint.steps)) j ≡ listed p.account.starts.items j = ap (λ (v : List ℕ). listed v j) (sym h.told.starts) in
+            let same : listed (starts_among s (suc p.course.joint.steps)) j ≡ listed p.starts.items j = ap (λ (v : List ℕ). listed v j) (sym h.told.among) in
             let earlier = h.told.before j m in
             omega (arith, same, earlier)
       ] refl
 
-  pub told_again : (account : Account) → account.starts ≡ p.account.starts
-      → account.log.items ≡ p.account.log.items ++ map (in_tick (length p.account.starts.items - 1)) items_now → IsTold s new.joint.steps new.joint.steps account next
-  told_again account starts log =
-      let items : account.starts.items ≡ p.account.starts.items = ap (λ v. v.items) starts in
+  pub told_again : AreStarts s new.joint.steps new.joint.steps p.starts.items next
+  told_again =
       let c = grown in
       record {
-        starts = items ∙ h.told.starts ∙ ap (starts_among s) (sym steps_more);
-        few = let a = h.told.few in let b : length account.starts.items ≡ length p.account.starts.items = ap length items in let d = steps_more in omega (arith, a, b, d);
-        begun = λ j below.
-            let l : j < length p.account.starts.items = subst (λ (v : List ℕ). j < length v) items below in
-            let a = h.told.begun j l in
-            let b : listed account.starts.items j ≡ listed p.account.starts.items j = ap (λ (v : List ℕ). listed v j) items in
-            omega (arith, a, b, c);
+        among = h.told.among ∙ ap (starts_among s) (sym steps_more);
+        few = let a = h.told.few in let d = steps_more in omega (arith, a, d);
+        begun = λ j below. let a = h.told.begun j below in omega (arith, a, c);
         before = λ j below.
             let l : j < length (starts_among s (suc p.course.joint.steps)) = subst (λ (k : ℕ). j < length (starts_among s k)) steps_more below in
             let a = all_before j l in
-            let b : listed account.starts.items j ≡ listed (starts_among s (suc p.course.joint.steps)) j = ap (λ (v : List ℕ). listed v j) (items ∙ h.told.starts) in
+            let b : listed p.starts.items j ≡ listed (starts_among s (suc p.course.joint.steps)) j = ap (λ (v : List ℕ). listed v j) h.told.among in
             omega (arith, a, b);
-        log =
-            let now : map (in_tick (length p.account.starts.items - 1)) items_now ≡ map (line_so_far p.account.starts.items) items_now =
-            lines_now p.account.starts.items old.cycle next.cycle items_now h.told.begun (subst (λ (v : List Stamped). AreIn old.cycle next.cycle v) new_items said.each) in
-            log ∙ ap (λ v. v ++ map (in_tick (length p.account.starts.items - 1)) items_now) h.told.log
-            ∙ ap (λ v. map (line_so_far p.account.starts.items) (log_of old.board) ++ v) now
-            ∙ sym (map-append (line_so_far p.account.starts.items) (log_of old.board) items_now)
-            ∙ ap (map (line_so_far p.account.starts.items)) (sym log_more)
-            ∙ ap (λ (v : List ℕ). map (line_so_far v) (log_of next.board)) (sym items);
       }
 
-  pub so_far_again : (account : Account) → account.starts ≡ p.account.starts
-      → account.log.items ≡ p.account.log.items ++ map (in_tick (length p.account.starts.items - 1)) items_now
-      → IsSoFar s (record { course = new; account = account })
+  pub so_far_again : (q : Pace) → q.course ≡ new → q.starts ≡ p.starts → IsSoFar s q
   unfolding stands_again
-  so_far_again account starts log = record { stands = stands_again; told = told_again account starts log }
+  so_far_again q course starts =
+      let there : IsSoFar s (record { course = new; starts = p.starts }) = record { stands = stands_again; told = told_again } in
+      subst (λ (v : Course). IsSoFar s (record { course = v; starts = q.starts })) (sym course)
+      (subst (λ v. IsSoFar s (record { course = new; starts = v })) (sym starts) there)
+
+  -- what the step says stands behind what was said, in the tick of the last start
+  pub said_more : lines_to s p.starts.items (suc p.course.joint.steps) ≡ lines_to s p.starts.items p.course.joint.steps ++ map (in_tick (length p.starts.items - 1)) items_now
+  said_more =
+      let now : map (in_tick (length p.starts.items - 1)) items_now ≡ map (line_so_far p.starts.items) items_now =
+      lines_now p.starts.items old.cycle next.cycle items_now h.told.begun (subst (λ (v : List Stamped). AreIn old.cycle next.cycle v) new_items said.each) in
+      let line = map (line_so_far p.starts.items) in
+      ap (λ (o : Option (World Beside)). line (logged o)) here_next
+      ∙ ap line log_more
+      ∙ map-append (line_so_far p.starts.items) (log_of old.board) items_now
+      ∙ ap (λ v. line (log_of old.board) ++ v) (sym now)
+      ∙ ap (λ (o : Option (World Beside)). line (logged o) ++ map (in_tick (length p.starts.items - 1)) items_now) (sym here_now)
 
 -- there are few starts
-pub few_starts : (s : Story) (p : Progress) → IsJudged s false p → p.course.joint.cycle < 2 ^ 31 → length p.account.starts.items < 2 ^ 32
+pub few_starts : (s : Story) (p : Pace) → IsJudged s false p → p.course.joint.cycle < 2 ^ 31 → length p.starts.items < 2 ^ 32
 few_starts s p h soon =
     let a = h.told.few in
     let b = h.stands.course.few in

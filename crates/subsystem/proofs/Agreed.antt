@@ -15,8 +15,7 @@ use Rattle.agreement.proofs.Upto.{whole_up_to}
 use Rattle.agreement.specs.Agreement.{Agrees}
 use Rattle.link_model.specs.Expected.{Whole, expected}
 use Rattle.link_model.specs.Machine.{Machine}
-use Rattle.subsystem.specs.declared.outcome.Run.{Run}
-use Rattle.subsystem.specs.Running.{IsRun, lines_of, start_stamp, starts_among}
+use Rattle.subsystem.specs.Running.{IsOutcome, lines_of, start_stamp, starts_among, Outcome}
 use Rattle.subsystem.proofs.Lines.{one_longer}
 use Rattle.subsystem.proofs.Timekeeping.{numbered}
 
@@ -29,40 +28,40 @@ one_stamp d bytes from n a b p q =
     omega (arith, cycle)
 
 -- the run's starts are those at the states before its last one, and this one's
-pub run_starts : (s : Story) (run : Run) (h : IsRun s run) → run.starts.items ≡ starts_among s run.steps ++ (h.world.cycle - 4096) ∷ []
+pub run_starts : (s : Story) (run : Outcome) (h : IsOutcome s run) → run.starts ≡ starts_among s run.steps ++ (h.world.cycle - 4096) ∷ []
 run_starts s run h =
     h.starts ∙ ap (λ (o : Option (World Beside)). starts_among s run.steps ++ start_stamp s o) h.reached
     ∙ ap (λ b. starts_among s run.steps ++ (if b then (h.world.cycle - 4096) ∷ [] else [])) h.at
 
-pub run_last : (s : Story) (run : Run) → IsRun s run → length run.starts.items ≡ suc (length (starts_among s run.steps))
+pub run_last : (s : Story) (run : Outcome) → IsOutcome s run → length run.starts ≡ suc (length (starts_among s run.steps))
 run_last s run h = ap length (run_starts s run h) ∙ one_longer (starts_among s run.steps) (h.world.cycle - 4096)
 
-module _ (s : Story) (t : KeepsTime s.bytes s.edges s.events) (run : Run) (h : IsRun s run) where
+module _ (s : Story) (t : KeepsTime s.bytes s.edges s.events) (run : Outcome) (h : IsOutcome s run) where
   -- the run's last state is the tick start of the last number
-  ends_at : IsStart (joint_board s.edges s.events) TICK s.bytes joint_start (length run.starts.items - 1) (h.world.cycle - 4096)
+  ends_at : IsStart (joint_board s.edges s.events) TICK s.bytes joint_start (length run.starts - 1) (h.world.cycle - 4096)
   ends_at =
       let count = (numbered s t run.steps).0 in
       let long = run_last s run h in
-      let last : length (starts_among s run.steps) ≡ length run.starts.items - 1 = omega (arith, long) in
+      let last : length (starts_among s run.steps) ≡ length run.starts - 1 = omega (arith, long) in
       let early = t.none_early run.steps h.world h.reached h.at in
       record { steps = run.steps; state = h.world; reached = h.reached; at = h.at; number = sym count ∙ last; cycle = omega (arith, early) }
 
   -- its starts are those of the joint run
-  starts_at : (j : ℕ) → j ≤ length run.starts.items - 1 → IsStart (joint_board s.edges s.events) TICK s.bytes joint_start j (listed run.starts.items j)
+  starts_at : (j : ℕ) → j ≤ length run.starts - 1 → IsStart (joint_board s.edges s.events) TICK s.bytes joint_start j (listed run.starts j)
   starts_at j l =
       let long = run_last s run h in
-      let e : length run.starts.items ≡ length (starts_among s (suc run.steps)) = ap length h.starts in
+      let e : length run.starts ≡ length (starts_among s (suc run.steps)) = ap length h.starts in
       let below : j < length (starts_among s (suc run.steps)) = omega (arith, l, long, e) in
       subst (λ (v : List ℕ). IsStart (joint_board s.edges s.events) TICK s.bytes joint_start j (listed v j)) (sym h.starts) ((numbered s t (suc run.steps)).1 j below)
 
 -- the log is that of the model at the run's own starts, for any keyboard with which the joint run agrees
 pub log_as_expected : {S : Type 0} (kb : Machine S) (s : Story) → KeepsTime s.bytes s.edges s.events → Agrees s.bytes kb s.edges s.events
-    → (run : Run) → IsRun s run
-    → run.log.items ≡ expected kb s.edges s.events (listed run.starts.items) (length run.starts.items - 1)
+    → (run : Outcome) → IsOutcome s run
+    → run.log ≡ expected kb s.edges s.events (listed run.starts) (length run.starts - 1)
 unfolding ends_at
 log_as_expected {S = S} kb s t agrees run h =
-    let n : ℕ = length run.starts.items - 1 in
-    let same : (j : ℕ) → j ≤ n → agrees.starts j ≡ listed run.starts.items j =
-    λ j l. one_stamp (joint_board s.edges s.events) s.bytes joint_start j (agrees.starts j) (listed run.starts.items j) (agrees.each j) (starts_at s t run h j l) in
-    let whole = whole_up_to kb s.edges s.events agrees.starts (listed run.starts.items) n same in
-    h.log ∙ ap (lines_of run.starts.items) (agrees.log n (h.world.cycle - 4096) (ends_at s t run h) ∙ ap (λ (w : Whole S). w.side.log) whole)
+    let n : ℕ = length run.starts - 1 in
+    let same : (j : ℕ) → j ≤ n → agrees.starts j ≡ listed run.starts j =
+    λ j l. one_stamp (joint_board s.edges s.events) s.bytes joint_start j (agrees.starts j) (listed run.starts j) (agrees.each j) (starts_at s t run h j l) in
+    let whole = whole_up_to kb s.edges s.events agrees.starts (listed run.starts) n same in
+    h.log ∙ ap (lines_of run.starts) (agrees.log n (h.world.cycle - 4096) (ends_at s t run h) ∙ ap (λ (w : Whole S). w.side.log) whole)

@@ -7,9 +7,8 @@ use Rattle.joint_feed.proofs.Going.{same_state}
 use Rattle.joint_feed.specs.Stories.{Story, state_at}
 use Rattle.joint_run.specs.Joint.{Beside, log_of}
 use Rattle.joint_run.specs.Run.{World}
-use Rattle.subsystem.specs.declared.outcome.Run.{Run}
 use Rattle.subsystem.specs.Agreement.{AreAlike}
-use Rattle.subsystem.specs.Running.{IsRun, lines_of, start_stamp, starts_among}
+use Rattle.subsystem.specs.Running.{IsOutcome, lines_of, start_stamp, starts_among, Outcome}
 use Rattle.subsystem.proofs.Agreed.{run_starts, run_last}
 
 -- later states leave the starts as they are
@@ -31,29 +30,29 @@ starts_stay s k (suc m) =
     (omega (arith, long, less), λ j l. get_or_append_left xs more 0 j (omega (arith, l, less)) ∙ before.1 j l)
 
 -- a run goes on at each state at which another run of the same ends
-none_shorter : (s : Story) (a b : Run) → IsRun s a → IsRun s b → a.steps < b.steps → ⊥
+none_shorter : (s : Story) (a b : Outcome) → IsOutcome s a → IsOutcome s b → a.steps < b.steps → ⊥
 none_shorter s a b p q l =
     let up : (b.steps - suc a.steps) + suc a.steps ≡ b.steps = omega (arith, l) in
     let stay = starts_stay s (suc a.steps) (b.steps - suc a.steps) in
     let xs = starts_among s b.steps in
     let long_a = run_last s a p in
     let long_b = run_last s b q in
-    let same_a : length a.starts.items ≡ length (starts_among s (suc a.steps)) = ap length p.starts in
+    let same_a : length a.starts ≡ length (starts_among s (suc a.steps)) = ap length p.starts in
     let within : length (starts_among s (suc a.steps)) ≤ length xs =
     subst (λ (i : ℕ). length (starts_among s (suc a.steps)) ≤ length (starts_among s i)) up stay.0 in
-    let n : ℕ = length a.starts.items - 1 in
+    let n : ℕ = length a.starts - 1 in
     let below : n < length (starts_among s (suc a.steps)) = omega (arith, long_a, same_a) in
-    let earlier : n < length b.starts.items - 1 = omega (arith, below, within, long_b) in
+    let earlier : n < length b.starts - 1 = omega (arith, below, within, long_b) in
     let here : listed (starts_among s b.steps) n ≡ listed (starts_among s (suc a.steps)) n =
     ap (λ (i : ℕ). listed (starts_among s i) n) (sym up) ∙ stay.1 n below in
-    let in_b : listed b.starts.items n ≡ listed xs n =
+    let in_b : listed b.starts n ≡ listed xs n =
     ap (λ (v : List ℕ). listed v n) (run_starts s b q) ∙ get_or_append_left xs ((q.world.cycle - 4096) ∷ []) 0 n (omega (arith, below, within)) in
-    let in_a : listed a.starts.items n ≡ listed (starts_among s (suc a.steps)) n = ap (λ (v : List ℕ). listed v n) p.starts in
-    let reaches : s.stop ≤ listed a.starts.items n = p.last.reaches in
-    let before : listed b.starts.items n < s.stop = q.last.before n earlier in
+    let in_a : listed a.starts n ≡ listed (starts_among s (suc a.steps)) n = ap (λ (v : List ℕ). listed v n) p.starts in
+    let reaches : s.stop ≤ listed a.starts n = p.last.reaches in
+    let before : listed b.starts n < s.stop = q.last.before n earlier in
     absurd (omega (arith, here, in_b, in_a, reaches, before))
 
-same_steps : (s : Story) (a b : Run) → IsRun s a → IsRun s b → a.steps ≡ b.steps
+same_steps : (s : Story) (a b : Outcome) → IsOutcome s a → IsOutcome s b → a.steps ≡ b.steps
 same_steps s a b p q =
     elim (ltb a.steps b.steps) as (λ c. ltb a.steps b.steps ≡ c → a.steps ≡ b.steps) [
       | true ↦ λ e. absurd (none_shorter s a b p q (grind (arith, nat_tests, e)))
@@ -63,14 +62,14 @@ same_steps s a b p q =
       ] refl
     ] refl
 
-pub runs_alike : (s : Story) (a b : Run) → IsRun s a → IsRun s b → AreAlike a b
+pub runs_alike : (s : Story) (a b : Outcome) → IsOutcome s a → IsOutcome s b → AreAlike a b
 runs_alike s a b p q =
     let steps = same_steps s a b p q in
     let world : p.world ≡ q.world = same_state (sym p.reached ∙ ap (state_at s) steps ∙ q.reached) in
-    let starts : a.starts.items ≡ b.starts.items = p.starts ∙ ap (λ (k : ℕ). starts_among s (suc k)) steps ∙ sym q.starts in
+    let starts : a.starts ≡ b.starts = p.starts ∙ ap (λ (k : ℕ). starts_among s (suc k)) steps ∙ sym q.starts in
     record {
       log = p.log ∙ ap (λ (v : List ℕ). lines_of v (log_of p.world.board)) starts
-          ∙ ap (λ (w : World Beside). lines_of b.starts.items (log_of w.board)) world ∙ sym q.log;
+          ∙ ap (λ (w : World Beside). lines_of b.starts (log_of w.board)) world ∙ sym q.log;
       starts = starts;
       end = p.processor ∙ ap (λ (w : World Beside). w.cpu) world ∙ sym q.processor;
       steps = steps;

@@ -2,10 +2,13 @@ pub mod Advancing
 pub mod Agreed
 pub mod Alike
 pub mod Beginning
-pub mod Ending
+pub mod Ends
 pub mod Judging
 pub mod Lines
 pub mod Looking
 pub mod Said
 pub mod Ticks
 pub mod Timekeeping
+pub mod Looping
+pub mod Takes
+pub mod Room

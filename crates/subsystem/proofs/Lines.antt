@@ -1,5 +1,5 @@
 -- The lines of the log, as starts and items come.
-use Rattle.std.proofs.Common.{◌≡◌, ◌≤◌, ◌<◌, ℕ, suc, ◌+◌, ◌-◌, List, [], ◌∷◌, ◌++◌, length, map, refl, ap, sym, ◌∙◌, arith, add-one}
+use Rattle.std.proofs.Common.{◌≡◌, ◌≤◌, ◌<◌, ℕ, suc, ◌+◌, ◌-◌, List, [], ◌∷◌, ◌++◌, length, map, drop, get_or, drop-cons, refl, ap, sym, ◌∙◌, arith, add-one}
 use Rattle.std.proofs.lemmas.List.{length-append}
 use Rattle.board_lines.specs.Cadence.{begun, listed}
 use Rattle.host_turn.specs.declared.stamped.Stamped.{Stamped}
@@ -47,3 +47,10 @@ line_whole starts s l =
 pub lines_whole : (starts : List ℕ) (log : List Stamped) → 0 < length starts → map (line_so_far starts) log ≡ lines_of starts log
 lines_whole starts [] l = refl
 lines_whole starts (s ∷ log) l = ap (λ v. v ∷ map (line_so_far starts) log) (line_whole starts s l) ∙ ap (λ v. line_of starts s ∷ v) (lines_whole starts log l)
+
+-- the lines of the items from one on
+pub lines_left : (tick : ℕ) (items : List Stamped) (i : ℕ) (d : Stamped) → i < length items
+    → map (in_tick tick) (drop i items) ≡ in_tick tick (get_or items i d) ∷ map (in_tick tick) (drop (i + 1) items)
+lines_left tick items i d within =
+    let e : suc i ≡ i + 1 = omega arith in
+    ap (map (in_tick tick)) (drop-cons items i d within ∙ ap (λ k. get_or items i d ∷ drop k items) e)

@@ -33,15 +33,18 @@ pub looks_more : (s : Story) (k next : ℕ) (first before after : List Watch) �
 looks_more s k next first before after e so_far is =
     is ∙ ap (looked_at (suc k) (state_at s (suc k))) so_far ∙ sym (ap (λ (n : ℕ). looks s n first) e)
 
--- what was said of one image's run and of its steps is so of the same image by another name
-pub looked_whole : (h : KeyHistory) (before after : List Watch) (bytes image : List ℕ) (steps k : ℕ) → bytes ≡ image → k ≡ steps
-    → after ≡ looks (story bytes h) steps before → after ≡ looks (story image h) k before
-looked_whole h before after bytes image steps k same e so =
-    so ∙ ap (λ (b : List ℕ). looks (story b h) steps before) same ∙ ap (λ (n : ℕ). looks (story image h) n before) (sym e)
+-- a look by the same history under another name
+pub looked_alike : (bytes : List ℕ) (h k : KeyHistory) (step : ℕ) (before after : List Watch) → h ≡ k
+    → after ≡ looked_at step (state_at (story bytes h) step) before → after ≡ looked_at step (state_at (story bytes k) step) before
+looked_alike bytes h k step before after same is = is ∙ ap (λ v. looked_at step (state_at (story bytes v) step) before) same
 
-pub looked_some : (h : KeyHistory) (before after : List Watch) (bytes image : List ℕ) → bytes ≡ image
-    → HaveLookedAtSome (story bytes h) before after → HaveLookedAtSome (story image h) before after
-looked_some h before after bytes image same so = subst (λ (b : List ℕ). HaveLookedAtSome (story b h) before after) same so
+-- what was said of a run and of its steps is so of the same run by another name
+pub looked_whole : (s t : Story) (steps k : ℕ) (before after : List Watch) → s ≡ t → k ≡ steps → after ≡ looks s steps before → after ≡ looks t k before
+looked_whole s t steps k before after same e so =
+    so ∙ ap (λ (v : Story). looks v steps before) same ∙ ap (λ (n : ℕ). looks t n before) (sym e)
+
+pub looked_some : (s t : Story) (before after : List Watch) → s ≡ t → HaveLookedAtSome s before after → HaveLookedAtSome t before after
+looked_some s t before after same so = subst (λ (v : Story). HaveLookedAtSome v before after) same so
 
 -- what is so holds after an error too
 pub on_err : {A E P : Type 0} (result : Result A E) → P → OnErr result P

@@ -6,6 +6,7 @@ use Rattle.std.proofs.lemmas.List.{append-nil, append_assoc}
 use Rattle.board_lines.specs.declared.event.Edge.{Edge}
 use Rattle.board_lines.specs.declared.event.HostEvent.{HostEvent}
 use Rattle.board_lines.specs.declared.lines.Lines.{Lines}
+use Rattle.ctl_wire.specs.Wire.{is_breakable}
 use Rattle.ctl_wire.specs.declared.Wire.{Wire}
 use Rattle.host_turn.specs.declared.stamped.Stamped.{Stamped}
 use Rattle.host_turn.specs.Cycle.{Cycled, cycled}
@@ -61,7 +62,7 @@ unfolding joint_cycle board_cycle goes_on
 cycle_log events p2 now s =
     let lit : Pc = record s.pc { side = says_lights now s.shown (lights_of p2) s.pc.side } in
     let l : Pc = looked now (wires (latch_of p2) lit) lit in
-    let c : Cycled Wire = cycled now (slice_get events l.side.done) (desk_of l.side) in
+    let c : Cycled Wire = cycled is_breakable now (slice_get events l.side.done) (desk_of l.side) in
     let from_look : l.side.log ≡ s.pc.side.log ++ lights_said now s.shown (lights_of p2) = look_log now (wires (latch_of p2) lit) lit in
     record {
       more = lights_said now s.shown (lights_of p2) ++ stamped now c.items;

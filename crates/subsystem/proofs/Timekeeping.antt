@@ -14,8 +14,7 @@ use Rattle.mcs48_core.specs.Step.{Stepped, stepped}
 use Rattle.joint_run.specs.Joint.{Beside, joint_board, joint_start}
 use Rattle.joint_run.specs.Run.{World, after_step, joint_step, seen, step_on}
 use Rattle.joint_run.specs.Starts.{start_in, starts_before, IsStart, IsEnd}
-use Rattle.subsystem.specs.declared.outcome.Run.{Run}
-use Rattle.subsystem.specs.Running.{GoesOnTo, IsRun, is_over, start_stamp, starts_among}
+use Rattle.subsystem.specs.Running.{GoesOnTo, IsOutcome, is_over, start_stamp, starts_among, Outcome}
 use Rattle.subsystem.proofs.Lines.{one_longer}
 
 -- the cycle never falls
@@ -140,16 +139,16 @@ module _ (s : Story) (t : KeepsTime s.bytes s.edges s.events) where
             )
       ] refl
 
-  pub keeps_cadence : (run : Run) → IsRun s run → KeepsCadenceTo (listed run.starts.items) (length run.starts.items - 1)
+  pub keeps_cadence : (run : Outcome) → IsOutcome s run → KeepsCadenceTo (listed run.starts) (length run.starts - 1)
   keeps_cadence run h n l =
       let put : starts_among s (suc run.steps) ≡ starts_among s run.steps ++ (h.world.cycle - 4096) ∷ [] =
       ap (λ (o : Option (World Beside)). starts_among s run.steps ++ start_stamp s o) h.reached ∙ ap (λ b. starts_among s run.steps ++ (if b then (h.world.cycle - 4096) ∷ [] else [])) h.at in
-      let long : length run.starts.items ≡ suc (length (starts_among s run.steps)) = ap length (h.starts ∙ put) ∙ one_longer (starts_among s run.steps) (h.world.cycle - 4096) in
-      let below : n < length (starts_among s (suc run.steps)) = let e : length run.starts.items ≡ length (starts_among s (suc run.steps)) = ap length h.starts in omega (arith, l, long, e) in
+      let long : length run.starts ≡ suc (length (starts_among s run.steps)) = ap length (h.starts ∙ put) ∙ one_longer (starts_among s run.steps) (h.world.cycle - 4096) in
+      let below : n < length (starts_among s (suc run.steps)) = let e : length run.starts ≡ length (starts_among s (suc run.steps)) = ap length h.starts in omega (arith, l, long, e) in
       subst (λ (v : List ℕ). IsNear n (listed v n)) (sym h.starts) (t.near n (listed (starts_among s (suc run.steps)) n) ((numbered (suc run.steps)).1 n below))
 
   -- at the run's end an interrupt is in service, with register bank 1
-  pub serves_at_end : (run : Run) → IsRun s run → (run.end.svc ≡ true) × (run.end.rb ≡ true)
+  pub serves_at_end : (run : Outcome) → IsOutcome s run → (run.end.svc ≡ true) × (run.end.rb ≡ true)
   serves_at_end run h =
       let d = joint_board s.edges s.events in
       let early = t.none_early run.steps h.world h.reached h.at in

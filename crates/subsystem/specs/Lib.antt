@@ -4,3 +4,6 @@ pub mod Looking
 pub mod Progress
 pub mod Running
 pub mod Texts
+pub mod Counts
+pub mod Putting
+pub mod Ending

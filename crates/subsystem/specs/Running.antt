@@ -7,6 +7,7 @@ use Rattle.host_turn.specs.declared.stamped.Stamped.{Stamped}
 use Rattle.joint_feed.specs.Stories.{Story, state_at, starts_tick}
 use Rattle.joint_run.specs.Joint.{Beside, log_of}
 use Rattle.joint_run.specs.Run.{World}
+use Rattle.mcs48_core.specs.Cpu.{Cpu}
 use Rattle.link_model.specs.declared.line.LogLine.{LogLine}
 use Rattle.subsystem.specs.declared.outcome.Run.{Run}
 
@@ -36,15 +37,45 @@ line_of starts s = record { tick = tick_of (listed starts) (length starts - 1) s
 abbrev pub lines_of : List ℕ → List Stamped → List LogLine
 lines_of starts log = map (line_of starts) log
 
+-- what was said up to the state behind the first k steps; nothing where there is no such state
+abbrev pub logged : Option (World Beside) → List Stamped
+logged None = []
+logged (Some w) = log_of w.board
+
+abbrev pub log_at : Story → ℕ → List Stamped
+log_at s k = logged (state_at s k)
+
+-- what a run comes to: the log, the stamps of the tick starts, the processor at the last of them, and how many steps and
+-- cycles were made
+pub record Outcome : Type 0 where
+  pub log : List LogLine
+  pub starts : List ℕ
+  pub end : Cpu
+  pub steps : ℕ
+  pub cycles : ℕ
+
 -- the run ends before the step that begins at the first tick start at or after the end stamp. `starts` are the stamps
 -- of all tick starts up to it, `end` is the processor there, `steps` and `cycles` are counted from power-on, and the
 -- log is what was said, each item with its tick
-pub record IsRun (s : Story) (run : Run) : Type 0 where
+pub record IsOutcome (s : Story) (run : Outcome) : Type 0 where
   pub world : World Beside
   pub reached : state_at s run.steps ≡ Some world
   pub at : starts_tick s world ≡ true
-  pub starts : run.starts.items ≡ starts_among s (suc run.steps)
-  pub last : IsLast (listed run.starts.items) s.stop (length run.starts.items - 1)
+  pub starts : run.starts ≡ starts_among s (suc run.steps)
+  pub last : IsLast (listed run.starts) s.stop (length run.starts - 1)
   pub processor : run.end ≡ world.cpu
   pub cycles : run.cycles ≡ world.cycle
-  pub log : run.log.items ≡ lines_of run.starts.items (log_of world.board)
+  pub log : run.log ≡ lines_of run.starts (log_of world.board)
+
+-- the same of a run whose log is kept as a list
+abbrev pub outcome : Run → Outcome
+outcome run = record {
+  log = run.log.items;
+  starts = run.starts.items;
+  end = run.end;
+  steps = run.steps;
+  cycles = run.cycles;
+}
+
+abbrev pub IsRun : Story → Run → Type 0
+IsRun s run = IsOutcome s (outcome run)

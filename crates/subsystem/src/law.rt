@@ -2,16 +2,16 @@
 
 ghost use Rattle.fw_compile.specs.Image.{image_of};
 ghost use Rattle.fw_logic.specs.JointRun.{KeepsTime};
-ghost use Rattle.key_file.specs.Accepted.{IsAccepted};
+ghost use Rattle.key_file.specs.Accepted.{IsAcceptedFor};
+ghost use Rattle.key_file.specs.Histories.{KeyHistory};
 ghost use Rattle.layout_reader.specs.Layouts.{IsKeyLayout};
 ghost use Rattle.subsystem.specs.Agreement.{RunsAreAlike, RunsAsExpected};
 
 use agreement::run_and_model_agree;
-use key_file::History;
 use layout_reader::Layout;
 use quiet_log::quiet_histories;
 
-/// Every run of a layout's compiled image under an accepted history gives the log that the model expects where its ticks
+/// Every run of a layout's compiled image under a history that is accepted for it gives the log that the model expects where its ticks
 /// start when the run's do, and these starts keep the cadence; for a quiet history it is a function of layout and history
 /// alone. Nothing is done when it is called; the law is its contract.
 pub fn runs_are_expected()
@@ -27,14 +27,12 @@ pub fn runs_are_alike()
     ensures alike { RunsAreAlike }
 {}
 
-/// The image of a layout keeps its time under a history. Each layout and each history is one of which the laws speak.
-pub(crate) fn keeps_time(layout: &Layout, history: &History)
+/// The image of a layout keeps its time under each history that is accepted for it. Each layout is one of which the laws speak.
+pub(crate) fn keeps_time(layout: &Layout)
     ensures layout { IsKeyLayout layout.now }
-    ensures history { IsAccepted history.now }
-    ensures time { KeepsTime (image_of layout.now) history.now.edges history.now.host }
+    ensures time { (history : KeyHistory) → IsAcceptedFor layout.now history → KeepsTime (image_of layout.now) history.edges history.host }
 {
     let _ = layout.rate();
     let _ = layout.entries();
-    let _ = history.end();
     run_and_model_agree();
 }

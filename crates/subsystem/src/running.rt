@@ -1,73 +1,85 @@
 //! The run.
 
-ghost use Rattle.std.specs.Prelude.{◌≡◌, ◌-◌, true, length, map, IfOk, OnErr, OnOk};
+ghost use Rattle.std.specs.Prelude.{◌≡◌, ◌-◌, [], true, length, map, IfOk, OnErr, OnOk};
 ghost use Rattle.board_lines.specs.Cadence.{KeepsCadenceTo, listed};
 ghost use Rattle.fw_compile.specs.Image.{image_of};
 ghost use Rattle.fw_debug.specs.Looks.{looks};
 ghost use Rattle.fw_logic.specs.JointRun.{KeepsTime};
+ghost use Rattle.joint_feed.specs.Ahead.{HasTaken};
 ghost use Rattle.joint_feed.specs.Stories.{story};
+ghost use Rattle.key_file.specs.Accepted.{IsAccepted, IsAcceptedFor};
+ghost use Rattle.key_file.specs.Feeds.{Fed};
 ghost use Rattle.link_model.specs.Expected.{expected_log};
 ghost use Rattle.quiet_log.specs.Quiet.{IsQuiet, quiet_log};
 ghost use Rattle.subsystem.specs.Looking.{HaveLookedAtSome};
-ghost use Rattle.subsystem.specs.Progress.{IsSoFar, IsJudged};
+ghost use Rattle.subsystem.specs.Progress.{IsSoFar, IsJudged, lines_to};
 ghost use Rattle.subsystem.specs.Running.{IsRun};
 
+use crate::account::push_lines;
 use crate::law::{keeps_time, runs_are_expected};
 use crate::outcome::{Run, copied};
-use crate::progress::Progress;
+use crate::pace::Pace;
 use fw_compile::compile;
 use fw_debug::Probe;
 use int09::Bios;
-use key_file::History;
+use key_file::{Feed, History, ListFeed};
 use layout_reader::Layout;
+use link_model::LogLine;
 use mcs48_isa::Image;
 use std::alloc::{AllocError, Global};
 
-/// Goes on from power-on to the run's end.
-fn run_on(
-    progress: &mut Progress,
+/// Goes on from power-on to the run's end, and keeps the log.
+fn run_on<F: Feed>(
+    pace: &mut Pace,
+    log: &mut Vec<LogLine>,
     image: &Image,
-    history: &History,
+    feed: &mut F,
     probes: &mut Vec<Box<dyn Probe>>,
 ) -> Result<(), AllocError>
-    requires so_far { IsSoFar (story image.now.bytes history.now) progress.old }
-    requires first { progress.old.course.joint.steps ≡ 0 }
-    requires time { KeepsTime image.now.bytes history.now.edges history.now.host }
-    ensures judged { OnOk result (IsJudged (story image.now.bytes history.now) true progress.new) }
-    ensures looked { let run = story image.now.bytes history.now in
+    requires accepted { IsAccepted (F.told feed.old).history }
+    requires so_far { IsSoFar (story image.now.bytes (F.told feed.old).history) pace.old }
+    requires first { pace.old.course.joint.steps ≡ 0 }
+    requires silent { log.old.items ≡ [] }
+    requires time { let h = (F.told feed.old).history in KeepsTime image.now.bytes h.edges h.host }
+    requires taken { HasTaken (F.told feed.old) pace.old.course.ahead }
+    ensures judged { OnOk result (IsJudged (story image.now.bytes (F.told feed.old).history) true pace.new) }
+    ensures log { let run = story image.now.bytes (F.told feed.old).history in
+        OnOk result (log.new.items ≡ lines_to run pace.new.starts.items pace.new.course.joint.steps) }
+    ensures looked { let run = story image.now.bytes (F.told feed.old).history in
         let before = map (λ b. watch b) probes.old.items in
-        OnOk result (map (λ b. watch b) probes.new.items ≡ looks run progress.new.course.joint.steps before) }
-    ensures looked_so_far { let run = story image.now.bytes history.now in
+        OnOk result (map (λ b. watch b) probes.new.items ≡ looks run pace.new.course.joint.steps before) }
+    ensures looked_so_far { let run = story image.now.bytes (F.told feed.old).history in
         let before = map (λ b. watch b) probes.old.items in
         OnErr result (HaveLookedAtSome run before (map (λ b. watch b) probes.new.items)) }
 {
-    while !progress.judge(image, history)? {
-        progress.advance(image, history, probes)?;
+    'steps: while !pace.judge(image, feed)? {
+        pace.advance(image, feed, probes);
+        push_lines(log, pace.tick(), pace.course.seen.items.as_slice())?;
     }
     Ok(())
 }
 
 /// What a run that is over comes to.
-fn outcome_of(progress: Progress) -> Run
-    ensures log { result.log ≡ progress.account.log }
-    ensures starts { result.starts ≡ progress.account.starts }
-    ensures end { result.end ≡ progress.course.joint.mcu }
-    ensures steps { result.steps ≡ progress.course.joint.steps }
-    ensures cycles { result.cycles ≡ progress.course.joint.cycle }
+fn outcome_of(pace: Pace, log: Vec<LogLine>) -> Run
+    ensures log { result.log ≡ log }
+    ensures starts { result.starts ≡ pace.starts }
+    ensures end { result.end ≡ pace.course.joint.mcu }
+    ensures steps { result.steps ≡ pace.course.joint.steps }
+    ensures cycles { result.cycles ≡ pace.course.joint.cycle }
 {
-    let steps = progress.course.joint.steps();
-    let cycles = progress.course.joint.cycle();
-    let end = copied(progress.course.joint.mcu());
+    let steps = pace.course.joint.steps();
+    let cycles = pace.course.joint.cycle();
+    let end = copied(pace.course.joint.mcu());
     Run {
-        log: progress.account.log,
-        starts: progress.account.starts,
+        log,
+        starts: pace.starts,
         end,
         steps,
         cycles,
     }
 }
 
-/// The joint run of a layout's compiled image under a history, from power-on to the first tick start at or after the end
+/// The joint run of a layout's compiled image under a history that is accepted for it, from power-on to the first tick start at or after the end
 /// stamp, before the step that begins there. After each step each probe looks at the state that it led to.
 ///
 /// It always comes to its end: the image keeps its time, and meets no byte without an instruction. Its log is the one that
@@ -81,6 +93,7 @@ pub fn run(
     history: &History,
     probes: &mut Vec<Box<dyn Probe>>,
 ) -> Result<Run, AllocError>
+    requires { IsAcceptedFor layout.now history.now }
     ensures run { IfOk result (λ run. IsRun (story (image_of layout.now) history.now) run) }
     ensures agrees { IfOk result (λ run. run.log.items ≡ expected_log layout.now history.now run.starts.items) }
     ensures quiet { IfOk result (λ run. IsQuiet history.now → run.log.items ≡ quiet_log layout.now history.now) }
@@ -94,10 +107,13 @@ pub fn run(
         HaveLookedAtSome s (map (λ b. watch b) probes.old.items) (map (λ b. watch b) probes.new.items) }
 {
     let image = compile(layout);
-    keeps_time(layout, history);
+    keeps_time(layout);
     runs_are_expected();
+    let _ = history.end();
     let bios = Bios::new(alloc)?;
-    let mut progress = Progress::new(alloc, &image, bios, history);
-    run_on(&mut progress, &image, history, probes)?;
-    Ok(outcome_of(progress))
+    let mut feed = ListFeed::new(history);
+    let mut pace = Pace::begin(Vec::new(alloc), &image, bios, &mut feed);
+    let mut log = Vec::new(alloc);
+    run_on(&mut pace, &mut log, &image, &mut feed, probes)?;
+    Ok(outcome_of(pace, log))
 }

@@ -9,23 +9,24 @@ use Rattle.ctl_core.specs.declared.controller.Did.TheVariants.{Nothing, ToKeyboa
 use Rattle.ctl_link.specs.declared.link.Link.{Link}
 use Rattle.ctl_link.specs.declared.link.Link.TheVariants.{Free, Hold, Ask, Request, Busy}
 use Rattle.ctl_link.specs.declared.port.Port.{Port}
-use Rattle.ctl_link.specs.Link.{held_since, asking, took_where, takes_input, link_after, is_busy}
+use Rattle.ctl_link.specs.Link.{held_since, asking, took_where, takes_input, link_after, is_busy, settled}
 use Rattle.board_lines.specs.declared.event.HostEvent.{HostEvent}
 use Rattle.host_turn.specs.Run.{Side, goes_on}
 use Rattle.host_turn.proofs.Turns.{turn_of}
 use Rattle.board_lines.specs.declared.lines.Lines.{Lines}
 use Rattle.ctl_wire.specs.declared.wire.Wire.{Wire}
-use Rattle.ctl_wire.specs.Wire.{edge_at, drive}
+use Rattle.ctl_wire.specs.Wire.{edge_at, drive, is_breakable}
 use Rattle.pc_wires.specs.Wires.{Pc, board_cycle, looked, wires}
 use Rattle.byte_time.specs.ByteTime.{quietly, byte_cycle, Quiet}
-use Rattle.wires_agree.specs.Without.{seen_in_bytes, without_bits}
+use Rattle.wires_agree.specs.Without.{seen_in_bytes}
 use Rattle.wires_agree.specs.Laws.{BetweenFrames}
 use Rattle.wires_agree.specs.Cycles.{board_cycles}
-use Rattle.wires_agree.proofs.Same.{goes_on_same}
+use Rattle.wires_agree.proofs.Same.{in_bytes_same}
+use Rattle.ctl_link.proofs.Breaks.{unbroken}
 use Rattle.wires_agree.proofs.Spans.{board_by, clock_by, still_cycle}
 
 -- whether a byte is under way is for the link alone to say
-module _ {F : Type 0} where
+module _ {F : Type 0} (opens : F → Bool) where
   either_busy : (c : Bool) (x y : Link F) → is_busy x ≡ false → is_busy y ≡ false → is_busy (if c then x else y) ≡ false
   either_busy true x y hx hy = hx
   either_busy false x y hx hy = hy
@@ -51,12 +52,13 @@ module _ {F : Type 0} where
   after_free now stop awaits (Request byte) h = refl
   after_free now stop awaits (Busy x) h = h
 
-  pub stays_free : (events : List HostEvent) (now : ℕ) (s : Side F) → is_busy s.port.link ≡ false → is_busy (goes_on events now s).port.link ≡ false
+  pub stays_free : (events : List HostEvent) (now : ℕ) (s : Side F) → is_busy s.port.link ≡ false → is_busy (goes_on opens events now s).port.link ≡ false
   unfolding goes_on
   stays_free events now s h =
       let p : Port F = Rattle.host_turn.specs.Cycle.port_by (turn_of events now s) s.port in
       let t : Port F = (takes_input now p).port in
-      after_free now (t.core.output_full || is_disabled t.core) t.awaits t.link
+      ap (λ q. is_busy (settled now q).port.link) (unbroken opens now p h)
+      ∙ after_free now (t.core.output_full || is_disabled t.core) t.awaits t.link
       (where_free now (held_since now p.awaits p.link) (if p.core.output_full then None else taken p.core) p h)
 
 -- the look, while the keyboard leaves the clock alone
@@ -81,13 +83,13 @@ pub one_cycle : (events : List HostEvent) (now : ℕ) (latch : Lines) (b : Pc) �
     → seen_in_bytes (board_cycle events now latch b).side ≡ byte_cycle events now Quiet (seen_in_bytes b.side)
 unfolding board_cycle byte_cycle
 one_cycle events now latch b up h =
-    ap (λ s. seen_in_bytes (goes_on events now s)) (looks_still now latch b up h) ∙ sym (goes_on_same without_bits events now b.side)
+    ap (λ s. seen_in_bytes (goes_on is_breakable events now s)) (looks_still now latch b up h) ∙ sym (in_bytes_same events now b.side)
 
 pub one_free : (events : List HostEvent) (now : ℕ) (latch : Lines) (b : Pc) → latch.clk ≡ true → is_busy b.side.port.link ≡ false
     → is_busy (board_cycle events now latch b).side.port.link ≡ false
 unfolding board_cycle
 one_free events now latch b up h =
-    ap (λ s. is_busy (goes_on events now s).port.link) (looks_still now latch b up h) ∙ stays_free events now b.side h
+    ap (λ s. is_busy (goes_on is_breakable events now s).port.link) (looks_still now latch b up h) ∙ stays_free is_breakable events now b.side h
 
 -- any number of cycles
 pub between : BetweenFrames
@@ -112,7 +114,7 @@ low_span events latch zero now b low c h = (refl, h)
 low_span events latch (suc n) now b low c h =
     let next : Pc = board_cycle events now (latch now) b in
     let same : (looked now (wires (latch now) b) b).side ≡ b.side = looks_low now (latch now) b c in
-    let free : is_busy next.side.port.link ≡ false = ap (λ s. is_busy s.port.link) (board_by events now (latch now) b b.side same) ∙ stays_free events now b.side h in
+    let free : is_busy next.side.port.link ≡ false = ap (λ s. is_busy s.port.link) (board_by events now (latch now) b b.side same) ∙ stays_free is_breakable events now b.side h in
     let down : next.clock ≡ false = clock_by events now (latch now) b ∙ ap (λ k. k && (drive b.side.port.link).clk) (low now (omega arith) (omega arith)) in
     let rest = low_span events latch n (suc now) next (λ o l u. low o (omega (arith, l)) (omega (arith, u))) down free in
     (rest.0 ∙ ap (λ m. quietly events n (suc now) m) (still_cycle events now (latch now) b same), rest.1)

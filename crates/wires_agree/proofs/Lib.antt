@@ -1,10 +1,21 @@
 pub mod Between
+pub mod Breaks
+pub mod Broken
 pub mod Frames
+pub mod Got
+pub mod InFrame
+pub mod Lasting
+pub mod Lines
 pub mod Looked
 pub mod Meetings
+pub mod Off
+pub mod Pending
 pub mod Pulls
 mod Rows
 pub mod Same
 pub mod Spans
 pub mod Start
+pub mod Turned
+pub mod Under
+pub mod Ways
 pub mod Whole

@@ -1,5 +1,5 @@
 -- A tick from its look on, by its meeting.
-use Rattle.std.proofs.Common.{◌≡◌, ℕ, ◌+◌, ◌≤◌, ◌<◌, List, Bool, true, false, Some, refl, ap, sym, ◌∙◌, inl, inr, arith}
+use Rattle.std.proofs.Common.{◌≡◌, ℕ, suc, ◌+◌, ◌*◌, ◌≤◌, ◌<◌, List, Bool, true, false, Some, refl, ap, sym, ◌∙◌, inl, inr, arith}
 use Rattle.std.specs.declared.option.Option.{Option}
 use Rattle.ctl_link.specs.declared.link.Link.TheVariants.{Free, Request}
 use Rattle.ctl_link.specs.Link.{is_busy}
@@ -7,21 +7,28 @@ use Rattle.board_lines.specs.declared.event.HostEvent.{HostEvent}
 use Rattle.host_turn.specs.Run.{Side}
 use Rattle.board_lines.specs.declared.lines.Lines.{Lines}
 use Rattle.board_lines.specs.Frame.{byte_of}
+use Rattle.ctl_wire.specs.declared.wire.Wire.TheVariants.{Recv}
 use Rattle.pc_wires.specs.Wires.{Pc}
 use Rattle.byte_time.specs.declared.UnderWay.{UnderWay}
-use Rattle.byte_time.specs.ByteTime.{quietly, carried, meeting_in, meeting_of, meeting_free}
+use Rattle.byte_time.specs.ByteTime.{quietly, carried, meeting_in, meeting_of, meeting_free, ended_as, sent_or_cut}
 use Rattle.byte_time.specs.declared.meeting.Meeting.{Meeting}
 use Rattle.byte_time.specs.declared.meeting.Meeting.TheVariants.{Sent, Got, Cut}
 use Rattle.wires_agree.specs.Without.{seen_in_bytes, without_bits, link_by}
 use Rattle.wires_agree.specs.Cycles.{board_cycles}
 use Rattle.wires_agree.specs.Cells.{IsUp, IsFrame, bits_to}
-use Rattle.wires_agree.specs.Ticks.{Ticked, IsNone, SentTick, GotTick, CutTick, StillTick}
+use Rattle.wires_agree.specs.Flips.{IsFlip}
+use Rattle.wires_agree.specs.Ticks.{Ticked, IsNone, SentTick, GotTick, CutTick, StillTick, leaves_clock}
 use Rattle.wires_agree.proofs.Spans.{IsAt}
 use Rattle.wires_agree.proofs.Between.{between, low_span}
 use Rattle.wires_agree.proofs.Pulls.{pulled_span}
 use Rattle.byte_time.proofs.Quiet.{quiet_more}
-use Rattle.wires_agree.proofs.Whole.{cycles_more, sent_frame, got_frame, IsBehind}
-use Rattle.wires_agree.proofs.Meetings.{free_at, request_at, free_or_pulls, not_busy, cut_of, none_passes}
+use Rattle.ctl_wire.proofs.Pulls.{pulled_is_low}
+use Rattle.wires_agree.proofs.Broken.{whole}
+use Rattle.wires_agree.proofs.Got.{got_frame}
+use Rattle.wires_agree.proofs.Turned.{flips_seen}
+use Rattle.wires_agree.proofs.Ways.{sent_way, behind_first}
+use Rattle.wires_agree.proofs.Whole.{cycles_more, stands, IsBehind}
+use Rattle.wires_agree.proofs.Meetings.{free_at, request_at, free_or_pulls, not_busy, cut_of, none_passes, none_ends}
 
 module _ (events : List HostEvent) (latch : ℕ → Lines) (start rest : ℕ) (at256 : Pc) where
   abbrev at288 : Pc
@@ -44,18 +51,21 @@ module _ (events : List HostEvent) (latch : ℕ → Lines) (start rest : ℕ) (a
       ∙ ap (λ j. board_cycles events latch rest j at609) q
 
   module _ (up : IsUp latch (256 + start) (288 + start)) (idle : is_busy at256.side.port.link ≡ false) where
-    up288 : (o : ℕ) → 256 + start ≤ o → o < 256 + start + 32 → (latch o).clk ≡ true
+    pub up288 : (o : ℕ) → 256 + start ≤ o → o < 256 + start + 32 → (latch o).clk ≡ true
     up288 o l u = up o (omega (arith, l)) (omega (arith, u))
 
     to288 : (seen_in_bytes at288.side ≡ quietly events 32 (256 + start) (seen_in_bytes at256.side)) × (is_busy at288.side.port.link ≡ false)
     to288 = between events latch 32 (256 + start) at256 up288 idle
 
     -- from the look to the end, by its parts
-    joins : (tested : Bool) (offer : Option ℕ) (meeting : Meeting) → meeting_in tested offer (seen_in_bytes at256.side) (seen_in_bytes at288.side) ≡ meeting
+    pub joins : (tested : Bool) (offer : Option ℕ) (meeting final : Meeting) → meeting_in tested offer (seen_in_bytes at256.side) (seen_in_bytes at288.side) ≡ meeting
+        → ended_as events meeting (288 + start) (seen_in_bytes at288.side) ≡ final
         → seen_in_bytes at609.side ≡ carried events meeting (288 + start) (seen_in_bytes at288.side)
         → (seen_in_bytes at_end.side ≡ quietly events rest (609 + start) (seen_in_bytes at609.side)) × (is_busy at_end.side.port.link ≡ false)
-        → (k : ℕ) → k ≡ 353 + rest → Ticked events latch start rest at256 tested offer k
-    joins tested offer meeting is passes ends k e = record {
+        → (k : ℕ) → k ≡ 353 + rest → Ticked events latch start rest at256 tested offer final k
+    joins tested offer meeting final is meets passes ends k e = record {
+      meets = ap (λ v. ended_as events (meeting_in tested offer (seen_in_bytes at256.side) v) (288 + start) v) (sym to288.0)
+          ∙ ap (λ v. ended_as events v (288 + start) (seen_in_bytes at288.side)) is ∙ meets;
       idle_again = ap (λ v. is_busy v.side.port.link) (whole_run k e) ∙ ends.1;
       agrees = ap (λ v. seen_in_bytes v.side) (whole_run k e) ∙ ends.0 ∙ ap (λ v. quietly events rest (609 + start) v) passes
           ∙ ap (λ v. quietly events rest (609 + start) (carried events v (288 + start) (seen_in_bytes at288.side))) (sym is)
@@ -77,41 +87,55 @@ module _ (events : List HostEvent) (latch : ℕ → Lines) (start rest : ℕ) (a
           ap (λ v. is_busy v.side.port.link) all ∙ later_on.1,
         )
 
-    -- the keyboard sends, and its byte arrives
-    pub sent_tick : (byte more : ℕ) (bits : ℕ → Bool) → at256.side.port.link ≡ Free → at288.side.port.link ≡ Free → IsFrame latch (288 + start) bits → byte_of (bits_to bits 11) ≡ Some byte
+    -- what the frame of the keyboard begins as
+    pub begins : (byte : ℕ) → at256.side.port.link ≡ Free → at288.side.port.link ≡ Free
+        → meeting_of (link_by without_bits at256.side.port.link) (Some byte) (link_by without_bits at288.side.port.link) ≡ Sent byte
+    begins byte earlier later =
+        ap (λ l. meeting_of (link_by without_bits l) (Some byte) (link_by without_bits at288.side.port.link)) earlier ∙ ap (λ l. meeting_free (Some byte) (link_by without_bits l)) later
+
+    -- the keyboard sends, and its byte arrives, or comes wrong
+    pub sent_tick : (byte more : ℕ) (bits : ℕ → Bool) → at256.side.port.link ≡ Free → at288.side.port.link ≡ Free → IsFlip at288.side.port.flip → (frame : IsFrame latch (288 + start) bits)
+        → byte_of (bits_to bits 11) ≡ Some byte → ((i : ℕ) → i < 10 → leaves_clock events latch start at256 i ≡ true)
         → rest ≡ 15 + more → ((o : ℕ) → 609 + start ≤ o → o < 609 + start + 15 → (latch o).clk ≡ false) → IsUp latch (624 + start) (609 + rest + start)
-        → (k : ℕ) → k ≡ 353 + rest → Ticked events latch start rest at256 true (Some byte) k
-    sent_tick byte more bits earlier later frame right er low high k e =
+        → (k : ℕ) → k ≡ 353 + rest → Ticked events latch start rest at256 true (Some byte) (Sent byte) k
+    sent_tick byte more bits earlier later flip frame right leaves er low high k e =
         let at : IsAt at288 Free true = free_at events latch (256 + start) at256 up288 earlier later in
-        let met : meeting_of (link_by without_bits at256.side.port.link) (Some byte) (link_by without_bits at288.side.port.link) ≡ Sent byte =
-        ap (λ l. meeting_of (link_by without_bits l) (Some byte) (link_by without_bits at288.side.port.link)) earlier ∙ ap (λ l. meeting_free (Some byte) (link_by without_bits l)) later in
-        let passes = sent_frame events latch (288 + start) byte bits at288 frame at right 321 refl in
-        joins true (Some byte) (Sent byte) met passes.0 (behind more er passes.1 low high) k e
+        let comes = flips_seen bits byte at288.side.port.flip right flip in
+        let way = sent_way bits at288.side.port in
+        elim (stands events latch (288 + start) bits frame at288 (behind_first (bits 0) at288.side.port) Free (λ k. Recv at288.side.port.flip (bits_to bits (suc k))) true at way 9 (omega arith)) [
+          | inl through ↦
+              let passes = whole events latch (288 + start) byte bits frame at288 at comes through in
+              joins true (Some byte) (Sent byte) (Sent byte) (begins byte earlier later) (ap (λ l. sent_or_cut byte l) passes.2) passes.0 (behind more er passes.1 low high) k e
+          | inr off ↦
+              let j : ℕ = off.0 in
+              let b = off.1 in
+              absurd (cc (leaves j b.few, pulled_is_low (board_cycles events latch (32 * j + 18) (288 + start) at288).side.port.link b.since b.pulls))
+        ]
 
     -- the keyboard takes the controller's byte
     pub got_tick : (byte more : ℕ) (offer : Option ℕ) (bits : ℕ → Bool) → at256.side.port.link ≡ Request byte → IsFrame latch (288 + start) bits
         → rest ≡ 15 + more → ((o : ℕ) → 609 + start ≤ o → o < 609 + start + 15 → (latch o).clk ≡ false) → IsUp latch (624 + start) (609 + rest + start)
-        → (k : ℕ) → k ≡ 353 + rest → Ticked events latch start rest at256 true offer k
+        → (k : ℕ) → k ≡ 353 + rest → Ticked events latch start rest at256 true offer (Got byte) k
     got_tick byte more offer bits earlier frame er low high k e =
         let at : IsAt at288 (Request byte) true = request_at events latch (256 + start) at256 byte up288 earlier in
         let met : meeting_of (link_by without_bits at256.side.port.link) offer (link_by without_bits at288.side.port.link) ≡ Got byte =
         ap (λ l. meeting_of (link_by without_bits l) offer (link_by without_bits at288.side.port.link)) earlier in
-        let passes = got_frame events latch (288 + start) byte bits at288 frame at 321 refl in
-        joins true offer (Got byte) met passes.0 (behind more er passes.1 low high) k e
+        let passes = got_frame events latch (288 + start) byte bits at288 frame at in
+        joins true offer (Got byte) (Got byte) met refl passes.0 (behind more er passes.1 low high) k e
 
     -- nothing passes: the keyboard leaves the clock alone
     pub still_tick : (tested : Bool) (offer : Option ℕ) (meeting : Meeting) → meeting_in tested offer (seen_in_bytes at256.side) (seen_in_bytes at288.side) ≡ meeting → IsNone meeting
         → IsUp latch (288 + start) (609 + rest + start)
-        → (k : ℕ) → k ≡ 353 + rest → Ticked events latch start rest at256 tested offer k
+        → (k : ℕ) → k ≡ 353 + rest → Ticked events latch start rest at256 tested offer meeting k
     still_tick tested offer meeting met none high k e =
         let first = between events latch 321 (288 + start) at288 (λ o l u. high o l (omega (arith, u))) to288.1 in
         let last = between events latch rest (609 + start) at609 (λ o l u. high o (omega (arith, l)) (omega (arith, u))) first.1 in
-        joins tested offer meeting met (first.0 ∙ sym (none_passes events meeting (288 + start) (seen_in_bytes at288.side) none)) last k e
+        joins tested offer meeting meeting met (none_ends events meeting (288 + start) (seen_in_bytes at288.side) none) (first.0 ∙ sym (none_passes events meeting (288 + start) (seen_in_bytes at288.side) none)) last k e
 
     -- the controller pulls before the first edge: the keyboard lets go again before offset 320
     pub cut_tick : (byte : ℕ) → at256.side.port.link ≡ Free → (at288.side.port.link ≡ Free → ⊥)
         → IsUp latch (320 + start) (609 + rest + start)
-        → (k : ℕ) → k ≡ 353 + rest → Ticked events latch start rest at256 true (Some byte) k
+        → (k : ℕ) → k ≡ 353 + rest → Ticked events latch start rest at256 true (Some byte) Cut k
     cut_tick byte earlier later high k e =
         elim (free_or_pulls events latch 32 (256 + start) at256 (omega arith) up288 earlier) [
           | inl free ↦ absurd (later free)
@@ -131,12 +155,12 @@ module _ (events : List HostEvent) (latch : ℕ → Lines) (start rest : ℕ) (a
               let last = between events latch rest (609 + start) at609 (λ o l u. high o (omega (arith, l)) (omega (arith, u))) (ap (λ v. is_busy v.side.port.link) at ∙ later_on.1) in
               let met : meeting_of (link_by without_bits at256.side.port.link) (Some byte) (link_by without_bits at288.side.port.link) ≡ Cut =
               ap (λ l. meeting_of (link_by without_bits l) (Some byte) (link_by without_bits at288.side.port.link)) earlier ∙ cut_of byte at288.side.port.link pulls.since pulls.is in
-              joins true (Some byte) Cut met passes last k e
+              joins true (Some byte) Cut Cut met refl passes last k e
         ]
 
 pub all_sent : SentTick
-all_sent events latch start rest more byte k bits b up here there frame right ends er e =
-    sent_tick events latch start rest b up (ap is_busy here) byte more bits here there frame right er ends.low ends.high k e
+all_sent events latch start rest more byte k bits b up here there flip frame right leaves ends er e =
+    sent_tick events latch start rest b up (ap is_busy here) byte more bits here there flip frame right leaves er ends.low ends.high k e
 
 pub all_got : GotTick
 all_got events latch start rest more byte k offer bits b up here frame ends er e =

@@ -6,16 +6,16 @@ use Rattle.ctl_core.specs.Commands.{taken}
 use Rattle.ctl_link.specs.declared.link.Link.{Link}
 use Rattle.ctl_link.specs.declared.link.Link.TheVariants.{Free, Hold, Ask, Request, Busy}
 use Rattle.ctl_link.specs.declared.port.Port.{Port}
-use Rattle.ctl_link.specs.Link.{held_since, took_where, takes_input, link_after, is_busy}
+use Rattle.ctl_link.specs.Link.{held_since, took_where, takes_input, link_after, is_busy, settled}
 use Rattle.board_lines.specs.declared.event.HostEvent.{HostEvent}
 use Rattle.host_turn.specs.Run.{Side, goes_on}
 use Rattle.host_turn.proofs.Turns.{turn_of}
 use Rattle.board_lines.specs.declared.lines.Lines.{Lines}
 use Rattle.ctl_wire.specs.declared.wire.Wire.{Wire}
-use Rattle.ctl_wire.specs.Wire.{drive}
+use Rattle.ctl_wire.specs.Wire.{drive, is_breakable}
 use Rattle.pc_wires.specs.Wires.{Pc, board_cycle}
 use Rattle.byte_time.specs.declared.UnderWay.{UnderWay}
-use Rattle.byte_time.specs.ByteTime.{quietly, carried, meeting_free}
+use Rattle.byte_time.specs.ByteTime.{quietly, carried, ended_as, meeting_free}
 use Rattle.byte_time.specs.declared.meeting.Meeting.{Meeting}
 use Rattle.byte_time.specs.declared.meeting.Meeting.TheVariants.{Sent, Got, Cut, Idle, Inhibited}
 use Rattle.wires_agree.specs.Without.{without_bits, link_by}
@@ -26,14 +26,17 @@ use Rattle.wires_agree.proofs.Between.{looks_still}
 use Rattle.wires_agree.proofs.Pulls.{free_begins, pulled_span}
 use Rattle.ctl_link.specs.Pulls.{pulled}
 use Rattle.wires_agree.proofs.Whole.{cycles_more}
+use Rattle.ctl_link.proofs.Breaks.{unbroken}
+use Rattle.wires_agree.proofs.Breaks.{Pulls}
 
 -- a request stays until the clock falls
-stays_request : (events : List HostEvent) (now : ℕ) (s : Side Wire) (byte : ℕ) → s.port.link ≡ Request byte → (goes_on events now s).port.link ≡ Request byte
+stays_request : (events : List HostEvent) (now : ℕ) (s : Side Wire) (byte : ℕ) → s.port.link ≡ Request byte → (goes_on is_breakable events now s).port.link ≡ Request byte
 unfolding goes_on
 stays_request events now s byte e =
     let p : Port Wire = Rattle.host_turn.specs.Cycle.port_by (turn_of events now s) s.port in
     let t : Port Wire = (takes_input now p).port in
-    ap (λ l. link_after now (t.core.output_full || is_disabled t.core) t.awaits l)
+    ap (λ q. (settled now q).port.link) (unbroken is_breakable now p (ap is_busy e))
+    ∙ ap (λ l. link_after now (t.core.output_full || is_disabled t.core) t.awaits l)
     (ap (λ l. (took_where now (held_since now p.awaits l) (if p.core.output_full then None else taken p.core) p).port.link) e ∙ e)
 
 module _ (events : List HostEvent) (latch : ℕ → Lines) where
@@ -54,8 +57,8 @@ module _ (events : List HostEvent) (latch : ℕ → Lines) where
   free_between (suc m) r (suc k) now b e short up here there =
       let high : (latch now).clk ≡ true = up now (omega arith) (omega arith) in
       let next : Pc = board_cycle events now (latch now) b in
-      let is : next.side ≡ goes_on events now b.side = board_by events now (latch now) b b.side (looks_still now (latch now) b high (ap is_busy here)) in
-      elim (free_begins Wire events now b.side here) [
+      let is : next.side ≡ goes_on is_breakable events now b.side = board_by events now (latch now) b b.side (looks_still now (latch now) b high (ap is_busy here)) in
+      elim (free_begins Wire is_breakable events now b.side here) [
         | inl free ↦ free_between m r k (suc now) next (omega (arith, e)) (omega (arith, short)) (λ o l u. up o (omega (arith, l)) (omega (arith, u))) (ap (λ s. s.port.link) is ∙ free) there
         | inr pulls ↦
             let on = pulled_span events latch k (suc now) next now (ap (λ s. pulled s.port.link) is ∙ pulls) (omega (arith, short)) in
@@ -87,20 +90,14 @@ module _ (events : List HostEvent) (latch : ℕ → Lines) where
     clock_is = last_clock 31 now b up (ap (λ l. (drive l).clk) (requests 31 now b byte (λ o l u. up o l (omega (arith, u))) here));
   }
 
--- since when the controller pulls, where it began to in some cycles
-pub record Pulls (begin : ℕ) (l : Link Wire) : Type 0 where
-  pub since : ℕ
-  pub from : begin ≤ since
-  pub is : pulled l ≡ Some since
-
 pub free_or_pulls : (events : List HostEvent) (latch : ℕ → Lines) (n now : ℕ) (b : Pc) → n ≤ 64 → ((o : ℕ) → now ≤ o → o < now + n → (latch o).clk ≡ true) → b.side.port.link ≡ Free
     → ((board_cycles events latch n now b).side.port.link ≡ Free) ⊎ (Pulls now (board_cycles events latch n now b).side.port.link)
 free_or_pulls events latch zero now b short up here = inl here
 free_or_pulls events latch (suc n) now b short up here =
     let high : (latch now).clk ≡ true = up now (omega arith) (omega arith) in
     let next : Pc = board_cycle events now (latch now) b in
-    let is : next.side ≡ goes_on events now b.side = board_by events now (latch now) b b.side (looks_still now (latch now) b high (ap is_busy here)) in
-    elim (free_begins Wire events now b.side here) [
+    let is : next.side ≡ goes_on is_breakable events now b.side = board_by events now (latch now) b b.side (looks_still now (latch now) b high (ap is_busy here)) in
+    elim (free_begins Wire is_breakable events now b.side here) [
       | inl free ↦ elim (free_or_pulls events latch n (suc now) next (omega (arith, short)) (λ o l u. up o (omega (arith, l)) (omega (arith, u))) (ap (λ s. s.port.link) is ∙ free)) [
         | inl still ↦ inl still
         | inr p ↦ inr (record { since = p.since; from = omega (arith, p.from); is = p.is })
@@ -131,3 +128,11 @@ none_passes events Inhibited now m h = refl
 none_passes events Idle now m h = refl
 none_passes events (Sent byte) now m h = absurd h
 none_passes events Cut now m h = refl
+
+-- and the meeting is what it begins as
+pub none_ends : (events : List HostEvent) (meeting : Meeting) (now : ℕ) (m : Side UnderWay) → IsNone meeting → ended_as events meeting now m ≡ meeting
+none_ends events (Got byte) now m h = absurd h
+none_ends events Inhibited now m h = refl
+none_ends events Idle now m h = refl
+none_ends events (Sent byte) now m h = absurd h
+none_ends events Cut now m h = refl

@@ -1,6 +1,9 @@
 -- While the controller pulls the clock, no latch of the keyboard changes anything.
-use Rattle.std.proofs.Common.{◌≡◌, ℕ, suc, zero, ◌+◌, ◌≤◌, ◌<◌, List, not, ◌&&◌, Some, refl, ap, ◌∙◌, arith}
+use Rattle.std.proofs.Common.{◌≡◌, ℕ, suc, zero, ◌+◌, ◌≤◌, ◌<◌, List, Bool, not, ◌&&◌, Some, refl, ap, ◌∙◌, subst, sym, arith}
 use Rattle.ctl_link.specs.declared.link.Link.TheVariants.{Free}
+use Rattle.ctl_link.specs.declared.port.Port.{Port}
+use Rattle.ctl_link.specs.Link.{settled, is_busy}
+use Rattle.ctl_link.proofs.Breaks.{unbroken, pulled_idle}
 use Rattle.ctl_link.specs.Pulls.{pulled, Begins}
 use Rattle.ctl_link.proofs.Pulls.{keeps_pull, begins_pull}
 use Rattle.board_lines.specs.declared.event.HostEvent.{HostEvent}
@@ -11,22 +14,27 @@ use Rattle.host_turn.specs.Run.{Side, goes_on}
 use Rattle.host_turn.proofs.Turns.{turn_of}
 use Rattle.host_turn.specs.Cycle.{port_by}
 use Rattle.pc_wires.specs.Wires.{Pc, board_cycle, looked, wires}
+use Rattle.ctl_wire.specs.Wire.{is_breakable}
 use Rattle.byte_time.specs.ByteTime.{quietly}
 use Rattle.wires_agree.specs.Without.{seen_in_bytes}
 use Rattle.wires_agree.specs.Cycles.{board_cycles}
 use Rattle.wires_agree.specs.Laws.{WhilePulled}
 use Rattle.wires_agree.proofs.Spans.{board_by, still_cycle}
 
-module _ (F : Type 0) where
+module _ (F : Type 0) (opens : F → Bool) where
   -- a cycle keeps a pull of less than 64 cycles
-  pub stays_pulled : (events : List HostEvent) (now : ℕ) (s : Side F) (h : ℕ) → pulled s.port.link ≡ Some h → now < h + 64 → pulled (goes_on events now s).port.link ≡ Some h
+  pub stays_pulled : (events : List HostEvent) (now : ℕ) (s : Side F) (h : ℕ) → pulled s.port.link ≡ Some h → now < h + 64 → pulled (goes_on opens events now s).port.link ≡ Some h
   unfolding goes_on
-  stays_pulled events now s h e early = keeps_pull F now (port_by (turn_of events now s) s.port) h e early
+  stays_pulled events now s h e early =
+      let p : Port F = port_by (turn_of events now s) s.port in
+      ap (λ q. pulled (settled now q).port.link) (unbroken opens now p (pulled_idle opens s.port.link h e)) ∙ keeps_pull F now p h e early
 
   -- from a free link it stays free, or the controller begins to pull
-  pub free_begins : (events : List HostEvent) (now : ℕ) (s : Side F) → s.port.link ≡ Free → Begins now (goes_on events now s).port.link
+  pub free_begins : (events : List HostEvent) (now : ℕ) (s : Side F) → s.port.link ≡ Free → Begins now (goes_on opens events now s).port.link
   unfolding goes_on
-  free_begins events now s e = begins_pull F now (port_by (turn_of events now s) s.port) e
+  free_begins events now s e =
+      let p : Port F = port_by (turn_of events now s) s.port in
+      subst (λ q. Begins now (settled now q).port.link) (sym (unbroken opens now p (ap is_busy e))) (begins_pull F now p e)
 
 -- the look, while the controller pulls
 looks_pulled : (now : ℕ) (latch : Lines) (b : Pc) (h : ℕ) → pulled b.side.port.link ≡ Some h → (looked now (wires latch b) b).side ≡ b.side
@@ -40,7 +48,7 @@ pulled_span events latch zero now b h e l = (refl, e)
 pulled_span events latch (suc n) now b h e l =
     let next : Pc = board_cycle events now (latch now) b in
     let same : (looked now (wires (latch now) b) b).side ≡ b.side = looks_pulled now (latch now) b h e in
-    let on : pulled next.side.port.link ≡ Some h = ap (λ s. pulled s.port.link) (board_by events now (latch now) b b.side same) ∙ stays_pulled Wire events now b.side h e (omega (arith, l)) in
+    let on : pulled next.side.port.link ≡ Some h = ap (λ s. pulled s.port.link) (board_by events now (latch now) b b.side same) ∙ stays_pulled Wire is_breakable events now b.side h e (omega (arith, l)) in
     let rest = pulled_span events latch n (suc now) next h on (omega (arith, l)) in
     (rest.0 ∙ ap (λ m. quietly events n (suc now) m) (still_cycle events now (latch now) b same), rest.1)
 

@@ -3,8 +3,10 @@ use Rattle.std.proofs.Common.{◌≡◌, ℕ, ◌+◌, ◌-◌, ◌/◌, ◌%◌
 use Rattle.std.specs.Prelude.{Bool, if◌then◌else◌, nat_le, nat_lt, slice_index_or, Some}
 use Rattle.std.specs.declared.option.Option.{Option}
 use Rattle.pc_tables.specs.declared.item.Item.TheVariants.{Read, Status}
-use Rattle.board_lines.specs.declared.event.HostAct.TheVariants.{Write64, Read60, Mask, Status as AskStatus}
+use Rattle.board_lines.specs.declared.event.HostAct.TheVariants.{Write64, Read60, Mask, Flip, Status as AskStatus}
 use Rattle.board_lines.specs.declared.event.HostEvent.{HostEvent}
+use Rattle.ctl_core.specs.declared.port.Port.TheVariants.{P64}
+use Rattle.ctl_link.specs.declared.link.Link.TheVariants.{Hold, Request}
 use Rattle.host_turn.specs.Run.{Side, side_at_start, goes_on}
 use Rattle.board_lines.specs.declared.lines.Lines.{Lines}
 use Rattle.board_lines.specs.Frame.{frame_bits, byte_of}
@@ -54,3 +56,36 @@ byte_tick events tested offer start rest m =
 in_bytes : (byte_tick reads true (Some 0x1c) 4096 91 (side_at_start UnderWay)).log ≡ record { cycle = 4703; item = Read 0 } ∷ record { cycle = 4704; item = Read 0x1e } ∷ []
 unfolding reads byte_cycle goes_on scan_codes translated
 in_bytes = refl
+
+-- the same with a data bit turned round: the byte is asked for again, 64 cycles later by a request
+abbrev flipped : List HostEvent
+flipped = at 0 Mask ∷ at 20 (Flip 3) ∷ at 608 Read60 ∷ at 609 AskStatus ∷ []
+
+wrong_on_wires : (board_cycles flipped (sends 4384) 700 4096 pc_at_start).side.port.link ≡ Request 0xfe
+unfolding board_cycle goes_on byte_of scan_codes translated
+wrong_on_wires = refl
+
+wrong_in_bytes : (byte_tick flipped true (Some 0x1c) 4096 91 (side_at_start UnderWay)).port.link ≡ Request 0xfe
+unfolding byte_cycle goes_on scan_codes translated
+wrong_in_bytes = refl
+
+-- a write at offset 575 breaks the frame off; at 576 it waits
+abbrev writes : ℕ → List HostEvent
+writes offset = at offset (Write64 0xae) ∷ []
+
+broken_off_at_575 : (board_cycles (writes 575) (sends 4384) 576 4096 pc_at_start).side.port.link ≡ Hold 4671
+unfolding board_cycle goes_on
+broken_off_at_575 = refl
+
+waits_at_576 : (board_cycles (writes 576) (sends 4384) 608 4096 pc_at_start).side.port.core.input ≡ Some (record { port = P64; byte = 0xae })
+unfolding board_cycle goes_on
+waits_at_576 = refl
+
+-- in byte time both are the same
+cut_at_575 : (byte_tick (writes 575) true (Some 0x1c) 4096 0 (side_at_start UnderWay)).port.link ≡ Hold 4671
+unfolding byte_cycle goes_on
+cut_at_575 = refl
+
+sent_at_576 : (byte_tick (writes 576) true (Some 0x1c) 4096 0 (side_at_start UnderWay)).port.link ≡ Hold 4704
+unfolding byte_cycle goes_on scan_codes translated
+sent_at_576 = refl

@@ -1,22 +1,26 @@
 -- The host's turn and the settling do not look at what is known of a byte under way.
-use Rattle.std.proofs.Common.{◌≡◌, ℕ, ◌+◌, List, Bool, true, false, ◌||◌, Some, None, refl, ap, ◌∙◌}
-use Rattle.std.specs.Prelude.{if◌then◌else◌, nat_le, slice_get}
+use Rattle.std.proofs.Common.{◌≡◌, ℕ, ◌+◌, List, Bool, true, false, not, ◌&&◌, ◌||◌, Some, None, refl, ap, ◌∙◌}
+use Rattle.std.specs.Prelude.{if◌then◌else◌, is_some, nat_le, slice_get}
 use Rattle.std.specs.declared.option.Option.{Option}
-use Rattle.ctl_core.specs.Controller.{is_disabled}
+use Rattle.ctl_core.specs.Controller.{ControllerState, asks_again, is_disabled}
 use Rattle.ctl_core.specs.Commands.{Taken, taken}
 use Rattle.ctl_core.specs.declared.controller.Did.{Did}
 use Rattle.ctl_core.specs.declared.controller.Did.TheVariants.{Nothing, ToKeyboard, Output, Pulse}
 use Rattle.ctl_link.specs.declared.link.Link.{Link}
 use Rattle.ctl_link.specs.declared.link.Link.TheVariants.{Free, Hold, Ask, Request, Busy}
 use Rattle.ctl_link.specs.declared.port.Port.{Port}
-use Rattle.ctl_link.specs.Link.{Settled, held_since, asking, took, took_where, takes_input, link_after, moves_link, settled}
+use Rattle.ctl_link.specs.Link.{Settled, core_after, filled_by, link_behind, received, held_since, asking, took, took_where, takes_input, link_after, moves_link, settled, may_break, broken_off}
 use Rattle.board_lines.specs.declared.event.HostEvent.{HostEvent}
 use Rattle.host_turn.specs.Host.{Turn, is_done}
 use Rattle.host_turn.specs.Run.{Side, goes_on, with_cycled}
 use Rattle.host_turn.proofs.Turns.{turn_of}
 use Rattle.host_turn.specs.Cycle.{ends_cycle}
 use Rattle.wires_agree.specs.Without.{link_by, port_by, side_by, without_bits}
+use Rattle.byte_time.specs.ByteTime.{is_open}
 use Rattle.wires_agree.specs.Laws.{GoesOnAlike}
+use Rattle.ctl_wire.specs.Wire.{is_breakable}
+use Rattle.ctl_wire.specs.declared.wire.Wire.{Wire}
+use Rattle.ctl_wire.specs.declared.wire.Wire.TheVariants.{Recv, Send}
 
 module _ {F G : Type 0} (f : F → G) where
   either : (b : Bool) (x y : Link F) → (if b then link_by f x else link_by f y) ≡ link_by f (if b then x else y)
@@ -67,14 +71,51 @@ module _ {F G : Type 0} (f : F → G) where
       ap (λ t. record { port = moves_link now t.port; did = t.did }) (takes_same now p)
       ∙ ap (λ q. record { port = q; did = (takes_input now p).did }) (moves_same now (takes_input now p).port)
 
-  -- a cycle goes on alike, whatever is known of a byte under way
-  pub goes_on_same : (events : List HostEvent) (now : ℕ) (s : Side F) → goes_on events now (side_by f s) ≡ side_by f (goes_on events now s)
-  unfolding goes_on
-  goes_on_same events now s =
-      let t : Turn = turn_of events now s in
-      let done : Bool = is_done now (slice_get events s.done) s.port.core in
-      ap (λ q. with_cycled now (ends_cycle t done q) (side_by f s)) (settled_same now (Rattle.host_turn.specs.Cycle.port_by t s.port))
+  -- so it is with a byte of the keyboard that has come
+  behind_same : (now : ℕ) (came : Option ℕ) (s : ControllerState) → link_by f (link_behind now came s) ≡ link_behind now came s
+  behind_same now (Some byte) s = refl
+  behind_same now None s = by_count (asks_again s)
+    where
+      by_count : (c : Bool) → link_by f (if c then Ask 0xfe now else Hold now) ≡ (if c then Ask 0xfe now else Hold now)
+      by_count true = refl
+      by_count false = refl
+
+  pub received_same : (now : ℕ) (came : Option ℕ) (p : Port F) → port_by f (received now came p) ≡ received now came (port_by f p)
+  received_same now came p =
+      ap (λ l. record { core = core_after came p.core; filled = filled_by now (core_after came p.core) p.filled; link = l; awaits = false; flip = p.flip })
+      (behind_same now came p.core)
+
+  module _ (here : F → Bool) (there : G → Bool) (alike : (x : F) → there (f x) ≡ here x) where
+    breaks_same : (l : Link F) → may_break there (link_by f l) ≡ may_break here l
+    breaks_same Free = refl
+    breaks_same (Hold since) = refl
+    breaks_same (Ask byte since) = refl
+    breaks_same (Request byte) = refl
+    breaks_same (Busy x) = alike x
+
+    broken_by : (c : Bool) (now : ℕ) (p : Port F) → (if c then record (port_by f p) { link = Hold now } else port_by f p) ≡ port_by f (if c then record p { link = Hold now } else p)
+    broken_by true now p = refl
+    broken_by false now p = refl
+
+    broken_same : (now : ℕ) (p : Port F) → broken_off there now (port_by f p) ≡ port_by f (broken_off here now p)
+    broken_same now p =
+        ap (λ c. if c && not p.awaits && is_some p.core.input then record (port_by f p) { link = Hold now } else port_by f p) (breaks_same p.link)
+        ∙ broken_by (may_break here p.link && not p.awaits && is_some p.core.input) now p
+
+    -- a cycle goes on alike, whatever is known of a byte under way
+    pub goes_on_same : (events : List HostEvent) (now : ℕ) (s : Side F) → goes_on there events now (side_by f s) ≡ side_by f (goes_on here events now s)
+    unfolding goes_on
+    goes_on_same events now s =
+        let t : Turn = turn_of events now s in
+        let p : Port F = Rattle.host_turn.specs.Cycle.port_by t s.port in
+        let done : Bool = is_done now (slice_get events s.done) s.port.core in
+        ap (λ q. with_cycled now (ends_cycle t done q) (side_by f s))
+        (ap (λ q. settled now q) (broken_same now p) ∙ settled_same now (broken_off here now p))
 
 -- at the wires and in byte time
 pub in_bytes_same : GoesOnAlike
-in_bytes_same events now s = goes_on_same without_bits events now s
+in_bytes_same events now s = goes_on_same without_bits is_breakable is_open alike events now s
+  where
+    alike : (x : Wire) → (without_bits x).breakable ≡ is_breakable x
+    alike (Recv flip bits) = refl
+    alike (Send byte edges) = refl

@@ -14,6 +14,7 @@ use Rattle.board_lines.specs.Frame.{frame_bits, byte_of}
 use Rattle.board_lines.proofs.Frames.{read_back}
 use Rattle.ctl_wire.specs.declared.wire.Wire.{Wire}
 use Rattle.pc_wires.specs.Wires.{board_cycle, pc_at_start}
+use Rattle.ctl_wire.specs.Wire.{is_breakable}
 use Rattle.wires_agree.specs.Cycles.{board_cycles}
 use Rattle.wires_agree.proofs.Spans.{board_by, clock_by}
 use Rattle.wires_agree.proofs.Between.{looks_still}
@@ -22,11 +23,11 @@ use Rattle.wires_agree.specs.Cells.{bits_to}
 too_early : (stamp now : ℕ) → now < 4096 → nat_le (stamp + 4096) now ≡ false
 too_early stamp now l = grind (arith, nat_tests)
 
-module _ (F : Type 0) where
+module _ (F : Type 0) (opens : F → Bool) where
   after : (now : ℕ) → Bool → Turn → Side F
   after now done t = with_cycled now (ends_cycle t done (settled now (Rattle.host_turn.specs.Cycle.port_by t (side_at_start F).port))) (side_at_start F)
 
-  rests_by : (now : ℕ) (next : Option HostEvent) → now < 4096 → with_cycled now (cycled now next (desk_of (side_at_start F))) (side_at_start F) ≡ side_at_start F
+  rests_by : (now : ℕ) (next : Option HostEvent) → now < 4096 → with_cycled now (cycled opens now next (desk_of (side_at_start F))) (side_at_start F) ≡ side_at_start F
   unfolding after
   rests_by now None l = refl
   rests_by now (Some event) l =
@@ -37,7 +38,7 @@ module _ (F : Type 0) where
       let all : turn now 0 (Some event) h ≡ in_silence h = ap (λ (t : Turn). record { host = (bios_turn now 0 t.host).host; items = t.items ++ (bios_turn now 0 t.host).items }) silent in
       ap (λ c. after now c (turn now 0 (Some event) h)) no ∙ ap (λ t. after now false t) all
 
-  pub rests : (events : List HostEvent) (now : ℕ) → now < 4096 → goes_on events now (side_at_start F) ≡ side_at_start F
+  pub rests : (events : List HostEvent) (now : ℕ) → now < 4096 → goes_on opens events now (side_at_start F) ≡ side_at_start F
   unfolding goes_on
   rests events now l = rests_by now (slice_get events 0) l
 
@@ -48,7 +49,7 @@ waits_for_stamp_0 events latch zero now l up = refl
 waits_for_stamp_0 events latch (suc n) now l up =
     let high : (latch now).clk ≡ true = up now (omega arith) (omega arith) in
     let side : (board_cycle events now (latch now) pc_at_start).side ≡ side_at_start Wire =
-    board_by events now (latch now) pc_at_start (side_at_start Wire) (looks_still now (latch now) pc_at_start high refl) ∙ rests Wire events now (omega (arith, l)) in
+    board_by events now (latch now) pc_at_start (side_at_start Wire) (looks_still now (latch now) pc_at_start high refl) ∙ rests Wire is_breakable events now (omega (arith, l)) in
     let clock : (board_cycle events now (latch now) pc_at_start).clock ≡ true = clock_by events now (latch now) pc_at_start ∙ ap (λ c. c && true) high in
     let same : board_cycle events now (latch now) pc_at_start ≡ pc_at_start = ap (λ s. record { side = s; clock = (board_cycle events now (latch now) pc_at_start).clock }) side ∙ ap (λ c. record { side = side_at_start Wire; clock = c }) clock in
     ap (λ b. board_cycles events latch n (suc now) b) same ∙ waits_for_stamp_0 events latch n (suc now) (omega (arith, l)) (λ o l u. up o (omega (arith, l)) (omega (arith, u)))

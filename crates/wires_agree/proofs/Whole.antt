@@ -1,30 +1,30 @@
--- A frame, from its first edge to its eleventh, in either direction.
-use Rattle.std.proofs.Common.{◌≡◌, ℕ, suc, zero, ◌+◌, ◌*◌, ◌≤◌, ◌<◌, List, [], ◌∷◌, ◌++◌, length, length-append, Bool, true, false, ◌&&◌, Some, refl, ap, sym, ◌∙◌, subst, arith}
-use Rattle.std.specs.Prelude.{if◌then◌else◌, ◌==◌, slice_index_or}
+-- A frame, cell by cell, in either direction: the keyboard's may be broken off before its tenth edge.
+use Rattle.std.proofs.Common.{◌≡◌, ℕ, suc, zero, ◌+◌, ◌*◌, ◌≤◌, ◌<◌, List, Bool, true, false, ◌&&◌, Some, refl, ap, sym, ◌∙◌, subst, ◌⊎◌, inl, inr, arith}
+use Rattle.std.specs.Prelude.{if◌then◌else◌, ◌==◌, nat_lt}
 use Rattle.std.proofs.lemmas.Bool.Decides.{nat_tests}
 use Rattle.ctl_link.specs.declared.link.Link.{Link}
-use Rattle.ctl_link.specs.declared.link.Link.TheVariants.{Free, Request, Busy}
+use Rattle.ctl_link.specs.declared.link.Link.TheVariants.{Free, Hold, Ask, Request, Busy}
 use Rattle.ctl_link.specs.declared.port.Port.{Port}
-use Rattle.ctl_link.specs.Link.{received, handed_over, is_busy}
+use Rattle.ctl_link.specs.Link.{is_busy}
+use Rattle.ctl_link.specs.Pulls.{pulled}
 use Rattle.board_lines.specs.declared.event.HostEvent.{HostEvent}
 use Rattle.host_turn.specs.Run.{Side}
 use Rattle.board_lines.specs.declared.lines.Lines.{Lines}
-use Rattle.board_lines.specs.Frame.{byte_of, frame_bits}
 use Rattle.ctl_wire.specs.declared.wire.Wire.{Wire}
-use Rattle.ctl_wire.specs.declared.wire.Wire.TheVariants.{Recv, Send}
-use Rattle.ctl_wire.specs.Wire.{edge_at, drive}
+use Rattle.ctl_wire.specs.Wire.{edge_at, drive, is_breakable}
 use Rattle.pc_wires.specs.Wires.{Pc, board_cycle}
 use Rattle.byte_time.specs.declared.UnderWay.{UnderWay}
-use Rattle.byte_time.specs.ByteTime.{quietly, byte_cycle, happened_at, carried, Event, Quiet, Begins, Arrives, IsWhole}
-use Rattle.byte_time.specs.declared.meeting.Meeting.TheVariants.{Sent, Got}
+use Rattle.byte_time.specs.ByteTime.{quietly, byte_cycle, happened_at, closed, Quiet, Begins, Closes, is_open}
 use Rattle.byte_time.proofs.Quiet.{quiet_more}
 use Rattle.wires_agree.specs.Without.{seen_in_bytes, without_bits, port_by}
 use Rattle.wires_agree.specs.Cycles.{board_cycles}
-use Rattle.wires_agree.specs.Laws.{FrameShown}
-use Rattle.wires_agree.specs.Cells.{IsCell, IsFrame, bits_to}
-use Rattle.wires_agree.proofs.Spans.{IsAt, and-true}
-use Rattle.wires_agree.proofs.Frames.{fall_cycle, cell}
-use Rattle.wires_agree.proofs.Between.{stays_free}
+use Rattle.wires_agree.specs.Cells.{IsCell, IsFrame}
+use Rattle.wires_agree.specs.InFrame.{at_edge, up_to}
+use Rattle.wires_agree.proofs.Spans.{IsAt}
+use Rattle.wires_agree.proofs.Ways.{IsWay}
+use Rattle.wires_agree.proofs.Pulls.{pulled_span}
+use Rattle.wires_agree.proofs.Under.{busy_span}
+use Rattle.wires_agree.proofs.Frames.{cell, event_by}
 
 -- cycles after cycles
 pub cycles_more : (events : List HostEvent) (latch : ℕ → Lines) (m n k now : ℕ) (b : Pc) → m + n ≡ k
@@ -39,136 +39,219 @@ cycles_more events latch (suc m) n (suc k) now b e =
     cycles_more events latch m n k (suc now) (board_cycle events now (latch now) b) (omega (arith, e))
     ∙ ap (λ j. board_cycles events latch n j (board_cycles events latch (suc m) now b)) z
 
--- what is known of the byte after edge k, for k = 0 to 9, with these levels of the keyboard's data wire; p0 is the
--- controller before the first edge, q0 behind it
-pub record IsWay (p0 q0 : Port Wire) (l : Link Wire) (w : ℕ → Wire) (from : Bool) (bits : ℕ → Bool) : Type 0 where
-  pub first : (now : ℕ) → edge_at now (bits 0 && (drive l).dat) l p0 ≡ q0
-  pub begins : q0.link ≡ Busy (w 0)
-  pub starts : (now : ℕ) → port_by without_bits q0 ≡ happened_at now (Begins from) (port_by without_bits p0)
-  pub next : (k now : ℕ) (p : Port Wire) → k < 9 → edge_at now (bits (suc k) && (drive (Busy (w k))).dat) (Busy (w k)) p ≡ record p { link = Busy (w (suc k)) }
-  pub kind : (k : ℕ) → without_bits (w (suc k)) ≡ without_bits (w k)
+-- a byte that isn't under way isn't closed
+idle_closed : (from : Bool) (k now : ℕ) (p : Port UnderWay) → is_busy p.link ≡ false → happened_at now (at_edge from (suc k)) p ≡ happened_at now Quiet p
+idle_closed from k now p h = by_case (from && (k == 8))
+  where
+    at_link : (l : Link UnderWay) → is_busy l ≡ false → closed l ≡ l
+    at_link Free h = refl
+    at_link (Hold since) h = refl
+    at_link (Ask byte since) h = refl
+    at_link (Request byte) h = refl
+    at_link (Busy u) h = absurd cc
+
+    by_case : (c : Bool) → happened_at now (if c then Closes else Quiet) p ≡ p
+    by_case true = ap (λ l. record p { link = l }) (at_link p.link h)
+    by_case false = refl
+
+idle_edge : (events : List HostEvent) (from : Bool) (k now : ℕ) (m : Side UnderWay) → is_busy m.port.link ≡ false
+    → byte_cycle events now (at_edge from (suc k)) m ≡ byte_cycle events now Quiet m
+idle_edge events from k now m h =
+    event_by events now (at_edge from (suc k)) m
+    ∙ ap (λ p. Rattle.host_turn.specs.Run.goes_on is_open events now (record m { port = p })) (idle_closed from k now m.port h)
+    ∙ sym (event_by events now Quiet m)
+
+idle_seen : (l : Link Wire) (h : ℕ) → pulled l ≡ Some h → is_busy (Rattle.wires_agree.specs.Without.link_by without_bits l) ≡ false
+idle_seen Free h e = refl
+idle_seen (Hold since) h e = refl
+idle_seen (Ask byte since) h e = refl
+idle_seen (Request byte) h e = refl
+idle_seen (Busy w) h e = absurd cc
+
+module _ (events : List HostEvent) (latch : ℕ → Lines) (now : ℕ) (bits : ℕ → Bool) (is : IsFrame latch now bits) (b : Pc) (q : Port Wire) (l : Link Wire) (w : ℕ → Wire)
+    (from : Bool) (at : IsAt b l true) (way : IsWay b.side.port q l w from bits) where
+  abbrev pc_at : ℕ → Pc
+  pc_at t = board_cycles events latch t now b
+
+  abbrev model : ℕ → ℕ → Side UnderWay
+  model k n = up_to events from k n now (seen_in_bytes b.side)
+
+  -- in each cycle of cell k both sides are the same, and 18 cycles into it the byte is under way
+  pub record IsOn (k : ℕ) : Type 0 where
+    pub in_cell : (n : ℕ) → n ≤ 31 → seen_in_bytes (pc_at (32 * k + suc n)).side ≡ model k n
+    pub busy : (pc_at (32 * k + 18)).side.port.link ≡ Busy (w k)
+
+  -- or it was broken off since the look before, and in the cells before it was under way
+  pub record IsBroken (k : ℕ) : Type 0 where
+    pub few : k < 10
+    pub in_cell : (n : ℕ) → n ≤ 31 → seen_in_bytes (pc_at (32 * k + suc n)).side ≡ model k n
+    pub since : ℕ
+    pub late : 32 * k + now ≤ since + 14
+    pub pulls : pulled (pc_at (32 * k + 18)).side.port.link ≡ Some since
+    pub opened : (i : ℕ) × (is_breakable (w i) ≡ true)
+    pub before : (i : ℕ) → i < k → IsOn i
+
+  -- cell k has ended, with the byte under way
+  pub record IsThrough (k : ℕ) : Type 0 where
+    pub agrees : seen_in_bytes (pc_at (32 * suc k)).side ≡ model k 31
+    pub there : IsAt (pc_at (32 * suc k)) (Busy (w k)) true
+    pub up_to_here : (i : ℕ) → i < suc k → IsOn i
+
+  abbrev Stands : ℕ → Type 0
+  Stands k = IsThrough k ⊎ ((j : ℕ) × IsBroken j)
+
+  lengthen : (s t : ℕ) (m : Side UnderWay) → t ≡ 17 + s → quietly events 14 t (quietly events 17 s m) ≡ quietly events 31 s m
+  lengthen s t m e = ap (λ j. quietly events 14 j (quietly events 17 s m)) e ∙ sym (quiet_more events 17 14 31 s m refl)
+
+  longer : (k : ℕ) → quietly events 14 (suc (17 + (32 * k + now))) (model k 17) ≡ model k 31
+  longer zero = lengthen (suc now) (suc (17 + (32 * 0 + now))) (byte_cycle events now (Begins from) (seen_in_bytes b.side)) (omega arith)
+  longer (suc k) =
+      let x : ℕ = 32 * suc k + now in
+      lengthen (suc x) (suc (17 + x)) (byte_cycle events x (at_edge from (suc k)) (model k 31)) (omega arith)
+
+  with_this : (k : ℕ) → ((i : ℕ) → i < k → IsOn i) → IsOn k → (i : ℕ) → i < suc k → IsOn i
+  with_this k before on i l = by_case (nat_lt i k) refl
+    where
+      by_case : (c : Bool) → nat_lt i k ≡ c → IsOn i
+      by_case true e = before i (grind (arith, nat_tests, e))
+      by_case false e = let same : k ≡ i = grind (arith, nat_tests, e, l) in subst IsOn same on
+
+  not_last : (k : ℕ) → k < 10 → is_breakable (w k) ≡ true → suc k < 10
+  not_last k l opens = by_case (nat_lt k 9) refl
+    where
+      by_case : (c : Bool) → nat_lt k 9 ≡ c → suc k < 10
+      by_case true e = grind (arith, nat_tests, e)
+      by_case false e =
+          let same : k ≡ 9 = grind (arith, nat_tests, e, l) in
+          let shut : is_breakable (w k) ≡ false = ap (λ j. is_breakable (w j)) same ∙ way.last in
+          absurd (cc (opens, shut))
+
+  -- broken off behind the look of cell k: the look of the next cell sees it
+  next_cell : (k : ℕ) → k < 10 → ((i : ℕ) → i < suc k → IsOn i) → is_breakable (w k) ≡ true
+      → seen_in_bytes (pc_at (32 * suc k)).side ≡ model k 31 → (since : ℕ) → 32 * k + now + 18 ≤ since → pulled (pc_at (32 * suc k)).side.port.link ≡ Some since
+      → IsBroken (suc k)
+  next_cell k below before opens agrees since late pulls =
+      let x : ℕ = 32 * suc k + now in
+      let b' : Pc = pc_at (32 * suc k) in
+      let rest = pulled_span events latch 18 x b' since pulls (omega (arith, late)) in
+      let more : pc_at (32 * suc k + 18) ≡ board_cycles events latch 18 x b' = cycles_more events latch (32 * suc k) 18 (32 * suc k + 18) now b refl in
+      let idle : is_busy (model k 31).port.link ≡ false = ap (λ m. is_busy m.port.link) (sym agrees) ∙ idle_seen b'.side.port.link since pulls in
+      record {
+        few = not_last k below opens;
+        in_cell = λ n short.
+            ap (λ (v : Pc). seen_in_bytes v.side) (cycles_more events latch (32 * suc k) (suc n) (32 * suc k + suc n) now b refl)
+            ∙ (pulled_span events latch (suc n) x b' since pulls (omega (arith, late, short))).0 ∙ ap (λ m. quietly events (suc n) x m) agrees
+            ∙ ap (λ m. quietly events n (suc x) m) (sym (idle_edge events from k x (model k 31) idle));
+        since = since;
+        late = omega (arith, late);
+        pulls = ap (λ (v : Pc). pulled v.side.port.link) more ∙ rest.1;
+        opened = (k, opens);
+        before = before;
+      }
+
+  -- from the state 18 cycles into a cell to its end
+  on_to_end : (k : ℕ) → k < 10 → ((i : ℕ) → i < k → IsOn i) → IsOn k → (pc_at (32 * k + 18)).clock ≡ (latch (17 + (32 * k + now))).clk → Stands k
+  on_to_end k below before on clock =
+      let x : ℕ = 32 * k + now in
+      let y : ℕ = 32 * k + 18 in
+      let c : IsCell latch x (bits k) = is.cells k below in
+      let here : IsAt (pc_at y) (Busy (w k)) (latch (17 + x)).clk = record { link_is = on.busy; clock_is = clock } in
+      let rest = busy_span events latch 14 (17 + x) (pc_at y) (w k) (omega arith) here (λ o lo hi. c.once o (omega (arith, lo)) (omega (arith, hi))) in
+      let z : suc (17 + x) ≡ y + now = omega arith in
+      let e : y + 14 ≡ 32 * suc k = omega arith in
+      let more : pc_at (32 * suc k) ≡ board_cycles events latch 14 (y + now) (pc_at y) = cycles_more events latch y 14 (32 * suc k) now b e in
+      let same : board_cycles events latch 14 (suc (17 + x)) (pc_at y) ≡ pc_at (32 * suc k) = ap (λ j. board_cycles events latch 14 j (pc_at y)) z ∙ sym more in
+      let agrees : seen_in_bytes (pc_at (32 * suc k)).side ≡ model k 31 =
+      ap (λ (v : Pc). seen_in_bytes v.side) (sym same) ∙ rest.0 ∙ ap (λ m. quietly events 14 (suc (17 + x)) m) (on.in_cell 17 (omega arith)) ∙ longer k in
+      elim rest.1 [
+        | inl stays ↦
+            let f : 14 + (17 + x) ≡ 31 + x = omega arith in
+            inl (record {
+              agrees = agrees;
+              there = record {
+                link_is = ap (λ (v : Pc). v.side.port.link) (sym same) ∙ stays.link_is;
+                clock_is = ap (λ (v : Pc). v.clock) (sym same) ∙ stays.clock_is ∙ ap (λ j. (latch j).clk) f ∙ c.rises;
+              };
+              up_to_here = with_this k before on;
+            })
+        | inr broken ↦
+            let p = broken.1 in
+            inr (suc k, next_cell k below (with_this k before on) broken.0 agrees p.since (omega (arith, p.from)) (ap (λ (v : Pc). pulled v.side.port.link) (sym same) ∙ p.is))
+      ]
+
+  -- from a cell's first cycle to its end
+  passes : (k : ℕ) → k < 10 → ((i : ℕ) → i < k → IsOn i) → (l' : Link Wire) (q' : Port Wire) → IsAt (pc_at (32 * k)) l' true
+      → edge_at (32 * k + now) (bits k && (drive l').dat) l' (pc_at (32 * k)).side.port ≡ q' → q'.link ≡ Busy (w k)
+      → port_by without_bits q' ≡ happened_at (32 * k + now) (at_edge from k) (port_by without_bits (pc_at (32 * k)).side.port)
+      → ((n : ℕ) → quietly events n (suc (32 * k + now)) (byte_cycle events (32 * k + now) (at_edge from k) (seen_in_bytes (pc_at (32 * k)).side)) ≡ model k n)
+      → Stands k
+  passes k below before l' q' here edge busy same joins =
+      let x : ℕ = 32 * k + now in
+      let b' : Pc = pc_at (32 * k) in
+      let c = cell events latch x (bits k) b' l' (w k) q' (at_edge from k) (is.cells k below) here edge busy same 17 (omega arith) in
+      let more : pc_at (32 * k + 18) ≡ board_cycles events latch 18 x b' = cycles_more events latch (32 * k) 18 (32 * k + 18) now b refl in
+      let in_cell : (n : ℕ) → n ≤ 31 → seen_in_bytes (pc_at (32 * k + suc n)).side ≡ model k n =
+      λ n short.
+      ap (λ (v : Pc). seen_in_bytes v.side) (cycles_more events latch (32 * k) (suc n) (32 * k + suc n) now b refl)
+      ∙ (cell events latch x (bits k) b' l' (w k) q' (at_edge from k) (is.cells k below) here edge busy same n short).0 ∙ joins n in
+      elim c.1 [
+        | inl stays ↦
+            on_to_end k below before (record { in_cell = in_cell; busy = ap (λ (v : Pc). v.side.port.link) more ∙ stays.link_is })
+            (ap (λ (v : Pc). v.clock) more ∙ stays.clock_is)
+        | inr broken ↦
+            let p = broken.1 in
+            inr (
+              k,
+              record {
+                few = below;
+                in_cell = in_cell;
+                since = p.since;
+                late = omega (arith, p.from);
+                pulls = ap (λ (v : Pc). pulled v.side.port.link) more ∙ p.is;
+                opened = (k, broken.0);
+                before = before;
+              },
+            )
+      ]
+
+  -- up to the end of cell k, or to where it is broken off
+  pub stands : (k : ℕ) → k < 10 → Stands k
+  stands zero below =
+      let z : 32 * 0 + now ≡ now = omega arith in
+      passes 0 below (λ i l. absurd (omega (arith, l))) l q at (way.first (32 * 0 + now)) way.begins (way.starts (32 * 0 + now))
+      (λ n. ap (λ j. quietly events n (suc j) (byte_cycle events j (Begins from) (seen_in_bytes b.side))) z)
+  stands (suc k) below =
+      elim (stands k (omega (arith, below))) [
+        | inl through ↦
+            let x : ℕ = 32 * suc k + now in
+            let b' : Pc = pc_at (32 * suc k) in
+            passes (suc k) below through.up_to_here (Busy (w k)) (record b'.side.port { link = Busy (w (suc k)) }) through.there
+            (way.next k x b'.side.port (omega (arith, below))) refl
+            (way.kind k x b'.side.port (omega (arith, below)) through.there.link_is)
+            (λ n. ap (λ m. quietly events n (suc x) (byte_cycle events x (at_edge from (suc k)) m)) through.agrees)
+        | inr broken ↦ inr broken
+      ]
 
 -- a frame has ended
 pub record IsBehind (b : Pc) : Type 0 where
   pub low : b.clock ≡ false
   pub free : is_busy b.side.port.link ≡ false
 
-module _ (events : List HostEvent) (latch : ℕ → Lines) (now : ℕ) (bits : ℕ → Bool) (is : IsFrame latch now bits) (b : Pc) (q : Port Wire) (l : Link Wire) (w : ℕ → Wire)
-    (from : Bool) (at : IsAt b l true) (way : IsWay b.side.port q l w from bits) where
-  -- up to a cycle of cell k
-  pub into : (k n t u : ℕ) → k < 10 → n ≤ 31 → t ≡ 32 * k + suc n → u ≡ 32 * k + n
-      → (seen_in_bytes (board_cycles events latch t now b).side ≡ quietly events u (suc now) (byte_cycle events now (Begins from) (seen_in_bytes b.side)))
-      × IsAt (board_cycles events latch t now b) (Busy (w k)) (latch (n + (32 * k + now))).clk
-  into zero n t u below short et eu =
-      let z : 32 * 0 + now ≡ now = omega arith in
-      let tn : t ≡ suc n = omega (arith, et) in
-      let un : u ≡ n = omega (arith, eu) in
-      let c = cell events latch now (bits 0) b l (w 0) q (Begins from) (subst (λ j. IsCell latch j (bits 0)) z (is.cells 0 below)) at (way.first now) way.begins
-      (way.starts now) n short in (
-        ap (λ j. seen_in_bytes (board_cycles events latch j now b).side) tn ∙ c.0 ∙ ap (λ j. quietly events j (suc now) (byte_cycle events now (Begins from) (seen_in_bytes b.side))) (sym un),
-        record {
-          link_is = ap (λ j. (board_cycles events latch j now b).side.port.link) tn ∙ c.1.link_is;
-          clock_is = ap (λ j. (board_cycles events latch j now b).clock) tn ∙ c.1.clock_is ∙ ap (λ j. (latch (n + j)).clk) (sym z);
-        },
-      )
-  into (suc k) n t u below short et eu =
-      let before = into k 31 (32 * suc k) (32 * k + 31) (omega (arith, below)) (omega arith) (omega arith) refl in
-      let b' : Pc = board_cycles events latch (32 * suc k) now b in
-      let up : (latch (31 + (32 * k + now))).clk ≡ true = (is.cells k (omega (arith, below))).rises in
-      let at' : IsAt b' (Busy (w k)) true = record { link_is = before.1.link_is; clock_is = before.1.clock_is ∙ up } in
+module _ (events : List HostEvent) (now : ℕ) (m : Side UnderWay) where
+  pub quiet_cells : (k n : ℕ) → k ≤ 8 → up_to events true k n now m ≡ quietly events (32 * k + n) (suc now) (byte_cycle events now (Begins true) m)
+  quiet_cells zero n l = let z : n ≡ 32 * 0 + n = omega arith in ap (λ j. quietly events j (suc now) (byte_cycle events now (Begins true) m)) z
+  quiet_cells (suc k) n l =
       let x : ℕ = 32 * suc k + now in
-      let same : Busy (without_bits (w (suc k))) ≡ Busy (without_bits (w k)) = ap (λ v. Busy v) (way.kind k) in
-      let was : port_by without_bits (record b'.side.port { link = Busy (w (suc k)) }) ≡ port_by without_bits b'.side.port =
-      ap (λ v. record (port_by without_bits b'.side.port) { link = v }) same ∙ ap (λ v. port_by without_bits (record b'.side.port { link = v })) (sym at'.link_is) in
-      let c = cell events latch x (bits (suc k)) b' (Busy (w k)) (w (suc k)) (record b'.side.port { link = Busy (w (suc k)) }) Quiet (is.cells (suc k) below) at'
-      (way.next k x b'.side.port (omega (arith, below))) refl was n short in
-      let more : board_cycles events latch t now b ≡ board_cycles events latch (suc n) x b' = cycles_more events latch (32 * suc k) (suc n) t now b (sym et) in
-      let m : Side UnderWay = byte_cycle events now (Begins from) (seen_in_bytes b.side) in
-      let y : 32 * k + 31 + suc now ≡ x = omega arith in
-      let quiet : quietly events u (suc now) m ≡ quietly events (suc n) x (quietly events (32 * k + 31) (suc now) m) =
-      quiet_more events (32 * k + 31) (suc n) u (suc now) m (omega (arith, eu)) ∙ ap (λ j. quietly events (suc n) j (quietly events (32 * k + 31) (suc now) m)) y in (
-        ap (λ v. seen_in_bytes v.side) more ∙ c.0 ∙ ap (λ v. quietly events (suc n) x v) before.0 ∙ sym quiet,
-        record { link_is = ap (λ v. v.side.port.link) more ∙ c.1.link_is; clock_is = ap (λ v. v.clock) more ∙ c.1.clock_is },
-      )
+      let y : Side UnderWay = byte_cycle events now (Begins true) m in
+      let no : (k == 8) ≡ false = grind (arith, nat_tests, l) in
+      let e : 32 * k + 31 + suc n ≡ 32 * suc k + n = omega arith in
+      let z : 32 * k + 31 + suc now ≡ x = omega arith in
+      ap (λ c. quietly events n (suc x) (byte_cycle events x (if c then Closes else Quiet) (up_to events true k 31 now m))) no
+      ∙ ap (λ v. quietly events (suc n) x v) (quiet_cells k 31 (omega (arith, l)))
+      ∙ sym (quiet_more events (32 * k + 31) (suc n) (32 * suc k + n) (suc now) y e ∙ ap (λ j. quietly events (suc n) j (quietly events (32 * k + 31) (suc now) y)) z)
 
-  -- up to the eleventh edge, by what it does to the port and what happens in byte time
-  pub whole : (e : Event) (p : Pc → Port Wire) → ((v : Pc) → edge_at (320 + now) (bits 10 && (drive (Busy (w 9))).dat) (Busy (w 9)) v.side.port ≡ p v)
-      → ((v : Pc) → v.side.port.link ≡ Busy (w 9) → port_by without_bits (p v) ≡ happened_at (320 + now) e (port_by without_bits v.side.port))
-      → ((v : Pc) → is_busy (p v).link ≡ false)
-      → (t : ℕ) → t ≡ 321
-      → (seen_in_bytes (board_cycles events latch t now b).side
-      ≡ byte_cycle events (320 + now) e (quietly events 319 (suc now) (byte_cycle events now (Begins from) (seen_in_bytes b.side))))
-      × IsBehind (board_cycles events latch t now b)
-  whole e p edge same free t et =
-      let before = into 9 31 320 319 (omega arith) (omega arith) refl refl in
-      let b' : Pc = board_cycles events latch 320 now b in
-      let up : (latch (31 + (32 * 9 + now))).clk ≡ true = (is.cells 9 (omega arith)).rises in
-      let at' : IsAt b' (Busy (w 9)) true = record { link_is = before.1.link_is; clock_is = before.1.clock_is ∙ up } in
-      let more : board_cycles events latch t now b ≡ board_cycle events (320 + now) (latch (320 + now)) b' = cycles_more events latch 320 1 t now b (omega (arith, et)) in
-      let c = fall_cycle events (320 + now) (latch (320 + now)) b' (Busy (w 9)) (p b') e at' is.ends
-      (ap (λ d. edge_at (320 + now) (d && (drive (Busy (w 9))).dat) (Busy (w 9)) b'.side.port) is.last ∙ edge b') (same b' at'.link_is) in (
-        ap (λ v. seen_in_bytes v.side) more ∙ c.0 ∙ ap (λ v. byte_cycle events (320 + now) e v) before.0,
-        record {
-          low = ap (λ v. v.clock) more ∙ c.2;
-          free = ap (λ v. is_busy v.side.port.link) more ∙ ap (λ v. is_busy v.port.link) c.1 ∙ stays_free events (320 + now) (record b'.side { port = p b' }) (free b');
-        },
-      )
-
-length-bits : (bits : ℕ → Bool) (k : ℕ) → length (bits_to bits k) ≡ k
-length-bits bits zero = refl
-length-bits bits (suc k) = let e = length-bits bits k in let l : length (bits_to bits k ++ bits k ∷ []) ≡ length (bits_to bits k) + 1 = length-append (bits_to bits k) (bits k ∷ []) in omega (arith, e, l)
-
-not_ten : (n k : ℕ) → n ≡ suc k → k < 9 → (n == 10) ≡ false
-not_ten n k e l = grind (arith, nat_tests)
-
--- the way of a byte of the keyboard, with its bits
-pub sent_way : (bits : ℕ → Bool) (p : Port Wire) → IsWay p (record p { link = Busy (Recv (bits_to bits 1)) }) Free (λ k. Recv (bits_to bits (suc k))) true bits
-sent_way bits p = record {
-  first = λ now. ap (λ d. record p { link = Busy (Recv (d ∷ [])) }) (and-true (bits 0));
-  begins = refl;
-  starts = λ now. refl;
-  next = λ k now v l.
-      let q : List Bool = bits_to bits (suc k) in
-      ap (λ c. if c then received now (byte_of (q ++ (bits (suc k) && true) ∷ [])) v else record v { link = Busy (Recv (q ++ (bits (suc k) && true) ∷ [])) }) (not_ten (length q) k (length-bits bits (suc k)) l)
-      ∙ ap (λ d. record v { link = Busy (Recv (q ++ d ∷ [])) }) (and-true (bits (suc k)));
-  kind = λ k. refl;
-}
-
--- a frame that the keyboard sends into a free link arrives as its byte
-pub sent_frame : (events : List HostEvent) (latch : ℕ → Lines) (now byte : ℕ) (bits : ℕ → Bool) (b : Pc) → IsFrame latch now bits → IsAt b Free true
-    → byte_of (bits_to bits 11) ≡ Some byte → (t : ℕ) → t ≡ 321
-    → (seen_in_bytes (board_cycles events latch t now b).side ≡ carried events (Sent byte) now (seen_in_bytes b.side)) × IsBehind (board_cycles events latch t now b)
-sent_frame events latch now byte bits b is at right t et =
-    whole events latch now bits is b (record b.side.port { link = Busy (Recv (bits_to bits 1)) }) Free (λ k. Recv (bits_to bits (suc k))) true at (sent_way bits b.side.port) (Arrives byte) (λ v. received (320 + now) (Some byte) v.side.port)
-    (λ v. ap (λ d. received (320 + now) (byte_of (bits_to bits 10 ++ d ∷ [])) v.side.port) (and-true (bits 10)) ∙ ap (λ o. received (320 + now) o v.side.port) right)
-    (λ v e. refl) (λ v. refl) t et
-
--- the way of a byte for the keyboard
-got_way : (byte : ℕ) (bits : ℕ → Bool) (p : Port Wire) → IsWay p (record p { link = Busy (Send byte 1) }) (Request byte) (λ k. Send byte (k + 1)) false bits
-got_way byte bits p = record {
-  first = λ now. refl;
-  begins = refl;
-  starts = λ now. refl;
-  next = λ k now v l.
-      let a : k + 1 ≡ suc k = omega arith in
-      let z : k + 1 + 1 ≡ suc k + 1 = omega arith in
-      ap (λ c. if c then handed_over v else record v { link = Busy (Send byte (k + 1 + 1)) }) (not_ten (k + 1) k a l) ∙ ap (λ n. record v { link = Busy (Send byte n) }) z;
-  kind = λ k. refl;
-}
-
--- a frame that the keyboard clocks while the controller requests ends as handed over
-pub got_frame : (events : List HostEvent) (latch : ℕ → Lines) (now byte : ℕ) (bits : ℕ → Bool) (b : Pc) → IsFrame latch now bits → IsAt b (Request byte) true → (t : ℕ) → t ≡ 321
-    → (seen_in_bytes (board_cycles events latch t now b).side ≡ carried events (Got byte) now (seen_in_bytes b.side)) × IsBehind (board_cycles events latch t now b)
-got_frame events latch now byte bits b is at t et =
-    whole events latch now bits is b (record b.side.port { link = Busy (Send byte 1) }) (Request byte) (λ k. Send byte (k + 1)) false at (got_way byte bits b.side.port) IsWhole
-    (λ v. handed_over v.side.port) (λ v. refl) (λ v e. refl) (λ v. refl) t et
-
--- what the keyboard reads on the data wire from cycle n of cell k on, up to the cell's end
-pub got_level : (events : List HostEvent) (latch : ℕ → Lines) (now byte : ℕ) (bits : ℕ → Bool) (b : Pc) → IsFrame latch now bits → IsAt b (Request byte) true
-    → (k n : ℕ) → k < 10 → n ≤ 31 → (drive (board_cycles events latch (32 * k + suc n) now b).side.port.link).dat ≡ slice_index_or (frame_bits byte) (k + 1) true
-got_level events latch now byte bits b is at k n below short =
-    ap (λ v. (drive v).dat) (into events latch now bits is b (record b.side.port { link = Busy (Send byte 1) }) (Request byte) (λ k. Send byte (k + 1)) false at (got_way byte bits b.side.port) k n (32 * k + suc n) (32 * k + n) below short refl refl).1.link_is
-
-pub frame_shown : FrameShown
-frame_shown events latch now byte bits b is here high k n below short =
-    got_level events latch now byte bits b is (record { link_is = here; clock_is = high }) k n below short
+  pub all_cells : (n : ℕ) → up_to events true 9 n now m ≡ quietly events n (289 + now) (byte_cycle events (288 + now) Closes (quietly events 287 (suc now) (byte_cycle events now (Begins true) m)))
+  all_cells n =
+      let z : suc (288 + now) ≡ 289 + now = omega arith in
+      ap (λ j. quietly events n j (byte_cycle events (288 + now) (at_edge true 9) (up_to events true 8 31 now m))) z
+      ∙ ap (λ v. quietly events n (289 + now) (byte_cycle events (288 + now) Closes v)) (quiet_cells 8 31 (omega arith))

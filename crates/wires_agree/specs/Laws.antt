@@ -8,10 +8,10 @@ use Rattle.ctl_link.specs.Link.{is_busy}
 use Rattle.ctl_link.specs.Pulls.{pulled}
 use Rattle.ctl_link.specs.declared.link.Link.TheVariants.{Request}
 use Rattle.ctl_wire.specs.declared.wire.Wire.{Wire}
-use Rattle.ctl_wire.specs.Wire.{drive}
+use Rattle.ctl_wire.specs.Wire.{drive, is_breakable}
 use Rattle.host_turn.specs.Run.{Side, goes_on}
-use Rattle.pc_wires.specs.Wires.{Pc, pc_at_start}
-use Rattle.byte_time.specs.ByteTime.{quietly}
+use Rattle.pc_wires.specs.Wires.{Pc, pc_at_start, board_cycle}
+use Rattle.byte_time.specs.ByteTime.{quietly, is_open}
 use Rattle.wires_agree.specs.Cells.{IsFrame}
 use Rattle.wires_agree.specs.Cycles.{board_cycles}
 use Rattle.wires_agree.specs.Without.{seen_in_bytes}
@@ -20,7 +20,7 @@ use Rattle.wires_agree.specs.Without.{seen_in_bytes}
 abbrev pub GoesOnAlike : Type 0
 GoesOnAlike =
     (events : List HostEvent) (now : ℕ) (s : Side Wire)
-    → goes_on events now (seen_in_bytes s) ≡ seen_in_bytes (goes_on events now s)
+    → goes_on is_open events now (seen_in_bytes s) ≡ seen_in_bytes (goes_on is_breakable events now s)
 
 -- while the keyboard leaves the clock alone and no byte is under way, the cycles at the wires are those of byte time
 abbrev pub BetweenFrames : Type 0
@@ -37,6 +37,15 @@ WhilePulled =
     → pulled b.side.port.link ≡ Some since → now + n ≤ since + 64
     → (seen_in_bytes (board_cycles events latch n now b).side ≡ quietly events n now (seen_in_bytes b.side))
     × (pulled (board_cycles events latch n now b).side.port.link ≡ Some since)
+
+-- a pull of the clock that a cycle begins lasts 64 cycles at least: it is there after this one and after each of the 63
+-- behind it, whatever the keyboard drives and whatever the host does
+abbrev pub PullsLast : Type 0
+PullsLast =
+    (events : List HostEvent) (latch : ℕ → Lines) (now n : ℕ) (b : Pc)
+    → (drive b.side.port.link).clk ≡ true → (drive (board_cycle events now (latch now) b).side.port.link).clk ≡ false
+    → n < 64
+    → (drive (board_cycles events latch n (suc now) (board_cycle events now (latch now) b)).side.port.link).clk ≡ false
 
 -- up to stamp 0, where the keyboard leaves the clock alone, nothing changes
 abbrev pub StampZeroFirst : Type 0

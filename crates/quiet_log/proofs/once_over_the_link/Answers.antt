@@ -1,4 +1,9 @@
-use Rattle.quiet_log.proofs.Once.{arrival_law, arrives_as_offered, each_byte_once, all_in_order}
+use Rattle.quiet_log.proofs.Once.{arrival_law, arrives_as_offered, cut_offered}
+use Rattle.quiet_log.proofs.Silent.{silent_in_test}
+use Rattle.quiet_log.proofs.EachOnce.{each_byte_once}
+use Rattle.quiet_log.proofs.Counted.{all_counted}
+use Rattle.quiet_log.proofs.InLine.{line_in_order}
+use Rattle.quiet_log.proofs.InOrder.{all_in_order}
 use Rattle.quiet_log.proofs.once_over_the_link.Goals as goal
 
 pub returns-clause-arrival : goal.returns-clause-arrival
@@ -7,8 +12,20 @@ returns-clause-arrival c = arrival_law
 pub returns-clause-offered : goal.returns-clause-offered
 returns-clause-offered c = arrives_as_offered
 
+pub returns-clause-silent : goal.returns-clause-silent
+returns-clause-silent c = silent_in_test
+
 pub returns-clause-tick : goal.returns-clause-tick
 returns-clause-tick c = each_byte_once
 
+pub returns-clause-cut : goal.returns-clause-cut
+returns-clause-cut c = cut_offered
+
 pub returns-clause-run : goal.returns-clause-run
-returns-clause-run c = all_in_order
+returns-clause-run c = all_counted
+
+pub returns-clause-line : goal.returns-clause-line
+returns-clause-line c = line_in_order
+
+pub returns-clause-plain : goal.returns-clause-plain
+returns-clause-plain c = all_in_order

@@ -1,4 +1,4 @@
-use Rattle.wires_agree.proofs.Whole.{frame_shown}
+use Rattle.wires_agree.proofs.Got.{frame_shown}
 use Rattle.wires_agree.proofs.frame_shown.Goals as goal
 
 pub returns : goal.returns

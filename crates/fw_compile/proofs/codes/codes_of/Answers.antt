@@ -5,7 +5,7 @@ use Rattle.std.proofs.lemmas.Grind.{common_steps}
 use Rattle.fw_compile.specs.Image.{code_byte}
 use Rattle.fw_compile.proofs.codes.codes_of.Goals as goal
 
--- one code more
+-- one byte more
 pub loop-number-preserved : goal.loop-number-preserved
 loop-number-preserved c =
     let number = c.loop-number.number in

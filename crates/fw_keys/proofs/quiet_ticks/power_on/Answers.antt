@@ -4,5 +4,6 @@ use Rattle.fw_keys.proofs.quiet_ticks.power_on.Goals as goal
 
 pub returns : goal.returns
 returns c = record {
-  powers_on = λ bytes has small pins tick board low. starts (numbered pins tick) bytes has small low board;
+  powers_on = λ bytes has small pins tick m board fine low. starts (numbered pins tick) bytes has small low m fine
+      board;
 }

@@ -2,10 +2,11 @@ use Rattle.std.proofs.Common.{map, refl, string_bytes}
 use Rattle.std.proofs.lemmas.List.{length-map}
 use Rattle.key_file.specs.declared.fault.KeyFault.TheVariants.{Input}
 use Rattle.kbd48_app.specs.Answers.{answer_of}
-use Rattle.kbd48_app.proofs.Complete.{left}
+use Rattle.kbd48_app.proofs.Complete.{left, left_told}
 use Rattle.kbd48_app.proofs.Faults.{InHex, InAsm, InLayout, InCert, InKeys, InScript}
 use Rattle.kbd48_app.proofs.Refused.{words_only, words_refused}
 use Rattle.kbd48_app.proofs.Told.{told_unserved, told_unserved_only, told_too_long, told_fault, told_timing, told_timing_only, told_input_only, told_stuck, told_stuck_only, told_memory, told_fetches}
+use Rattle.kbd48_app.specs.Says.{text_said}
 use Rattle.kbd48_app.proofs.top.kbd48.Goals as goal
 
 pub returns-clause-complete : goal.returns-clause-complete
@@ -13,6 +14,11 @@ returns-clause-complete g c =
     λ faultless same below.
     left _ (map string_bytes c.args.words.now) (g.F.Shelf.told c.args.shelf.now) _ _ _ _ _ _ _ _ (length-map c.args.probes.now.items _) faultless same below c.conclude.ensures.write
     (answer_of c.answer-answer.result, c.answer-answer.ensures.ends, c.conclude.ensures.says)
+
+pub returns-clause-complete_told : goal.returns-clause-complete_told
+returns-clause-complete_told g c =
+    left_told _ (map string_bytes c.args.words.now) (g.F.Shelf.told c.args.shelf.now) _ _ _ _ _ _ _ _ (length-map c.args.probes.now.items _)
+    (answer_of c.answer-answer.result, c.answer-answer.ensures.ends, c.conclude.ensures.says) (text_said (answer_of c.answer-answer.result)) c.conclude.ensures.lines
 
 pub returns-clause-words : goal.returns-clause-words
 returns-clause-words g c =

@@ -1,4 +1,4 @@
-use Rattle.std.proofs.Common.{◌≡◌, refl, ◌∙◌, arith}
+use Rattle.std.proofs.Common.{◌≡◌, refl, ◌∙◌, arith, rules}
 use Rattle.std.proofs.lemmas.List.FromFn.{map-range_with_len_more}
 use Rattle.layout_reader.specs.Layouts.{us84, sample_entry}
 use Rattle.layout_reader.proofs.Laws.{sample-sound}
@@ -6,8 +6,9 @@ use Rattle.layout_reader.proofs.sample.us84_layout.Goals as goal
 
 pub loop-number-preserved : goal.loop-number-preserved
 loop-number-preserved c =
+    let key : c.unwrap-key.result ≡ c.loop-number.number = search rules in
     rw (map-range_with_len_more sample_entry 0 c.loop-number.number c.loop-number.number (omega arith))
-    (c.in_ok-push.ensures.items ∙ rw (c.loop-number.invariant, c.sample_entry.ensures) refl)
+    (c.in_ok-push.ensures.items ∙ rw (c.loop-number.invariant, c.sample_entry.ensures, key) refl)
 
 pub new-requires-clause-entries : goal.new-requires-clause-entries
 new-requires-clause-entries c =

@@ -3,8 +3,8 @@ use Rattle.std.specs.Prelude.{All}
 use Rattle.board_lines.specs.declared.event.Edge.{Edge}
 use Rattle.board_lines.specs.Cadence.{listed}
 use Rattle.board_lines.specs.Edges.{AreInOrder}
-use Rattle.kbd_model.specs.Codes.{HasKey}
-use Rattle.link_model.proofs.Known.{all_known, few_starts}
+use Rattle.layout_reader.specs.Layouts.{HasEntry}
+use Rattle.link_model.proofs.Known.{few_starts}
 use Rattle.link_model.proofs.expecting.expect.Goals as goal
 
 pub expect_events-requires-clause-order : goal.expect_events-requires-clause-order
@@ -12,8 +12,8 @@ expect_events-requires-clause-order c = subst (λ (es : List Edge). AreInOrder e
 
 pub expect_events-requires-clause-keys : goal.expect_events-requires-clause-keys
 expect_events-requires-clause-keys c =
-    subst (λ (es : List Edge). All (λ e. HasKey c.args.layout.now e.place) es) (sym c.edges.ensures.edges)
-    (all_known c.args.layout.now c.args.history.now.edges c.requires.accepted.places)
+    subst (λ (es : List Edge). All (λ e. HasEntry c.args.layout.now e.place) es) (sym c.edges.ensures.edges)
+    c.requires.accepted.places
 
 pub expect_events-requires-clause-near : goal.expect_events-requires-clause-near
 expect_events-requires-clause-near c =

@@ -1,7 +1,7 @@
 use Rattle.std.proofs.Common.{◌≡◌}
 use Rattle.std.specs.Option.{ForSome}
 use Rattle.board_lines.specs.Cadence.{listed}
-use Rattle.kbd_model.specs.Codes.{HasKey}
+use Rattle.kbd_model.specs.Codes.{HasCode}
 use Rattle.link_model.specs.Expected.{whole_at}
 use Rattle.link_model.specs.Machine.{keyboard}
 use Rattle.link_model.proofs.expecting.expect_events.Given as goal
@@ -9,5 +9,5 @@ use Rattle.link_model.proofs.expecting.expect_events.Given as goal
 abbrev pub invariant-loop-n : goal.invariant-loop-n
 invariant-loop-n l = record {
   is : l.together ≡ whole_at (keyboard l.layout) l.edges l.host (listed l.starts) l.n;
-  known : ForSome l.together.keys.repeats (λ r. HasKey l.layout r.place);
+  known : ForSome l.together.keys.keyboard.repeats (λ r. HasCode l.layout r.place);
 }

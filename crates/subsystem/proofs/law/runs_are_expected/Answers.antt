@@ -17,6 +17,6 @@ returns c = record {
       record {
         log = log;
         cadence = cadence;
-        quiet = λ quiet. log ∙ c.quiet_histories.ensures.listed layout history run.starts.items quiet cadence is.last;
+        quiet = λ quiet. log ∙ c.quiet_histories.ensures.listed layout history run.starts quiet cadence is.last;
       };
 }

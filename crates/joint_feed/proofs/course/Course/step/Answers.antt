@@ -1,56 +1,43 @@
-use Rattle.std.proofs.Common.{◌≤◌, ◌+◌, length, refl, sym, subst}
-use Rattle.joint_feed.specs.Feed.{IsFed}
+use Rattle.std.proofs.Common.{◌≤◌, ◌+◌, length, ap, subst, arith}
+use Rattle.joint_feed.specs.Course.{IsSaid}
 use Rattle.joint_feed.specs.Stories.{story}
-use Rattle.joint_feed.proofs.Going.{no_further, edges_there, host_there, steps_more, on_again, on_moved, stands_still, is_said}
+use Rattle.std.specs.Prelude.{OnOk}
+use Rattle.joint_feed.proofs.Behind.{next_within}
 use Rattle.joint_feed.proofs.course.Course.step.Goals as goal
 
-pub returns-in_err-step_into-clause-on : goal.returns-in_err-step_into-clause-on
-returns-in_err-step_into-clause-on c =
-    let s = story c.args.self.now.joint.image.bytes c.args.history.now in
-    let p = c.args.self.now in
-    let new = c.step_into.new.self in
-    let seen = c.step_into.new.seen in
-    let a = c.edges-edges.ensures.accepted in
-    let e = c.in_err-step_into.ensures in
-    stands_still s p (record { joint = new; feed = p.feed; seen = seen }) c.from_residual.result c.from_residual.ensures.0
-    (on_moved s p new seen e.unchanged c.requires.on) e.unchanged refl
-    (no_further s p new c.in_err-step_into.field-0.0 c.requires.on a.thin a.edges_in_order e.run)
+pub overflow_add-edges : goal.overflow_add-edges
+overflow_add-edges c =
+    let on = c.requires.on in
+    let made = on.made_within in
+    let all = c.args.history.now.edges in
+    let within = next_within 4 c.args.self.now.ahead.made (length c.args.self.now.ahead.due.edges.items) all _ on.fed.edges_next (omega arith) made in
+    let v = c.len.ensures.value in
+    let most = c.end.ensures.accepted.number_in_range in
+    omega (arith, within, v, most)
 
-pub count-requires-clause-made : goal.count-requires-clause-made
-count-requires-clause-made c =
-    let s = story c.args.self.now.joint.image.bytes c.args.history.now in
-    let a = c.edges-edges.ensures.accepted in
-    let e = c.in_ok-step_into.ensures in
-    let there = edges_there s c.args.self.now c.step_into.new.self c.step_into.new.seen c.requires.on a.thin a.edges_in_order e.step e.run in
-    subst (λ v. c.args.self.now.feed.made + c.step_into.new.seen.edges ≤ length v) (sym c.edges-edges.ensures.edges) there
+pub overflow_add-host : goal.overflow_add-host
+overflow_add-host c =
+    let on = c.requires.on in
+    let within = next_within 2 c.args.self.now.ahead.done (length c.args.self.now.ahead.due.host.items) c.args.history.now.host _ on.fed.host_next (omega arith) on.done_within in
+    let v = c.len-2.ensures.value in
+    let most = c.end.ensures.accepted.number_in_range in
+    omega (arith, within, v, most)
 
-pub count-requires-clause-done : goal.count-requires-clause-done
-count-requires-clause-done c =
-    let s = story c.args.self.now.joint.image.bytes c.args.history.now in
-    let a = c.edges-edges.ensures.accepted in
-    let e = c.in_ok-step_into.ensures in
-    let there = host_there s c.args.self.now c.step_into.new.self c.step_into.new.seen c.requires.on a.thin a.edges_in_order e.step e.run in
-    subst (λ v. c.args.self.now.feed.done + c.step_into.new.seen.host ≤ length v) (sym c.host-events.ensures.host) there
+pub at-requires-clause-edges : goal.at-requires-clause-edges
+at-requires-clause-edges c =
+    let on = c.requires.on in
+    let within = next_within 4 c.args.self.now.ahead.made (length c.args.self.now.ahead.due.edges.items) c.args.history.now.edges _ on.fed.edges_next (omega arith) on.made_within in
+    let v = c.len.ensures.value in
+    omega (arith, within, v)
 
-pub returns-clause-on : goal.returns-clause-on
-returns-clause-on c =
-    let h = c.args.history.now in
-    let s = story c.args.self.now.joint.image.bytes h in
-    let p = c.args.self.now in
-    let new = c.step_into.new.self in
-    let seen = c.step_into.new.seen in
-    let a = c.edges-edges.ensures.accepted in
-    let e = c.in_ok-step_into.ensures in
-    let fed : IsFed h.edges h.host c.count.new.self =
-    subst (λ v. IsFed h.edges v c.count.new.self) c.host-events.ensures.host
-    (subst (λ v. IsFed v c.host-events.result.now c.count.new.self) c.edges-edges.ensures.edges c.count.ensures.fed) in (
-      on_again s p new seen c.requires.on a.thin a.edges_in_order e.step e.run c.count.new.self e.some e.few fed c.count.ensures.made c.count.ensures.done,
-      steps_more s p new seen c.requires.on a.thin a.edges_in_order e.step e.run,
-    )
+pub at-requires-clause-host : goal.at-requires-clause-host
+at-requires-clause-host c =
+    let on = c.requires.on in
+    let within = next_within 2 c.args.self.now.ahead.done (length c.args.self.now.ahead.due.host.items) c.args.history.now.host _ on.fed.host_next (omega arith) on.done_within in
+    let v = c.len-2.ensures.value in
+    omega (arith, within, v)
 
 pub returns-clause-said : goal.returns-clause-said
 returns-clause-said c =
-    let s = story c.args.self.now.joint.image.bytes c.args.history.now in
-    let a = c.edges-edges.ensures.accepted in
-    let e = c.in_ok-step_into.ensures in
-    is_said s c.args.self.now c.step_into.new.self c.step_into.new.seen c.requires.on a.thin a.edges_in_order e.step e.run
+    let p = c.args.self.now in
+    subst (λ f. OnOk c.go_on.result (IsSaid (story p.joint.image.bytes f.history) p.joint.steps c.go_on.new.self.seen.items.items)) c.at.ensures c.go_on.ensures.said

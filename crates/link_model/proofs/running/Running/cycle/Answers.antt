@@ -1,5 +1,6 @@
 use Rattle.std.proofs.Common.{◌++◌, ap, ◌∙◌}
 use Rattle.host_turn.specs.Cycle.{cycled}
+use Rattle.byte_time.specs.ByteTime.{is_open}
 use Rattle.link_model.proofs.Steps.{cycle_ends}
 use Rattle.link_model.proofs.running.Running.cycle.Goals as goal
 
@@ -9,5 +10,5 @@ returns c =
     c.counted-self-inside.result c.self.inside.log.items c.log_items.new.log.items c.next-next.result c.go_on-was_done.result
     c.as_slice.result.now c.self.view_is c.next-next.ensures c.go_on-was_done.ensures.desk c.go_on-was_done.ensures.done
     (c.as_slice.ensures.value ∙ c.go_on-was_done.ensures.items
-    ∙ ap (λ v. v ++ (cycled c.args.now c.next-next.result c.self.inside.desk).items) c.new-items.ensures)
+    ∙ ap (λ v. v ++ (cycled is_open c.args.now c.next-next.result c.self.inside.desk).items) c.new-items.ensures)
     c.counted-self-inside.ensures c.in_ok-log_items.ensures

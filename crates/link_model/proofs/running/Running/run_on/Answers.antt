@@ -1,5 +1,6 @@
 use Rattle.std.proofs.Common.{◌≤◌, ◌+◌, arith, refl, subst}
 use Rattle.host_turn.specs.Run.{desk_of}
+use Rattle.byte_time.specs.ByteTime.{is_open}
 use Rattle.link_model.specs.Wakes.{SleepsTo}
 use Rattle.link_model.proofs.Stretch.{run_leaps, run_once}
 use Rattle.link_model.proofs.running.Running.run_on.Goals as goal
@@ -13,7 +14,7 @@ cycles-preserved-then-now-to c =
       runs = run_once c.args.events.now c.args.from c.args.self.now c.sleep-now.result (c.sleep-now.result + 1) c.cycles.self c.cycle.new.self lower refl
           (run_leaps c.args.events.now c.args.from c.args.self.now c.cycles.now c.sleep-now.result c.cycles.self
           c.cycles.invariant.from c.sleep-now.ensures.from c.cycles.invariant.runs
-          (subst (λ o. SleepsTo o (desk_of c.cycles.self) c.cycles.now c.sleep-now.result) c.next-next.ensures c.sleep-now.ensures.sleeps))
+          (subst (λ o. SleepsTo is_open o (desk_of c.cycles.self) c.cycles.now c.sleep-now.result) c.next-next.ensures c.sleep-now.ensures.sleeps))
           c.in_ok-cycle.ensures;
     }
 
@@ -23,5 +24,5 @@ cycles-preserved c = record {
   to = c.sleep-now.ensures.to;
   runs = run_leaps c.args.events.now c.args.from c.args.self.now c.cycles.now c.sleep-now.result c.cycles.self
       c.cycles.invariant.from c.sleep-now.ensures.from c.cycles.invariant.runs
-      (subst (λ o. SleepsTo o (desk_of c.cycles.self) c.cycles.now c.sleep-now.result) c.next-next.ensures c.sleep-now.ensures.sleeps);
+      (subst (λ o. SleepsTo is_open o (desk_of c.cycles.self) c.cycles.now c.sleep-now.result) c.next-next.ensures c.sleep-now.ensures.sleeps);
 }

@@ -1,0 +1,71 @@
+-- What the keyboard drives on the two wires in each tick of the joint run.
+use Rattle.std.specs.Prelude.{◌≡◌, ◌<◌, ℕ, ◌-◌, true, List, Some}
+use Rattle.std.specs.declared.option.Option.{Option}
+use Rattle.bits.specs.Bits.{bit}
+use Rattle.board_lines.specs.declared.event.Edge.{Edge}
+use Rattle.board_lines.specs.declared.event.HostEvent.{HostEvent}
+use Rattle.byte_time.specs.declared.meeting.Meeting.{Meeting}
+use Rattle.byte_time.specs.declared.meeting.Meeting.TheVariants.{Got, Inhibited, Idle, Sent, Cut}
+use Rattle.fw_compile.specs.Image.{image_of}
+use Rattle.fw_kernel.specs.declared.labels.TheConstants.{TICK}
+use Rattle.fw_link.specs.Drives.{Drives, DrivesTick}
+use Rattle.fw_link.specs.Latch.{Frame, NoFrame, SentFrame, CutFrame, ReceivedFrame, tick_latch}
+use Rattle.joint_run.specs.Joint.{Beside, joint_board}
+use Rattle.joint_run.specs.Run.{World}
+use Rattle.joint_run.specs.Starts.{at_tick, IsStart}
+use Rattle.key_file.specs.Accepted.{IsAcceptedFor}
+use Rattle.key_file.specs.Histories.{KeyHistory}
+use Rattle.layout_reader.specs.Layouts.{KeyLayout, IsKeyLayout}
+use Rattle.link_model.specs.Expected.{meeting_from, whole_at}
+use Rattle.link_model.specs.Machine.{Machine, keyboard}
+use Rattle.mcs48_core.specs.Cpu.{Cpu}
+use Rattle.mcs48_ranges.specs.Sizes.{IsFine}
+use Rattle.agreement.specs.Agreement.{switched_on}
+
+-- the frame of a tick with this meeting, where the keyboard offers this byte: the byte that is sent; the byte offered,
+-- cut in one of ten cells; the frame in which the controller's byte is received; or none
+abbrev pub IsFrameOf : Option ℕ → Meeting → Frame → Type 0
+IsFrameOf offered (Sent byte) frame = frame ≡ SentFrame byte
+IsFrameOf offered Cut (CutFrame byte cell) = (offered ≡ Some byte) × (cell < 10)
+IsFrameOf offered Cut NoFrame = ⊥
+IsFrameOf offered Cut (SentFrame byte) = ⊥
+IsFrameOf offered Cut ReceivedFrame = ⊥
+IsFrameOf offered (Got byte) frame = frame ≡ ReceivedFrame
+IsFrameOf offered Inhibited frame = frame ≡ NoFrame
+IsFrameOf offered Idle frame = frame ≡ NoFrame
+
+-- a latch of port 2 that pulls neither wire: bit 0 drives the clock, bit 1 data
+abbrev pub IsLetGo : ℕ → Type 0
+IsLetGo v = (bit 0 v ≡ true) × (bit 1 v ≡ true)
+
+-- a tick of the joint run from its start: the run comes to the next start, and in each cycle on the way the latch of
+-- port 2 is that of a tick with the meeting's frame; outside the frame it pulls neither wire
+pub record DrivesFrame (edges : List Edge) (events : List HostEvent) (bytes : List ℕ) (offered : Option ℕ)
+    (meeting : Meeting) (w : World Beside) : Type 0 where
+  pub frame : Frame
+  pub of_meeting : IsFrameOf offered meeting frame
+  pub before : IsLetGo w.cpu.p2
+  pub lit : ℕ
+  pub behind : IsLetGo lit
+  pub drives : DrivesTick (joint_board edges events) TICK bytes w
+      (λ c. tick_latch w.cpu.p2 lit frame (c - w.cycle))
+      (λ e. (at_tick (joint_board edges events) TICK e ≡ true) × (e.cpu.p2 ≡ lit))
+
+-- so it is in each tick of a run, with the meeting that the model has in the tick of that number, where its ticks start
+-- when the run's do; and from power-on to the first start the latch pulls no wire, and lights no light
+pub record DrivesWires {S : Type 0} (from : World Beside) (bytes : List ℕ) (kb : Machine S) (edges : List Edge)
+    (events : List HostEvent) : Type 0 where
+  pub first : Drives (joint_board edges events) TICK bytes from (λ c. 255)
+      (λ e. at_tick (joint_board edges events) TICK e ≡ true)
+  pub starts : ℕ → ℕ
+  pub each : (n : ℕ) → IsStart (joint_board edges events) TICK bytes from n (starts n)
+  pub frames : (n stamp : ℕ) (s : IsStart (joint_board edges events) TICK bytes from n stamp)
+      → DrivesFrame edges events bytes (kb.offer (whole_at kb edges events starts n).keys)
+      (meeting_from kb events s.state.cycle (whole_at kb edges events starts n)) s.state
+
+-- for every layout and every history that is accepted for it, whatever a part holds when it is switched on
+abbrev pub WiresLaw : Type 0
+WiresLaw =
+    (layout : KeyLayout) (history : KeyHistory) → IsKeyLayout layout → IsAcceptedFor layout history → (m : Cpu) → IsFine m
+    → DrivesWires (switched_on history.edges history.host m) (image_of layout) (keyboard layout) history.edges
+    history.host

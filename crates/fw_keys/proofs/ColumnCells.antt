@@ -1,0 +1,111 @@
+-- The cells of a column: what it changes, where its bytes stand, and its time.
+use Rattle.std.proofs.Common.{◌≡◌, ◌≤◌, ◌<◌, ℕ, suc, zero, ◌+◌, ◌*◌, ◌/◌, ◌%◌, List, Bool, false, not, ◌==◌}
+use Rattle.std.proofs.Common.{if◌then◌else◌, bit_and, bit_xor, refl, ap, sym, ◌∙◌, arith, slice_index}
+use Rattle.std.proofs.lemmas.Bool.Decides.{nat_tests}
+use Rattle.bits.specs.Bits.{bit}
+use Rattle.bits.proofs.Every.{by_below, tests_by}
+use Rattle.mcs48_core.specs.Status.{digit}
+use Rattle.fw_logic.proofs.Block.{memory, put}
+use Rattle.fw_keys.proofs.Blocks.{cell-get}
+use Rattle.fw_keys.proofs.Fold.{Decks}
+use Rattle.fw_keys.proofs.Laid.{laid, laid_low}
+use Rattle.fw_keys.proofs.Patch.{Patch, self, struck}
+use Rattle.fw_keys.proofs.Rows.{marks, rows_time}
+use Rattle.fw_keys.specs.Edges.{image_keys}
+use Rattle.fw_keys.specs.State.{kbd_of}
+
+-- what the columns change: with R0, R7, and the layers
+pub record Wide : Type 0 where
+  pub r0 : ℕ
+  pub r7 : ℕ
+  pub r5 : ℕ
+  pub fn : ℕ
+  pub p : Patch
+  pub bytes : ℕ → ℕ
+
+abbrev pub wide : (ℕ → ℕ) → Wide → ℕ → ℕ
+wide f w = put (put (struck f w.p w.r5 w.fn) 24 w.r0) 31 w.r7
+
+abbrev pub spread : (ℕ → ℕ) → Wide → ℕ → ℕ
+spread f w = laid (wide f w) w.bytes
+
+pub kept_wide : (f : ℕ → ℕ) (w : Wide) (i : ℕ) → 32 ≤ i → i < 60 → wide f w i ≡ f i
+kept_wide f w i l u = grind (arith, nat_tests, l, u)
+
+pub kept_cells : (f : ℕ → ℕ) (w : Wide) (i : ℕ) → 32 ≤ i → i < 60 → spread f w i ≡ f i
+kept_cells f w i l u = laid_low (wide f w) w.bytes i (omega (arith, u)) ∙ kept_wide f w i l u
+
+pub kept_changes : (f : ℕ → ℕ) (w : Wide) (i : ℕ) → i < 12 → spread f w (48 + i) ≡ f (48 + i)
+kept_changes f w i l = kept_cells f w (48 + i) (omega arith) (omega (arith, l))
+
+pub kept_helds : (f : ℕ → ℕ) (w : Wide) (i : ℕ) → i < 12 → spread f w (32 + i) ≡ f (32 + i)
+kept_helds f w i l = kept_cells f w (32 + i) (omega arith) (omega (arith, l))
+
+-- the cell that a register points to
+pub cell_at : (f : ℕ → ℕ) (ring : List ℕ) (v i : ℕ) → v ≡ i → i < 112 → slice_index (memory f ring) (v % 128) ≡ f i
+cell_at f ring v i e l = let m : v % 128 ≡ i = omega (arith, e, l) in let z : 0 + i ≡ i = omega arith in
+    ap (λ k. slice_index (memory f ring) k) m ∙ cell-get f 0 112 ring i l ∙ ap f z
+
+pub held_place : (c : ℕ) → c < 12 → bit_xor (48 + c) 16 ≡ 32 + c
+held_place = by_below 12 (λ c. bit_xor (48 + c) 16) (λ c. 32 + c) refl
+
+abbrev pub left_once : ℕ → ℕ
+left_once a = (2 * a + digit (bit 7 a)) % 256
+
+pub first_row : (c : ℕ) → c < 12 → bit_and (left_once (left_once (left_once (48 + c)))) 120 ≡ 8 * c
+first_row = by_below 12 (λ c. bit_and (left_once (left_once (left_once (48 + c)))) 120) (λ c. 8 * c) refl
+
+pub last_column : (c : ℕ) → c < 12 → not (bit_xor (49 + c) 60 == 0) ≡ not (c == 11)
+last_column = tests_by 12 (λ c. not (bit_xor (49 + c) 60 == 0)) (λ c. not (c == 11)) refl
+
+-- the time of a column, and of n columns
+abbrev pub rows_part : ℕ → ℕ
+rows_part v = if v == 0 then 0 else 93 + 62 * marks 0 8 v
+
+abbrev pub columns_time : (ℕ → ℕ) → ℕ → ℕ → ℕ
+columns_time ch c zero = 0
+columns_time ch c (suc n) = 4 + rows_part (ch c) + 5 + columns_time ch (suc c) n
+
+pub kept_first : (f : ℕ → ℕ) (u v c : ℕ) → c < 12 → put (put f 28 u) 25 v (32 + c) ≡ f (32 + c)
+kept_first f u v c l = grind (arith, nat_tests, l)
+
+pub sums : (a b : ℕ) → 4 + a + (5 + b) ≤ 4 + a + 5 + b
+sums a b = omega arith
+
+pub by_marks : (v k : ℕ) → (v == 0) ≡ false → 32 + (2 + 48 + 62 * k + 15) ≤ 4 + (if v == 0 then 0 else 93 + 62 * k)
+by_marks v k e = rw e (omega arith)
+
+pub layers_pointer : (v c : ℕ) → v ≡ 48 + c → c < 12 → (v + 32) % 256 ≡ 80 + c
+layers_pointer v c e l = omega (arith, e, l)
+
+pub only_pointer : (v c : ℕ) → v ≡ 48 + c → c < 12 → (v + 145) % 256 ≡ 193 + c
+only_pointer v c e l = omega (arith, e, l)
+
+pub kept_layers : (f : ℕ → ℕ) (u v w z c : ℕ) → put (put (put (put f 28 u) 25 v) 31 w) 30 z (80 + c) ≡ f (80 + c)
+kept_layers f u v w z c = grind (arith, nat_tests)
+
+abbrev pub right_once : ℕ → ℕ
+right_once a = 128 * digit (bit 0 a) + a / 2
+
+-- the layers' cell of a column, by the place behind its last row
+pub layers_cell : (c : ℕ) → c < 12 → (right_once (right_once (right_once (8 * c + 8))) + 79) % 256 ≡ 80 + c
+layers_cell = by_below 12 (λ c. (right_once (right_once (right_once (8 * c + 8))) + 79) % 256) (λ c. 80 + c) refl
+
+-- the make-only keys of a column
+pub only_at : (bytes : List ℕ) (c r : ℕ) → r < 8
+    → bit r (slice_index bytes (961 + c)) ≡ (image_keys bytes).make_only (8 * c + r)
+only_at bytes c r l =
+    let a : (8 * c + r) % 8 ≡ r = omega (arith, l) in
+    let b : (8 * c + r) / 8 ≡ c = omega (arith, l) in
+    sym (ap (λ n. bit n (slice_index bytes (961 + (8 * c + r) / 8))) a
+    ∙ ap (λ n. bit r (slice_index bytes (961 + n))) b)
+
+pub column_sum : (v : ℕ) → (v == 0) ≡ false → 32 + (rows_time 0 8 v + 15) ≤ 4 + rows_part v
+column_sum v e = by_marks v (marks 0 8 v) e
+
+abbrev pub decks_of : List Bool → (ℕ → ℕ) → List ℕ → (ℕ → ℕ) → Decks
+decks_of held f ring layers = record { keyboard = kbd_of held f ring; fn = not (f 78 == 0); bytes = layers }
+
+-- nothing changed
+abbrev pub unmoved : (ℕ → ℕ) → (ℕ → ℕ) → Wide
+unmoved f layers = record { r0 = f 24; r7 = f 31; r5 = f 29; fn = f 78; p = self f; bytes = layers }

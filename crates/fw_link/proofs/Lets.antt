@@ -1,0 +1,89 @@
+-- The looks of a sent frame, told from the tick's look at the clock, from that at data and from the first edge; and
+-- what the link is there.
+use Rattle.std.proofs.Common.{◌≡◌, ◌≤◌, ◌<◌, ℕ, ◌+◌, ◌*◌, List, Bool, true, false, Some, refl, ap, sym}
+use Rattle.std.proofs.Common.{◌∙◌, subst, inl, inr, arith}
+use Rattle.board_lines.specs.declared.event.HostEvent.{HostEvent}
+use Rattle.board_lines.specs.declared.lines.Lines.{Lines}
+use Rattle.ctl_link.specs.Pulls.{pulled}
+use Rattle.ctl_link.specs.declared.link.Link.{Link}
+use Rattle.ctl_link.specs.declared.link.Link.TheVariants.{Free, Hold, Ask, Request, Busy}
+use Rattle.ctl_wire.specs.declared.wire.Wire.{Wire}
+use Rattle.ctl_wire.specs.Wire.{drive}
+use Rattle.pc_wires.specs.Wires.{Pc}
+use Rattle.wires_agree.proofs.Meetings.{request_at, free_or_pulls}
+use Rattle.wires_agree.proofs.Pulls.{pulled_span}
+use Rattle.wires_agree.proofs.Spans.{IsAt}
+use Rattle.wires_agree.proofs.Whole.{cycles_more}
+use Rattle.wires_agree.specs.Cells.{IsUp}
+use Rattle.wires_agree.specs.Cycles.{board_cycles}
+use Rattle.wires_agree.specs.Ticks.{at_meeting, leaves_clock}
+
+-- a controller that pulls holds the clock low
+pulls_low : (l : Link Wire) (h : ℕ) → pulled l ≡ Some h → (drive l).clk ≡ false
+pulls_low Free h e = absurd cc
+pulls_low (Hold since) h e = refl
+pulls_low (Ask byte since) h e = refl
+pulls_low (Request byte) h e = absurd cc
+pulls_low (Busy w) h e = absurd cc
+
+-- the state at offset 288, counted from offset 260
+pub from_data : (events : List HostEvent) (lines : ℕ → Lines) (start : ℕ) (b : Pc)
+    → at_meeting events lines start b ≡ board_cycles events lines 28 (260 + start)
+    (board_cycles events lines 4 (256 + start) b)
+from_data events lines start b =
+    let p : 4 + (256 + start) ≡ 260 + start = omega arith in
+    cycles_more events lines 4 28 32 (256 + start) b refl ∙ ap
+    (λ c. board_cycles events lines 28 c (board_cycles events lines 4 (256 + start) b)) p
+
+module _ (events : List HostEvent) (lines : ℕ → Lines) (start : ℕ) where
+  -- whether the controller leaves the clock alone at the look of cell k, by the PC's side at the first edge
+  abbrev pub lets_from : Pc → ℕ → Bool
+  lets_from c k = (drive (board_cycles events lines (32 * k + 18) (288 + start) c).side.port.link).clk
+
+  -- by that at the look at data
+  abbrev lets_behind : Pc → ℕ → Bool
+  lets_behind b k = (drive (board_cycles events lines (28 + 32 * k + 18) (260 + start) b).side.port.link).clk
+
+  -- these are one
+  pub from_edge : (b : Pc) (k : ℕ) → lets_behind b k ≡ lets_from (board_cycles events lines 28 (260 + start) b) k
+  from_edge b k =
+      let p : 28 + (260 + start) ≡ 288 + start = omega arith in
+      ap (λ (c : Pc). (drive c.side.port.link).clk)
+      (cycles_more events lines 28 (32 * k + 18) (28 + 32 * k + 18) (260 + start) b (omega arith)
+      ∙ ap (λ c. board_cycles events lines (32 * k + 18) c (board_cycles events lines 28 (260 + start) b)) p)
+
+  pub from_look : (b : Pc) (k : ℕ)
+      → lets_behind (board_cycles events lines 4 (256 + start) b) k ≡ leaves_clock events lines start b k
+  from_look b k =
+      from_edge (board_cycles events lines 4 (256 + start) b) k
+      ∙ ap (λ c. lets_from c k) (sym (from_data events lines start b))
+
+  -- one that is pulled since the looks is so at the first look of the frame
+  pub pulled_lets : (c : Pc) (since : ℕ) → 256 + start ≤ since → pulled c.side.port.link ≡ Some since
+      → lets_from c 0 ≡ false
+  pulled_lets c since from pulls =
+      pulls_low (board_cycles events lines 18 (288 + start) c).side.port.link since
+      (pulled_span events lines 18 (288 + start) c since pulls (omega (arith, from))).1
+
+module _ (events : List HostEvent) (lines : ℕ → Lines) (start : ℕ) (b : Pc)
+    (up : IsUp lines (256 + start) (288 + start)) where
+  up_to_edge : (o : ℕ) → 256 + start ≤ o → o < 256 + start + 32 → (lines o).clk ≡ true
+  up_to_edge o l u = up o l (omega (arith, u))
+
+  -- a link that is free at the tick's look at the clock, and no longer at the first edge, shows the clock low at the
+  -- first look of the frame
+  pub pulled_look : b.side.port.link ≡ Free → ((at_meeting events lines start b).side.port.link ≡ Free → ⊥)
+      → leaves_clock events lines start b 0 ≡ false
+  pulled_look here gone =
+      elim (free_or_pulls events lines 32 (256 + start) b (omega arith) up_to_edge here) [
+        | inl still ↦ absurd (gone still)
+        | inr p ↦ pulled_lets events lines start (at_meeting events lines start b) p.since p.from p.is
+      ]
+
+  -- a request stays one up to the first edge
+  pub request_at_edge : (byte : ℕ) → b.side.port.link ≡ Request byte
+      → IsAt (board_cycles events lines 28 (260 + start) (board_cycles events lines 4 (256 + start) b)) (Request byte)
+      true
+  request_at_edge byte here =
+      subst (λ q. IsAt q (Request byte) true) (from_data events lines start b)
+      (request_at events lines (256 + start) b byte up_to_edge here)

@@ -1,0 +1,47 @@
+-- What a received frame reads, whatever stands beside the processor.
+use Rattle.std.specs.Prelude.{◌≡◌, ◌<◌, ℕ, ◌+◌, ◌*◌, Bool, true, not, List, [], ◌∷◌, slice_index, if◌then◌else◌}
+use Rattle.bits.specs.Bits.{bit}
+use Rattle.board_lines.specs.Bits.{value}
+use Rattle.board_lines.specs.Frame.{parity_of}
+use Rattle.fw_kernel.specs.Places.{HasKernel}
+use Rattle.fw_kernel.specs.declared.labels.TheConstants.{TICK, GOT, COMMAND}
+use Rattle.fw_logic.specs.Blocks.{IsAt}
+use Rattle.fw_logic.specs.Boards.{numbered}
+use Rattle.fw_link.specs.Latch.{received_latch}
+use Rattle.joint_run.specs.Run.{Board, World, ticks}
+use Rattle.joint_run.specs.Starts.{Comes}
+use Rattle.mcs48_core.specs.Status.{digit}
+use Rattle.mcs48_core.specs.declared.levels.Pins.{Pins}
+
+-- the level of the data wire at the look of cell k, 18 cycles into the cell, where the latch is that of a received
+-- frame
+abbrev pub data_read : (d : Board) → World d.State → ℕ → Bool
+data_read d w k =
+    (d.pins w.cpu.p1 w.cpu.p2 (w.cycle + (28 + 32 * k + 18))
+    (ticks (28 + 32 * k + 18) 0 (λ o. d.tick (received_latch w.cpu.p2 o) (w.cycle + o)) w.board)).t1
+
+-- the byte of the first eight, lowest bit first
+abbrev pub byte_read : (d : Board) → World d.State → ℕ
+byte_read d w =
+    value (data_read d w 0 ∷ data_read d w 1 ∷ data_read d w 2 ∷ data_read d w 3 ∷ data_read d w 4 ∷ data_read d w 5
+    ∷ data_read d w 6 ∷ data_read d w 7 ∷ [])
+
+-- whether the ninth is its parity
+abbrev pub is_right : (d : Board) → World d.State → Bool
+is_right d w = if data_read d w 8 then parity_of (byte_read d w) else not (parity_of (byte_read d w))
+
+-- R4 is the byte; R5 is 255 where its parity was right, and else 0; the latch is as it was
+pub record Reads (d : Board) (w e : World d.State) : Type 0 where
+  pub to : IsAt COMMAND e.cpu
+  pub cycle : e.cycle ≡ w.cycle + 366
+  pub r4 : slice_index e.cpu.ram 28 ≡ byte_read d w
+  pub r5 : slice_index e.cpu.ram 29 ≡ 255 * digit (is_right d w)
+  pub p2 : e.cpu.p2 ≡ w.cpu.p2
+
+-- so it is for any levels at the pins, in every image that has the kernel's bytes outside the layout's tables
+abbrev pub ReadsLaw : Type 0
+ReadsLaw =
+    (bytes : List ℕ) → HasKernel bytes
+    → (pins : ℕ → ℕ → ℕ → ℕ → Pins) (tick : ℕ → ℕ → ℕ → ℕ) (w : World ℕ) → IsAt GOT w.cpu
+    → w.cpu.a < 256 → w.cpu.p2 < 256 → bit 0 w.cpu.p2 ≡ true → bit 1 w.cpu.p2 ≡ true
+    → Comes (numbered pins tick) TICK bytes w (Reads (numbered pins tick) w)

@@ -1,0 +1,38 @@
+use Rattle.std.proofs.Common.{arith}
+use Rattle.io_edge.proofs.Puts.{failed_after, failed_said, saying_first, saying_on, whole_after, whole_said}
+use Rattle.io_edge.proofs.Taken.{on_err, takes_none, takes_part, takes_piece}
+use Rattle.io_edge.proofs.saying.say.Goals as goal
+
+pub loop-start-init : goal.loop-start-init
+loop-start-init g c = record {
+  within = grind (arith);
+  steady = grind (arith);
+  taken = takes_none _ _;
+  saying = saying_first (g.K.Sink.told c.args.out.now) c.args.text.now;
+}
+
+pub loop-start-preserved : goal.loop-start-preserved
+loop-start-preserved g c = record {
+  within = c.line_end-end.ensures.within;
+  steady = grind (arith);
+  taken = takes_piece _ _ _ _ _ _ (grind (arith, c.line_end-end.ensures.more)) c.line_end-end.ensures.within c.loop-start.invariant.taken c.in_ok-put_all.ensures.all;
+  saying = saying_on _ _ _ _ _ _ c.loop-start-test.true c.line_end-end.ensures.first c.loop-start.invariant.saying c.in_ok-put_all.ensures.none_failed c.in_ok-put_all.ensures.after;
+}
+
+pub returns-in_err-put_all-clause-part : goal.returns-in_err-put_all-clause-part
+returns-in_err-put_all-clause-part g c =
+    on_err _ _ (takes_part _ _ _ _ _ _ (grind (arith, c.line_end-end.ensures.more)) c.line_end-end.ensures.within c.loop-start.invariant.taken c.in_err-put_all.ensures.part)
+
+pub returns-in_err-put_all-clause-one_failed : goal.returns-in_err-put_all-clause-one_failed
+returns-in_err-put_all-clause-one_failed g c =
+    on_err _ _ (failed_said _ _ _ _ _ c.loop-start-test.true c.line_end-end.ensures.first c.loop-start.invariant.saying c.in_err-put_all.ensures.one_failed)
+
+pub returns-in_err-put_all-clause-after : goal.returns-in_err-put_all-clause-after
+returns-in_err-put_all-clause-after g c =
+    failed_after _ _ _ _ _ _ c.loop-start-test.true c.line_end-end.ensures.first c.loop-start.invariant.saying c.in_err-put_all.ensures.one_failed c.in_err-put_all.ensures.after
+
+pub returns-clause-none_failed : goal.returns-clause-none_failed
+returns-clause-none_failed g c = whole_said _ _ _ _ c.loop-start-test.false c.loop-start.invariant.saying
+
+pub returns-clause-after : goal.returns-clause-after
+returns-clause-after g c = whole_after _ _ _ _ c.loop-start-test.false c.loop-start.invariant.saying

@@ -1,0 +1,15 @@
+use Rattle.std.proofs.Common.{◌≡◌, length, ◌-◌, ◌≤◌}
+use Rattle.io_edge.specs.Sink.{Takes}
+use Rattle.io_edge.proofs.Puts.{Saying}
+use Rattle.io_edge.proofs.saying.say.Given as goal
+
+abbrev pub invariant-loop-start : goal.invariant-loop-start
+invariant-loop-start g l = record {
+  within : l.start ≤ length l.text;
+  steady : g.K.Sink.faults l.out ≡ g.K.Sink.faults l.initial.out;
+  taken : Takes (g.K.Sink.taken l.initial.out) (g.K.Sink.taken l.out) l.text l.start;
+  saying : Saying (g.K.Sink.told l.initial.out) (g.K.Sink.told l.out) l.text l.start;
+}
+
+abbrev pub decreases-loop-start : goal.decreases-loop-start
+decreases-loop-start g l = length l.text - l.start

@@ -1,0 +1,64 @@
+//! What is said to a sink: a piece whole, and a text line by line.
+
+ghost use Rattle.std.specs.Prelude.{◌≡◌, ℕ, ◌+◌, ◌<◌, ◌≤◌, ◌==◌, length, drop, position, true, false, Some, IfSome, OnErr, OnOk};
+ghost use Rattle.io_edge.specs.Faults.{Rose};
+ghost use Rattle.io_edge.specs.Said.{TakesAll, TakesPart, line_length, offered, said};
+
+use crate::sink::{Sink, SinkFault};
+
+/// Puts the piece, and what wasn't taken of it again, until all of it is taken or a put fails.
+pub fn put_all<K: Sink>(out: &mut K, piece: &[u8]) -> Result<(), SinkFault>
+    ensures all { OnOk result (TakesAll (K.taken out.old) (K.taken out.new) piece.now) }
+    ensures steady { OnOk result (K.faults out.new ≡ K.faults out.old) }
+    ensures part { OnErr result (TakesPart (K.taken out.old) (K.taken out.new) piece.now) }
+    ensures failed { OnErr result (Rose (K.faults out.old) (K.faults out.new)) }
+    ensures none_failed { OnOk result (IfSome (K.told out.old) (λ sink. (offered piece.now sink).failed ≡ false)) }
+    ensures one_failed { OnErr result (IfSome (K.told out.old) (λ sink. (offered piece.now sink).failed ≡ true)) }
+    ensures after { IfSome (K.told out.old) (λ sink. K.told out.new ≡ Some (offered piece.now sink).sink) }
+{
+    let mut done = 0;
+    while done < piece.len() {
+        done += out.put(&piece[done..])?;
+    }
+    Ok(())
+}
+
+/// The place of the first LF, if there is one.
+fn first_lf(text: &[u8]) -> Option<usize>
+    ensures { result ≡ position (λ byte. byte == 10) text.now }
+{
+    text.iter().position(|byte| *byte == b'\n')
+}
+
+/// The place behind the line that begins at `start`: behind its LF, or at the text's end.
+fn line_end(text: &[u8], start: usize) -> usize
+    requires { start < length text.now }
+    ensures more { start < result }
+    ensures within { result ≤ length text.now }
+    ensures first { result ≡ start + line_length (drop start text.now) }
+{
+    match first_lf(&text[start..]) {
+        Some(length) => start + length + 1,
+        None => text.len(),
+    }
+}
+
+/// Says a text: puts it line by line, each line whole, and what wasn't taken of it again, until all is taken or a put
+/// fails.
+pub fn say<K: Sink>(out: &mut K, text: &[u8]) -> Result<(), SinkFault>
+    ensures all { OnOk result (TakesAll (K.taken out.old) (K.taken out.new) text.now) }
+    ensures steady { OnOk result (K.faults out.new ≡ K.faults out.old) }
+    ensures part { OnErr result (TakesPart (K.taken out.old) (K.taken out.new) text.now) }
+    ensures failed { OnErr result (Rose (K.faults out.old) (K.faults out.new)) }
+    ensures none_failed { OnOk result (IfSome (K.told out.old) (λ sink. (said text.now sink).failed ≡ false)) }
+    ensures one_failed { OnErr result (IfSome (K.told out.old) (λ sink. (said text.now sink).failed ≡ true)) }
+    ensures after { IfSome (K.told out.old) (λ sink. K.told out.new ≡ Some (said text.now sink).sink) }
+{
+    let mut start = 0;
+    while start < text.len() {
+        let end = line_end(text, start);
+        put_all(out, &text[start..end])?;
+        start = end;
+    }
+    Ok(())
+}

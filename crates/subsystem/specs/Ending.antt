@@ -1,0 +1,19 @@
+-- What a run comes to whose log wasn't kept.
+use Rattle.joint_feed.specs.Stories.{Story}
+use Rattle.key_file.specs.Histories.{KeyHistory}
+use Rattle.subsystem.specs.declared.ended.Ended.{Ended}
+use Rattle.subsystem.specs.Running.{Outcome, lines_of, log_at}
+
+-- its log is what the run's steps said, each item with its tick
+abbrev pub ending : Story → Ended → Outcome
+ending s ended = record {
+  log = lines_of ended.starts.items (log_at s ended.steps);
+  starts = ended.starts.items;
+  end = ended.end;
+  steps = ended.steps;
+  cycles = ended.cycles;
+}
+
+-- the history of what is run
+abbrev pub history_of : Story → KeyHistory
+history_of s = record { edges = s.edges; host = s.events; end = s.stop }

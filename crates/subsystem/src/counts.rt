@@ -1,0 +1,45 @@
+//! Counts of what a run says.
+
+ghost use Rattle.std.specs.Prelude.{◌≡◌, ◌<◌, ◌^◌, ◌∷◌, []};
+ghost use Rattle.subsystem.specs.Counts.{none_counted, with_lines};
+
+use link_model::LogLine;
+use pc_tables::Item;
+
+/// How many bytes came to port 60h, how many words into the buffer of INT 09h, and how many beeps there were.
+#[derive(Clone, Copy, Debug, PartialEq, Eq)]
+pub struct Counts {
+    pub ports: u64,
+    pub words: u64,
+    pub beeps: u64,
+}
+
+impl Counts {
+    /// Nothing is counted.
+    pub fn none() -> Counts
+        ensures { result ≡ none_counted }
+    {
+        Counts {
+            ports: 0,
+            words: 0,
+            beeps: 0,
+        }
+    }
+
+    /// The counts with one line more.
+    pub fn with(self, line: LogLine) -> Counts
+        requires ports { self.ports < 2 ^ 63 }
+        requires words { self.words < 2 ^ 63 }
+        requires beeps { self.beeps < 2 ^ 63 }
+        ensures { result ≡ with_lines self (line ∷ []) }
+    {
+        let mut counts = self;
+        match line.item {
+            Item::Port(_) => counts.ports += 1,
+            Item::Word(_) => counts.words += 1,
+            Item::Beep => counts.beeps += 1,
+            _ => {}
+        }
+        counts
+    }
+}

@@ -1,0 +1,169 @@
+//! A run in bounded memory: its events come from a feed, and its log goes to a sink as it arises.
+
+ghost use Rattle.std.specs.Prelude.{◌≡◌, ◌-◌, true, length, map, IfOk, OnErr, OnOk};
+ghost use Rattle.board_lines.specs.Cadence.{KeepsCadenceTo, listed};
+ghost use Rattle.fw_compile.specs.Image.{image_of};
+ghost use Rattle.fw_debug.specs.Looks.{looks};
+ghost use Rattle.io_edge.specs.Faults.{Rose};
+ghost use Rattle.io_edge.specs.Said.{TakesAll};
+ghost use Rattle.joint_feed.specs.Stories.{story};
+ghost use Rattle.key_file.specs.Accepted.{IsAcceptedFor};
+ghost use Rattle.key_file.specs.Feeds.{Fed};
+ghost use Rattle.layout_reader.specs.Layouts.{IsKeyLayout, KeyLayout};
+ghost use Rattle.subsystem.specs.Agreement.{IsAsExpected};
+ghost use Rattle.subsystem.specs.Counts.{none_counted, with_lines};
+ghost use Rattle.subsystem.specs.Ending.{ending, history_of};
+ghost use Rattle.subsystem.specs.Looking.{HaveLookedAtSome};
+ghost use Rattle.subsystem.specs.Progress.{IsJudged, IsReady, lines_to};
+ghost use Rattle.subsystem.specs.Putting.{TakesSome};
+ghost use Rattle.subsystem.specs.Running.{IsOutcome};
+ghost use Rattle.subsystem.specs.Texts.{log_text};
+
+use crate::counts::Counts;
+use crate::ended::Ended;
+use crate::law::{keeps_time, runs_are_expected};
+use crate::outcome::copied;
+use crate::pace::Pace;
+use crate::putting::put_items;
+use fw_compile::compile;
+use fw_debug::Probe;
+use int09::Bios;
+use io_edge::{Sink, SinkFault};
+use key_file::Feed;
+use layout_reader::Layout;
+use mcs48_isa::Image;
+use std::alloc::{AllocError, Global};
+use std::marker::Model;
+
+/// The cycles of a tick.
+const TICK_CYCLES: u64 = 2_048;
+
+/// The run of a layout's compiled image under the history of a feed, at power-on, with all the memory that it takes. A
+/// clause sees what is run.
+#[derive(Drop)]
+pub struct Engine<F: Feed> {
+    image: Image,
+    feed: F,
+    pace: Pace,
+}
+
+impl<F: Feed> Model for Engine<F> {
+    ghost use Rattle.joint_feed.specs.Stories.{Story, story};
+    ghost use Rattle.subsystem.specs.Progress.{IsReady};
+
+    ghost Value = { Story };
+
+    ghost view = { λ e. story e.image.bytes (F.told e.feed).history };
+
+    ghost invariant = { λ e. IsReady e.image.bytes (F.told e.feed) e.pace };
+}
+
+/// Goes on from power-on to the run's end. After each step each probe looks, and then the lines of what the step said are
+/// put.
+fn go_to_end<F: Feed, K: Sink>(
+    pace: &mut Pace,
+    counts: &mut Counts,
+    image: &Image,
+    feed: &mut F,
+    out: &mut K,
+    probes: &mut Vec<Box<dyn Probe>>,
+) -> Result<(), SinkFault>
+    requires ready { IsReady image.now.bytes (F.told feed.old) pace.old }
+    requires none { counts.old ≡ none_counted }
+    ensures judged { OnOk result (IsJudged (story image.now.bytes (F.told feed.old).history) true pace.new) }
+    ensures all { let run = story image.now.bytes (F.told feed.old).history in
+        OnOk result (TakesAll (K.taken out.old) (K.taken out.new) (log_text (lines_to run pace.new.starts.items pace.new.course.joint.steps))) }
+    ensures counts { let run = story image.now.bytes (F.told feed.old).history in
+        OnOk result (counts.new ≡ with_lines none_counted (lines_to run pace.new.starts.items pace.new.course.joint.steps)) }
+    ensures steady { OnOk result (K.faults out.new ≡ K.faults out.old) }
+    ensures part { OnErr result (TakesSome (story image.now.bytes (F.told feed.old).history) (K.taken out.old) (K.taken out.new)) }
+    ensures failed { OnErr result (Rose (K.faults out.old) (K.faults out.new)) }
+    ensures looked { let run = story image.now.bytes (F.told feed.old).history in
+        let before = map (λ b. watch b) probes.old.items in
+        OnOk result (map (λ b. watch b) probes.new.items ≡ looks run pace.new.course.joint.steps before) }
+    ensures looked_so_far { let run = story image.now.bytes (F.told feed.old).history in
+        let before = map (λ b. watch b) probes.old.items in
+        OnErr result (HaveLookedAtSome run before (map (λ b. watch b) probes.new.items)) }
+{
+    'steps: while !pace.judge_within(image, feed) {
+        pace.advance(image, feed, probes);
+        put_items(out, counts, pace.tick(), pace.course.seen.items.as_slice())?;
+    }
+    Ok(())
+}
+
+/// What a run that is over comes to.
+fn ended_of(pace: Pace, counts: Counts) -> Ended
+    ensures starts { result.starts ≡ pace.starts }
+    ensures end { result.end ≡ pace.course.joint.mcu }
+    ensures steps { result.steps ≡ pace.course.joint.steps }
+    ensures cycles { result.cycles ≡ pace.course.joint.cycle }
+    ensures counts { result.counts ≡ counts }
+{
+    let steps = pace.course.joint.steps();
+    let cycles = pace.course.joint.cycle();
+    let end = copied(pace.course.joint.mcu());
+    Ended {
+        starts: pace.starts,
+        end,
+        steps,
+        cycles,
+        counts,
+    }
+}
+
+impl<F: Feed> Engine<F> {
+    /// The run of the image that `compile` gives for a layout, under the history of a feed of which nothing was taken and
+    /// which is accepted for this layout. Takes all memory that the run takes: the buffer of INT 09h, and room for each
+    /// tick start. Where memory is wanting the feed is given up.
+    pub fn new(alloc: Global, layout: &Layout, feed: F) -> Result<Engine<F>, AllocError>
+        requires no_edge { (F.told feed).edges ≡ 0 }
+        requires no_host { (F.told feed).host ≡ 0 }
+        requires accepted { IsAcceptedFor layout.now (F.told feed).history }
+        ensures engine { IfOk result (λ engine. engine ≡ story (image_of layout.now) (F.told feed).history) }
+    {
+        keeps_time(layout);
+        let image = compile(layout);
+        let bios = Bios::new(alloc)?;
+        let most = feed.end() / TICK_CYCLES + 2;
+        let starts = Vec::with_capacity(alloc, most as usize)?;
+        let mut feed = feed;
+        let pace = Pace::begin(starts, &image, bios, &mut feed);
+        Ok(Engine { image, feed, pace })
+    }
+
+    /// Makes the joint run from power-on to the first tick start at or after the end stamp, before the step that begins
+    /// there, and takes no memory. After each step each probe looks at the state that it led to, and then each line of the
+    /// log that arose in the step is put, whole and alone.
+    ///
+    /// On Ok the sink has taken the whole text of the log, which is the one that the model expects for the layout, its
+    /// count of faults is as it was, and the probes have looked at each state. A failure comes only where a put failed:
+    /// then the sink has a prefix of what some first steps of the run say, and the probes have looked at the states of
+    /// some first steps.
+    pub fn run_to<K: Sink>(
+        self,
+        out: &mut K,
+        probes: &mut Vec<Box<dyn Probe>>,
+    ) -> Result<Ended, SinkFault>
+        ensures run { IfOk result (λ ended. IsOutcome self (ending self ended)) }
+        ensures taken { IfOk result (λ ended. TakesAll (K.taken out.old) (K.taken out.new) (log_text (ending self ended).log)) }
+        ensures counts { IfOk result (λ ended. ended.counts ≡ with_lines none_counted (ending self ended).log) }
+        ensures agrees { IfOk result (λ ended. (layout : KeyLayout) → IsKeyLayout layout → IsAcceptedFor layout (history_of self)
+            → self.bytes ≡ image_of layout → IsAsExpected layout (history_of self) (ending self ended)) }
+        ensures cadence { IfOk result (λ ended. KeepsCadenceTo (listed ended.starts.items) (length ended.starts.items - 1)) }
+        ensures steady { OnOk result (K.faults out.new ≡ K.faults out.old) }
+        ensures part { OnErr result (TakesSome self (K.taken out.old) (K.taken out.new)) }
+        ensures failed { OnErr result (Rose (K.faults out.old) (K.faults out.new)) }
+        ensures looked { let before = map (λ b. watch b) probes.old.items in
+            IfOk result (λ ended. map (λ b. watch b) probes.new.items ≡ looks self ended.steps before) }
+        ensures looked_so_far { HaveLookedAtSome self (map (λ b. watch b) probes.old.items) (map (λ b. watch b) probes.new.items) }
+    {
+        runs_are_expected();
+        let image = self.image;
+        let mut feed = self.feed;
+        let mut pace = self.pace;
+        let mut counts = Counts::none();
+        go_to_end(&mut pace, &mut counts, &image, &mut feed, out, probes)?;
+        Ok(ended_of(pace, counts))
+    }
+}

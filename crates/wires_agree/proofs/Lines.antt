@@ -1,0 +1,13 @@
+-- Lines that agree give one PC's side.
+use Rattle.std.proofs.Common.{◌≡◌, ℕ, suc, zero, ◌+◌, ◌≤◌, ◌<◌, List, refl, ap, ◌∙◌, arith}
+use Rattle.board_lines.specs.declared.event.HostEvent.{HostEvent}
+use Rattle.board_lines.specs.declared.lines.Lines.{Lines}
+use Rattle.pc_wires.specs.Wires.{Pc, board_cycle}
+use Rattle.wires_agree.specs.Cycles.{board_cycles}
+
+pub same_lines : (events : List HostEvent) (one other : ℕ → Lines) (n now : ℕ) (b : Pc) → ((o : ℕ) → now ≤ o → o < now + n → one o ≡ other o)
+    → board_cycles events one n now b ≡ board_cycles events other n now b
+same_lines events one other zero now b same = refl
+same_lines events one other (suc n) now b same =
+    ap (λ l. board_cycles events one n (suc now) (board_cycle events now l b)) (same now (omega arith) (omega arith))
+    ∙ same_lines events one other n (suc now) (board_cycle events now (other now) b) (λ o a u. same o (omega (arith, a)) (omega (arith, u)))
