@@ -1,5 +1,9 @@
-//! The kernel: its labels, and its ticks.
+//! The kernel: its labels, its cells, and its ticks.
 
+use fw_kernel::cells::{
+    AADUE, COUNT, DISABLED, FN, HEAD, HELD, LAST, LAYER, LIGHTS, MODE, RATE, RCOUNT, REPLY,
+    REPLYDUE, RINDEX, STARTED, TEST,
+};
 use fw_kernel::{KERNEL, SOURCE, TICK, WAIT};
 use mcs48_asm::assemble;
 use mcs48_core::{Pins, reset};
@@ -29,6 +33,62 @@ fn tick_and_wait_are_labels_of_the_source(rt: HostRuntime) -> Result<(), Fail> {
             jump.map(|jump| jump.op),
             Some(Op::Flow(FlowOp::Jmp(label)))
         );
+    }
+    Ok(())
+}
+
+/// The cells that the source names, each with its name.
+static CELLS: [(&str, u8); 15] = [
+    ("HELD", HELD),
+    ("REPLYDUE", REPLYDUE),
+    ("AADUE", AADUE),
+    ("COUNT", COUNT),
+    ("STARTED", STARTED),
+    ("TEST", TEST),
+    ("MODE", MODE),
+    ("DISABLED", DISABLED),
+    ("RINDEX", RINDEX),
+    ("RATE", RATE),
+    ("RCOUNT", RCOUNT),
+    ("REPLY", REPLY),
+    ("LAST", LAST),
+    ("LIGHTS", LIGHTS),
+    ("FN", FN),
+];
+
+/// The two that have a line in the source's table of data memory alone.
+static TOLD: [(&str, u8); 2] = [("HEAD", HEAD), ("LAYER", LAYER)];
+
+/// A byte with each name for its value, assembled behind the source, is the cell that its constant gives.
+#[test]
+fn each_cell_is_the_sources(rt: HostRuntime) -> Result<(), Fail> {
+    let alloc = rt.alloc();
+    let mut text = String::from_str(alloc, SOURCE)?;
+    text.push_str("\n ORG 700H\n")?;
+    for (name, _) in &CELLS {
+        text.push_str(format!(in alloc; " DB {name}\n")?.as_str())?;
+    }
+    assert!(rt; text.len() < 32_768);
+    let image = assemble(alloc, text.as_bytes())?;
+    for ((name, cell), byte) in CELLS.iter().zip(&image.bytes[0x700..]) {
+        assert_eq!(rt; *byte, *cell, "{}", name);
+    }
+    Ok(())
+}
+
+/// The source's table of data memory has a line for each: the cell, or the first of its cells, and the name.
+#[test]
+fn each_cell_is_in_the_sources_table(rt: HostRuntime) -> Result<(), Fail> {
+    for (name, cell) in CELLS.iter().chain(&TOLD) {
+        let start = format!(in rt.alloc(); ";   {cell:02X}")?;
+        let named = format!(in rt.alloc(); "{name} ")?;
+        let found = SOURCE.as_bytes().split(|byte| *byte == b'\n').any(|line| {
+            line.starts_with(start.as_bytes())
+                && line
+                    .get(12..)
+                    .is_some_and(|rest| rest.starts_with(named.as_bytes()))
+        });
+        assert!(rt; found, "{}", name);
     }
     Ok(())
 }

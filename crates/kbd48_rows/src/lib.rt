@@ -15,6 +15,8 @@ mod compiling;
 #[cfg(test)]
 mod debugging;
 #[cfg(test)]
+mod hostile;
+#[cfg(test)]
 mod kernel;
 #[cfg(test)]
 mod keys;

@@ -90,6 +90,12 @@ static HELD: [(&str, &str); 3] = [
     ),
 ];
 
+/// H, i and Enter are typed, and a program takes one word more than they enter.
+pub const TYPING_HI: (&str, &str) = (
+    "400ms press lshift\n450ms press h\n500ms release h\n550ms release lshift\n600ms press i\n645ms release i\n700ms press enter\n745ms release enter\n780ms take\n780ms take\n780ms take\n780ms take\n800ms end",
+    "64 port AA\n80 port 2A\n89 port 23\n89 word 2348\n100 port A3\n110 port AA\n119 port 17\n119 word 1769\n128 port 97\n138 port 1C\n138 word 1C0D\n148 port 9C\n152 taken 2348\n152 taken 1769\n152 taken 1C0D\n152 taken none\n",
+);
+
 /// Keys with a shift, on the keypad, and while the PC's end is masked.
 static MORE_TYPED: [(&str, &str); 3] = [
     (
@@ -100,10 +106,7 @@ static MORE_TYPED: [(&str, &str); 3] = [
         "400ms press alt\n450ms press kp2\n460ms release kp2\n500ms press kp5\n510ms release kp5\n550ms press kp7\n560ms release kp7\n600ms release alt\n700ms end",
         "64 port AA\n80 port 38\n89 port 50\n92 port D0\n99 port 4C\n102 port CC\n109 port 47\n112 port C7\n120 port B8\n120 word 0001\n",
     ),
-    (
-        "400ms press lshift\n450ms press h\n500ms release h\n550ms release lshift\n600ms press i\n645ms release i\n700ms press enter\n745ms release enter\n780ms take\n780ms take\n780ms take\n780ms take\n800ms end",
-        "64 port AA\n80 port 2A\n89 port 23\n89 word 2348\n100 port A3\n110 port AA\n119 port 17\n119 word 1769\n128 port 97\n138 port 1C\n138 word 1C0D\n148 port 9C\n152 taken 2348\n152 taken 1769\n152 taken 1C0D\n152 taken none\n",
-    ),
+    TYPING_HI,
 ];
 
 /// The host's commands to the keyboard.

@@ -4,7 +4,7 @@ use crate::rows::{Row, check, run, shelf_of};
 use kbd48_app::Exit;
 use std::test::Fail;
 
-const HALF_CARRY: &str = ":04000000237F030156\n:00000001FF\n";
+pub const HALF_CARRY: &str = ":04000000237F030156\n:00000001FF\n";
 
 const TIMER: &str = ":020000000409F1\n:0200070017934D\n:0800090023FF62272555040FB7\n:00000001FF\n";
 

@@ -14,3 +14,6 @@ pub mod EachOnce
 pub mod Counted
 pub mod InLine
 pub mod InOrder
+pub mod Said
+pub mod Weight
+pub mod Length

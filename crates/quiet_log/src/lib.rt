@@ -1,5 +1,5 @@
-//! What is so of the model's whole runs: each byte passes over the link exactly once, and a quiet history has one log,
-//! wherever in the cadence its ticks start.
+//! What is so of the model's whole runs: each byte passes over the link exactly once, a quiet history has one log,
+//! wherever in the cadence its ticks start, and no history's log is longer than its ticks and events allow.
 //!
 //! A tick may start up to five cycles past its multiple of 2,048, as the run comes to it. A history is quiet where the
 //! host writes, reads and masks nothing, its stamps lie in the second halves of the ticks, and its end isn't one to
@@ -8,6 +8,7 @@
 //! it is computed. It must not know how a run is made, nor the text of a log. Source: our own.
 #![tactic(auto)]
 
+ghost use Rattle.quiet_log.specs.Length.{LengthLaw, LimitLaw};
 ghost use Rattle.quiet_log.specs.Once.{AllCounted, AllInOrder, ArrivalLaw, ArrivesAsOffered, CutIsOffered};
 ghost use Rattle.quiet_log.specs.Once.{EachByteOnce, LineInOrder, SilentInTest};
 ghost use Rattle.quiet_log.specs.Quiet.{EvenLaw, ListedLaw, QuietLaw};
@@ -36,4 +37,11 @@ pub fn once_over_the_link()
     ensures run { AllCounted }
     ensures line { LineInOrder }
     ensures plain { AllInOrder }
+{}
+
+/// A log has four items a tick at most, and four an event of the host: fewer than 800,000 for an accepted history, whose
+/// ticks have their starts in the cadence up to the first at or after its end.
+pub fn logs_are_limited()
+    ensures length { LengthLaw }
+    ensures limit { LimitLaw }
 {}
