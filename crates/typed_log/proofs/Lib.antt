@@ -1,1 +1,3 @@
-pub mod Trial
+pub mod Found
+pub mod Struck
+pub mod Played
