@@ -8,7 +8,7 @@ use Rattle.layout_reader.specs.declared.entry.Entry.{Entry}
 use Rattle.layout_reader.specs.Entries.{IsEntry}
 use Rattle.layout_reader.specs.Layouts.{AreEntries, places_of, entry_at}
 
-same_place : (n : ℕ) → (n == n) ≡ true
+pub same_place : (n : ℕ) → (n == n) ≡ true
 same_place n = grind (arith, nat_tests)
 
 module _ (p : Entry → Bool) (e : Entry) where

@@ -70,7 +70,7 @@ module _ {S : Type 0} (kb : Machine S) (h : KeyHistory) (ss : List Stroke) (host
   next_is : (done stop : ℕ) → stop ≤ stroke_start done + 18432 → IsUndueTo h.host done stop
   next_is done stop l e g =
       let k : e.stamp ≡ stroke_start (done + 0) + 14336 =
-          take_only 0 done ss e (ap (λ v. slice_get v done) (sym host) ∙ g) in
+      take_only 0 done ss e (ap (λ v. slice_get v done) (sym host) ∙ g) in
       omega (arith, l, k)
 
   -- the model after so many ticks, and what was said up to then
@@ -104,8 +104,8 @@ module _ {S : Type 0} (kb : Machine S) (h : KeyHistory) (ss : List Stroke) (host
         let q : Pc = met_by (meets kb c) c.pc in
         let z : 1024 + (5120 + 2048 * n) ≡ 6144 + 2048 * n = omega arith in
         let u : IsUndueTo h.host q.done (6144 + 2048 * n) =
-            subst (λ d. IsUndueTo h.host d (6144 + 2048 * n)) (sym (met_done (meets kb c) c.pc))
-            (next_is c.pc.done (6144 + 2048 * n) (omega (arith, l))) in
+        subst (λ d. IsUndueTo h.host d (6144 + 2048 * n)) (sym (met_done (meets kb c) c.pc))
+        (next_is c.pc.done (6144 + 2048 * n) (omega (arith, l))) in
         goes_on n c after words items r
         (ap (λ v. record {
           keys = kb.ticked (meets kb c) v c.keys;
@@ -129,10 +129,10 @@ module _ {S : Type 0} (kb : Machine S) (h : KeyHistory) (ss : List Stroke) (host
         let z : suc 1023 + (5120 + 2048 * n) ≡ 6144 + 2048 * n = omega arith in
         let y : c.pc.done + 0 ≡ c.pc.done = omega arith in
         let is : slice_get h.host q.done ≡ Some (take_of (stroke_start c.pc.done)) =
-            ap (λ v. slice_get v q.done) host ∙ ap (λ v. slice_get (takes_from 0 ss) v) d ∙ take_at 0 c.pc.done ss l
-            ∙ ap (λ v. Some (take_of (stroke_start v))) y in
+        ap (λ v. slice_get v q.done) host ∙ ap (λ v. slice_get (takes_from 0 ss) v) d ∙ take_at 0 c.pc.done ss l
+        ∙ ap (λ v. Some (take_of (stroke_start v))) y in
         let u : IsUndueTo h.host (q.done + 1) (6144 + 2048 * n) =
-            next_is (q.done + 1) (6144 + 2048 * n) (omega (arith, at, d)) in
+        next_is (q.done + 1) (6144 + 2048 * n) (omega (arith, at, d)) in
         let now : stroke_start c.pc.done + 18432 ≡ 5120 + 2048 * n = omega (arith, at) in
         goes_on n c after words items r
         (ap (λ v. record {

@@ -125,7 +125,7 @@ abbrev pub Fits : List Entry → Stroke → Type 0
 Fits es (Plain key) = IsTaken es key.place
 Fits es (Shifted shift key) = AreApart es shift.place key.place
 
-apart_of : (es : List Entry) (c : ℕ) (shift key : Entry) → IsUnderShift es c shift key → (shift.place == key.place) ≡ false
+pub apart_of : (es : List Entry) (c : ℕ) (shift key : Entry) → IsUnderShift es c shift key → (shift.place == key.place) ≡ false
 apart_of es c shift key u =
     elim (shift.place == key.place) as (λ b. (shift.place == key.place) ≡ b → b ≡ false) [
       | true ↦ λ h.
