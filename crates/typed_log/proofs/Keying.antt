@@ -1,21 +1,18 @@
 -- The keyboard's ticks while keys are struck.
-use Rattle.std.proofs.Common.{◌≡◌, ℕ, suc, zero, ◌+◌, ◌-◌, ◌<◌, ◌≤◌, ◌≢◌, Bool, true, false, not, ◌&&◌, ◌||◌, ◌==◌, List, [], ◌∷◌, ◌++◌, length, replicate, get_or, set, Some, None, refl, ap, sym, ◌∙◌, subst, arith}
-use Rattle.std.specs.Prelude.{if◌then◌else◌, nat_lt, slice_index_or, slice_set}
+use Rattle.std.proofs.Common.{◌≡◌, ℕ, suc, zero, ◌+◌, ◌-◌, ◌<◌, ◌≤◌, ◌≢◌, Bool, true, false, not, ◌&&◌, ◌||◌, ◌==◌, List, [], ◌∷◌, ◌++◌, length, replicate, get_or, set, Some, None, refl, ap, sym, ◌∙◌, arith}
+use Rattle.std.specs.Prelude.{if◌then◌else◌, nat_lt}
 use Rattle.std.specs.declared.option.Option.{Option}
 use Rattle.std.proofs.lemmas.List.{get_or-replicate, get_or-set_other, set-get_or}
 use Rattle.board_lines.specs.Matrix.{all_up, turned}
-use Rattle.layout_reader.specs.Layouts.{KeyLayout, is_fn_place}
 use Rattle.kbd_model.specs.declared.edge.TickEdge.{TickEdge}
-use Rattle.kbd_model.specs.declared.meeting.Meeting.{Meeting as KeyboardMeeting}
-use Rattle.kbd_model.specs.declared.meeting.Meeting.TheVariants as kbd
 use Rattle.kbd_model.specs.declared.state.Mode.TheVariants.{Ready}
 use Rattle.kbd_model.specs.declared.state.Repeat.{Repeat}
-use Rattle.kbd_model.specs.Codes.{Keys, keys_of, make, release}
+use Rattle.kbd_model.specs.Codes.{Keys, make, release}
 use Rattle.kbd_model.specs.Queue.{KeyQueue, enter}
 use Rattle.kbd_model.specs.Typematic.{delay, period}
 use Rattle.kbd_model.specs.Keyboard.{Keyboard}
-use Rattle.kbd_model.specs.Layers.{Layers, no_layers, layered, all_layers_after}
-use Rattle.kbd_model.specs.Tick.{ticked, scanned, edges_if, ended_at}
+use Rattle.kbd_model.specs.Layers.{no_layers, layered, all_layers_after}
+use Rattle.kbd_model.specs.Tick.{scanned, edges_if, ended_at}
 
 -- the keyboard behind its test, at the rate that it had at power-on
 abbrev pub typing : ℕ → ℕ → List ℕ → Bool → Option Repeat → List Bool → Keyboard

@@ -1,13 +1,12 @@
 -- A stroke without shift, from rest to rest.
-use Rattle.std.proofs.Common.{◌≡◌, ℕ, suc, zero, ◌+◌, ◌-◌, ◌*◌, ◌<◌, ◌≤◌, Bool, true, false, ◌==◌, cond, List, [], ◌∷◌, ◌++◌, length, append-nil, Some, None, refl, ap, sym, ◌∙◌, subst, arith}
+use Rattle.std.proofs.Common.{◌≡◌, ℕ, suc, ◌+◌, ◌-◌, ◌*◌, ◌<◌, ◌≤◌, Bool, true, false, ◌==◌, List, [], ◌∷◌, ◌++◌, length, append-nil, Some, None, refl, ap, subst, arith}
 use Rattle.std.specs.Prelude.{slice_get, if◌then◌else◌}
 use Rattle.std.specs.declared.option.Option.{Option}
 use Rattle.bits.specs.Bits.{with_bit}
-use Rattle.pc_tables.specs.declared.item.Item.TheVariants.{Port, Word, Taken}
+use Rattle.pc_tables.specs.declared.item.Item.TheVariants.{Port, Word}
 use Rattle.int09.specs.Bios.{State, start, quiet}
 use Rattle.int09.specs.Rules.{fed}
 use Rattle.ctl_core.specs.ScanCodes.{translated}
-use Rattle.board_lines.specs.declared.event.Edge.{Edge}
 use Rattle.board_lines.specs.Matrix.{all_up, turned}
 use Rattle.layout_reader.specs.declared.entry.Entry.{Entry}
 use Rattle.layout_reader.specs.Layouts.{KeyLayout}
@@ -21,7 +20,7 @@ use Rattle.typed_log.specs.Typing.{Stroke, Plain, stroke_start, presses, release
 use Rattle.typed_log.proofs.Struck.{AllFit}
 use Rattle.typed_log.proofs.Found.{same_place}
 use Rattle.typed_log.proofs.Tables.{entered}
-use Rattle.typed_log.proofs.Keying.{later, pressed_at, struck, up_at_first, delay_long}
+use Rattle.typed_log.proofs.Keying.{pressed_at, struck, up_at_first, delay_long}
 use Rattle.typed_log.proofs.Turns.{Line, IsKeyAt, Moves, nothing, prefix, code_passes, no_edges, press_moves, silent_moves, break_moves}
 use Rattle.typed_log.proofs.Turns.{turn, taking_turn}
 use Rattle.typed_log.proofs.Resting.{line, not_one, At, Rest, idle, none_then, one_then, rests}

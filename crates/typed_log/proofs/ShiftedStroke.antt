@@ -1,10 +1,10 @@
 -- A stroke under shift, from rest to rest.
-use Rattle.std.proofs.Common.{◌≡◌, ℕ, suc, zero, ◌+◌, ◌-◌, ◌*◌, ◌<◌, ◌≤◌, ◌≢◌, Bool, true, false, ◌==◌, cond, List, [], ◌∷◌, ◌++◌, length, append-nil, Some, None, refl, ap, sym, ◌∙◌, subst, arith}
+use Rattle.std.proofs.Common.{◌≡◌, ℕ, suc, ◌+◌, ◌-◌, ◌*◌, ◌<◌, ◌≤◌, ◌≢◌, Bool, true, false, ◌==◌, List, [], ◌∷◌, ◌++◌, length, append-nil, Some, None, refl, subst, arith}
 use Rattle.std.specs.Prelude.{slice_get, if◌then◌else◌}
 use Rattle.std.specs.declared.option.Option.{Option}
 use Rattle.bits.specs.Bits.{with_bit}
-use Rattle.pc_tables.specs.declared.item.Item.TheVariants.{Port, Word, Taken}
-use Rattle.int09.specs.Bios.{State, start, quiet}
+use Rattle.pc_tables.specs.declared.item.Item.TheVariants.{Port, Word}
+use Rattle.int09.specs.Bios.{start, quiet}
 use Rattle.int09.specs.Rules.{fed}
 use Rattle.ctl_core.specs.ScanCodes.{translated}
 use Rattle.board_lines.specs.Matrix.{all_up, turned}
@@ -19,7 +19,7 @@ use Rattle.quiet_log.proofs.Calm.{Pc}
 use Rattle.typed_log.specs.Typing.{Stroke, Shifted, stroke_start, presses, releases, edges_from, takes_from}
 use Rattle.typed_log.proofs.Struck.{AllFit}
 use Rattle.typed_log.proofs.Tables.{entered, under_shift_key, with_word}
-use Rattle.typed_log.proofs.Keying.{later, pressed_at, struck, up_at_first, up_beside, delay_long}
+use Rattle.typed_log.proofs.Keying.{pressed_at, struck, up_at_first, up_beside, delay_long}
 use Rattle.typed_log.proofs.Turns.{Line, IsKeyAt, Moves, nothing, prefix, code_passes, no_edges, press_moves, silent_moves, break_moves}
 use Rattle.typed_log.proofs.Turns.{turn, taking_turn}
 use Rattle.typed_log.proofs.Resting.{line, not_one, At, Rest, idle, none_then, one_then, rests}

@@ -1,7 +1,6 @@
 -- The first eighty ticks: the keyboard's test, its end that is told, and rest.
-use Rattle.std.proofs.Common.{◌≡◌, ℕ, suc, zero, ◌+◌, ◌-◌, ◌*◌, ◌<◌, ◌≤◌, Bool, true, false, not, ◌&&◌, ◌==◌, List, [], ◌∷◌, ◌++◌, length, append-nil, Some, None, refl, ap, sym, ◌∙◌, subst, arith}
+use Rattle.std.proofs.Common.{◌≡◌, ℕ, suc, zero, ◌+◌, ◌-◌, ◌*◌, ◌<◌, ◌≤◌, Bool, true, false, not, ◌==◌, List, [], ◌∷◌, ◌++◌, None, refl, ap, ◌∙◌, subst, arith}
 use Rattle.std.specs.Prelude.{if◌then◌else◌}
-use Rattle.std.specs.declared.option.Option.{Option}
 use Rattle.std.proofs.lemmas.Bool.Decides.{nat_tests}
 use Rattle.std.proofs.lemmas.List.Elements.{All-nil}
 use Rattle.pc_tables.specs.declared.item.Item.TheVariants.{Port}
@@ -10,7 +9,6 @@ use Rattle.int09.specs.Bios.{start}
 use Rattle.int09.specs.Rules.{fed, marks, on_sysreq, alt_broken, on_shift_key}
 use Rattle.board_lines.specs.Matrix.{all_up}
 use Rattle.layout_reader.specs.Layouts.{KeyLayout}
-use Rattle.byte_time.specs.declared.meeting.Meeting.{Meeting}
 use Rattle.kbd_model.specs.declared.state.Mode.TheVariants.{Ready}
 use Rattle.kbd_model.specs.Codes.{Keys, keys_of}
 use Rattle.kbd_model.specs.Queue.{empty}
@@ -19,9 +17,7 @@ use Rattle.kbd_model.specs.Tick.{met, tested_if, is_inhibited, is_scanning, scan
 use Rattle.key_file.specs.Histories.{KeyHistory}
 use Rattle.link_model.specs.declared.line.LogLine.{LogLine}
 use Rattle.link_model.specs.Machine.{LayeredKeyboard, keyboard, met_as}
-use Rattle.link_model.specs.TickEdges.{tick_edges}
-use Rattle.quiet_log.specs.Quiet.{even}
-use Rattle.quiet_log.proofs.Calm.{Pc, Calm, calm_meeting, meets, met_by, items_of_meeting}
+use Rattle.quiet_log.proofs.Calm.{Pc, Calm, calm_meeting, met_by, items_of_meeting}
 use Rattle.typed_log.specs.Typing.{Stroke, edges_from, takes_from}
 use Rattle.typed_log.specs.Typed.{is_loss}
 use Rattle.typed_log.proofs.Struck.{AllFit}

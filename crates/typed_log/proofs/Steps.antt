@@ -1,9 +1,8 @@
 -- A tick of the typed history, by the edges that it sees and whether a word is taken in it.
-use Rattle.std.proofs.Common.{◌≡◌, ℕ, suc, zero, ◌+◌, ◌*◌, ◌≤◌, ◌<◌, List, [], ◌∷◌, ◌++◌, length, map, append_assoc, Bool, true, false, Option, Some, None, refl, ap, sym, ◌∙◌, subst, arith}
+use Rattle.std.proofs.Common.{◌≡◌, ℕ, suc, ◌+◌, ◌*◌, ◌≤◌, ◌<◌, List, [], ◌∷◌, ◌++◌, length, append_assoc, Bool, true, false, Option, Some, None, refl, ap, sym, ◌∙◌, subst, arith}
 use Rattle.std.specs.Prelude.{All, slice_get}
 use Rattle.std.proofs.lemmas.List.Elements.{All-nil, All-cons, All-append}
 use Rattle.pc_tables.specs.declared.item.Item.{Item}
-use Rattle.board_lines.specs.declared.event.HostEvent.{HostEvent}
 use Rattle.ctl_core.specs.Translation.{translation}
 use Rattle.byte_time.specs.declared.meeting.Meeting.{Meeting}
 use Rattle.byte_time.specs.declared.meeting.Meeting.TheVariants.{Got, Inhibited, Idle, Sent, Cut}
@@ -12,11 +11,11 @@ use Rattle.link_model.specs.declared.line.LogLine.{LogLine}
 use Rattle.link_model.specs.Machine.{Machine}
 use Rattle.link_model.specs.TickEdges.{tick_edges}
 use Rattle.quiet_log.specs.Quiet.{even}
-use Rattle.quiet_log.proofs.Calm.{Pc, Calm, meets, met_by, read_of, marked, light_items, items_of_meeting, pc_after, items_in}
+use Rattle.quiet_log.proofs.Calm.{Pc, Calm, meets, met_by, read_of, marked, light_items, items_of_meeting, pc_after}
 use Rattle.quiet_log.proofs.Calm.{calm_tick, calm_items, calm_at, calm_lines, in_tick}
 use Rattle.typed_log.specs.Typing.{Stroke, stroke_start, take_of, takes_from}
 use Rattle.typed_log.specs.Typed.{is_loss, taken_by, taken_in}
-use Rattle.typed_log.proofs.Takes.{took, taken_if, said_if, IsUndueTo, undue, undue_silent, taken, taken_says, take_at, take_only}
+use Rattle.typed_log.proofs.Takes.{taken_if, said_if, IsUndueTo, undue, undue_silent, taken, taken_says, take_at, take_only}
 
 abbrev pub stepped : {S : Type 0} → Machine S → List (ℕ × Bool) → Bool → Calm S → Calm S
 stepped kb edges takes c = record {

@@ -1,5 +1,5 @@
 -- What INT 09h does with each key that types a character, and with the shift keys, by trying each.
-use Rattle.std.proofs.Common.{◌≡◌, ℕ, suc, zero, ◌+◌, ◌<◌, ◌%◌, Bool, true, false, ◌==◌, List, [], ◌∷◌, Some, None, refl, ap, sym, ◌∙◌, subst, arith}
+use Rattle.std.proofs.Common.{◌≡◌, ℕ, suc, zero, ◌<◌, ◌%◌, Bool, true, false, ◌==◌, List, [], ◌∷◌, Some, None, refl, ap, sym, ◌∙◌, subst, arith}
 use Rattle.std.specs.Prelude.{if◌then◌else◌, nat_eq}
 use Rattle.std.specs.declared.option.Option.{Option}
 use Rattle.std.proofs.lemmas.Bool.Decides.{nat_tests}
@@ -12,8 +12,8 @@ use Rattle.ctl_core.specs.ScanCodes.{scan_codes, translated}
 use Rattle.int09.specs.Bios.{State, Outcome, start, quiet}
 use Rattle.int09.specs.Keys.{reverses}
 use Rattle.int09.specs.Rules.{fed, marks, on_sysreq, alt_broken, on_shift_key, locks, lock_made, on_lock_key, without_words}
-use Rattle.int09.specs.Rules.{in_pause, with_alt, with_ctrl, alone, alt_typed}
-use Rattle.typed_log.specs.Typing.{Column, base, shifted, word_of, is_shift}
+use Rattle.int09.specs.Rules.{in_pause, with_alt, with_ctrl, alone}
+use Rattle.typed_log.specs.Typing.{base, shifted, word_of, is_shift}
 
 abbrev table : {X : Type 0} → (ℕ → X) → ℕ → List X
 table f zero = []

@@ -1,29 +1,26 @@
 -- A text, stroke by stroke.
-use Rattle.std.proofs.Common.{◌≡◌, ℕ, suc, zero, ◌+◌, ◌-◌, ◌*◌, ◌/◌, ◌%◌, ◌<◌, ◌≤◌, ◌≢◌, Bool, true, false, not, ◌&&◌, ◌==◌, List, [], ◌∷◌, ◌++◌, length, map, append-nil, append_assoc, find, Some, None, refl, ap, sym, ◌∙◌, subst, arith}
-use Rattle.std.specs.Prelude.{All, IfSome, slice_get, is_none, option_and_then, unwrap_or}
+use Rattle.std.proofs.Common.{◌≡◌, ℕ, suc, ◌+◌, ◌*◌, ◌%◌, ◌<◌, ◌≤◌, ◌≢◌, Bool, true, false, not, ◌==◌, List, [], ◌∷◌, ◌++◌, length, map, append-nil, append_assoc, Some, None, refl, ap, sym, ◌∙◌, subst, arith}
+use Rattle.std.specs.Prelude.{IfSome, slice_get, is_none, option_and_then, unwrap_or}
 use Rattle.std.specs.Option.{option_map}
 use Rattle.std.proofs.lemmas.List.{map-append}
 use Rattle.std.specs.declared.option.Option.{Option}
 use Rattle.std.proofs.lemmas.Bool.{eqb-true}
-use Rattle.std.proofs.lemmas.Bool.Decides.{nat_tests}
 use Rattle.bits.proofs.Every.{and-left, and-right}
 use Rattle.pc_tables.specs.Keys.{scan_at, code_at as code_of_key}
 use Rattle.layout_reader.specs.declared.entry.Entry.{Entry}
-use Rattle.layout_reader.specs.Entries.{IsEntry, is_fn}
-use Rattle.layout_reader.specs.Layouts.{KeyLayout, IsKeyLayout, entry_at, base_key, code_at, is_make_only, is_fn_place}
+use Rattle.layout_reader.specs.Entries.{IsEntry}
+use Rattle.layout_reader.specs.Layouts.{KeyLayout, IsKeyLayout, base_key, code_at, is_make_only}
 use Rattle.layout_reader.proofs.FnKey.{is_silent_at_fn}
-use Rattle.kbd_model.specs.Codes.{Keys, keys_of}
 use Rattle.key_file.specs.Histories.{KeyHistory}
-use Rattle.link_model.specs.declared.line.LogLine.{LogLine}
 use Rattle.link_model.specs.Machine.{keyboard}
 use Rattle.quiet_log.specs.Quiet.{IsQuiet, even, last_even, quiet_log}
 use Rattle.quiet_log.proofs.Calm.{calm_lines}
 use Rattle.quiet_log.proofs.Ran.{even_law, expected_is}
 use Rattle.typed_log.specs.Typing.{Stroke, Plain, Shifted, Column, base, shifted, is_low, word_of, enters, is_shift, sends_shift}
-use Rattle.typed_log.specs.Typing.{is_shift_entry, character, stroke_start, edges_from, takes_from, planned, strokes_of}
-use Rattle.typed_log.specs.Typed.{is_loss, taken_in, low_byte, Says, StrokesSayText}
+use Rattle.typed_log.specs.Typing.{is_shift_entry, character, stroke_start, edges_from, takes_from, planned}
+use Rattle.typed_log.specs.Typed.{low_byte, Says, StrokesSayText}
 use Rattle.typed_log.proofs.Found.{Found, same_place}
-use Rattle.typed_log.proofs.Struck.{IsUnderShift, IsStroke, Types, AreStrokes, AllFit, all_fit, strokes_are, lengths, apart_of}
+use Rattle.typed_log.proofs.Struck.{IsUnderShift, Types, AreStrokes, AllFit, all_fit, strokes_are, lengths, apart_of}
 use Rattle.typed_log.proofs.Played.{playable}
 use Rattle.typed_log.proofs.Tables.{no_prefix, scan_is, plain_makes, plain_breaks, shift_makes, shift_breaks, shifted_makes}
 use Rattle.typed_log.proofs.Tables.{shifted_breaks, is_left}

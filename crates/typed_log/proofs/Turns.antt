@@ -1,5 +1,5 @@
 -- A tick while a text is typed: its meeting, its edges, and whether a word is taken in it.
-use Rattle.std.proofs.Common.{◌≡◌, ℕ, suc, zero, ◌+◌, ◌*◌, ◌<◌, ◌≤◌, Bool, true, false, not, ◌&&◌, ◌==◌, List, [], ◌∷◌, ◌++◌, length, append-nil, Some, None, refl, ap, sym, ◌∙◌, subst, arith}
+use Rattle.std.proofs.Common.{◌≡◌, ℕ, suc, ◌+◌, ◌*◌, ◌<◌, Bool, true, false, not, ◌&&◌, ◌==◌, List, [], ◌∷◌, ◌++◌, length, append-nil, Some, None, refl, ap, ◌∙◌, subst}
 use Rattle.std.specs.Prelude.{if◌then◌else◌, nat_lt}
 use Rattle.std.specs.declared.option.Option.{Option}
 use Rattle.bits.specs.Bits.{with_bit}
@@ -18,17 +18,17 @@ use Rattle.kbd_model.specs.declared.edge.TickEdge.{TickEdge}
 use Rattle.kbd_model.specs.declared.state.Repeat.{Repeat}
 use Rattle.kbd_model.specs.Codes.{Keys, keys_of}
 use Rattle.kbd_model.specs.Keyboard.{Keyboard}
-use Rattle.kbd_model.specs.Layers.{Layers, no_layers, layered, all_layers_after}
+use Rattle.kbd_model.specs.Layers.{no_layers, layered, all_layers_after}
 use Rattle.kbd_model.specs.Tick.{ticked, edges_if, ended_at}
 use Rattle.key_file.specs.Histories.{KeyHistory}
-use Rattle.link_model.specs.Machine.{Machine, LayeredKeyboard, keyboard, met_as}
+use Rattle.link_model.specs.Machine.{LayeredKeyboard, keyboard, met_as}
 use Rattle.link_model.specs.TickEdges.{tick_edges}
 use Rattle.quiet_log.specs.Quiet.{even}
-use Rattle.quiet_log.proofs.Calm.{Pc, Calm, calm_meeting, meets, met_by, read_of, marked, items_of_meeting, said_of_read}
+use Rattle.quiet_log.proofs.Calm.{Pc, Calm, meets, met_by, read_of, marked, items_of_meeting, said_of_read}
 use Rattle.typed_log.specs.Typing.{Stroke, takes_from}
 use Rattle.typed_log.proofs.Takes.{took}
-use Rattle.typed_log.proofs.Steps.{Reached, AreKept, taken_of, stepped, says, ticks_on, ticks_taking}
-use Rattle.typed_log.proofs.Keying.{typing, later, IsLong, waits, edge, pressed_at, presses, ends_silently, ends}
+use Rattle.typed_log.proofs.Steps.{Reached, AreKept, taken_of, ticks_on, ticks_taking}
+use Rattle.typed_log.proofs.Keying.{typing, later, IsLong, waits, pressed_at, presses, ends_silently, ends}
 use Rattle.typed_log.proofs.Keying.{layers_of_press, layers_of_release, release_layered}
 
 -- what waits in the queue, and what passes in a tick

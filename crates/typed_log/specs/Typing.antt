@@ -117,7 +117,8 @@ releases entry stamp = record { stamp = stamp; place = entry.place; down = false
 abbrev pub edges_of : ℕ → Stroke → List Edge
 edges_of start (Plain key) = presses key start ∷ releases key (start + 10240) ∷ []
 edges_of start (Shifted shift key) =
-    presses shift start ∷ presses key (start + 2048) ∷ releases key (start + 8192) ∷ releases shift (start + 10240) ∷ []
+    presses shift start ∷ presses key (start + 2048)
+    ∷ releases key (start + 8192) ∷ releases shift (start + 10240) ∷ []
 
 -- the host takes the word seven ticks after the stroke began
 abbrev pub take_of : ℕ → HostEvent
