@@ -1,5 +1,5 @@
 -- A plan, read again, is the history of its strokes.
-use Rattle.std.proofs.Common.{◌≡◌, ◌≤◌, ◌<◌, ℕ, suc, ◌+◌, ◌*◌, true, false, List, [], ◌∷◌, ◌++◌, length, Some, Ok, codes, refl, ap, sym, subst, ◌∙◌, append_assoc, append-nil, arith, decimal}
+use Rattle.std.proofs.Common.{◌≡◌, ◌≤◌, ◌<◌, ℕ, suc, ◌+◌, List, [], ◌∷◌, ◌++◌, length, Ok, codes, refl, ap, sym, subst, ◌∙◌, append_assoc, append-nil, arith, decimal}
 use Rattle.std.specs.Str.Lines.{lines}
 use Rattle.board_lines.specs.declared.event.Edge.{Edge}
 use Rattle.board_lines.specs.declared.event.HostEvent.{HostEvent}
@@ -9,7 +9,7 @@ use Rattle.layout_reader.specs.Layouts.{KeyLayout, IsKeyLayout}
 use Rattle.key_file.specs.Accepted.{IsAccepted}
 use Rattle.key_file.specs.Histories.{KeyHistory, at_first}
 use Rattle.key_file.specs.KeyFile.{history_of, with_fault_told}
-use Rattle.typed_log.specs.Typing.{Stroke, Plain, Shifted, character, enters, base, shifted, is_shift_entry, strokes_of, stroke_start, presses, releases, edges_of, take_of, edges_from, takes_from, planned}
+use Rattle.typed_log.specs.Typing.{Stroke, Plain, Shifted, character, enters, base, shifted, is_shift_entry, stroke_start, presses, releases, edges_of, take_of, edges_from, takes_from, planned}
 use Rattle.key_planner.specs.Plan.{press_line, release_line, take_line, end_line, stroke_lines, lines_from, plan_of}
 use Rattle.typed_log.proofs.Struck.{IsStroke, AreStrokes}
 use Rattle.key_planner.proofs.Following.{Follows, follows-edge, follows-host, follows-end}

@@ -1,6 +1,6 @@
 -- What the lines of a text come to, where each says what is next of an accepted history.
-use Rattle.std.proofs.Common.{◌≡◌, ◌≤◌, ◌<◌, ℕ, suc, ◌+◌, ◌-◌, Bool, true, false, List, [], ◌∷◌, ◌++◌, length, None, Some, Ok, refl, ap, sym, subst, ◌∙◌, append_assoc, append-nil, arith, length-append}
-use Rattle.std.specs.Prelude.{All, nat_le, nat_lt, is_some, codes}
+use Rattle.std.proofs.Common.{◌≡◌, ◌≤◌, ◌<◌, ℕ, ◌+◌, false, List, [], ◌∷◌, ◌++◌, length, None, Some, Ok, refl, ap, sym, subst, ◌∙◌, append_assoc, append-nil, arith, length-append}
+use Rattle.std.specs.Prelude.{All, nat_le, nat_lt, codes}
 use Rattle.std.specs.Str.Lines.{lines}
 use Rattle.std.proofs.lemmas.Bool.Decides.{nat_tests}
 use Rattle.std.proofs.lemmas.List.{get_or_at}
@@ -11,7 +11,7 @@ use Rattle.text_lines.specs.Fields.{fields}
 use Rattle.first_fault.specs.FirstFault.{Judgement, first_broken, and_then, at_item, outcome_from}
 use Rattle.key_file.specs.Accepted.{IsAccepted}
 use Rattle.key_file.specs.Histories.{KeyHistory, Before, stamp_at, with_event}
-use Rattle.key_file.specs.Briefs.{Brief, brief_of}
+use Rattle.key_file.specs.Briefs.{brief_of}
 use Rattle.key_file.specs.Fields.{place_named, edge_of, act_of, stamp_of, event_in, said_by}
 use Rattle.key_file.specs.KeyFile.{take_event, take_line, take_said, finish}
 use Rattle.key_file.specs.Rules.{key_judgements, is_too_many, judgements}

@@ -1,6 +1,6 @@
 -- An edge of an accepted history breaks no rule, after the edges before it.
-use Rattle.std.proofs.Common.{◌≡◌, ◌≤◌, ◌<◌, ℕ, suc, ◌+◌, ◌-◌, Bool, true, false, cond, not, ◌==◌, List, [], ◌∷◌, ◌++◌, length, None, Some, refl, ap, sym, subst, ◌∙◌, append_assoc, arith}
-use Rattle.std.specs.Prelude.{nat_le, nat_lt, is_some}
+use Rattle.std.proofs.Common.{◌≡◌, ◌≤◌, ℕ, suc, ◌+◌, ◌-◌, Bool, true, false, cond, not, ◌==◌, List, [], ◌∷◌, ◌++◌, length, None, Some, refl, ap, sym, subst, ◌∙◌, append_assoc, arith}
+use Rattle.std.specs.Prelude.{nat_le, nat_lt}
 use Rattle.std.specs.List.{last_or}
 use Rattle.std.specs.declared.option.Option.{Option}
 use Rattle.std.proofs.lemmas.Bool.Decides.{nat_tests}
@@ -9,9 +9,9 @@ use Rattle.board_lines.specs.declared.event.Edge.{Edge}
 use Rattle.board_lines.specs.Edges.{of_place, last_of}
 use Rattle.first_fault.specs.FirstFault.{Judgement, first_broken}
 use Rattle.key_file.specs.Accepted.{IsAccepted, Alternates, Dwells, IsThin}
-use Rattle.key_file.specs.Histories.{KeyHistory, Before, last_edge, stamp_at}
+use Rattle.key_file.specs.Histories.{KeyHistory, Before, last_edge}
 use Rattle.key_file.specs.Briefs.{Brief, brief_of, from_end}
-use Rattle.key_file.specs.Rules.{is_down, is_held, soon_after, fourth_back, edge_judgements, key_judgements, is_too_many, judgements}
+use Rattle.key_file.specs.Rules.{is_down, is_held, soon_after, fourth_back, edge_judgements}
 use Rattle.key_file.proofs.LastEdges.{down-last}
 
 -- the edge behind others turns its key

@@ -1,5 +1,5 @@
 -- An entry of a layout, found by the name of its key.
-use Rattle.std.proofs.Common.{◌≡◌, ℕ, ◌<◌, Bool, true, false, cond, ◌==◌, eqb, List, [], ◌∷◌, find, Some, refl, ap, sym, ◌∙◌, arith}
+use Rattle.std.proofs.Common.{◌≡◌, ℕ, ◌<◌, Bool, true, false, cond, ◌==◌, List, [], ◌∷◌, find, Some, ap, sym, ◌∙◌, arith}
 use Rattle.std.specs.Prelude.{nat_eq, option_and_then}
 use Rattle.std.specs.List.{IsDistinct, AllByRecursion}
 use Rattle.std.specs.Option.{option_map}

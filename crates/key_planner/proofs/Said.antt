@@ -1,5 +1,5 @@
 -- What the lines of a plan say.
-use Rattle.std.proofs.Common.{◌≡◌, ◌≤◌, ◌<◌, ℕ, ◌+◌, ◌^◌, ◌==◌, Bool, true, false, List, [], ◌∷◌, ◌++◌, length, slice_index, Some, Ok, None, codes, refl, ap, ◌∙◌, arith, decimal}
+use Rattle.std.proofs.Common.{◌≡◌, ◌<◌, ℕ, true, false, List, [], ◌∷◌, ◌++◌, slice_index, Some, Ok, None, codes, refl, ap, ◌∙◌, arith, decimal}
 use Rattle.std.proofs.lemmas.Bool.{ne_eqb, cond-false}
 use Rattle.layout_reader.specs.Layouts.{KeyLayout}
 use Rattle.text_lines.specs.Fields.{fields}

@@ -8,7 +8,7 @@ use Rattle.pc_tables.specs.Keys.{keys, name_at}
 use Rattle.layout_reader.specs.declared.entry.Entry.{Entry}
 use Rattle.layout_reader.specs.Layouts.{KeyLayout}
 use Rattle.typed_log.specs.Typing.{Stroke, Plain, Shifted, stroke_start}
-use Rattle.key_planner.specs.Plan.{word_line, key_line, press_line, release_line, take_line, end_line, key_lines, stroke_lines, lines_from, plan_of}
+use Rattle.key_planner.specs.Plan.{word_line, key_line, press_line, release_line, take_line, key_lines, stroke_lines, lines_from, plan_of}
 use Rattle.key_planner.proofs.Back.{AreOwn, AllOwn}
 
 -- a key's name has at most nine characters

@@ -4,8 +4,9 @@ use Rattle.std.specs.Option.{option_map}
 use Rattle.std.specs.declared.option.Option.{Option}
 use Rattle.layout_reader.specs.Layouts.{KeyLayout, IsKeyLayout}
 use Rattle.key_file.specs.Cursors.{found_history, history_in}
+use Rattle.quiet_log.specs.Quiet.{quiet_log}
 use Rattle.typed_log.specs.Typing.{Stroke, strokes_of, planned}
-use Rattle.typed_log.specs.Typed.{IsPlayable, StrokesArePlayable}
+use Rattle.typed_log.specs.Typed.{IsPlayable, Says, StrokesArePlayable, StrokesSayText}
 use Rattle.typed_log.proofs.Struck.{strokes_are, lengths}
 use Rattle.key_planner.specs.Plan.{plan_of, text_plan}
 use Rattle.key_planner.specs.Types.{Types}
@@ -22,7 +23,7 @@ is_of : (layout : KeyLayout) (text plan : List ℕ) (o : Option (List Stroke)) �
 is_of layout text plan None are is = absurd cc
 is_of layout text plan (Some strokes) are is = record { strokes = strokes; strokes_are = are; plan_is = cc }
 
-module _ (layout : KeyLayout) (text : List ℕ) (playable : StrokesArePlayable) (sound : IsKeyLayout layout) (few : length text ≤ 10000) where
+module _ (layout : KeyLayout) (text : List ℕ) (playable : StrokesArePlayable) (say : StrokesSayText) (sound : IsKeyLayout layout) (few : length text ≤ 10000) where
   module _ (strokes : List Stroke) (are : strokes_of layout text ≡ Some strokes) where
     -- what a plan of strokes comes to
     back : history_in layout (plan_of strokes) ≡ planned strokes
@@ -41,6 +42,7 @@ module _ (layout : KeyLayout) (text : List ℕ) (playable : StrokesArePlayable) 
           within = plan-size layout strokes own count;
           read = plan-back layout strokes own count plays.accepted.accepted ∙ ap Ok (sym back);
           playable = subst (IsPlayable layout) (sym back) plays;
+          says = subst (λ history. Says text (quiet_log layout history)) (sym back) (say layout text strokes sound few are);
         }
 
   pub plan-types : (plan : List ℕ) → text_plan layout text ≡ Some plan → Types layout text plan

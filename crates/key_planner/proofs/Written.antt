@@ -1,12 +1,11 @@
 -- The text of a plan, as far as the bytes so far go.
-use Rattle.std.proofs.Common.{◌≡◌, ◌<◌, ◌≤◌, ℕ, suc, ◌+◌, Bool, List, [], ◌∷◌, ◌++◌, length, get_or, drop, cond, None, Some, refl, ap, sym, subst, ◌∙◌, append_assoc, add-one, drop-cons, arith}
+use Rattle.std.proofs.Common.{◌≡◌, ◌<◌, ℕ, suc, ◌+◌, List, [], ◌∷◌, ◌++◌, length, get_or, drop, cond, None, Some, refl, ap, sym, subst, ◌∙◌, append_assoc, add-one, drop-cons}
 use Rattle.std.specs.Prelude.{is_none}
 use Rattle.std.specs.Option.{option_map}
 use Rattle.std.specs.declared.option.Option.{Option}
-use Rattle.std.proofs.lemmas.List.{drop_all}
 use Rattle.layout_reader.specs.Layouts.{KeyLayout}
 use Rattle.typed_log.specs.Typing.{Stroke, character, stroke_of, before, strokes_of, without_from, first_without, stroke_start}
-use Rattle.key_planner.specs.Plan.{stroke_lines, end_line, lines_from, plan_of, text_plan}
+use Rattle.key_planner.specs.Plan.{stroke_lines, lines_from, plan_of, text_plan}
 
 -- the plan is the lines so far and those of the other bytes, and none so far has no key
 pub record IsSoFar (layout : KeyLayout) (text : List ℕ) (number : ℕ) (plan : List ℕ) : Type 0 where

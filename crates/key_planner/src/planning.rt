@@ -14,7 +14,7 @@ use crate::keys::stroke_of;
 use crate::lines::{push_stroke, push_word};
 use layout_reader::Layout;
 use std::alloc::Global;
-use typed_log::typed_histories;
+use typed_log::{typed_histories, typed_logs};
 
 /// The stamp at which the first stroke begins, and the cycles from one stroke to the next.
 const FIRST_STROKE: u64 = 162_816;
@@ -61,18 +61,21 @@ fn is_layout(layout: &Layout)
 /// The key file that types a text of at most 10,000 bytes on a layout.
 ///
 /// Ok is exactly the text's plan: the strokes of its bytes, ten ticks of 2,048 cycles each, from stamp 162,816 on. The
-/// host takes a word in each; `end` stands where one stroke more would begin. Read again, the plan is the history of these
-/// strokes, which is accepted for the layout and quiet. `PlanFault::NoKey` is exactly the first byte that has no key.
-/// Want of memory may come with any text, and says nothing of it.
+/// host takes a word in each; `end` stands where one stroke more would begin. Read again, it is the history of these
+/// strokes, which is accepted for the layout and quiet. Its log says the text: nothing is lost, and the host takes just
+/// the characters. `PlanFault::NoKey` is exactly the first byte that has no key. Want of memory may come with any text,
+/// and says nothing of it.
 pub fn plan(alloc: Global, layout: &Layout, text: &[u8]) -> Result<Vec<u8>, PlanFault>
     requires within { length text.now ≤ 10000 }
     ensures plan { IfOk result (λ plan. text_plan layout.now text.now ≡ Some plan.items) }
     ensures keys { IfOk result (λ plan. first_without layout.now text.now ≡ None) }
     ensures fault { IfErr result (IsFaultOf layout.now text.now) }
-    ensures history { IfOk result (λ plan. option_map planned (strokes_of layout.now text.now) ≡ Some (history_in layout.now plan.items)) }
+    ensures history { IfOk result (λ plan. option_map planned (strokes_of layout.now text.now)
+        ≡ Some (history_in layout.now plan.items)) }
     ensures types { IfOk result (λ plan. Types layout.now text.now plan.items) }
 {
     is_layout(layout);
     typed_histories();
+    typed_logs();
     written(alloc, layout, text)
 }
