@@ -1,0 +1,10 @@
+pub mod Kept
+pub mod Following
+pub mod Numerals
+pub mod Parted
+pub mod Said
+pub mod Owned
+pub mod Back
+pub mod Sizes
+pub mod Written
+pub mod Typed

@@ -1,0 +1,15 @@
+pub mod Found
+pub mod Struck
+pub mod Played
+pub mod TickOf
+pub mod Takes
+pub mod InTicks
+pub mod Steps
+pub mod Tables
+pub mod Keying
+pub mod Turns
+pub mod Resting
+pub mod PlainStroke
+pub mod ShiftedStroke
+pub mod Start
+pub mod Texts
