@@ -1,9 +1,9 @@
 //! The run so far: the joint machine, and the tick starts.
 
-ghost use Rattle.std.specs.Prelude.{◌≡◌, ◌+◌, ◌-◌, ◌++◌, ◌^◌, ◌<◌, ◌≤◌, ◌⊎◌, ◌&&◌, [], suc, length, map, Ok, false, nat_le, vec_capacity};
+ghost use Rattle.std.specs.Prelude.{◌≡◌, ◌+◌, ◌-◌, ◌++◌, ◌^◌, ◌<◌, ◌≤◌, [], suc, length, map, Ok, true, false, nat_le, vec_capacity};
 ghost use Rattle.std.specs.Prelude.{IfOk, OnErr, OnOk};
 ghost use Rattle.fw_debug.specs.Looks.{looked_at};
-ghost use Rattle.fw_logic.specs.JointRun.{KeepsTime};
+ghost use Rattle.fw_logic.specs.JointRun.{KeepsTime, TellsTick};
 ghost use Rattle.int09.specs.Bios.{start};
 ghost use Rattle.joint_feed.specs.Ahead.{HasTaken};
 ghost use Rattle.joint_feed.specs.Stories.{state_at, story};
@@ -27,12 +27,12 @@ pub struct Pace {
     pub starts: Vec<u64>,
 }
 
-/// Whether a run with this end stamp is over at a cycle, at which a tick starts or not.
-fn is_end(starts: bool, cycle: u64, stop: u64) -> bool
+/// Whether a run with this end stamp is over at a cycle, at which a tick starts.
+fn is_end(cycle: u64, stop: u64) -> bool
     requires { stop ≤ 240000000 }
-    ensures over { result ≡ (starts && nat_le (4096 + stop) cycle) }
+    ensures over { result ≡ nat_le (4096 + stop) cycle }
 {
-    starts && cycle >= 4096 + stop
+    cycle >= 4096 + stop
 }
 
 impl Pace {
@@ -52,22 +52,41 @@ impl Pace {
         Pace { course, starts }
     }
 
-    /// Notes a tick that starts at this cycle, where one does.
-    fn note_start(&mut self, starts: bool, cycle: u64) -> Result<(), AllocError>
-        requires late { starts ≡ false ⊎ 4096 ≤ cycle }
+    /// Notes a tick that starts at this cycle.
+    fn note_start(&mut self, cycle: u64) -> Result<(), AllocError>
+        requires late { 4096 ≤ cycle }
         ensures course { self.new.course ≡ self.old.course }
-        ensures starts { OnOk result (self.new.starts.items ≡ with_start starts cycle self.old.starts.items) }
+        ensures starts { OnOk result (self.new.starts.items ≡ with_start true cycle self.old.starts.items) }
         ensures full { OnErr result (vec_capacity self.old.starts ≤ length self.old.starts.items) }
         ensures capacity { vec_capacity self.old.starts ≤ vec_capacity self.new.starts }
     {
-        if starts {
-            self.starts.push(cycle - 4096)?;
-        }
-        Ok(())
+        self.starts.push(cycle - 4096)
+    }
+
+    /// Judges the present state, at which a tick starts, and notes it. It stands out of line, since few states are such.
+    #[inline(never)]
+    fn judge_start<F: Feed>(&mut self, image: &Image, feed: &F) -> Result<bool, AllocError>
+        requires so_far { IsSoFar (story image.now.bytes (F.told feed.now).history) self.old }
+        requires time { let h = (F.told feed.now).history in KeepsTime image.now.bytes h.edges h.host }
+        requires end { (F.told feed.now).history.end ≤ 240000000 }
+        requires starts { TellsTick self.old.course.joint true }
+        ensures judged { let s = story image.now.bytes (F.told feed.now).history in IfOk result (λ over. IsJudged s over self.new) }
+        ensures course { self.new.course ≡ self.old.course }
+        ensures said { let s = story image.now.bytes (F.told feed.now).history in let k = self.old.course.joint.steps in
+            OnOk result (lines_to s self.new.starts.items k ≡ lines_to s self.old.starts.items k) }
+        ensures soon { result ≡ Ok false → self.new.course.joint.cycle < 2 ^ 31 }
+        ensures full { OnErr result (vec_capacity self.old.starts ≤ length self.old.starts.items) }
+        ensures capacity { vec_capacity self.old.starts ≤ vec_capacity self.new.starts }
+    {
+        let cycle = self.course.joint.cycle();
+        let stop = feed.end();
+        self.note_start(cycle)?;
+        Ok(is_end(cycle, stop))
     }
 
     /// Judges the present state, and notes a tick that starts there. Answers whether the run is over: a tick starts at or
     /// after the end stamp. Memory may be wanting where the list of starts is full.
+    #[inline(always)]
     pub fn judge<F: Feed>(&mut self, image: &Image, feed: &F) -> Result<bool, AllocError>
         requires so_far { IsSoFar (story image.now.bytes (F.told feed.now).history) self.old }
         requires time { let h = (F.told feed.now).history in KeepsTime image.now.bytes h.edges h.host }
@@ -80,11 +99,10 @@ impl Pace {
         ensures full { OnErr result (vec_capacity self.old.starts ≤ length self.old.starts.items) }
         ensures capacity { vec_capacity self.old.starts ≤ vec_capacity self.new.starts }
     {
-        let starts = at_tick(&self.course.joint);
-        let cycle = self.course.joint.cycle();
-        let stop = feed.end();
-        self.note_start(starts, cycle)?;
-        Ok(is_end(starts, cycle, stop))
+        if !at_tick(&self.course.joint) {
+            return Ok(false);
+        }
+        self.judge_start(image, feed)
     }
 
     /// The same where the list of starts has room for one more: nothing is wanting.
