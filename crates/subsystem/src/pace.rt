@@ -60,7 +60,8 @@ impl Pace {
         ensures full { OnErr result (vec_capacity self.old.starts ≤ length self.old.starts.items) }
         ensures capacity { vec_capacity self.old.starts ≤ vec_capacity self.new.starts }
     {
-        self.starts.push(cycle - 4096)
+        self.starts.push(cycle - 4096)?;
+        Ok(())
     }
 
     /// Judges the present state, at which a tick starts, and notes it. It stands out of line, since few states are such.
