@@ -10,5 +10,5 @@ pub mod Said
 pub mod Ticks
 pub mod Timekeeping
 pub mod Looping
-pub mod Takes
 pub mod Room
+pub mod Whole
