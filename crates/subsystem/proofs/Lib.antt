@@ -2,7 +2,9 @@ pub mod Advancing
 pub mod Agreed
 pub mod Alike
 pub mod Beginning
+pub mod Counted
 pub mod Ends
+pub mod Quietly
 pub mod Judging
 pub mod Lines
 pub mod Looking
