@@ -6,12 +6,11 @@ use Rattle.joint_feed.proofs.Going.{edges_few as edges_taken, host_few as host_t
 use Rattle.joint_feed.specs.Ahead.{HasTaken, IsFed}
 use Rattle.joint_feed.specs.Stories.{Story, state_at, story}
 use Rattle.joint_feed.specs.declared.ahead.Ahead.{Ahead}
-use Rattle.joint_feed.specs.declared.course.Course.{Course}
 use Rattle.key_file.specs.Feeds.{Fed}
 use Rattle.key_file.specs.Histories.{KeyHistory}
 use Rattle.subsystem.specs.declared.pace.Pace.{Pace}
 use Rattle.subsystem.specs.Account.{in_tick}
-use Rattle.subsystem.specs.Gliding.{HasGlided, IsGoing, IsOnward, IsStepped}
+use Rattle.subsystem.specs.Gliding.{HasGlided}
 use Rattle.subsystem.specs.Progress.{IsSoFar, lines_to}
 use Rattle.subsystem.proofs.Advancing.{few_starts}
 use Rattle.subsystem.proofs.Quietly.{soon, next_step, next_cycle, so_far_counted, said_counted}

@@ -1,17 +1,11 @@
 -- Probes look at the states of a run, one after another.
-use Rattle.std.proofs.Common.{◌≡◌, ℕ, suc, List, map, Some, Ok, Err, OnErr, ap, subst, sym, ◌∙◌}
-use Rattle.std.specs.declared.option.Option.{Option}
+use Rattle.std.proofs.Common.{◌≡◌, ℕ, List, Ok, Err, OnErr, ap, subst, sym, ◌∙◌}
 use Rattle.std.specs.declared.result.Result.{Result}
-use Rattle.fw_debug.specs.Looks.{looked_at, looks}
-use Rattle.fw_debug.specs.Probes.{Watch, looked}
-use Rattle.joint_feed.proofs.Going.{here}
-use Rattle.joint_feed.specs.Course.{IsOnCourse}
-use Rattle.joint_feed.specs.Stories.{Story, state_at, story}
+use Rattle.fw_debug.specs.Looks.{looks}
+use Rattle.fw_debug.specs.Probes.{Watch}
+use Rattle.joint_feed.specs.Stories.{Story, story}
 use Rattle.joint_feed.specs.declared.course.Course.{Course}
-use Rattle.joint_run.specs.Joint.{Beside}
-use Rattle.joint_run.specs.Run.{World}
 use Rattle.key_file.specs.Histories.{KeyHistory}
-use Rattle.mcs48_core.specs.Cpu.{Cpu}
 use Rattle.subsystem.specs.Looking.{HaveLookedAtSome}
 
 -- where no step was made they have looked at as many

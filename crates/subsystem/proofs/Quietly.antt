@@ -1,9 +1,9 @@
 -- Steps that follow one another at once.
-use Rattle.std.proofs.Common.{◌≡◌, ◌≤◌, ◌<◌, ◌^◌, ℕ, suc, ◌+◌, ◌-◌, Bool, true, false, List, [], ◌++◌, length, map, Some, Ok, refl, ap, sym, subst, ◌∙◌, arith}
+use Rattle.std.proofs.Common.{◌≡◌, ◌<◌, ◌^◌, ℕ, suc, ◌+◌, ◌-◌, false, List, [], ◌++◌, length, map, Some, Ok, refl, ap, sym, subst, ◌∙◌, arith}
 use Rattle.std.proofs.lemmas.List.{append-nil}
 use Rattle.fw_debug.specs.Looks.{looked_at, looks}
 use Rattle.fw_debug.specs.Probes.{Watch, looked}
-use Rattle.fw_logic.specs.JointRun.{KeepsTime, TellsTick}
+use Rattle.fw_logic.specs.JointRun.{TellsTick}
 use Rattle.std.specs.declared.option.Option.{Option}
 use Rattle.joint_feed.proofs.Going.{here, on, step, on_again, steps_more as one_more_step, cycle_more, is_said}
 use Rattle.joint_feed.specs.Ahead.{IsFed}
@@ -21,8 +21,8 @@ use Rattle.key_file.specs.Histories.{KeyHistory}
 use Rattle.mcs48_core.specs.Cpu.{Cpu}
 use Rattle.subsystem.specs.declared.pace.Pace.{Pace}
 use Rattle.subsystem.specs.Account.{in_tick}
-use Rattle.subsystem.specs.Gliding.{HasGlided, IsGoing, IsOnward, IsStepped}
-use Rattle.subsystem.specs.Progress.{IsJudged, IsSoFar, lines_to}
+use Rattle.subsystem.specs.Gliding.{IsGoing, IsOnward, IsStepped}
+use Rattle.subsystem.specs.Progress.{IsSoFar, lines_to}
 use Rattle.subsystem.proofs.Advancing.{so_far_again, said_more}
 use Rattle.subsystem.proofs.Judging.{starts_now, judged_so}
 use Rattle.subsystem.proofs.Timekeeping.{still_near}

@@ -1,7 +1,7 @@
-use Rattle.std.proofs.Common.{◌≡◌, suc, ◌-◌, ◌++◌, length, map, refl, ap, sym, subst, ◌∙◌}
+use Rattle.std.proofs.Common.{◌≡◌, ◌-◌, ◌++◌, length, map, ap, sym, subst, ◌∙◌}
 use Rattle.joint_feed.specs.Stories.{story}
 use Rattle.subsystem.specs.Account.{in_tick}
-use Rattle.subsystem.specs.Progress.{IsJudged, IsSoFar, lines_to}
+use Rattle.subsystem.specs.Progress.{IsSoFar, lines_to}
 use Rattle.subsystem.proofs.Looking.{looks_on, looks_still, on_err}
 use Rattle.subsystem.proofs.Looping.{lines_more}
 use Rattle.subsystem.proofs.running.run_on.Goals as goal

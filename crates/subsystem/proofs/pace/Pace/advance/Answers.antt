@@ -1,6 +1,3 @@
-use Rattle.std.proofs.Common.{◌≡◌}
-use Rattle.key_file.specs.Histories.{KeyHistory}
-use Rattle.subsystem.specs.Gliding.{HasGlided, IsGoing}
 use Rattle.subsystem.proofs.Counted.{fed_now, taken_now, made_now, done_now, edges_now, host_now, steps_later, cycle_later, starts_same, few_now, looked_now, so_far_now, said_now}
 use Rattle.subsystem.proofs.pace.Pace.advance.Goals as goal
 

@@ -1,4 +1,4 @@
-use Rattle.std.proofs.Common.{◌≡◌, ◌^◌, ◌-◌, map}
+use Rattle.std.proofs.Common.{◌^◌, ◌-◌, map}
 use Rattle.key_file.specs.Histories.{KeyHistory}
 use Rattle.subsystem.specs.Gliding.{IsGoing, IsOnward}
 use Rattle.subsystem.proofs.pace.Pace.glide.Given as goal

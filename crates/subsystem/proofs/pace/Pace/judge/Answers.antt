@@ -3,7 +3,7 @@ use Rattle.std.specs.Prelude.{nat_le}
 use Rattle.std.proofs.lemmas.List.{append-nil}
 use Rattle.fw_logic.specs.JointRun.{TellsTick}
 use Rattle.joint_feed.proofs.Going.{here}
-use Rattle.joint_feed.specs.Stories.{story, starts_tick}
+use Rattle.joint_feed.specs.Stories.{story}
 use Rattle.subsystem.specs.Running.{is_over}
 use Rattle.subsystem.proofs.Judging.{starts_now, judged_so}
 use Rattle.subsystem.proofs.Timekeeping.{still_near}
