@@ -25,7 +25,7 @@ fn takes_timer(mcu: &Mcu) -> bool
     !mcu.svc && mcu.tim_on && mcu.rq
 }
 
-/// Whether such a processor stands at a tick start. The counter is looked at first, since it is elsewhere in most steps.
+/// Whether such a processor stands at a tick start. The counter is looked at first: in most steps it is elsewhere.
 fn stands_at_tick(mcu: &Mcu) -> bool
     ensures { result ≡ (mcu.now.pc % 2048 == TICK && not (takes_timer mcu.now)) }
 {

@@ -82,8 +82,8 @@ impl Joint {
         self.step_inlined::<3>(due, seen)
     }
 
-    /// The same for a loop that LLVM is to build the whole step into. `SITE`, from 4, is a number that no other place of
-    /// the program gives, as for the processor's step.
+    /// The same for a loop that LLVM is to build the whole step into. `SITE`, from 4, is a number that no other place
+    /// of the program gives, as for the processor's step.
     #[inline(always)]
     pub fn step_inlined<const SITE: u8>(&mut self, due: &Due, seen: &mut Seen) -> Result<(), Stuck>
         requires near { self.old.cycle < 2 ^ 62 }

@@ -136,7 +136,7 @@ impl Machine {
         Ok(())
     }
 
-    /// One joint step in which edges may be made. Where the processor is stuck nothing has changed, and no edge is made.
+    /// One joint step in which edges may be made. Where the processor is stuck nothing has changed, and none is made.
     #[cold]
     #[inline(never)]
     fn step_with_edges(&mut self, due: &Due, seen: &mut Seen) -> Result<(), Stuck>

@@ -45,7 +45,8 @@ pub(crate) fn latch(p2: u8) -> Lines
     }
 }
 
-/// The wires, with what the keyboard and the controller drive. It stands out of line, since the link is free in most cycles.
+/// The wires, with what the keyboard and the controller drive. It stands out of line, since the link is free in most
+/// cycles.
 #[inline(never)]
 fn pulled(keyboard: Lines, link: &Link<Wire>) -> Lines
     ensures { result ≡ joined keyboard (drive link.now) }

@@ -41,8 +41,8 @@ fn is_silent(seen: &Seen) -> bool
 }
 
 impl Pace {
-    /// Makes one joint step, and then each probe looks at the state that it led to. Answers whether the next one can follow
-    /// at once: it took no event, said nothing, and led to no tick start.
+    /// Makes one joint step, and then each probe looks at the state that it led to. Answers whether the next one can
+    /// follow at once: it took no event, said nothing, and led to no tick start.
     #[inline(always)]
     fn goes_quietly(&mut self, image: &Image, probes: &mut Vec<Box<dyn Probe>>) -> bool
         requires going { (h : KeyHistory) × IsGoing image.now.bytes h self.old }
@@ -66,8 +66,8 @@ impl Pace {
         }
     }
 
-    /// Makes joint steps up to one that took an event, said something or led to a tick start; after each of them each probe
-    /// looks at the state that it led to. What the last one took and said is left in the course.
+    /// Makes joint steps up to one that took an event, said something or led to a tick start; after each of them each
+    /// probe looks at the state that it led to. What the last one took and said is left in the course.
     #[inline(never)]
     pub fn glide(&mut self, image: &Image, probes: &mut Vec<Box<dyn Probe>>)
         requires going { (h : KeyHistory) × IsGoing image.now.bytes h self.old }

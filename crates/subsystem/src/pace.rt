@@ -65,7 +65,7 @@ impl Pace {
         Ok(())
     }
 
-    /// Judges the present state, at which a tick starts, and notes it. It stands out of line, since few states are such.
+    /// Judges the present state, at which a tick starts, and notes it. It stands out of line: few states are such.
     #[inline(never)]
     fn judge_start<F: Feed>(&mut self, image: &Image, feed: &F) -> Result<bool, AllocError>
         requires so_far { IsSoFar (story image.now.bytes (F.told feed.now).history) self.old }
@@ -127,8 +127,8 @@ impl Pace {
         }
     }
 
-    /// Makes joint steps up to one that took an event, said something or led to a tick start; after each of them each probe
-    /// looks at the state that it led to. What the last one says is left in the course.
+    /// Makes joint steps up to one that took an event, said something or led to a tick start; after each of them each
+    /// probe looks at the state that it led to. What the last one says is left in the course.
     pub fn advance<F: Feed>(
         &mut self,
         image: &Image,
