@@ -2,7 +2,7 @@
 
 ghost use Rattle.std.specs.Prelude.{◌≡◌, ◌<◌, false, Some, None};
 ghost use Rattle.mcs48_core.specs.Registers.{register};
-ghost use Rattle.fw_debug.specs.Probes.{met_if, address_kind, register_kind, cell_kind, seen_as, unarmed};
+ghost use Rattle.fw_debug.specs.Probes.{met_by, met_if, address_kind, register_kind, cell_kind, seen_as, unarmed};
 
 use crate::probe::Probe;
 use crate::tally::{Arms, Counter, Tally};
@@ -46,23 +46,39 @@ fn register_of(mcu: &Mcu, number: u16) -> u8
     mcu.ram[bank + number as usize]
 }
 
-/// Whether the register of these arms has their value.
+/// Whether the register of these arms has their value. It stands out of line, so that a look without arms is short.
+#[inline(never)]
+fn holds_register(arms: Arms, mcu: &Mcu) -> bool
+    ensures { result ≡ met_by register_kind arms mcu.now }
+{
+    arms.a < 8 && register_of(mcu, arms.a) == arms.b
+}
+
+/// The same where there are arms.
 fn has_register(arms: Option<Arms>, mcu: &Mcu) -> bool
     ensures { result ≡ met_if register_kind arms mcu.now }
 {
     match arms {
         None => false,
-        Some(arms) => arms.a < 8 && register_of(mcu, arms.a) == arms.b,
+        Some(arms) => holds_register(arms, mcu),
     }
 }
 
-/// Whether the place of these arms has their value.
+/// Whether the place of these arms has their value. It stands out of line as well.
+#[inline(never)]
+fn holds_cell(arms: Arms, mcu: &Mcu) -> bool
+    ensures { result ≡ met_by cell_kind arms mcu.now }
+{
+    arms.a < 128 && mcu.ram[arms.a as usize] == arms.b
+}
+
+/// The same where there are arms.
 fn has_cell(arms: Option<Arms>, mcu: &Mcu) -> bool
     ensures { result ≡ met_if cell_kind arms mcu.now }
 {
     match arms {
         None => false,
-        Some(arms) => arms.a < 128 && mcu.ram[arms.a as usize] == arms.b,
+        Some(arms) => holds_cell(arms, mcu),
     }
 }
 

@@ -18,10 +18,16 @@ pub fn at_tick(joint: &Joint) -> bool
     stands_at_tick(joint.mcu())
 }
 
-/// The same of a processor whose pin INT is high.
+/// Whether a processor whose pin INT is high enters the service of the timer's interrupt in its next step.
+fn takes_timer(mcu: &Mcu) -> bool
+    ensures { result ≡ takes_timer mcu.now }
+{
+    !mcu.svc && mcu.tim_on && mcu.rq
+}
+
+/// Whether such a processor stands at a tick start. The counter is looked at first: in most steps it is elsewhere.
 fn stands_at_tick(mcu: &Mcu) -> bool
     ensures { result ≡ (mcu.now.pc % 2048 == TICK && not (takes_timer mcu.now)) }
 {
-    let enters = !mcu.svc && mcu.tim_on && mcu.rq;
-    mcu.pc % 2048 == TICK && !enters
+    mcu.pc % 2048 == TICK && !takes_timer(mcu)
 }

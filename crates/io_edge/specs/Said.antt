@@ -1,7 +1,8 @@
 -- What a sink has of a piece, and of a text that is said to it line by line.
-use Rattle.std.specs.Prelude.{ℕ, zero, suc, ◌+◌, ◌≤◌, ◌==◌, Bool, true, false, List, [], ◌∷◌, length, drop}
-use Rattle.std.specs.Prelude.{if◌then◌else◌}
+use Rattle.std.specs.Prelude.{◌≡◌, ℕ, zero, suc, ◌+◌, ◌≤◌, ◌==◌, Bool, true, false, List, [], ◌∷◌, length, drop}
+use Rattle.std.specs.Prelude.{Some, IfSome, if◌then◌else◌}
 use Rattle.std.specs.declared.option.Option.{Option}
+use Rattle.io_edge.specs.Faults.{Rose}
 use Rattle.io_edge.specs.MemorySink.{HeldBytes, after_put, put_fails, put_size}
 use Rattle.io_edge.specs.Sink.{Takes}
 
@@ -56,3 +57,24 @@ said text sink = all_offered (lines_in text) sink
 abbrev pub line_length : List ℕ → ℕ
 line_length [] = 0
 line_length (byte ∷ text) = if byte == 10 then 1 else 1 + line_length text
+
+-- what a sink shows of itself: the bytes that it took, and all else, where it tells them, and its count of faults
+pub record Shown : Type 0 where
+  pub taken : Option (List ℕ)
+  pub told : Option HeldBytes
+  pub faults : ℕ
+
+abbrev pub shown : Option (List ℕ) → Option HeldBytes → ℕ → Shown
+shown taken told faults = record { taken = taken; told = told; faults = faults }
+
+-- a text is said whole: the sink has taken all of it, line by line, and no put failed
+pub record IsSaid (before after : Shown) (text : List ℕ) : Type 0 where
+  pub all : TakesAll before.taken after.taken text
+  pub steady : after.faults ≡ before.faults
+  pub lines : IfSome before.told (λ sink. (after.told ≡ Some (said text sink).sink) × ((said text sink).failed ≡ false))
+
+-- the saying of a text is broken off: a put of its lines failed, and the sink has what it took before
+pub record IsBrokenOff (before after : Shown) (text : List ℕ) : Type 0 where
+  pub part : TakesPart before.taken after.taken text
+  pub failed : Rose before.faults after.faults
+  pub lines : IfSome before.told (λ sink. (after.told ≡ Some (said text sink).sink) × ((said text sink).failed ≡ true))

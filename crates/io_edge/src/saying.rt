@@ -2,7 +2,7 @@
 
 ghost use Rattle.std.specs.Prelude.{◌≡◌, ℕ, ◌+◌, ◌<◌, ◌≤◌, ◌==◌, length, drop, position, true, false, Some, IfSome, OnErr, OnOk};
 ghost use Rattle.io_edge.specs.Faults.{Rose};
-ghost use Rattle.io_edge.specs.Said.{TakesAll, TakesPart, line_length, offered, said};
+ghost use Rattle.io_edge.specs.Said.{IsBrokenOff, IsSaid, TakesAll, TakesPart, line_length, offered, said, shown};
 
 use crate::sink::{Sink, SinkFault};
 
@@ -53,6 +53,10 @@ pub fn say<K: Sink>(out: &mut K, text: &[u8]) -> Result<(), SinkFault>
     ensures none_failed { OnOk result (IfSome (K.told out.old) (λ sink. (said text.now sink).failed ≡ false)) }
     ensures one_failed { OnErr result (IfSome (K.told out.old) (λ sink. (said text.now sink).failed ≡ true)) }
     ensures after { IfSome (K.told out.old) (λ sink. K.told out.new ≡ Some (said text.now sink).sink) }
+    ensures said { OnOk result (IsSaid (shown (K.taken out.old) (K.told out.old) (K.faults out.old))
+        (shown (K.taken out.new) (K.told out.new) (K.faults out.new)) text.now) }
+    ensures broken { OnErr result (IsBrokenOff (shown (K.taken out.old) (K.told out.old) (K.faults out.old))
+        (shown (K.taken out.new) (K.told out.new) (K.faults out.new)) text.now) }
 {
     let mut start = 0;
     while start < text.len() {

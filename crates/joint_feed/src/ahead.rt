@@ -142,8 +142,30 @@ impl Ahead {
         }
     }
 
-    /// So many of them were made and done by a step.
+    /// So many of them were made and done by a step. In most steps none is, and nothing is taken of the feed.
+    #[inline(always)]
     pub fn count<F: Feed>(&mut self, feed: &mut F, seen: &Seen)
+        requires accepted { IsAccepted (F.told feed.old).history }
+        requires fed { let history = (F.told feed.old).history in IsFed history.edges history.host self.old }
+        requires taken { HasTaken (F.told feed.old) self.old }
+        requires made { self.old.made ≤ length (F.told feed.old).history.edges }
+        requires done { self.old.done ≤ length (F.told feed.old).history.host }
+        requires edges { seen.now.edges ≤ length self.old.due.edges.items }
+        requires host { seen.now.host ≤ length self.old.due.host.items }
+        ensures fed { let history = (F.told feed.old).history in IsFed history.edges history.host self.new }
+        ensures taken { HasTaken (F.told feed.new) self.new }
+        ensures history { (F.told feed.new).history ≡ (F.told feed.old).history }
+        ensures made { self.new.made ≡ self.old.made + seen.now.edges }
+        ensures done { self.new.done ≡ self.old.done + seen.now.host }
+    {
+        if seen.edges > 0 || seen.host > 0 {
+            self.count_all(feed, seen);
+        }
+    }
+
+    /// The same of any step.
+    #[inline(never)]
+    fn count_all<F: Feed>(&mut self, feed: &mut F, seen: &Seen)
         requires accepted { IsAccepted (F.told feed.old).history }
         requires fed { let history = (F.told feed.old).history in IsFed history.edges history.host self.old }
         requires taken { HasTaken (F.told feed.old) self.old }

@@ -4,5 +4,6 @@ pub mod Joint
 pub mod Laws
 pub mod Cycle
 pub mod Due
+pub mod Edgeless
 pub mod History
 pub mod Sound

@@ -70,6 +70,7 @@ impl Joint {
 
     /// The same step, told in `seen` in place of what stood there, which no longer counts: for a caller that makes many
     /// steps, since no list is made anew. Where the processor is stuck, `seen` says nothing of use.
+    #[inline(never)]
     pub fn step_into(&mut self, due: &Due, seen: &mut Seen) -> Result<(), Stuck>
         requires near { self.old.cycle < 2 ^ 62 }
         ensures step { IsJointStep due.now self.old (due_step due.now self.old) (told result seen.new) self.new }
@@ -78,7 +79,21 @@ impl Joint {
         ensures some { OnOk result (0 < seen.new.cycles) }
         ensures few { OnOk result (seen.new.cycles < 3) }
     {
-        self.machine.step(due, seen)
+        self.step_inlined::<3>(due, seen)
+    }
+
+    /// The same for a loop that LLVM is to build the whole step into. `SITE`, from 4, is a number that no other place
+    /// of the program gives, as for the processor's step.
+    #[inline(always)]
+    pub fn step_inlined<const SITE: u8>(&mut self, due: &Due, seen: &mut Seen) -> Result<(), Stuck>
+        requires near { self.old.cycle < 2 ^ 62 }
+        ensures step { IsJointStep due.now self.old (due_step due.now self.old) (told result seen.new) self.new }
+        ensures run { IsStepOfRun due.now self.old (told result seen.new) self.new }
+        ensures unchanged { OnErr result (self.new ≡ self.old) }
+        ensures some { OnOk result (0 < seen.new.cycles) }
+        ensures few { OnOk result (seen.new.cycles < 3) }
+    {
+        self.machine.step::<SITE>(due, seen)
     }
 
     /// How many cycles are done; the next step begins with the cycle of this number.

@@ -1,9 +1,10 @@
 //! The joint machine's parts, and a step of them.
 
-ghost use Rattle.std.specs.Prelude.{◌≡◌, ◌<◌, ◌≤◌, ◌^◌, [], length, IfOk, OnErr, OnOk};
+ghost use Rattle.std.specs.Prelude.{◌≡◌, ◌<◌, ◌≤◌, ◌^◌, [], length, false, IfOk, OnErr, OnOk};
 ghost use Rattle.board_lines.specs.Matrix.{turned_by};
 ghost use Rattle.ctl_link.specs.Empty.{IsEmptyUnlessHeld};
 ghost use Rattle.joint_run.specs.Due.{beside, due_step, made_first, told, IsJointStep};
+ghost use Rattle.joint_run.specs.Edgeless.{without_edges};
 ghost use Rattle.joint_run.specs.Joint.{pins_by};
 ghost use Rattle.mcs48_core.specs.Step.{stepped, IsStep};
 
@@ -46,6 +47,18 @@ fn make_edges(matrix: &mut Matrix, cycle: u64, edges: &[Edge]) -> u8
     }
 }
 
+/// Whether the first of these edges is made at this cycle. Where it isn't, none is.
+#[inline(always)]
+fn is_one_due(cycle: u64, edges: &[Edge]) -> bool
+    requires near { cycle < 2 ^ 62 }
+    ensures none { result ≡ false → made_first cycle edges.now ≡ [] }
+{
+    match edges {
+        [] => false,
+        [edge, ..] => edge.stamp.saturating_add(4096) <= cycle,
+    }
+}
+
 /// The levels that the processor reads: the rows of the column that port 1 selects, and the wires. All other pins are
 /// high.
 fn pins(matrix: &Matrix, outside: &Outside, mcu: &Mcu) -> Pins
@@ -63,12 +76,13 @@ fn pins(matrix: &Matrix, outside: &Outside, mcu: &Mcu) -> Pins
 }
 
 /// The processor's step over this program, with these levels at its pins, built into this place.
-fn execute(image: &Image, mcu: &mut Mcu, given: Pins) -> Result<u8, Stuck>
+#[inline(always)]
+fn execute<const SITE: u8>(image: &Image, mcu: &mut Mcu, given: Pins) -> Result<u8, Stuck>
     ensures step { IsStep image.now.bytes mcu.old (stepped image.now.bytes given mcu.old) result mcu.new }
     ensures some { IfOk result (λ cycles. 0 < cycles) }
     ensures few { IfOk result (λ cycles. cycles < 3) }
 {
-    mcu.step_inlined::<2>(image, given)
+    mcu.step_inlined::<SITE>(image, given)
 }
 
 /// The latch of port 2.
@@ -88,24 +102,22 @@ fn empty_out(items: &mut ArrayVec<Stamped, 16>)
 }
 
 impl Machine {
-    /// One joint step, told in `seen`. The edges are made whose stamp is reached; the processor makes one step; then
-    /// its cycles pass. Where the processor is stuck nothing has changed, and no edge is made.
-    pub(crate) fn step(&mut self, due: &Due, seen: &mut Seen) -> Result<(), Stuck>
+    /// One joint step in which no edge is made, told in `seen`. Where the processor is stuck nothing has changed.
+    #[inline(always)]
+    fn step_on<const SITE: u8>(&mut self, due: &Due, seen: &mut Seen) -> Result<(), Stuck>
         requires near { self.old.cycle < 2 ^ 62 }
         requires steps { self.old.steps ≤ self.old.cycle }
         requires empty { IsEmptyUnlessHeld self.old.outside.desk.port }
-        ensures step { IsJointStep due.now self.old (due_step due.now self.old) (told result seen.new) self.new }
+        ensures step { let rest = without_edges due.now in
+            IsJointStep rest self.old (due_step rest self.old) (told result seen.new) self.new }
         ensures unchanged { OnErr result (self.new ≡ self.old) }
         ensures some { OnOk result (0 < seen.new.cycles) }
         ensures few { OnOk result (seen.new.cycles < 3) }
         ensures steps { self.new.steps ≤ self.new.cycle }
         ensures empty { IsEmptyUnlessHeld self.new.outside.desk.port }
     {
-        let mut matrix = self.matrix.copied();
-        let edges = make_edges(&mut matrix, self.cycle, due.edges.as_slice());
-        let given = pins(&matrix, &self.outside, &self.mcu);
-        let cycles = execute(&self.image, &mut self.mcu, given)?;
-        self.matrix = matrix;
+        let given = pins(&self.matrix, &self.outside, &self.mcu);
+        let cycles = execute::<SITE>(&self.image, &mut self.mcu, given)?;
         let p2 = port_2(&self.mcu);
         empty_out(&mut seen.items);
         let (host, first, last) = self.outside.pass(
@@ -118,9 +130,59 @@ impl Machine {
         self.cycle += cycles as u64;
         self.steps += 1;
         seen.cycles = cycles;
-        seen.edges = edges;
+        seen.edges = 0;
         seen.host = host;
         seen.lines = [first, last];
         Ok(())
+    }
+
+    /// One joint step in which edges may be made. Where the processor is stuck nothing has changed, and none is made.
+    #[cold]
+    #[inline(never)]
+    fn step_with_edges(&mut self, due: &Due, seen: &mut Seen) -> Result<(), Stuck>
+        requires near { self.old.cycle < 2 ^ 62 }
+        requires steps { self.old.steps ≤ self.old.cycle }
+        requires empty { IsEmptyUnlessHeld self.old.outside.desk.port }
+        ensures step { IsJointStep due.now self.old (due_step due.now self.old) (told result seen.new) self.new }
+        ensures unchanged { OnErr result (self.new ≡ self.old) }
+        ensures some { OnOk result (0 < seen.new.cycles) }
+        ensures few { OnOk result (seen.new.cycles < 3) }
+        ensures steps { self.new.steps ≤ self.new.cycle }
+        ensures empty { IsEmptyUnlessHeld self.new.outside.desk.port }
+    {
+        let before = self.matrix.copied();
+        let cycle = self.cycle;
+        let edges = make_edges(&mut self.matrix, cycle, due.edges.as_slice());
+        match self.step_on::<2>(due, seen) {
+            Ok(()) => {
+                seen.edges = edges;
+                Ok(())
+            }
+            Err(stuck) => {
+                self.matrix = before;
+                Err(stuck)
+            }
+        }
+    }
+
+    /// One joint step, told in `seen`. The edges are made whose stamp is reached; the processor makes one step; then
+    /// its cycles pass. Where the processor is stuck nothing has changed, and no edge is made. In most steps no edge is
+    /// due: then the matrix stays where it stands.
+    #[inline(always)]
+    pub(crate) fn step<const SITE: u8>(&mut self, due: &Due, seen: &mut Seen) -> Result<(), Stuck>
+        requires near { self.old.cycle < 2 ^ 62 }
+        requires steps { self.old.steps ≤ self.old.cycle }
+        requires empty { IsEmptyUnlessHeld self.old.outside.desk.port }
+        ensures step { IsJointStep due.now self.old (due_step due.now self.old) (told result seen.new) self.new }
+        ensures unchanged { OnErr result (self.new ≡ self.old) }
+        ensures some { OnOk result (0 < seen.new.cycles) }
+        ensures few { OnOk result (seen.new.cycles < 3) }
+        ensures steps { self.new.steps ≤ self.new.cycle }
+        ensures empty { IsEmptyUnlessHeld self.new.outside.desk.port }
+    {
+        if is_one_due(self.cycle, due.edges.as_slice()) {
+            return self.step_with_edges(due, seen);
+        }
+        self.step_on::<SITE>(due, seen)
     }
 }

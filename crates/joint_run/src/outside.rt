@@ -8,6 +8,7 @@ ghost use Rattle.host_turn.specs.Cycle.{cycled};
 ghost use Rattle.host_turn.specs.Run.{lights_said, stamped};
 ghost use Rattle.joint_run.specs.Due.{HasPassed, outside_at_start};
 ghost use Rattle.joint_run.specs.Joint.{lights_of, latch_of};
+ghost use Rattle.pc_wires.specs.Wires.{joined};
 ghost use Rattle.joint_run.specs.Cycle.{is_quiet, looked_outside, outside_cycle, outside_wires};
 
 use arrayvec::ArrayVec;
@@ -31,10 +32,7 @@ pub struct Outside {
 pub(crate) fn lights(p2: u8) -> u8
     ensures { result ≡ lights_of p2 }
 {
-    let scroll = if p2 >> 4 & 1 == 1 { 0 } else { 1 };
-    let num = if p2 >> 5 & 1 == 1 { 0 } else { 2 };
-    let caps = if p2 >> 6 & 1 == 1 { 0 } else { 4 };
-    scroll + num + caps
+    !p2 >> 4 & 7
 }
 
 /// What port 2 drives on the wires.
@@ -47,12 +45,17 @@ pub(crate) fn latch(p2: u8) -> Lines
     }
 }
 
-/// What the controller drives. It stands out of line, since the link is free in most cycles.
+/// The wires, with what the keyboard and the controller drive. It stands out of line, since the link is free in most
+/// cycles.
 #[inline(never)]
-fn drive_of_taken(link: &Link<Wire>) -> Lines
-    ensures { result ≡ drive link.now }
+fn pulled(keyboard: Lines, link: &Link<Wire>) -> Lines
+    ensures { result ≡ joined keyboard (drive link.now) }
 {
-    drive_of(link)
+    let controller = drive_of(link);
+    Lines {
+        clk: keyboard.clk && controller.clk,
+        dat: keyboard.dat && controller.dat,
+    }
 }
 
 /// The host's next event, once so many of these are done.
@@ -81,17 +84,9 @@ impl Outside {
     pub(crate) fn wires(&self, p2: u8) -> Lines
         ensures { result ≡ outside_wires p2 self.now }
     {
-        let keyboard = latch(p2);
-        let controller = match &self.desk.port.link {
-            Link::Free => Lines {
-                clk: true,
-                dat: true,
-            },
-            link => drive_of_taken(link),
-        };
-        Lines {
-            clk: keyboard.clk && controller.clk,
-            dat: keyboard.dat && controller.dat,
+        match &self.desk.port.link {
+            Link::Free => latch(p2),
+            link => pulled(latch(p2), link),
         }
     }
 
@@ -210,10 +205,14 @@ impl Outside {
     /// Whether in the cycles up to this one nothing happens for certain and nothing is said, as in most: with this
     /// latch of port 2 the lights stay as they are and the clock doesn't fall, and the host and the controller rest.
     #[inline(always)]
-    fn is_quiet(&self, last: u64, p2: u8, next: Option<HostEvent>) -> bool
-        ensures { result ≡ is_quiet last p2 next self.now }
+    fn is_quiet(&self, last: u64, p2: u8, host: &[HostEvent]) -> bool
+        ensures { result ≡ is_quiet last p2 (slice_get host.now 0) self.now }
     {
-        self.desk.rests(last, next) && lights(p2) == self.shown && !(self.clock && !latch(p2).clk)
+        let rests = match host {
+            [] => self.desk.rests(last, None),
+            [event, ..] => self.desk.rests(last, Some(*event)),
+        };
+        rests && lights(p2) == self.shown && !(self.clock && !latch(p2).clk)
     }
 
     /// The cycles of a step, 1 or 2, from this one on, in which port 2 is this and something may happen. Answers how
@@ -246,6 +245,7 @@ impl Outside {
     }
 
     /// The same in any cycles. In most nothing happens: the clock's level is noted, and no cycle is made.
+    #[inline(always)]
     pub(crate) fn pass(
         &mut self,
         now: u64,
@@ -263,11 +263,12 @@ impl Outside {
         ensures empty { IsEmptyUnlessHeld self.new.desk.port }
     {
         let last = now + cycles as u64 - 1;
-        if self.is_quiet(last, p2, next_of(host, 0)) {
+        if self.is_quiet(last, p2, host) {
             let line = latch(p2);
             self.clock = line.clk;
             return (0, line, line);
         }
-        self.pass_busily(now, cycles, p2, host, items)
+        let (done, first, last) = self.pass_busily(now, cycles, p2, host, items);
+        (done, first, last)
     }
 }

@@ -2,7 +2,9 @@ pub mod Advancing
 pub mod Agreed
 pub mod Alike
 pub mod Beginning
+pub mod Counted
 pub mod Ends
+pub mod Quietly
 pub mod Judging
 pub mod Lines
 pub mod Looking
@@ -10,5 +12,5 @@ pub mod Said
 pub mod Ticks
 pub mod Timekeeping
 pub mod Looping
-pub mod Takes
 pub mod Room
+pub mod Whole

@@ -1,42 +1,23 @@
 -- Probes look at the states of a run, one after another.
-use Rattle.std.proofs.Common.{◌≡◌, ℕ, suc, List, map, Some, Ok, Err, OnErr, ap, subst, sym, ◌∙◌}
-use Rattle.std.specs.declared.option.Option.{Option}
+use Rattle.std.proofs.Common.{◌≡◌, ℕ, List, Ok, Err, OnErr, ap, subst, sym, ◌∙◌}
 use Rattle.std.specs.declared.result.Result.{Result}
-use Rattle.fw_debug.specs.Looks.{looked_at, looks}
-use Rattle.fw_debug.specs.Probes.{Watch, looked}
-use Rattle.joint_feed.proofs.Going.{here}
-use Rattle.joint_feed.specs.Course.{IsOnCourse}
-use Rattle.joint_feed.specs.Stories.{Story, state_at, story}
+use Rattle.fw_debug.specs.Looks.{looks}
+use Rattle.fw_debug.specs.Probes.{Watch}
+use Rattle.joint_feed.specs.Stories.{Story, story}
 use Rattle.joint_feed.specs.declared.course.Course.{Course}
-use Rattle.joint_run.specs.Joint.{Beside}
-use Rattle.joint_run.specs.Run.{World}
 use Rattle.key_file.specs.Histories.{KeyHistory}
-use Rattle.mcs48_core.specs.Cpu.{Cpu}
 use Rattle.subsystem.specs.Looking.{HaveLookedAtSome}
-
--- a look at the machine is one at the state that its last step led to
-pub looked_next : (s : Story) (it : Course) (on : IsOnCourse s it) (k step : ℕ) (before after : List Watch) → it.joint.steps ≡ suc k → step ≡ it.joint.steps
-    → after ≡ map (looked step it.joint.mcu) before → after ≡ looked_at (suc k) (state_at s (suc k)) before
-looked_next s it on k step before after steps at is =
-    let there : state_at s (suc k) ≡ Some on.world = subst (λ (n : ℕ). state_at s n ≡ Some on.world) steps (here s it on) in
-    is ∙ ap (λ (n : ℕ). map (looked n it.joint.mcu) before) (at ∙ steps)
-    ∙ ap (λ (m : Cpu). map (looked (suc k) m) before) on.in_run.mcu
-    ∙ sym (ap (λ (o : Option (World Beside)). looked_at (suc k) o before) there)
 
 -- where no step was made they have looked at as many
 pub looks_still : (s : Story) (old new : Course) (first before : List Watch) → new ≡ old → before ≡ looks s old.joint.steps first → before ≡ looks s new.joint.steps first
 looks_still s old new first before e so_far = so_far ∙ sym (ap (λ (it : Course). looks s it.joint.steps first) e)
 
--- after one look more the probes have looked at one state more
-pub looks_more : (s : Story) (k next : ℕ) (first before after : List Watch) → next ≡ suc k → before ≡ looks s k first
-    → after ≡ looked_at (suc k) (state_at s (suc k)) before → after ≡ looks s next first
-looks_more s k next first before after e so_far is =
-    is ∙ ap (looked_at (suc k) (state_at s (suc k))) so_far ∙ sym (ap (λ (n : ℕ). looks s n first) e)
-
--- a look by the same history under another name
-pub looked_alike : (bytes : List ℕ) (h k : KeyHistory) (step : ℕ) (before after : List Watch) → h ≡ k
-    → after ≡ looked_at step (state_at (story bytes h) step) before → after ≡ looked_at step (state_at (story bytes k) step) before
-looked_alike bytes h k step before after same is = is ∙ ap (λ v. looked_at step (state_at (story bytes v) step) before) same
+-- looks by the same history under another name
+pub looks_on : (bytes : List ℕ) (h k : KeyHistory) (from to : ℕ) (first before after : List Watch) → h ≡ k
+    → ((probes : List Watch) → before ≡ looks (story bytes h) from probes → after ≡ looks (story bytes h) to probes)
+    → before ≡ looks (story bytes k) from first → after ≡ looks (story bytes k) to first
+looks_on bytes h k from to first before after same more so =
+    subst (λ (v : KeyHistory). (probes : List Watch) → before ≡ looks (story bytes v) from probes → after ≡ looks (story bytes v) to probes) same more first so
 
 -- what was said of a run and of its steps is so of the same run by another name
 pub looked_whole : (s t : Story) (steps k : ℕ) (before after : List Watch) → s ≡ t → k ≡ steps → after ≡ looks s steps before → after ≡ looks t k before

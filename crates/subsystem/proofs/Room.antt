@@ -1,5 +1,5 @@
 -- A run needs little room: a start for each tick, and small counts.
-use Rattle.std.proofs.Common.{◌≡◌, ◌≤◌, ◌<◌, ◌^◌, ℕ, zero, suc, ◌+◌, ◌*◌, ◌/◌, List, [], ◌∷◌, ◌++◌, length, map, refl, ap, sym, subst, ◌∙◌, arith, append_assoc, length-append}
+use Rattle.std.proofs.Common.{◌≡◌, ◌≤◌, ◌<◌, ◌^◌, ℕ, zero, suc, ◌+◌, ◌*◌, ◌/◌, List, [], ◌∷◌, ◌++◌, length, map, refl, ap, sym, ◌∙◌, arith, append_assoc, length-append}
 use Rattle.std.specs.Prelude.{Bool, count_by, cond}
 use Rattle.std.proofs.lemmas.List.{length-map}
 use Rattle.std.proofs.lemmas.List.Sums.{count_by-le-length, sum_by-append}
@@ -72,7 +72,7 @@ few_counted counts lines steps cycle e short few soon =
     }
 
 -- a step more, with its lines
-pub short_more : {X : Type 0} (before all : List LogLine) (f : X → LogLine) (items : List X) (k n : ℕ) → all ≡ before ++ map f items → length before ≤ 16 * k → length items ≤ 16 → n ≡ suc k → length all ≤ 16 * n
+pub short_more : {X : Type 0} (before all : List LogLine) (f : X → LogLine) (items : List X) (k n : ℕ) → all ≡ before ++ map f items → length before ≤ 16 * k → length items ≤ 16 → k < n → length all ≤ 16 * n
 short_more before all f items k n e short few more =
     let a = ap length e in
     let b = length-append before (map f items) in

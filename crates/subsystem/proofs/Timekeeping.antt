@@ -49,7 +49,8 @@ module _ (s : Story) (t : KeepsTime s.bytes s.edges s.events) where
             omega (arith, same)
       ] refl
 
-  on_at : (k j : ℕ) → GoesOnTo s k → j < k → (w : World Beside) × (state_at s j ≡ Some w) × (is_over s w ≡ false)
+  -- a state before the present one
+  pub on_at : (k j : ℕ) → GoesOnTo s k → j < k → (w : World Beside) × (state_at s j ≡ Some w) × (is_over s w ≡ false)
   on_at zero j h l = absurd (omega (arith, l))
   on_at (suc k) j h l =
       elim (leb k j) as (λ b. leb k j ≡ b → (w : World Beside) × (state_at s j ≡ Some w) × (is_over s w ≡ false)) [

@@ -7,3 +7,4 @@ pub mod Texts
 pub mod Counts
 pub mod Putting
 pub mod Ending
+pub mod Gliding

@@ -4,8 +4,7 @@ ghost use Rattle.std.specs.Prelude.{◌≡◌, ◌-◌, true, length, map, IfOk,
 ghost use Rattle.board_lines.specs.Cadence.{KeepsCadenceTo, listed};
 ghost use Rattle.fw_compile.specs.Image.{image_of};
 ghost use Rattle.fw_debug.specs.Looks.{looks};
-ghost use Rattle.io_edge.specs.Faults.{Rose};
-ghost use Rattle.io_edge.specs.Said.{TakesAll};
+ghost use Rattle.io_edge.specs.Said.{IsSaid, shown};
 ghost use Rattle.joint_feed.specs.Stories.{story};
 ghost use Rattle.key_file.specs.Accepted.{IsAcceptedFor};
 ghost use Rattle.key_file.specs.Feeds.{Fed};
@@ -15,7 +14,7 @@ ghost use Rattle.subsystem.specs.Counts.{none_counted, with_lines};
 ghost use Rattle.subsystem.specs.Ending.{ending, history_of};
 ghost use Rattle.subsystem.specs.Looking.{HaveLookedAtSome};
 ghost use Rattle.subsystem.specs.Progress.{IsJudged, IsReady, lines_to};
-ghost use Rattle.subsystem.specs.Putting.{TakesSome};
+ghost use Rattle.subsystem.specs.Putting.{IsLogBrokenOff};
 ghost use Rattle.subsystem.specs.Running.{IsOutcome};
 ghost use Rattle.subsystem.specs.Texts.{log_text};
 
@@ -71,13 +70,15 @@ fn go_to_end<F: Feed, K: Sink>(
     requires ready { IsReady image.now.bytes (F.told feed.old) pace.old }
     requires none { counts.old ≡ none_counted }
     ensures judged { OnOk result (IsJudged (story image.now.bytes (F.told feed.old).history) true pace.new) }
-    ensures all { let run = story image.now.bytes (F.told feed.old).history in
-        OnOk result (TakesAll (K.taken out.old) (K.taken out.new) (log_text (lines_to run pace.new.starts.items pace.new.course.joint.steps))) }
+    ensures said { let run = story image.now.bytes (F.told feed.old).history in
+        OnOk result (IsSaid (shown (K.taken out.old) (K.told out.old) (K.faults out.old))
+        (shown (K.taken out.new) (K.told out.new) (K.faults out.new))
+        (log_text (lines_to run pace.new.starts.items pace.new.course.joint.steps))) }
     ensures counts { let run = story image.now.bytes (F.told feed.old).history in
         OnOk result (counts.new ≡ with_lines none_counted (lines_to run pace.new.starts.items pace.new.course.joint.steps)) }
-    ensures steady { OnOk result (K.faults out.new ≡ K.faults out.old) }
-    ensures part { OnErr result (TakesSome (story image.now.bytes (F.told feed.old).history) (K.taken out.old) (K.taken out.new)) }
-    ensures failed { OnErr result (Rose (K.faults out.old) (K.faults out.new)) }
+    ensures broken { OnErr result (IsLogBrokenOff (story image.now.bytes (F.told feed.old).history)
+        (shown (K.taken out.old) (K.told out.old) (K.faults out.old))
+        (shown (K.taken out.new) (K.told out.new) (K.faults out.new))) }
     ensures looked { let run = story image.now.bytes (F.told feed.old).history in
         let before = map (λ b. watch b) probes.old.items in
         OnOk result (map (λ b. watch b) probes.new.items ≡ looks run pace.new.course.joint.steps before) }
@@ -120,6 +121,7 @@ impl<F: Feed> Engine<F> {
         requires no_edge { (F.told feed).edges ≡ 0 }
         requires no_host { (F.told feed).host ≡ 0 }
         requires accepted { IsAcceptedFor layout.now (F.told feed).history }
+        ensures layout { IsKeyLayout layout.now }
         ensures engine { IfOk result (λ engine. engine ≡ story (image_of layout.now) (F.told feed).history) }
     {
         keeps_time(layout);
@@ -138,22 +140,23 @@ impl<F: Feed> Engine<F> {
     ///
     /// On Ok the sink has taken the whole text of the log, which is the one that the model expects for the layout, its
     /// count of faults is as it was, and the probes have looked at each state. A failure comes only where a put failed:
-    /// then the sink has a prefix of what some first steps of the run say, and the probes have looked at the states of
-    /// some first steps.
+    /// then the sink has the text of the whole log up to that put, and the probes have looked at the states of some first
+    /// steps, the one that said the line among them.
     pub fn run_to<K: Sink>(
         self,
         out: &mut K,
         probes: &mut Vec<Box<dyn Probe>>,
     ) -> Result<Ended, SinkFault>
         ensures run { IfOk result (λ ended. IsOutcome self (ending self ended)) }
-        ensures taken { IfOk result (λ ended. TakesAll (K.taken out.old) (K.taken out.new) (log_text (ending self ended).log)) }
+        ensures said { IfOk result (λ ended. IsSaid (shown (K.taken out.old) (K.told out.old) (K.faults out.old))
+            (shown (K.taken out.new) (K.told out.new) (K.faults out.new))
+            (log_text (ending self ended).log)) }
         ensures counts { IfOk result (λ ended. ended.counts ≡ with_lines none_counted (ending self ended).log) }
         ensures agrees { IfOk result (λ ended. (layout : KeyLayout) → IsKeyLayout layout → IsAcceptedFor layout (history_of self)
             → self.bytes ≡ image_of layout → IsAsExpected layout (history_of self) (ending self ended)) }
         ensures cadence { IfOk result (λ ended. KeepsCadenceTo (listed ended.starts.items) (length ended.starts.items - 1)) }
-        ensures steady { OnOk result (K.faults out.new ≡ K.faults out.old) }
-        ensures part { OnErr result (TakesSome self (K.taken out.old) (K.taken out.new)) }
-        ensures failed { OnErr result (Rose (K.faults out.old) (K.faults out.new)) }
+        ensures broken { OnErr result (IsLogBrokenOff self (shown (K.taken out.old) (K.told out.old) (K.faults out.old))
+            (shown (K.taken out.new) (K.told out.new) (K.faults out.new))) }
         ensures looked { let before = map (λ b. watch b) probes.old.items in
             IfOk result (λ ended. map (λ b. watch b) probes.new.items ≡ looks self ended.steps before) }
         ensures looked_so_far { HaveLookedAtSome self (map (λ b. watch b) probes.old.items) (map (λ b. watch b) probes.new.items) }

@@ -10,6 +10,7 @@ mod account;
 mod counts;
 mod ended;
 mod engine;
+mod gliding;
 mod law;
 mod outcome;
 mod pace;

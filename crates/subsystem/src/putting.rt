@@ -1,27 +1,26 @@
 //! Lines of the log, put as they arise.
 
-ghost use Rattle.std.specs.Prelude.{◌≡◌, ◌<◌, ◌^◌, ◌≤◌, length, map, IfOk, OnErr, OnOk};
-ghost use Rattle.io_edge.specs.Faults.{Rose};
-ghost use Rattle.io_edge.specs.Said.{TakesAll, TakesPart};
+ghost use Rattle.std.specs.Prelude.{◌≡◌, ◌<◌, ◌^◌, ◌≤◌, length, map, OnErr, OnOk};
+ghost use Rattle.io_edge.specs.Said.{IsBrokenOff, IsSaid, shown};
 ghost use Rattle.subsystem.specs.Account.{in_tick};
 ghost use Rattle.subsystem.specs.Counts.{with_lines};
 ghost use Rattle.subsystem.specs.Texts.{line_text, log_text};
 
 use crate::counts::Counts;
 use host_turn::Stamped;
-use io_edge::{Sink, SinkFault, put_all};
+use io_edge::{Sink, SinkFault, say};
 use link_model::LogLine;
 use pc_tables::item_line;
 
-/// Puts the line of an item whole.
+/// Puts the line of an item whole, and what wasn't taken of it again.
 fn put_line<K: Sink>(out: &mut K, line: LogLine) -> Result<(), SinkFault>
-    ensures all { OnOk result (TakesAll (K.taken out.old) (K.taken out.new) (line_text line)) }
-    ensures steady { OnOk result (K.faults out.new ≡ K.faults out.old) }
-    ensures part { OnErr result (TakesPart (K.taken out.old) (K.taken out.new) (line_text line)) }
-    ensures failed { OnErr result (Rose (K.faults out.old) (K.faults out.new)) }
+    ensures said { OnOk result (IsSaid (shown (K.taken out.old) (K.told out.old) (K.faults out.old))
+        (shown (K.taken out.new) (K.told out.new) (K.faults out.new)) (line_text line)) }
+    ensures broken { OnErr result (IsBrokenOff (shown (K.taken out.old) (K.told out.old) (K.faults out.old))
+        (shown (K.taken out.new) (K.told out.new) (K.faults out.new)) (line_text line)) }
 {
     let text = item_line(line.tick, line.item);
-    put_all(out, text.as_slice())
+    say(out, text.as_slice())
 }
 
 /// Puts the lines of items, in this tick, and counts them.
@@ -35,11 +34,11 @@ pub fn put_items<K: Sink>(
     requires words { counts.old.words < 2 ^ 40 }
     requires beeps { counts.old.beeps < 2 ^ 40 }
     requires few { length items.now ≤ 16 }
-    ensures all { OnOk result (TakesAll (K.taken out.old) (K.taken out.new) (log_text (map (in_tick tick) items.now))) }
-    ensures steady { OnOk result (K.faults out.new ≡ K.faults out.old) }
+    ensures said { OnOk result (IsSaid (shown (K.taken out.old) (K.told out.old) (K.faults out.old))
+        (shown (K.taken out.new) (K.told out.new) (K.faults out.new)) (log_text (map (in_tick tick) items.now))) }
+    ensures broken { OnErr result (IsBrokenOff (shown (K.taken out.old) (K.told out.old) (K.faults out.old))
+        (shown (K.taken out.new) (K.told out.new) (K.faults out.new)) (log_text (map (in_tick tick) items.now))) }
     ensures counts { OnOk result (counts.new ≡ with_lines counts.old (map (in_tick tick) items.now)) }
-    ensures part { OnErr result (TakesPart (K.taken out.old) (K.taken out.new) (log_text (map (in_tick tick) items.now))) }
-    ensures failed { OnErr result (Rose (K.faults out.old) (K.faults out.new)) }
 {
     for stamped in items {
         let line = LogLine {

@@ -1,6 +1,6 @@
 use Rattle.std.proofs.Common.{◌≡◌, ◌≤◌, ◌^◌, ◌+◌, ◌-◌, ◌*◌, ◌/◌, length, map, vec_capacity}
 use Rattle.fw_debug.specs.Looks.{looks}
-use Rattle.io_edge.specs.Said.{TakesAll}
+use Rattle.io_edge.specs.Said.{IsSaid, shown}
 use Rattle.joint_feed.specs.Ahead.{HasTaken}
 use Rattle.joint_feed.specs.Stories.{story}
 use Rattle.subsystem.specs.Counts.{none_counted, with_lines}
@@ -14,8 +14,7 @@ invariant-steps g l = record {
   so_far : IsSoFar (story l.image.bytes (g.F.Feed.told l.fn.feed).history) l.pace;
   taken : HasTaken (g.F.Feed.told l.feed) l.pace.course.ahead;
   room : (g.F.Feed.told l.fn.feed).history.end / 2048 + 2 ≤ vec_capacity l.pace.starts;
-  all : TakesAll (g.K.Sink.taken l.fn.out) (g.K.Sink.taken l.out) (log_text (lines_to (story l.image.bytes (g.F.Feed.told l.fn.feed).history) l.pace.starts.items l.pace.course.joint.steps));
-  steady : g.K.Sink.faults l.out ≡ g.K.Sink.faults l.fn.out;
+  said : IsSaid (shown (g.K.Sink.taken l.fn.out) (g.K.Sink.told l.fn.out) (g.K.Sink.faults l.fn.out)) (shown (g.K.Sink.taken l.out) (g.K.Sink.told l.out) (g.K.Sink.faults l.out)) (log_text (lines_to (story l.image.bytes (g.F.Feed.told l.fn.feed).history) l.pace.starts.items l.pace.course.joint.steps));
   counts : l.counts ≡ with_lines none_counted (lines_to (story l.image.bytes (g.F.Feed.told l.fn.feed).history) l.pace.starts.items l.pace.course.joint.steps);
   short : length (lines_to (story l.image.bytes (g.F.Feed.told l.fn.feed).history) l.pace.starts.items l.pace.course.joint.steps) ≤ 16 * l.pace.course.joint.steps;
   looked :

@@ -1,7 +1,6 @@
 use Rattle.std.proofs.Common.{◌≡◌, ◌≤◌, ◌+◌, ◌-◌, [], refl, ap, sym, ◌∙◌, arith}
 use Rattle.std.specs.Prelude.{slice_get}
 use Rattle.board_lines.specs.declared.lines.Lines.{Lines}
-use Rattle.joint_run.specs.Cycle.{is_quiet}
 use Rattle.joint_run.specs.Due.{beside, outside_of}
 use Rattle.joint_run.specs.Joint.{Beside, latch_of}
 use Rattle.pc_wires.specs.Wires.{wires}
@@ -17,7 +16,7 @@ returns-then-is_quiet c =
     let last = now + c.args.cycles - 1 in
     let q : IsQuiet last p2 (slice_get events 0) o =
     quiet_parts last p2 (slice_get events 0) o
-    (ap (λ e. is_quiet last p2 e o) (sym c.next_of.ensures) ∙ sym c.is_quiet.ensures ∙ c.if-is_quiet.true) in
+    (sym c.is_quiet.ensures ∙ c.if-is_quiet.true) in
     let before : now ≤ last = let some = c.requires.some in omega (arith, some) in
     let all = quiet_step events p2 c.args.cycles now last o c.requires.some c.requires.few refl q in
     let one = quiet_one events p2 now o (quiet_before now last p2 (slice_get events 0) o before q) in

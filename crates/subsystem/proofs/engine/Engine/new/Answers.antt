@@ -1,4 +1,4 @@
-use Rattle.std.proofs.Common.{◌≡◌, ◌≤◌, ◌+◌, ◌/◌, vec_capacity, ap, sym, subst, ◌∙◌, arith}
+use Rattle.std.proofs.Common.{◌≤◌, ◌+◌, ◌/◌, vec_capacity, ap, sym, subst, ◌∙◌, arith}
 use Rattle.fw_compile.specs.Image.{image_of}
 use Rattle.fw_logic.specs.JointRun.{KeepsTime}
 use Rattle.joint_feed.specs.Stories.{story}
@@ -27,6 +27,7 @@ invariant_of-result g c =
 
 pub returns : goal.returns
 returns g c = record {
+  layout = c.keeps_time.ensures.layout;
   engine =
       ap (λ b. story b (g.F.Feed.told c.begin-pace.new.feed).history) c.compile-image.ensures.image
       ∙ ap (story (image_of c.args.layout.now)) c.begin-pace.ensures.history;

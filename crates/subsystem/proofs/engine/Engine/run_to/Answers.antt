@@ -1,5 +1,5 @@
 use Rattle.std.proofs.Common.{ap, sym, subst, ◌∙◌}
-use Rattle.io_edge.specs.Said.{TakesAll}
+use Rattle.io_edge.specs.Said.{IsSaid, shown}
 use Rattle.key_file.specs.Accepted.{IsAcceptedFor}
 use Rattle.joint_feed.specs.Stories.{Story, story}
 use Rattle.subsystem.specs.Agreement.{IsAsExpected}
@@ -8,7 +8,6 @@ use Rattle.subsystem.specs.Running.{IsOutcome}
 use Rattle.subsystem.specs.Texts.{log_text}
 use Rattle.subsystem.proofs.Ends.{ends, told_whole}
 use Rattle.subsystem.proofs.Timekeeping.{keeps_cadence}
-use Rattle.subsystem.proofs.engine.Engine.run_to.Given as given
 use Rattle.subsystem.proofs.engine.Engine.run_to.Goals as goal
 
 pub returns-clause-run : goal.returns-clause-run
@@ -20,16 +19,16 @@ returns-clause-run g c =
     subst (λ (t : Story). IsOutcome t (ending t ended)) c.self.view_is
     (ends s c.go_to_end.new.pace (ending s ended) r.judged (told_whole s c.go_to_end.new.pace ended r.judged e.starts e.steps) (ap (λ v. v.items) e.starts) e.end e.steps e.cycles)
 
-pub returns-clause-taken : goal.returns-clause-taken
-returns-clause-taken g c =
+pub returns-clause-said : goal.returns-clause-said
+returns-clause-said g c =
     let s = story c.self.inside.image.bytes (g.F.Feed.told c.self.inside.feed).history in
     let ended = c.ended_of.result in
     let e = c.ended_of.ensures in
     let r = c.in_ok-go_to_end.ensures in
-    let from = g.K.Sink.taken c.args.out.now in
-    let to = g.K.Sink.taken c.go_to_end.new.out in
-    subst (λ (t : Story). TakesAll from to (log_text (ending t ended).log)) c.self.view_is
-    (subst (λ t. TakesAll from to (log_text t)) (sym (told_whole s c.go_to_end.new.pace ended r.judged e.starts e.steps)) r.all)
+    let from = shown (g.K.Sink.taken c.args.out.now) (g.K.Sink.told c.args.out.now) (g.K.Sink.faults c.args.out.now) in
+    let to = shown (g.K.Sink.taken c.go_to_end.new.out) (g.K.Sink.told c.go_to_end.new.out) (g.K.Sink.faults c.go_to_end.new.out) in
+    subst (λ (t : Story). IsSaid from to (log_text (ending t ended).log)) c.self.view_is
+    (subst (λ t. IsSaid from to (log_text t)) (sym (told_whole s c.go_to_end.new.pace ended r.judged e.starts e.steps)) r.said)
 
 pub returns-clause-cadence : goal.returns-clause-cadence
 returns-clause-cadence g c =

@@ -1,70 +1,42 @@
-use Rattle.std.proofs.Common.{◌≡◌, suc, None, refl, sym, subst, ◌∙◌, arith}
-use Rattle.fw_debug.proofs.Over.{seen_map}
-use Rattle.fw_debug.specs.Probes.{looked}
-use Rattle.joint_feed.specs.Course.{IsOnCourse, IsSaid}
-use Rattle.joint_feed.specs.Stories.{state_at, story}
-use Rattle.subsystem.proofs.Advancing.{never_stuck, few_starts, so_far_again, said_more}
-use Rattle.subsystem.proofs.Looking.{looked_next}
+use Rattle.subsystem.proofs.Counted.{fed_now, taken_now, made_now, done_now, edges_now, host_now, steps_later, cycle_later, starts_same, few_now, looked_now, so_far_now, said_now}
 use Rattle.subsystem.proofs.pace.Pace.advance.Goals as goal
 
-pub go_on-requires : goal.go_on-requires
-go_on-requires g c =
-    let stands = c.requires.judged.stands.course in
-    let soon = c.requires.soon in
+pub glide-requires : goal.glide-requires
+glide-requires g c = record {
+  going = ((g.F.Feed.told c.args.feed.now).history, record { accepted = c.requires.accepted; judged = c.requires.judged; time = c.requires.time });
+}
+
+pub count-requires : goal.count-requires
+count-requires g c =
+    let bytes = c.args.image.now.bytes in
+    let h = (g.F.Feed.told c.args.feed.now).history in
+    let e = c.glide.ensures.glided h (record { accepted = c.requires.accepted; judged = c.requires.judged; time = c.requires.time }) in
     record {
       accepted = c.requires.accepted;
-      on = subst (λ bytes. IsOnCourse (story bytes (g.F.Feed.told c.args.feed.now).history) c.args.self.now.course) (sym stands.image) stands;
-      taken = c.requires.taken;
-      near = omega (arith, soon);
+      fed = fed_now bytes h c.args.self.now c.glide.new.self _ _ e;
+      taken = taken_now bytes h c.args.self.now c.glide.new.self _ _ e (g.F.Feed.told c.args.feed.now) c.requires.taken;
+      made = made_now bytes h c.args.self.now c.glide.new.self _ _ e;
+      done = done_now bytes h c.args.self.now c.glide.new.self _ _ e;
+      edges = edges_now bytes h c.args.self.now c.glide.new.self _ _ e;
+      host = host_now bytes h c.args.self.now c.glide.new.self _ _ e;
     }
 
-pub unreachable-requires : goal.unreachable-requires
-unreachable-requires g c =
+pub returns : goal.returns
+returns g c =
+    let bytes = c.args.image.now.bytes in
     let h = (g.F.Feed.told c.args.feed.now).history in
-    let next = suc c.args.self.now.course.joint.steps in
-    never_stuck (story c.args.image.now.bytes h) next c.requires.time
-    (subst (λ bytes. state_at (story bytes h) next ≡ None) c.requires.judged.stands.course.image c.in-Err.ensures.on.3)
-
-pub returns-clause-so_far : goal.returns-clause-so_far
-returns-clause-so_far g c =
-    let h = (g.F.Feed.told c.args.feed.now).history in
-    let s = story c.args.image.now.bytes h in
-    let p = c.args.self.now in
-    let k = p.course.joint.steps in
-    let new = c.go_on.new.self in
-    let image = c.requires.judged.stands.course.image in
-    let e = c.in-Ok.ensures in
-    let step : IsOnCourse s new × (new.joint.steps ≡ suc k) =
-    subst (λ bytes. IsOnCourse (story bytes h) new × (new.joint.steps ≡ suc k)) image e.on in
-    let tells : IsSaid s k new.seen.items.items = subst (λ bytes. IsSaid (story bytes h) k new.seen.items.items) image e.said in
-    so_far_again s p new c.requires.judged step.0 step.1 tells c.requires.time _ refl refl
-
-pub returns-clause-said : goal.returns-clause-said
-returns-clause-said g c =
-    let h = (g.F.Feed.told c.args.feed.now).history in
-    let s = story c.args.image.now.bytes h in
-    let p = c.args.self.now in
-    let k = p.course.joint.steps in
-    let new = c.go_on.new.self in
-    let image = c.requires.judged.stands.course.image in
-    let e = c.in-Ok.ensures in
-    let step : IsOnCourse s new × (new.joint.steps ≡ suc k) =
-    subst (λ bytes. IsOnCourse (story bytes h) new × (new.joint.steps ≡ suc k)) image e.on in
-    let tells : IsSaid s k new.seen.items.items = subst (λ bytes. IsSaid (story bytes h) k new.seen.items.items) image e.said in
-    said_more s p new c.requires.judged step.0 step.1 tells c.requires.time
-
-pub returns-clause-steps : goal.returns-clause-steps
-returns-clause-steps g c = c.in-Ok.ensures.on.1
-
-pub returns-clause-few : goal.returns-clause-few
-returns-clause-few g c = few_starts (story c.args.image.now.bytes (g.F.Feed.told c.args.feed.now).history) c.args.self.now c.requires.judged c.requires.soon
-
-pub returns-clause-looked : goal.returns-clause-looked
-returns-clause-looked g c =
-    let h = (g.F.Feed.told c.args.feed.now).history in
-    let k = c.args.self.now.course.joint.steps in
-    let new = c.go_on.new.self in
-    let on : IsOnCourse (story c.args.image.now.bytes h) new =
-    subst (λ bytes. IsOnCourse (story bytes h) new) c.requires.judged.stands.course.image c.in-Ok.ensures.on.0 in
-    looked_next (story c.args.image.now.bytes h) new on k c.steps-steps.result _ _ c.in-Ok.ensures.on.1 c.steps-steps.ensures.steps
-    (c.look_all.ensures.looked ∙ sym (seen_map _ (looked c.steps-steps.result new.joint.mcu) c.args.probes.now.items))
+    let old = c.args.self.now in
+    let new = c.glide.new.self in
+    let e = c.glide.ensures.glided h (record { accepted = c.requires.accepted; judged = c.requires.judged; time = c.requires.time }) in
+    let n = c.count.ensures in
+    record {
+      so_far = so_far_now bytes h old new _ _ e c.count.new.self n.fed n.made n.done;
+      steps = steps_later bytes h old new _ _ e;
+      later = cycle_later bytes h old new _ _ e;
+      starts = starts_same bytes h old new _ _ e;
+      few = few_now bytes h old new _ _ e;
+      said = said_now bytes h old new _ _ e c.count.new.self n.fed n.made n.done;
+      looked = looked_now bytes h old new _ _ e;
+      taken = n.taken;
+      history = n.history;
+    }
