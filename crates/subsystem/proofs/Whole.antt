@@ -1,5 +1,5 @@
 -- A run comes to its end, and what its first steps say is the beginning of its log.
-use Rattle.std.proofs.Common.{◌≡◌, ◌≤◌, ◌<◌, ℕ, zero, suc, ◌+◌, ◌-◌, Bool, true, false, ◌&&◌, List, [], ◌∷◌, ◌++◌, length, map, leb, Some, refl, ap, sym, subst, ◌∙◌, arith, inl, inr}
+use Rattle.std.proofs.Common.{◌≡◌, ◌≤◌, ℕ, zero, suc, ◌+◌, ◌-◌, true, false, ◌&&◌, List, [], ◌∷◌, ◌++◌, length, map, leb, Some, refl, ap, sym, subst, ◌∙◌, arith, inl, inr}
 use Rattle.std.specs.Prelude.{if◌then◌else◌, nat_le}
 use Rattle.std.proofs.lemmas.Bool.Decides.{nat_tests}
 use Rattle.std.proofs.lemmas.List.{append-nil, append_assoc, map-append}
@@ -7,7 +7,6 @@ use Rattle.std.proofs.Math.Seq.{get_or-append_seam}
 use Rattle.std.specs.Fmt.{decimal}
 use Rattle.std.specs.declared.option.Option.{Option}
 use Rattle.board_lines.specs.Cadence.{listed}
-use Rattle.fw_kernel.specs.declared.labels.TheConstants.{TICK}
 use Rattle.fw_logic.specs.JointRun.{KeepsTime}
 use Rattle.host_turn.specs.declared.stamped.Stamped.{Stamped}
 use Rattle.io_edge.specs.Said.{IsBrokenOff, Shown}
@@ -20,7 +19,7 @@ use Rattle.link_model.specs.declared.line.LogLine.{LogLine}
 use Rattle.pc_tables.specs.Items.{text_of}
 use Rattle.subsystem.specs.Progress.{AreIn, line_so_far, lines_to}
 use Rattle.subsystem.specs.Putting.{IsLogBrokenOff}
-use Rattle.subsystem.specs.Running.{GoesOnTo, IsOutcome, Outcome, is_over, lines_of, log_at, logged, start_stamp, starts_among}
+use Rattle.subsystem.specs.Running.{GoesOnTo, IsOutcome, Outcome, is_over, lines_of, logged, start_stamp, starts_among}
 use Rattle.subsystem.specs.Texts.{line_text, log_text}
 use Rattle.subsystem.proofs.Agreed.{run_last, run_starts}
 use Rattle.subsystem.proofs.Lines.{lines_later, lines_whole, one_longer}

@@ -1,6 +1,5 @@
 -- How many bytes came to port 60h, how many words into the buffer and how many beeps a log has.
-use Rattle.std.specs.Prelude.{ℕ, ◌+◌, Bool, true, false, List, count_by}
-use Rattle.pc_tables.specs.declared.item.Item.{Item}
+use Rattle.std.specs.Prelude.{◌+◌, Bool, true, false, List, count_by}
 use Rattle.pc_tables.specs.declared.item.Item.TheVariants.{Port, Word, Beep}
 use Rattle.link_model.specs.declared.line.LogLine.{LogLine}
 use Rattle.subsystem.specs.declared.counts.Counts.{Counts}

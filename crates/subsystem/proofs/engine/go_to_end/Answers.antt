@@ -1,4 +1,4 @@
-use Rattle.std.proofs.Common.{◌≡◌, ◌≤◌, suc, ◌-◌, ◌++◌, length, map, vec_capacity, false, refl, ap, sym, subst, ◌∙◌, arith}
+use Rattle.std.proofs.Common.{◌≡◌, suc, ◌-◌, ◌++◌, length, map, vec_capacity, refl, ap, sym, subst, ◌∙◌, arith}
 use Rattle.io_edge.specs.Said.{IsBrokenOff, IsSaid, shown}
 use Rattle.io_edge.proofs.Pieces.{said_then_broken, said_then_said}
 use Rattle.joint_feed.specs.Stories.{story}

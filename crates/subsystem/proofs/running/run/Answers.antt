@@ -1,11 +1,9 @@
 use Rattle.std.proofs.Common.{◌≡◌, ap, subst, sym, ◌∙◌}
 use Rattle.fw_compile.specs.Image.{image_of}
-use Rattle.fw_debug.specs.Looks.{looks}
 use Rattle.fw_logic.specs.JointRun.{KeepsTime}
-use Rattle.joint_feed.specs.Stories.{Story, story}
+use Rattle.joint_feed.specs.Stories.{story}
 use Rattle.key_file.specs.Accepted.{IsAccepted}
 use Rattle.subsystem.specs.Agreement.{IsExpected}
-use Rattle.subsystem.specs.Looking.{HaveLookedAtSome}
 use Rattle.subsystem.specs.Progress.{IsSoFar}
 use Rattle.subsystem.specs.Running.{IsOutcome, IsRun, outcome}
 use Rattle.subsystem.proofs.Ends.{ends}

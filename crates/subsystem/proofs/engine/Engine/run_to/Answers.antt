@@ -8,7 +8,6 @@ use Rattle.subsystem.specs.Running.{IsOutcome}
 use Rattle.subsystem.specs.Texts.{log_text}
 use Rattle.subsystem.proofs.Ends.{ends, told_whole}
 use Rattle.subsystem.proofs.Timekeeping.{keeps_cadence}
-use Rattle.subsystem.proofs.engine.Engine.run_to.Given as given
 use Rattle.subsystem.proofs.engine.Engine.run_to.Goals as goal
 
 pub returns-clause-run : goal.returns-clause-run
