@@ -1,4 +1,4 @@
-use Rattle.std.proofs.Common.{◌≡◌, length, subst, ◌∙◌, arith}
+use Rattle.std.proofs.Common.{◌≡◌, length, subst, arith}
 use Rattle.io_edge.specs.Faults.{Rose}
 use Rattle.io_edge.specs.Said.{shown}
 use Rattle.io_edge.specs.Sink.{Takes}
