@@ -7,7 +7,9 @@ pub mod Looking
 pub mod Leaves
 pub mod Lit
 pub mod Pressing
-pub mod Framing
+pub mod Fitting
+pub mod AnyTick
+pub mod Does
 pub mod Ways
 pub mod OnWires
 pub mod Sides

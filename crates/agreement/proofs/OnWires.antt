@@ -67,10 +67,10 @@ module _ (edges : List Edge) (events : List HostEvent) (d : Board) (to : d.State
       ∙ lit_wires edges events (λ o. latch_of v) 23 (232 + x) v before (λ o l m. refl)
 
   -- and from there on
-  behind_look : (k : ℕ)
+  pub behind_clock : (k : ℕ)
       → to (driven d x latch (256 + k) 0 w.board)
       ≡ record { pc = board_cycles events lines k (256 + x) (at_look edges events u); shown = lights_of v }
-  behind_look k =
+  behind_clock k =
       let a : x + 256 ≡ 256 + x = omega arith in
       driven_over edges events d to over x latch (256 + k) 0 w.board
       ∙ ticks_add 256 k 0 (λ o. joint.tick (latch o) (x + o)) (to w.board)
@@ -94,4 +94,4 @@ module _ (edges : List Edge) (events : List HostEvent) (d : Board) (to : d.State
       is : (k : ℕ) → e.cycle ≡ 256 + x + k
           → to e.board
           ≡ record { pc = board_cycles events lines k (256 + x) (at_look edges events u); shown = lights_of v }
-      is k at = ap to (h.board (256 + k) (omega (arith, at))) ∙ behind_look k
+      is k at = ap to (h.board (256 + k) (omega (arith, at))) ∙ behind_clock k

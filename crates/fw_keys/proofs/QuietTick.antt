@@ -140,7 +140,7 @@ module _ (d : Board) (bytes : List ℕ) (hk : HasKernel bytes) (alike : IsSilent
       ∙ joined 2 n (x + 232) (x + 3 + 231) new (in_tick d w 232) (omega arith))
       ∙ ap (λ c. d.pins 44 (latch_now d w) c (ticks (2 + n) (x + 232) new (in_tick d w 232))) a
 
-  works : (meeting : Meeting) → IsQuiet d w meeting
+  pub works : (meeting : Meeting) → IsQuiet d w meeting
       → (max : ℕ) × (max ≤ 36) × ((l : Bool) → Work d bytes hk alike small low w.cycle late soon m.tf m.last_t1 f ring m
       w.board l meeting (231 + (max + (56 + (2 + edges_most C)))) (F l))
   works Idle (inl runs) = (
