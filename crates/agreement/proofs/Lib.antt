@@ -18,6 +18,7 @@ pub mod Compiled
 pub mod Placed
 pub mod Going
 pub mod Frames
+pub mod Cutting
 pub mod Deciding
 pub mod Columns
 pub mod Holding

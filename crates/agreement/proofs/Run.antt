@@ -32,6 +32,7 @@ use Rattle.agreement.proofs.Above.{edges_over, low_over}
 use Rattle.agreement.proofs.Beginning.{begins, is_tick, begins_let_go}
 use Rattle.agreement.proofs.Columns.{bus_low, edges_are}
 use Rattle.agreement.proofs.Compiled.{has_kernel, has_rate, is_alike, are_bytes, silent_keys, same_keys, no_prefix}
+use Rattle.agreement.proofs.Cutting.{cut_since, is_cut_by}
 use Rattle.agreement.proofs.Deciding.{every_tick}
 use Rattle.agreement.proofs.Frames.{frame_in}
 use Rattle.agreement.proofs.Going.{Went}
@@ -192,6 +193,9 @@ module _ (layout : KeyLayout) (history : KeyHistory) (fine : IsKeyLayout layout)
           before = (tie.released.clock, tie.released.data_wire);
           lit = lit;
           behind = (released.clock, released.data_wire);
+          cut = is_cut_by edges events w tie.lit released frame
+              (cut_since events lit w.cycle released (at_look edges events w) (m.keys.keyboard.test == 0)
+              (offer m.keys.keyboard));
           drives = drives_tick joint latch TICK bytes w
               (Went edges events W beneath above bytes layout (same_keys layout) (no_prefix layout fine) n (watched w) m
               time tie columns_above of_layout released lamps ok.accepted.flips frame)

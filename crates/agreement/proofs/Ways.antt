@@ -36,13 +36,12 @@ use Rattle.pc_wires.specs.Wires.{Pc}
 use Rattle.wires_agree.proofs.Got.{frame_shown}
 use Rattle.wires_agree.proofs.Meetings.{request_at}
 use Rattle.wires_agree.proofs.Spans.{IsAt}
-use Rattle.wires_agree.proofs.Whole.{cycles_more}
 use Rattle.wires_agree.specs.Cycles.{board_cycles}
 use Rattle.wires_agree.specs.Ticks.{at_meeting, leaves_clock}
 use Rattle.agreement.proofs.AnyTick.{one_byte, released, sent_at, received_at, quiet, sent, cut, got}
 use Rattle.agreement.proofs.Happened.{at_look, Happened}
 use Rattle.agreement.proofs.Lit.{at_clock, behind_look}
-use Rattle.agreement.proofs.OnWires.{behind_clock}
+use Rattle.agreement.proofs.OnWires.{at_cell}
 use Rattle.agreement.proofs.Seen.{at_data, free_shows, request_shows}
 use Rattle.agreement.specs.Firmware.{Offers, clock_in, data_in, board_at}
 
@@ -109,24 +108,13 @@ module _ (edges : List Edge) (events : List HostEvent) (d : Board) (to : d.State
       → Tick d TICK bytes w (So Inhibited NoFrame)
   inhibited no_test holds = quiet d bytes hk alike small low w s repeats few Inhibited (no_test, sees_clock ∙ holds)
 
-  -- what stands beside the processor at a look of a frame
+  -- the lines of a tick with a frame; and what stands beside the processor at a look of it
   abbrev lines : Frame → ℕ → Lines
   lines frame = lines_by frame v start free_latch
 
-  abbrev pc_at : Frame → ℕ → Pc
-  pc_at frame k =
-      board_cycles events (lines frame) (32 * k + 18) (288 + start) (at_meeting events (lines frame) start b)
-
-  at_cell : (frame : Frame) (k : ℕ) → (to (board_at d w frame (306 + 32 * k))).pc ≡ pc_at frame k
-  at_cell frame k =
-      let o : 306 + 32 * k ≡ 256 + (50 + 32 * k) = omega arith in
-      let e : 32 + (32 * k + 18) ≡ 50 + 32 * k = omega arith in
-      let a : 32 + (256 + start) ≡ 288 + start = omega arith in
-      ap (λ n. (to (board_at d w frame n)).pc) o
-      ∙ ap (λ (t : Beside). t.pc)
-      (behind_clock edges events d to over w lit free_latch frame (50 + 32 * k))
-      ∙ cycles_more events (lines frame) 32 (32 * k + 18) (50 + 32 * k) (256 + start) b e
-      ∙ ap (λ c. board_cycles events (lines frame) (32 * k + 18) c (at_meeting events (lines frame) start b)) a
+  cell_is : (frame : Frame) (k : ℕ) → (to (board_at d w frame (306 + 32 * k))).pc
+      ≡ board_cycles events (lines frame) (32 * k + 18) (288 + start) (at_meeting events (lines frame) start b)
+  cell_is frame k = at_cell edges events d to over w lit free_latch frame k
 
   -- the looks at the clock in a sent frame see whether the controller leaves it alone
   sees_cell : (byte k : ℕ) → k < 10
@@ -140,7 +128,7 @@ module _ (edges : List Edge) (events : List HostEvent) (d : Board) (to : d.State
       ∙ clock_of_latch true (frame_bit byte k) v free_latch in
       clock_is edges events d to over 44 put (start + (306 + 32 * k)) q
       ∙ ap (λ c. c && (drive (to q).pc.side.port.link).clk) high
-      ∙ ap (λ (p : Pc). (drive p.side.port.link).clk) (at_cell frame k)
+      ∙ ap (λ (p : Pc). (drive p.side.port.link).clk) (cell_is frame k)
 
   module _ (byte : ℕ) (no_test : (kbd.test == 0) ≡ true) (is : offer kbd ≡ Some byte) (free : b.side.port.link ≡ Free)
     where
@@ -202,7 +190,7 @@ module _ (edges : List Edge) (events : List HostEvent) (d : Board) (to : d.State
         ap (λ l. (latch_of l).dat) (received_at d bytes hk alike small low w s repeats few k room) ∙ free_latch.data_wire in
         data_is edges events d to over 44 put (start + (306 + 32 * k)) q
         ∙ ap (λ c. c && (drive (to q).pc.side.port.link).dat) high
-        ∙ ap (λ (p : Pc). (drive p.side.port.link).dat) (at_cell ReceivedFrame k)
+        ∙ ap (λ (p : Pc). (drive p.side.port.link).dat) (cell_is ReceivedFrame k)
         ∙ frame_shown events received (288 + start) byte received_bit (at_meeting events received start b)
         (received_lines v start free_latch 0).1 requested.link_is requested.clock_is k 17 room (omega arith)
 
