@@ -1,5 +1,5 @@
 -- A tick on any board, by its frame and its meeting: what its looks find decides what it does.
-use Rattle.std.proofs.Common.{◌≡◌, ◌≤◌, ◌<◌, ℕ, ◌+◌, ◌*◌, ◌/◌, ◌%◌, ◌==◌, List, All, Bool, true, false, length, drop, Some}
+use Rattle.std.proofs.Common.{◌≡◌, ◌≤◌, ◌<◌, ℕ, ◌+◌, ◌*◌, ◌/◌, ◌%◌, List, All, Bool, true, false, length, drop}
 use Rattle.std.proofs.Common.{refl, ap, sym, ◌∙◌, subst, arith}
 use Rattle.mcs48_core.specs.Cpu.{Cpu}
 use Rattle.fw_kernel.specs.Places.{HasKernel}
@@ -15,11 +15,10 @@ use Rattle.fw_keys.specs.Quiet.{cells_in, shown_by, layers_by, IsStarted, IsRepe
 use Rattle.fw_keys.specs.Quiet.{clock_now, data_now}
 use Rattle.fw_keys.specs.State.{Inv}
 use Rattle.fw_link.proofs.Latches.{driven}
-use Rattle.fw_link.proofs.Taking.{cell_high as received_high}
 use Rattle.fw_link.proofs.TickLatch.{before_data, within, behind, without_frame}
-use Rattle.fw_link.proofs.Wired.{IsReleased, lights_leave, both_high, cell_high, spans_on, spans_as}
+use Rattle.fw_link.proofs.Wired.{IsReleased, lights_leave, spans_on, spans_as}
 use Rattle.fw_link.specs.Latch.{Frame, NoFrame, SentFrame, CutFrame, ReceivedFrame, frame_latch, frame_cycles}
-use Rattle.fw_link.specs.Latch.{wired, frame_bit, cut_after, tick_latch, received_latch}
+use Rattle.fw_link.specs.Latch.{wired, frame_bit, cut_after, tick_latch}
 use Rattle.fw_link.specs.Reading.{byte_in, right_in}
 use Rattle.fw_logic.proofs.Laws.{comes_as}
 use Rattle.fw_logic.proofs.Path.{Stage}
@@ -31,25 +30,13 @@ use Rattle.joint_run.specs.Starts.{Tick}
 use Rattle.kbd_model.specs.Keyboard.{Keyboard, offer}
 use Rattle.kbd_model.specs.declared.meeting.Meeting.{Meeting}
 use Rattle.kbd_model.specs.declared.meeting.Meeting.TheVariants.{Sent, Cut, Got}
-use Rattle.agreement.proofs.Fitting.{Behind, clock, data_wire, clock_look, data_look, sends_frame, cuts_frame, gets_frame}
+use Rattle.agreement.proofs.AtLook.{one_byte, sent_at, received_at}
+use Rattle.agreement.proofs.Fitting.{Behind, clock, data_wire, clock_look, data_look}
+use Rattle.agreement.proofs.Fitting.{sends_frame, cuts_frame, gets_frame}
 use Rattle.agreement.proofs.Happened.{Happened}
 use Rattle.agreement.proofs.Lit.{shine, from_lights, from_head}
 use Rattle.agreement.proofs.Pressing.{pressed_at}
 use Rattle.agreement.specs.Firmware.{Finds, HasWholeCodes, Offers, IsOpen, clock_in, data_in, board_at}
-
--- levels that agree give one byte, and one answer on its parity
-pub one_byte : (a b : ℕ → Bool) → ((k : ℕ) → k < 9 → a k ≡ b k) → (byte_in a ≡ byte_in b) × (right_in a ≡ right_in b)
-one_byte a b h =
-    let e0 : a 0 ≡ b 0 = h 0 (omega arith) in
-    let e1 : a 1 ≡ b 1 = h 1 (omega arith) in
-    let e2 : a 2 ≡ b 2 = h 2 (omega arith) in
-    let e3 : a 3 ≡ b 3 = h 3 (omega arith) in
-    let e4 : a 4 ≡ b 4 = h 4 (omega arith) in
-    let e5 : a 5 ≡ b 5 = h 5 (omega arith) in
-    let e6 : a 6 ≡ b 6 = h 6 (omega arith) in
-    let e7 : a 7 ≡ b 7 = h 7 (omega arith) in
-    let e8 : a 8 ≡ b 8 = h 8 (omega arith) in
-    (rw (e0, e1, e2, e3, e4, e5, e6, e7) refl, rw (e0, e1, e2, e3, e4, e5, e6, e7, e8) refl)
 
 module _ (d : Board) (bytes : List ℕ) (hk : HasKernel bytes) (alike : IsSilentAlike bytes) (small : All IsByte bytes)
     (low : (p1 p2 c : ℕ) (s : d.State) → (d.pins p1 p2 c s).bus < 256) (w : World d.State)
@@ -191,27 +178,13 @@ module _ (d : Board) (bytes : List ℕ) (hk : HasKernel bytes) (alike : IsSilent
       ap (λ q. (d.pins 44 v (y + 24) q).t1) (from_lights d bytes hk alike small low w s few l 24 y (omega arith))
       ∙ ap (λ c. (d.pins 44 v c (ticks 26 (start + 232) (d.tick v) (in_tick d w 232))).t1) a
 
-  -- those of a frame, by the offset from the look at data; and the latch there
+  -- those of a frame, by the offset from the look at data
   abbrev look_off : ℕ → ℕ
   look_off k = 28 + 32 * k + 18
 
-  pub sent_at : (byte k : ℕ) → k < 10
-      → tick_latch w.cpu.p2 v (SentFrame byte) (306 + 32 * k) ≡ wired v true (frame_bit byte k)
-  sent_at byte k few =
-      let o : 306 + 32 * k ≡ 260 + look_off k = omega arith in
-      let p : look_off k ≡ 28 + 32 * k + 16 + 2 = omega arith in
-      ap (latch (SentFrame byte)) o ∙ within w.cpu.p2 v (SentFrame byte) (look_off k) (omega (arith, few))
-      ∙ ap (λ o. frame_latch (SentFrame byte) v o) p ∙ cell_high v byte k 2 (omega arith)
-
-  pub received_at : (k : ℕ) → k < 10 → tick_latch w.cpu.p2 v ReceivedFrame (306 + 32 * k) ≡ v
-  received_at k few =
-      let o : 306 + 32 * k ≡ 260 + look_off k = omega arith in
-      let p : look_off k ≡ 28 + 32 * k + 16 + 2 = omega arith in
-      ap (latch ReceivedFrame) o ∙ within w.cpu.p2 v ReceivedFrame (look_off k) (omega (arith, few))
-      ∙ ap (λ o. received_latch v o) p ∙ received_high v k 2 (omega arith) ∙ both_high v released
-
   clock_look_is : (l : Bool) (byte k : ℕ) → k < 10
-      → clock_look d bytes hk alike small low held (start + 3) (first l) third (stacked f) ring start refl released byte k
+      → clock_look d bytes hk alike small low held (start + 3) (first l) third (stacked f) ring start refl released byte
+      k
       ≡ clock_in d w byte k
   clock_look_is l byte k few =
       let frame : Frame = SentFrame byte in
@@ -219,7 +192,8 @@ module _ (d : Board) (bytes : List ℕ) (hk : HasKernel bytes) (alike : IsSilent
       let a : 260 + start + look_off k ≡ start + (306 + 32 * k) = omega arith in
       ap (λ b. (d.pins 44 (wired v true (frame_bit byte k)) (260 + start + look_off k) b).t0)
       (in_frame frame l (look_off k) (omega (arith, few)) ∙ ap (gone frame) o)
-      ∙ ap (λ u. (d.pins 44 u (260 + start + look_off k) (gone frame (306 + 32 * k))).t0) (sym (sent_at byte k few))
+      ∙ ap (λ u. (d.pins 44 u (260 + start + look_off k) (gone frame (306 + 32 * k))).t0)
+      (sym (sent_at w.cpu.p2 v byte k few))
       ∙ ap (λ c. (d.pins 44 (latch frame (306 + 32 * k)) c (gone frame (306 + 32 * k))).t0) a
 
   data_look_is : (l : Bool) (k : ℕ) → k < 10
@@ -231,7 +205,8 @@ module _ (d : Board) (bytes : List ℕ) (hk : HasKernel bytes) (alike : IsSilent
       let a : 260 + start + look_off k ≡ start + (306 + 32 * k) = omega arith in
       ap (λ b. (d.pins 44 v (260 + start + look_off k) b).t1)
       (in_frame frame l (look_off k) (omega (arith, few)) ∙ ap (gone frame) o)
-      ∙ ap (λ u. (d.pins 44 u (260 + start + look_off k) (gone frame (306 + 32 * k))).t1) (sym (received_at k few))
+      ∙ ap (λ u. (d.pins 44 u (260 + start + look_off k) (gone frame (306 + 32 * k))).t1)
+      (sym (received_at w.cpu.p2 v released k few))
       ∙ ap (λ c. (d.pins 44 (latch frame (306 + 32 * k)) c (gone frame (306 + 32 * k))).t1) a
 
   -- the work of a tick up to an offset; with four edges at most it is in time
@@ -282,8 +257,8 @@ module _ (d : Board) (bytes : List ℕ) (hk : HasKernel bytes) (alike : IsSilent
       let frame : Frame = SentFrame byte in
       by_way Sent frame (231 + (394 + (9 + 48 + (56 + (2 + most))))) (framed frame) (omega (arith, h))
       (λ l.
-      sent_works d bytes hk alike small low held (start + 3) (first l) third (stacked f) ring 394 (framed frame l) begins
-      o.0.0 codes
+      sent_works d bytes hk alike small low held (start + 3) (first l) third (stacked f) ring 394 (framed frame l)
+      begins o.0.0 codes
       (sends_frame d bytes hk alike small low held (start + 3) (first l) third (stacked f) ring start refl released
       o.0.0 (clock_is l ∙ o.0.1) byte o.2 (data_is l ∙ o.1)
       (λ k u. clock_look_is l byte k u ∙ looks k u)) (safe l))
@@ -301,7 +276,8 @@ module _ (d : Board) (bytes : List ℕ) (hk : HasKernel bytes) (alike : IsSilent
       begins o.0.0
       (cuts_frame d bytes hk alike small low held (start + 3) (first l) third (stacked f) ring start refl released
       o.0.0 (clock_is l ∙ o.0.1) byte o.2 (data_is l ∙ o.1) j below
-      (λ k u. clock_look_is l byte k (omega (arith, u, below)) ∙ looks k u) (clock_look_is l byte j below ∙ last)) (safe l))
+      (λ k u. clock_look_is l byte k (omega (arith, u, below)) ∙ looks k u) (clock_look_is l byte j below ∙ last))
+      (safe l))
       (frame_came Cut frame)
 
   -- a byte is received: what the looks at data read

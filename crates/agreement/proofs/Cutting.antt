@@ -66,7 +66,8 @@ module _ (events : List HostEvent) (v start : ℕ) (released : IsReleased v) (lo
         → (first : FailsFirst (leaves_clock events whole start look)) → Since (CutFrame byte first.j)
     broken there first =
         let j : ℕ = first.j in
-        let same : (i : ℕ) → i ≤ j → leaves_clock events (cell j) start look i ≡ leaves_clock events whole start look i =
+        let same : (i : ℕ) → i ≤ j
+        → leaves_clock events (cell j) start look i ≡ leaves_clock events whole start look i =
         λ i l. cut_leaves v start byte released events j i look first.below l in
         let here : (at_meeting events (cell j) start look).side.port.link ≡ Free =
         ap (λ (c : Pc). c.side.port.link) (cut_meets v start byte released events j look first.below) ∙ there in

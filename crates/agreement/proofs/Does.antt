@@ -5,7 +5,8 @@ use Rattle.fw_kernel.specs.declared.labels.TheConstants.{TICK}
 use Rattle.fw_keys.proofs.Carried.{edges_low}
 use Rattle.fw_keys.proofs.Kept.{Sound, tick_sound}
 use Rattle.fw_keys.specs.Edges.{image_keys, IsSilentAlike}
-use Rattle.fw_keys.specs.Quiet.{shown_by, layers_by, IsStarted, IsRepeating, edges_now, changed_now, down_now}
+use Rattle.fw_keys.specs.Quiet.{shown_by, layers_by, IsStarted, IsRepeating, edges_now, changed_now}
+use Rattle.fw_logic.specs.Ticks.{column_read}
 use Rattle.fw_link.specs.Latch.{Frame}
 use Rattle.fw_logic.proofs.Laws.{comes_as}
 use Rattle.fw_logic.specs.Boards.{numbered}
@@ -27,7 +28,7 @@ module _ (d : Board) (bytes : List ℕ) (hk : HasKernel bytes) (alike : IsSilent
       let sound : Sound (image_keys bytes) (layers_by w.cpu.ram) (shown_by w.cpu.ram) =
       record { codes = whole; place = repeats } in
       let kept = tick_sound (image_keys bytes) codes meeting (edges_now d w) (layers_by w.cpu.ram) (shown_by w.cpu.ram)
-      (edges_low (changed_now d w) (down_now d w)) refl sound in
+      (edges_low (changed_now d w) (column_read d w)) refl sound in
       record {
         goes_on = record {
           started = h.started;
@@ -48,7 +49,8 @@ module _ (d : Board) (bytes : List ℕ) (hk : HasKernel bytes) (alike : IsSilent
         at = t.at;
         first = t.first;
         step = t.step;
-        rest = comes_as d TICK bytes (Happened d bytes meeting frame w) (Does d bytes frame meeting w) t.first so t.rest;
+        rest =
+            comes_as d TICK bytes (Happened d bytes meeting frame w) (Does d bytes frame meeting w) t.first so t.rest;
       }
 
 pub tick_law : TickLaw

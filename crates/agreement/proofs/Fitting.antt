@@ -1,4 +1,5 @@
--- The frame of a tick on any board, as any tick wants it: sent whole, cut in a cell, or received, by what the looks find.
+-- The frame of a tick on any board, as any tick wants it, by what the looks find: sent whole, cut in a cell, or
+-- received.
 use Rattle.std.proofs.Common.{◌≡◌, ◌≤◌, ◌<◌, ℕ, suc, ◌+◌, ◌-◌, ◌*◌, List, All, Bool, true, false, not, ◌==◌, Some}
 use Rattle.std.proofs.Common.{refl, ap, sym, ◌∙◌, subst, arith}
 use Rattle.mcs48_core.specs.Cpu.{Cpu}

@@ -7,6 +7,7 @@ pub mod Looking
 pub mod Leaves
 pub mod Lit
 pub mod Pressing
+pub mod AtLook
 pub mod Fitting
 pub mod AnyTick
 pub mod Does

@@ -40,7 +40,8 @@ use Rattle.agreement.proofs.Happened.{lit_latch, at_look}
 use Rattle.agreement.proofs.Holding.{HasPlaces, none_held, holds_now, places_shown}
 use Rattle.agreement.proofs.PortInBytes.{IsInBytes}
 use Rattle.agreement.proofs.InBytes.{look_in_bytes, tick_in_bytes, first_in_bytes, request_in_bytes}
-use Rattle.agreement.proofs.Model.{IsOnTime, at_first, by_columns, columns_in}
+use Rattle.fw_logic.specs.Ticks.{IsOnTime}
+use Rattle.agreement.proofs.Model.{at_first, by_columns, columns_in}
 use Rattle.agreement.proofs.Offering.{offers_byte, lit_released, lit_shows}
 use Rattle.agreement.proofs.Sides.{model_looks}
 use Rattle.agreement.proofs.Placed.{IsOfLayout, down_placed, shown_placed}
@@ -91,7 +92,7 @@ module _ (layout : KeyLayout) (history : KeyHistory) (fine : IsKeyLayout layout)
 
     columns : edges_now (joint_board edges events) w ≡ shown (is_held m.keys.keyboard) (columns_in edges w.cycle)
     columns =
-        let early : 2 ≤ w.cpu.pre = tie.started.early in
+        let early : 2 ≤ w.cpu.pre = tie.started.entered.early in
         edges_are history w ok.accepted tie.started (omega (arith, time, early))
         ∙ ap (λ k. shown (is_held k) (columns_in edges w.cycle)) tie.keyboard
 
@@ -215,13 +216,13 @@ every_memory layout history fine ok m small = (
   keeps_time LayeredKeyboard (switched_on history.edges history.host m) (image_of layout) history ok.accepted (keyboard layout)
       (Tied layout history fine ok) (λ k. HasPlaces k.keyboard) (fits layout history fine ok) (λ p l. none_held layout p)
       (holds_now layout) (tied_first layout history fine ok m small) (tied_next layout history fine ok)
-      (λ w m t. ap (λ (s : _). s.log) t.ties.side) (λ w m t. (t.ties.started.serves, t.ties.started.bank))
-      (λ w m t. (t.ties.started.early, t.ties.started.late)),
+      (λ w m t. ap (λ (s : _). s.log) t.ties.side) (λ w m t. (t.ties.started.entered.serves, t.ties.started.entered.bank))
+      (λ w m t. (t.ties.started.entered.early, t.ties.started.entered.late)),
   agrees LayeredKeyboard (switched_on history.edges history.host m) (image_of layout) history ok.accepted (keyboard layout)
       (Tied layout history fine ok) (λ k. HasPlaces k.keyboard) (fits layout history fine ok) (λ p l. none_held layout p)
       (holds_now layout) (tied_first layout history fine ok m small) (tied_next layout history fine ok)
-      (λ w m t. ap (λ (s : _). s.log) t.ties.side) (λ w m t. (t.ties.started.serves, t.ties.started.bank))
-      (λ w m t. (t.ties.started.early, t.ties.started.late)),
+      (λ w m t. ap (λ (s : _). s.log) t.ties.side) (λ w m t. (t.ties.started.entered.serves, t.ties.started.entered.bank))
+      (λ w m t. (t.ties.started.entered.early, t.ties.started.entered.late)),
 )
 
 -- cleared memory is one
@@ -249,7 +250,7 @@ every_wire layout history fine ok m small =
     drives LayeredKeyboard (switched_on history.edges history.host m) (image_of layout) history ok.accepted (keyboard layout)
     (Tied layout history fine ok) (λ k. HasPlaces k.keyboard) (fits layout history fine ok) (λ p l. none_held layout p)
     (holds_now layout) (tied_first layout history fine ok m small) (tied_next layout history fine ok)
-    (λ w m t. ap (λ (s : _). s.log) t.ties.side) (λ w m t. (t.ties.started.serves, t.ties.started.bank))
-    (λ w m t. (t.ties.started.early, t.ties.started.late))
+    (λ w m t. ap (λ (s : _). s.log) t.ties.side) (λ w m t. (t.ties.started.entered.serves, t.ties.started.entered.bank))
+    (λ w m t. (t.ties.started.entered.early, t.ties.started.entered.late))
     (begins_let_go history.edges history.host (image_of layout) (has_kernel layout) (are_bytes layout fine) m small)
     (tick_drives layout history fine ok)

@@ -1,7 +1,7 @@
--- The ways that a tick goes on any board above the joint board, by the PC's side at the look at the clock: what it drives
--- is what the looks find.
-use Rattle.std.proofs.Common.{◌≡◌, ◌≤◌, ◌<◌, ℕ, suc, ◌+◌, ◌*◌, ◌&&◌, ◌==◌, List, All, Bool, true, false, length, Some, None}
-use Rattle.std.proofs.Common.{refl, ap, sym, ◌∙◌, inl, inr, arith}
+-- The ways that a tick goes on any board above the joint board, by the PC's side at the look at the clock: what it
+-- drives is what the looks find.
+use Rattle.std.proofs.Common.{◌≡◌, ◌≤◌, ◌<◌, ℕ, suc, ◌+◌, ◌*◌, ◌&&◌, ◌==◌, List, All, Bool, true, false, length}
+use Rattle.std.proofs.Common.{Some, None, refl, ap, sym, ◌∙◌, inl, inr, arith}
 use Rattle.board_lines.specs.declared.event.Edge.{Edge}
 use Rattle.board_lines.specs.declared.event.HostEvent.{HostEvent}
 use Rattle.board_lines.specs.declared.lines.Lines.{Lines}
@@ -38,7 +38,8 @@ use Rattle.wires_agree.proofs.Meetings.{request_at}
 use Rattle.wires_agree.proofs.Spans.{IsAt}
 use Rattle.wires_agree.specs.Cycles.{board_cycles}
 use Rattle.wires_agree.specs.Ticks.{at_meeting, leaves_clock}
-use Rattle.agreement.proofs.AnyTick.{one_byte, released, sent_at, received_at, quiet, sent, cut, got}
+use Rattle.agreement.proofs.AnyTick.{released, quiet, sent, cut, got}
+use Rattle.agreement.proofs.AtLook.{one_byte, sent_at, received_at}
 use Rattle.agreement.proofs.Happened.{at_look, Happened}
 use Rattle.agreement.proofs.Lit.{at_clock, behind_look}
 use Rattle.agreement.proofs.OnWires.{at_cell}
@@ -124,7 +125,7 @@ module _ (edges : List Edge) (events : List HostEvent) (d : Board) (to : d.State
       let put : ℕ = tick_latch w.cpu.p2 v frame (306 + 32 * k) in
       let q : d.State = board_at d w frame (306 + 32 * k) in
       let high : (latch_of put).clk ≡ true =
-      ap (λ l. (latch_of l).clk) (sent_at d bytes hk alike small low w s repeats few byte k room)
+      ap (λ l. (latch_of l).clk) (sent_at w.cpu.p2 v byte k room)
       ∙ clock_of_latch true (frame_bit byte k) v free_latch in
       clock_is edges events d to over 44 put (start + (306 + 32 * k)) q
       ∙ ap (λ c. c && (drive (to q).pc.side.port.link).clk) high
@@ -139,8 +140,8 @@ module _ (edges : List Edge) (events : List HostEvent) (d : Board) (to : d.State
         is,
       )
 
-      -- what is offered is sent whole: the link is free at the look, and the controller leaves the clock alone at all ten
-      -- looks of the frame
+      -- what is offered is sent whole: the link is free at the look, and the controller leaves the clock alone at all
+      -- ten looks of the frame
       sends_so : IsWhole kbd.queue
           → ((k : ℕ) → k < 10 → leaves_clock events (lines (SentFrame byte)) start b k ≡ true)
           → Tick d TICK bytes w (So Sent (SentFrame byte))
@@ -154,7 +155,8 @@ module _ (edges : List Edge) (events : List HostEvent) (d : Board) (to : d.State
           → Tick d TICK bytes w (So Cut (CutFrame byte j))
       cut_so j below high pulls =
           let as_sent : (k : ℕ) → k ≤ j
-          → leaves_clock events (lines (SentFrame byte)) start b k ≡ leaves_clock events (lines (CutFrame byte j)) start b k =
+          → leaves_clock events (lines (SentFrame byte)) start b k
+          ≡ leaves_clock events (lines (CutFrame byte j)) start b k =
           λ k l. sym (cut_leaves v start byte free_latch events j k b below l) in
           cut d bytes hk alike small low w s repeats few byte j offers below
           (λ k u. sees_cell byte k (omega (arith, u, below)) ∙ as_sent k (omega (arith, u)) ∙ high k u)
@@ -187,7 +189,7 @@ module _ (edges : List Edge) (events : List HostEvent) (d : Board) (to : d.State
         let put : ℕ = tick_latch w.cpu.p2 v ReceivedFrame (306 + 32 * k) in
         let q : d.State = board_at d w ReceivedFrame (306 + 32 * k) in
         let high : (latch_of put).dat ≡ true =
-        ap (λ l. (latch_of l).dat) (received_at d bytes hk alike small low w s repeats few k room) ∙ free_latch.data_wire in
+        ap (λ l. (latch_of l).dat) (received_at w.cpu.p2 v free_latch k room) ∙ free_latch.data_wire in
         data_is edges events d to over 44 put (start + (306 + 32 * k)) q
         ∙ ap (λ c. c && (drive (to q).pc.side.port.link).dat) high
         ∙ ap (λ (p : Pc). (drive p.side.port.link).dat) (cell_is ReceivedFrame k)
@@ -198,7 +200,8 @@ module _ (edges : List Edge) (events : List HostEvent) (d : Board) (to : d.State
     gets_so no_test =
         let same = one_byte (data_in d w) (λ k. frame_bit byte (k + 1)) (λ k u. sees_bit k (omega (arith, u))) in
         got d bytes hk alike small low w s repeats few byte true (same.0 ∙ frame_value byte less)
-        (same.1 ∙ ap (λ n. is_parity (frame_bit byte 9) n) (frame_value byte less) ∙ frame_parity byte less) (no_test, sees_clock ∙ ap (λ q. (drive q).clk) asks)
+        (same.1 ∙ ap (λ n. is_parity (frame_bit byte 9) n) (frame_value byte less) ∙ frame_parity byte less)
+        (no_test, sees_clock ∙ ap (λ q. (drive q).clk) asks)
         (sees_data ∙ request_shows events v start free_latch b byte asks)
 
   pub gets : (byte : ℕ) → byte < 256 → (kbd.test == 0) ≡ true → b.side.port.link ≡ Request byte

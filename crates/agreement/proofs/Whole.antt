@@ -19,7 +19,8 @@ use Rattle.link_model.specs.TickEdges.{shown, tick_edges}
 use Rattle.agreement.specs.Agreement.{AgreesFrom}
 use Rattle.agreement.specs.Wires.{DrivesFrame, DrivesWires}
 use Rattle.agreement.proofs.InTime.{InTime, on_time}
-use Rattle.agreement.proofs.Model.{IsOnTime, at_first, by_columns, columns_in}
+use Rattle.fw_logic.specs.Ticks.{IsOnTime}
+use Rattle.agreement.proofs.Model.{at_first, by_columns, columns_in}
 use Rattle.agreement.proofs.FewEdges.{WasNear, HeldBefore, edges_seen, at_most_four}
 
 -- A tick's law, with what it leaves open: what ties the run to the model, and of which keyboards it holds that a tick's

@@ -1,4 +1,5 @@
--- A tick of the firmware, whatever the pins show: by what its looks find, what it drives, and what data memory shows then.
+-- A tick of the firmware, whatever the pins show: by what its looks find, what it drives, and what data memory shows
+-- at the next start.
 use Rattle.std.specs.Prelude.{◌≡◌, ◌≤◌, ◌<◌, ℕ, ◌+◌, ◌*◌, ◌==◌, Bool, true, false, List, All, length, Some}
 use Rattle.mcs48_core.specs.declared.levels.Pins.{Pins}
 use Rattle.fw_kernel.specs.declared.labels.TheConstants.{TICK}

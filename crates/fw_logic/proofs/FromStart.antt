@@ -10,7 +10,7 @@ use Rattle.joint_run.specs.Starts.{Comes, Tick}
 use Rattle.fw_logic.specs.Blocks.{IsAt, is_counting, is_read, Heads, ReadsColumns}
 use Rattle.fw_logic.specs.Boards.{numbered}
 use Rattle.fw_logic.specs.Scan.{in_tick, downs}
-use Rattle.fw_logic.specs.Ticks.{IsEntered, IsOnTime, IsDone, IsNext, ReadsTick, ReadingLaw, NextLaw, down_at}
+use Rattle.fw_logic.specs.Ticks.{IsEntered, IsOnTime, IsDone, IsNext, ReadsTick, ReadingLaw, NextLaw, column_read}
 use Rattle.fw_logic.proofs.Block.{memory}
 use Rattle.fw_logic.proofs.BlockLaws.{cells_of, columns_law}
 use Rattle.fw_logic.proofs.Blocks.{joined}
@@ -53,7 +53,7 @@ module _ (d : Board) (bytes : List ℕ) (has : HasKernel bytes) (w : World d.Sta
   reads_so v e h r =
       let cycle : v.cycle ≡ x + 16 = h.cycle in
       let later : e.cycle ≡ v.cycle + 192 = r.cycle in
-      let held : (c : ℕ) → c < 12 → slice_index e.cpu.ram (32 + c) ≡ down_at d w c = λ c l.
+      let held : (c : ℕ) → c < 12 → slice_index e.cpu.ram (32 + c) ≡ column_read d w c = λ c l.
       let at : v.cycle + 16 * c ≡ x + (16 + 16 * c) = omega (arith, cycle) in
       r.held c l ∙ ap (λ p. downs d v.cycle p v.board c) h.p2 ∙ ap (λ b. downs d v.cycle w.cpu.p2 b c) h.board
       ∙ ap (λ b. 255 - (d.pins (32 + c) w.cpu.p2 (v.cycle + 16 * c) b).bus) (joined 16 (16 * c) x v.cycle f w.board cycle)

@@ -39,8 +39,8 @@ abbrev pub IsOnTime : {S : Type 0} → ℕ → World S → Type 0
 IsOnTime n w = w.cycle + 2 ≡ 4096 + 2048 * n + w.cpu.pre
 
 -- the keys of column c that are down, as they are read at offset 16 + 16 c of a tick
-abbrev pub down_at : (d : Board) → World d.State → ℕ → ℕ
-down_at d w c = 255 - (d.pins (32 + c) w.cpu.p2 (w.cycle + (16 + 16 * c)) (in_tick d w (16 + 16 * c))).bus
+abbrev pub column_read : (d : Board) → World d.State → ℕ → ℕ
+column_read d w c = 255 - (d.pins (32 + c) w.cpu.p2 (w.cycle + (16 + 16 * c)) (in_tick d w (16 + 16 * c))).bus
 
 -- the tick's head and its columns: 208 cycles from the start. HELD is what is down, CHANGED what differs from before
 pub record ReadsTick (d : Board) (w e : World d.State) : Type 0 where
@@ -48,9 +48,9 @@ pub record ReadsTick (d : Board) (w e : World d.State) : Type 0 where
   pub cycle : e.cycle ≡ w.cycle + 208
   pub board : e.board ≡ in_tick d w 208
   pub p2 : e.cpu.p2 ≡ w.cpu.p2
-  pub held : (c : ℕ) → c < 12 → slice_index e.cpu.ram (32 + c) ≡ down_at d w c
+  pub held : (c : ℕ) → c < 12 → slice_index e.cpu.ram (32 + c) ≡ column_read d w c
   pub changed : (c : ℕ) → c < 12
-      → slice_index e.cpu.ram (48 + c) ≡ bit_xor (slice_index w.cpu.ram (32 + c)) (down_at d w c)
+      → slice_index e.cpu.ram (48 + c) ≡ bit_xor (slice_index w.cpu.ram (32 + c)) (column_read d w c)
   pub others : (i : ℕ) → is_read i ≡ false → slice_index e.cpu.ram i ≡ slice_index w.cpu.ram i
 
 -- the work of a tick has come to its end by offset 2,040: RETR is next, in the service that the start entered, with the
