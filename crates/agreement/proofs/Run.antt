@@ -27,6 +27,7 @@ use Rattle.mcs48_core.specs.Cpu.{Cpu}
 use Rattle.mcs48_core.specs.Reset.{reset_cpu}
 use Rattle.mcs48_ranges.specs.Sizes.{IsByte, IsFine}
 use Rattle.agreement.specs.Agreement.{AgreementLaw, AnyMemoryLaw, switched_on}
+use Rattle.agreement.specs.Memory.{Holds, MemoryLaw}
 use Rattle.agreement.specs.Wires.{DrivesFrame, WiresLaw}
 use Rattle.agreement.proofs.Above.{edges_over, low_over}
 use Rattle.agreement.proofs.Beginning.{begins, is_tick, begins_let_go}
@@ -46,7 +47,7 @@ use Rattle.agreement.proofs.Offering.{offers_byte, lit_released, lit_shows}
 use Rattle.agreement.proofs.Sides.{model_looks}
 use Rattle.agreement.proofs.Placed.{IsOfLayout, down_placed, shown_placed}
 use Rattle.agreement.proofs.Ties.{Ties}
-use Rattle.agreement.proofs.Whole.{keeps_time, agrees, drives}
+use Rattle.agreement.proofs.Whole.{keeps_time, at_starts, agrees, drives}
 
 module _ (layout : KeyLayout) (history : KeyHistory) (fine : IsKeyLayout layout)
     (ok : IsAcceptedFor layout history) where
@@ -254,3 +255,17 @@ every_wire layout history fine ok m small =
     (λ w m t. (t.ties.started.entered.early, t.ties.started.entered.late))
     (begins_let_go history.edges history.host (image_of layout) (has_kernel layout) (are_bytes layout fine) m small)
     (tick_drives layout history fine ok)
+
+-- and data memory shows the model's keyboard
+pub every_holding : MemoryLaw
+every_holding layout history fine ok m small =
+    let a =
+    at_starts LayeredKeyboard (switched_on history.edges history.host m) (image_of layout) history ok.accepted
+    (keyboard layout)
+    (Tied layout history fine ok) (λ k. HasPlaces k.keyboard) (fits layout history fine ok) (λ p l. none_held layout p)
+    (holds_now layout) (tied_first layout history fine ok m small) (tied_next layout history fine ok)
+    (λ w m t. ap (λ (s : _). s.log) t.ties.side)
+    (λ w m t. (t.ties.started.entered.serves, t.ties.started.entered.bank))
+    (λ w m t. (t.ties.started.entered.early, t.ties.started.entered.late)) (λ w m. Holds w m.keys)
+    (λ n w m time t few. (t.ties.keyboard, t.ties.layers)) in
+    record { starts = a.0; each = a.1; holds = a.2 }

@@ -9,6 +9,7 @@
 
 ghost use Rattle.agreement.specs.Agreement.{AgreementLaw, AnyMemoryLaw};
 ghost use Rattle.agreement.specs.Firmware.{TickLaw};
+ghost use Rattle.agreement.specs.Memory.{MemoryLaw};
 ghost use Rattle.agreement.specs.Wires.{WiresLaw};
 
 /// For every layout and every history that is accepted for it: the joint run of the layout's compiled image is never
@@ -27,6 +28,13 @@ pub fn run_and_model_agree()
 /// Nothing is done when it is called; the law is its contract.
 pub fn wires_are_driven()
     ensures wires { WiresLaw }
+{}
+
+/// For every layout and every history that is accepted for it: at each tick start of the joint run data memory shows the
+/// model's keyboard and its layers, so it goes on by the meetings of the model and the edges of its ticks. Nothing is
+/// done when it is called; the law is its contract.
+pub fn memory_holds_keyboard()
+    ensures memory { MemoryLaw }
 {}
 
 /// Every tick of the firmware, whatever the pins show: from a tick start at which data memory shows a keyboard the run
