@@ -8,7 +8,7 @@ use Rattle.fw_logic.specs.Ticks.{column_read}
 use Rattle.fw_link.proofs.Over.{IsOver, under, ticks_over}
 use Rattle.fw_logic.specs.Scan.{in_tick}
 use Rattle.joint_run.specs.Joint.{Beside, joint_board, joint_pins}
-use Rattle.joint_run.specs.Run.{Board, World, ticks}
+use Rattle.joint_run.specs.Run.{Board, World}
 use Rattle.mcs48_core.specs.declared.levels.Pins.{Pins}
 use Rattle.agreement.proofs.Columns.{bus_low}
 

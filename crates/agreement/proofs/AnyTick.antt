@@ -27,7 +27,7 @@ use Rattle.fw_logic.specs.Scan.{in_tick}
 use Rattle.mcs48_ranges.specs.Sizes.{IsByte}
 use Rattle.joint_run.specs.Run.{Board, World, ticks}
 use Rattle.joint_run.specs.Starts.{Tick}
-use Rattle.kbd_model.specs.Keyboard.{Keyboard, offer}
+use Rattle.kbd_model.specs.Keyboard.{Keyboard}
 use Rattle.kbd_model.specs.declared.meeting.Meeting.{Meeting}
 use Rattle.kbd_model.specs.declared.meeting.Meeting.TheVariants.{Sent, Cut, Got}
 use Rattle.agreement.proofs.AtLook.{one_byte, sent_at, received_at}

@@ -20,7 +20,7 @@ use Rattle.fw_keys.specs.State.{flags, down_at}
 use Rattle.bits.proofs.Every.{every_below, at_each, same, same_is, pair_tests}
 use Rattle.fw_logic.specs.Scan.{in_tick}
 use Rattle.joint_run.specs.Joint.{Beside, joint_board, joint_pins, keys_at}
-use Rattle.joint_run.specs.Run.{Board, World, ticks}
+use Rattle.joint_run.specs.Run.{Board, World}
 use Rattle.kbd_model.specs.Keyboard.{is_held}
 use Rattle.key_file.specs.Accepted.{IsAccepted}
 use Rattle.key_file.specs.Histories.{KeyHistory}

@@ -26,7 +26,7 @@ use Rattle.wires_agree.proofs.Pulls.{pulled_span}
 use Rattle.wires_agree.specs.Cycles.{board_cycles}
 use Rattle.wires_agree.specs.Ticks.{at_meeting, leaves_clock}
 use Rattle.agreement.proofs.Frames.{FailsFirst, free_or_not, first_fails, ten, frame_offered, frame_free, frame_ended}
-use Rattle.agreement.proofs.Frames.{frame_tested, frame_in}
+use Rattle.agreement.proofs.Frames.{frame_in}
 use Rattle.agreement.proofs.Happened.{at_look}
 use Rattle.agreement.proofs.OnWires.{at_cell}
 use Rattle.agreement.specs.Wires.{IsCutBy, look_before, beside_in}

@@ -1,5 +1,5 @@
 -- What a tick of the firmware does on any board, in the words of its law.
-use Rattle.std.proofs.Common.{◌≡◌, ◌≤◌, ◌<◌, ℕ, List, All, length, refl, sym, subst}
+use Rattle.std.proofs.Common.{◌≤◌, ◌<◌, ℕ, List, All, length, refl, sym, subst}
 use Rattle.fw_kernel.specs.Places.{HasKernel}
 use Rattle.fw_kernel.specs.declared.labels.TheConstants.{TICK}
 use Rattle.fw_keys.proofs.Carried.{edges_low}

@@ -1,6 +1,6 @@
 -- The ways that a tick goes on any board above the joint board, by the PC's side at the look at the clock: what it
 -- drives is what the looks find.
-use Rattle.std.proofs.Common.{◌≡◌, ◌≤◌, ◌<◌, ℕ, suc, ◌+◌, ◌*◌, ◌&&◌, ◌==◌, List, All, Bool, true, false, length}
+use Rattle.std.proofs.Common.{◌≡◌, ◌≤◌, ◌<◌, ℕ, ◌+◌, ◌*◌, ◌&&◌, ◌==◌, List, All, true, false, length}
 use Rattle.std.proofs.Common.{Some, None, refl, ap, sym, ◌∙◌, inl, inr, arith}
 use Rattle.board_lines.specs.declared.event.Edge.{Edge}
 use Rattle.board_lines.specs.declared.event.HostEvent.{HostEvent}
@@ -22,7 +22,6 @@ use Rattle.fw_link.proofs.Wired.{IsReleased}
 use Rattle.fw_link.proofs.Wires.{clock_of_latch}
 use Rattle.fw_link.proofs.WiresGot.{received_bit}
 use Rattle.fw_link.specs.Latch.{Frame, NoFrame, SentFrame, CutFrame, ReceivedFrame, frame_bit, tick_latch}
-use Rattle.fw_link.specs.Reading.{byte_in, right_in}
 use Rattle.fw_logic.specs.Scan.{in_tick}
 use Rattle.mcs48_ranges.specs.Sizes.{IsByte}
 use Rattle.joint_run.specs.Joint.{Beside, latch_of, lights_of}

@@ -26,7 +26,7 @@ use Rattle.mcs48_ranges.specs.Sizes.{IsFine}
 use Rattle.agreement.specs.Agreement.{switched_on}
 
 -- the frame of a tick with this meeting, where the keyboard offers this byte: the byte that is sent; the byte offered,
--- cut in one of ten cells; the frame in which the controller's byte is received; or none
+-- cut in a cell; the frame in which the controller's byte is received; or none
 abbrev pub IsFrameOf : Option ℕ → Meeting → Frame → Type 0
 IsFrameOf offered (Sent byte) frame = frame ≡ SentFrame byte
 IsFrameOf offered Cut (CutFrame byte cell) = (offered ≡ Some byte) × (cell < 10)
@@ -41,13 +41,13 @@ IsFrameOf offered Idle frame = frame ≡ NoFrame
 abbrev pub beside_in : List Edge → List HostEvent → (ℕ → ℕ) → World Beside → ℕ → Beside
 beside_in edges events latch w n = ticks n 0 (λ o. (joint_board edges events).tick (latch o) (w.cycle + o)) w.board
 
--- the offset of the look at the clock before that of a cell: the tick's own, or that of the cell before
+-- the offset of the look at the clock in front of that of a cell: the tick's own, or that of the cell before
 abbrev pub look_before : ℕ → ℕ
 look_before zero = 256
 look_before (suc k) = 306 + 32 * k
 
--- a frame is cut in the cell whose look is the first that sees it: there the controller pulls the clock, since a cycle
--- that isn't before the look before
+-- a frame is cut in the cell whose look is the first behind the cycle in which the controller began to pull the clock:
+-- by the controller's link at each offset, it pulls there, since a cycle that isn't earlier than the look in front
 abbrev pub IsCutBy : (ℕ → Link Wire) → ℕ → Frame → Type 0
 IsCutBy link start NoFrame = Unit {0}
 IsCutBy link start (SentFrame byte) = Unit {0}
@@ -60,7 +60,8 @@ abbrev pub IsLetGo : ℕ → Type 0
 IsLetGo v = (bit 0 v ≡ true) × (bit 1 v ≡ true)
 
 -- a tick of the joint run from its start: the run comes to the next start, and in each cycle on the way the latch of
--- port 2 is that of a tick with the meeting's frame; outside the frame it pulls neither wire
+-- port 2 is that of a tick with the meeting's frame; outside the frame it pulls neither wire. A frame that is cut is cut
+-- in the cell whose look is the first that can see it
 pub record DrivesFrame (edges : List Edge) (events : List HostEvent) (bytes : List ℕ) (offered : Option ℕ)
     (meeting : Meeting) (w : World Beside) : Type 0 where
   pub frame : Frame

@@ -1,5 +1,5 @@
 -- From a tick start: the columns at their offsets, and from the work's end the next start.
-use Rattle.std.proofs.Common.{◌≡◌, ◌≤◌, ◌<◌, ℕ, suc, ◌+◌, ◌-◌, ◌*◌, Bool, true, false, ◌&&◌, ◌||◌, ◌==◌, nat_le, nat_lt}
+use Rattle.std.proofs.Common.{◌≡◌, ◌≤◌, ◌<◌, ℕ, ◌+◌, ◌-◌, ◌*◌, Bool, true, false, ◌&&◌, ◌||◌, ◌==◌, nat_le, nat_lt}
 use Rattle.std.proofs.Common.{List, length, drop, slice_index, bit_xor, inl, refl, ap, sym, ◌∙◌, subst, arith}
 use Rattle.std.proofs.lemmas.Bool.Decides.{nat_tests}
 use Rattle.mcs48_core.specs.Cpu.{Cpu}
@@ -10,12 +10,12 @@ use Rattle.joint_run.specs.Starts.{Comes, Tick}
 use Rattle.fw_logic.specs.Blocks.{IsAt, is_counting, is_read, Heads, ReadsColumns}
 use Rattle.fw_logic.specs.Boards.{numbered}
 use Rattle.fw_logic.specs.Scan.{in_tick, downs}
-use Rattle.fw_logic.specs.Ticks.{IsEntered, IsOnTime, IsDone, IsNext, ReadsTick, ReadingLaw, NextLaw, column_read}
+use Rattle.fw_logic.specs.Ticks.{IsEntered, IsDone, IsNext, ReadsTick, ReadingLaw, NextLaw, column_read}
 use Rattle.fw_logic.proofs.Block.{memory}
 use Rattle.fw_logic.proofs.BlockLaws.{cells_of, columns_law}
 use Rattle.fw_logic.proofs.Blocks.{joined}
-use Rattle.fw_logic.proofs.Cells.{cell, cells_long}
-use Rattle.fw_logic.proofs.Clock.{IsTiming, clock_of, total}
+use Rattle.fw_logic.proofs.Cells.{cell}
+use Rattle.fw_logic.proofs.Clock.{IsTiming, clock_of}
 use Rattle.fw_logic.proofs.Entered.{way_back, entered_is}
 use Rattle.fw_logic.proofs.HeadLaw.{head_law}
 use Rattle.fw_logic.proofs.Laws.{comes_then, comes_as}
