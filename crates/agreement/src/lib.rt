@@ -25,6 +25,7 @@ pub fn run_and_model_agree()
 /// For every layout and every history that is accepted for it: in each tick of the joint run, in each of its cycles, what
 /// the keyboard drives on the two wires. Outside a frame it pulls neither wire. The frame is that of the model's meeting:
 /// the byte that is sent, whole or cut in one of its cells; the one in which the controller's byte is received; or none.
+/// It is cut in the cell whose look is the first behind the cycle in which the controller began to pull the clock.
 /// Nothing is done when it is called; the law is its contract.
 pub fn wires_are_driven()
     ensures wires { WiresLaw }
