@@ -3,11 +3,12 @@ use Rattle.std.proofs.Common.{◌≡◌, ◌<◌, ℕ, ◌+◌, ◌-◌, ◌*◌
 use Rattle.board_lines.specs.declared.event.Edge.{Edge}
 use Rattle.board_lines.specs.declared.event.HostEvent.{HostEvent}
 use Rattle.fw_keys.proofs.Begun.{columns_same}
-use Rattle.fw_keys.specs.Quiet.{down_now, changed_now, edges_now}
+use Rattle.fw_keys.specs.Quiet.{changed_now, edges_now}
+use Rattle.fw_logic.specs.Ticks.{column_read}
 use Rattle.fw_link.proofs.Over.{IsOver, under, ticks_over}
 use Rattle.fw_logic.specs.Scan.{in_tick}
 use Rattle.joint_run.specs.Joint.{Beside, joint_board, joint_pins}
-use Rattle.joint_run.specs.Run.{Board, World, ticks}
+use Rattle.joint_run.specs.Run.{Board, World}
 use Rattle.mcs48_core.specs.declared.levels.Pins.{Pins}
 use Rattle.agreement.proofs.Columns.{bus_low}
 
@@ -24,18 +25,16 @@ module _ (edges : List Edge) (events : List HostEvent) (d : Board) (to : d.State
     abbrev u : World Beside
     u = under to w
 
-    down_over : (c : ℕ) → down_now d w c ≡ down_now joint u c
+    down_over : (c : ℕ) → column_read d w c ≡ column_read joint u c
     down_over c =
         let p2 : ℕ = w.cpu.p2 in
-        let x : ℕ = w.cycle + 16 in
-        let now : ℕ = x + 16 * c in
-        ap (λ (p : Pins). 255 - p.bus) (over.pins (32 + c) p2 now (ticks (16 * c) x (d.tick p2) (in_tick d w 16)))
-        ∙ ap (λ s. 255 - (joint_pins edges (32 + c) p2 now s).bus)
-        (ticks_over edges events d to over (16 * c) x p2 (in_tick d w 16)
-        ∙ ap (λ s. ticks (16 * c) x (joint.tick p2) s) (ticks_over edges events d to over 16 w.cycle p2 w.board))
+        let n : ℕ = 16 + 16 * c in
+        ap (λ (p : Pins). 255 - p.bus) (over.pins (32 + c) p2 (w.cycle + n) (in_tick d w n))
+        ∙ ap (λ s. 255 - (joint_pins edges (32 + c) p2 (w.cycle + n) s).bus)
+        (ticks_over edges events d to over n w.cycle p2 w.board)
 
     -- the edges that a tick shows are those of the joint run
     pub edges_over : edges_now d w ≡ edges_now joint u
     edges_over =
-        columns_same (changed_now d w) (changed_now joint u) (down_now d w) (down_now joint u) 0 12 refl
+        columns_same (changed_now d w) (changed_now joint u) (column_read d w) (column_read joint u) 0 12 refl
         (λ c l. ap (λ v. bit_xor (slice_index w.cpu.ram (32 + c)) v) (down_over c)) (λ c l. down_over c)

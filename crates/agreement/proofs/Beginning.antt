@@ -44,7 +44,8 @@ use Rattle.wires_agree.specs.Cycles.{board_cycles}
 use Rattle.wires_agree.specs.Flips.{IsFlip}
 use Rattle.wires_agree.specs.Without.{seen_in_bytes}
 use Rattle.agreement.specs.Agreement.{switched_on}
-use Rattle.agreement.proofs.Model.{IsOnTime, at_first}
+use Rattle.fw_logic.specs.Ticks.{IsOnTime}
+use Rattle.agreement.proofs.Model.{at_first}
 use Rattle.agreement.proofs.Compiled.{silent_keys}
 use Rattle.agreement.proofs.Ties.{Ties}
 
@@ -72,8 +73,8 @@ pub is_tick : (edges : List Edge) (events : List HostEvent) (e : World Beside) �
     → at_tick (joint_board edges events) TICK e ≡ true
 is_tick edges events e started =
     at_tick_is edges events e
-    ∙ ap (λ p. (p % 2048 == TICK) && not (not e.cpu.svc && e.cpu.tim_on && e.cpu.rq)) started.pc
-    ∙ ap (λ s. not (not s && e.cpu.tim_on && e.cpu.rq)) started.serves
+    ∙ ap (λ p. (p % 2048 == TICK) && not (not e.cpu.svc && e.cpu.tim_on && e.cpu.rq)) started.entered.pc
+    ∙ ap (λ s. not (not s && e.cpu.tim_on && e.cpu.rq)) started.entered.serves
 
 -- up to the first start the latch is as reset leaves it
 pub begins_let_go : (edges : List Edge) (events : List HostEvent) (bytes : List ℕ) → HasKernel bytes → All IsByte bytes

@@ -14,12 +14,13 @@ use Rattle.board_lines.specs.Matrix.{all_up, column_rows, rows_of}
 use Rattle.bits.proofs.Every.{and-left, and-right}
 use Rattle.board_lines.proofs.Shown.{shown_from, edges_shown}
 use Rattle.fw_keys.specs.Edges.{row_edges, column_edges, tick_edges}
-use Rattle.fw_keys.specs.Quiet.{IsStarted, shown_by, down_now, edges_now}
+use Rattle.fw_keys.specs.Quiet.{IsStarted, shown_by, edges_now}
+use Rattle.fw_logic.specs.Ticks.{column_read}
 use Rattle.fw_keys.specs.State.{flags, down_at}
 use Rattle.bits.proofs.Every.{every_below, at_each, same, same_is, pair_tests}
 use Rattle.fw_logic.specs.Scan.{in_tick}
 use Rattle.joint_run.specs.Joint.{Beside, joint_board, joint_pins, keys_at}
-use Rattle.joint_run.specs.Run.{Board, World, ticks}
+use Rattle.joint_run.specs.Run.{Board, World}
 use Rattle.kbd_model.specs.Keyboard.{is_held}
 use Rattle.key_file.specs.Accepted.{IsAccepted}
 use Rattle.key_file.specs.Histories.{KeyHistory}
@@ -174,11 +175,11 @@ rows_read keys c l =
 -- a column's byte has a 1 for each key that is down
 down_read : (edges : List Edge) (events : List HostEvent) (w : World Beside) → 4096 ≤ w.cycle
     → (c r : ℕ) → c < 12 → r < 8
-    → bit r (down_now (joint_board edges events) w c) ≡ columns_in edges w.cycle (8 * c + r)
+    → bit r (column_read (joint_board edges events) w c) ≡ columns_in edges w.cycle (8 * c + r)
 down_read edges events w late c r lc lr =
     let d : Board = joint_board edges events in
-    let cycle : ℕ = w.cycle + 16 + 16 * c in
-    let board : Beside = ticks (16 * c) (w.cycle + 16) (d.tick w.cpu.p2) (in_tick d w 16) in
+    let cycle : ℕ = w.cycle + (16 + 16 * c) in
+    let board : Beside = in_tick d w (16 + 16 * c) in
     let column : (8 * c + r) / 8 ≡ c = omega (arith, lr) in
     let at : cycle ≡ 4096 + (w.cycle - 4096 + 16 + 16 * c) = omega (arith, late) in
     let p : 8 * c + r < 96 = omega (arith, lc, lr) in
@@ -278,7 +279,7 @@ pub board_edges : (edges : List Edge) (events : List HostEvent) (w : World Besid
     → edges_now (joint_board edges events) w ≡ shown (is_held (shown_by w.cpu.ram)) (columns_in edges w.cycle)
 board_edges edges events w late =
     bytes_shown (is_held (shown_by w.cpu.ram)) (columns_in edges w.cycle) (λ c. slice_index w.cpu.ram (32 + c))
-    (down_now (joint_board edges events) w) (held_read w.cpu.ram) (down_read edges events w late)
+    (column_read (joint_board edges events) w) (held_read w.cpu.ram) (down_read edges events w late)
 
 -- the same of an accepted history
 pub edges_are : (history : KeyHistory) (w : World Beside) → IsAccepted history → IsStarted w.cpu → 4096 ≤ w.cycle

@@ -54,7 +54,8 @@ use Rattle.agreement.proofs.Compiled.{silent_keys}
 use Rattle.agreement.proofs.Placed.{IsOfLayout}
 use Rattle.agreement.proofs.Going.{Went, goes, flip_at_look}
 use Rattle.agreement.proofs.Happened.{Happened, at_look}
-use Rattle.agreement.proofs.Model.{columns_in, IsOnTime}
+use Rattle.fw_logic.specs.Ticks.{IsOnTime}
+use Rattle.agreement.proofs.Model.{columns_in}
 use Rattle.agreement.proofs.Sides.{looks_same}
 use Rattle.agreement.proofs.Ties.{Ties}
 use Rattle.agreement.proofs.Ways.{testing, idle, inhibited, sends, is_cut, gets}

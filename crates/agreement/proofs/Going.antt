@@ -10,7 +10,8 @@ use Rattle.fw_keys.proofs.Carried.{SameKeys, ticks_same, layers_alike, edges_low
 use Rattle.fw_keys.proofs.Edges.{IsWide}
 use Rattle.fw_keys.proofs.Kept.{Sound, NoPrefix, pressed_low, met_sound, tested_sound, tick_sound}
 use Rattle.fw_keys.specs.Edges.{image_keys}
-use Rattle.fw_keys.specs.Quiet.{shown_by, layers_by, edges_now, changed_now, down_now, latch_now}
+use Rattle.fw_keys.specs.Quiet.{shown_by, layers_by, edges_now, changed_now, latch_now}
+use Rattle.fw_logic.specs.Ticks.{IsOnTime, column_read}
 use Rattle.fw_link.proofs.Over.{IsOver, under}
 use Rattle.fw_link.proofs.TickLatch.{lines_by}
 use Rattle.fw_link.proofs.Wired.{IsReleased}
@@ -39,7 +40,7 @@ use Rattle.agreement.specs.Wires.{IsFrameOf}
 use Rattle.agreement.proofs.Compiled.{is_silent, silent_keys}
 use Rattle.agreement.proofs.Placed.{IsOfLayout}
 use Rattle.agreement.proofs.Happened.{Happened, GoesBy, at_lights, at_look}
-use Rattle.agreement.proofs.Model.{columns_in, by_columns, IsOnTime}
+use Rattle.agreement.proofs.Model.{columns_in, by_columns}
 use Rattle.agreement.proofs.OnWires.{on_wires}
 use Rattle.agreement.proofs.Sides.{met_is, side_is}
 use Rattle.agreement.proofs.Ties.{Ties}
@@ -111,10 +112,10 @@ module _ (edges : List Edge) (events : List HostEvent) (d : Board) (to : d.State
       → (e : World d.State) → Happened d bytes meeting frame w e → Goal (under to e)
   ends meeting met frame kind wires e h =
       let es : List (ℕ × Bool) = shown (is_held m.keys.keyboard) (columns_in edges w.cycle) in
-      let early : 2 ≤ w.cpu.pre = tie.started.early in
-      let late : w.cpu.pre ≤ 3 = tie.started.late in
-      let early' : 2 ≤ e.cpu.pre = h.started.early in
-      let late' : e.cpu.pre ≤ 3 = h.started.late in
+      let early : 2 ≤ w.cpu.pre = tie.started.entered.early in
+      let late : w.cpu.pre ≤ 3 = tie.started.entered.late in
+      let early' : 2 ≤ e.cpu.pre = h.started.entered.early in
+      let late' : e.cpu.pre ≤ 3 = h.started.entered.late in
       let pass : e.cycle + w.cpu.pre ≡ w.cycle + 2048 + e.cpu.pre = h.time in
       let now : w.cycle + 2 ≡ 4096 + 2048 * n + w.cpu.pre = time in
       let rest : ℕ = e.cycle - w.cycle - 609 in
@@ -124,7 +125,7 @@ module _ (edges : List Edge) (events : List HostEvent) (d : Board) (to : d.State
       let law = wires rest (rest - 15) k refl long in
       let is : meeting_from (keyboard layout) events w.cycle m ≡ met = meets met frame wires in
       let there = on_wires edges events d to over w tie.lit released frame bytes meeting e late h in
-      let low : low_edges es = subst (λ v. low_edges v) columns (edges_low (changed_now d w) (down_now d w)) in
+      let low : low_edges es = subst (λ v. low_edges v) columns (edges_low (changed_now d w) (column_read d w)) in
       let as_met : met_as (meeting_from (keyboard layout) events w.cycle m) ≡ meeting = ap met_as is ∙ kind in
       let l : Layers = m.keys.layers in
       let k0 : Keyboard = m.keys.keyboard in
@@ -181,7 +182,7 @@ module _ (edges : List Edge) (events : List HostEvent) (d : Board) (to : d.State
   by_frame : (meeting : KeyboardMeeting) (frame : Frame) (e : World d.State) → Happened d bytes meeting frame w e
       → GoesBy d frame w e
   by_frame meeting frame e h =
-      let late : w.cpu.pre ≤ 3 = tie.started.late in
+      let late : w.cpu.pre ≤ 3 = tie.started.entered.late in
       let pass : e.cycle + w.cpu.pre ≡ w.cycle + 2048 + e.cpu.pre = h.time in
       let n : ℕ = e.cycle - w.cycle in
       let cycles : e.cycle ≡ w.cycle + n = omega (arith, pass, late) in

@@ -3,7 +3,7 @@ use Rattle.std.proofs.Common.{◌≡◌, ◌≤◌, ℕ, ◌+◌, ◌-◌, ◌*�
 use Rattle.board_lines.specs.Cadence.{IsNear}
 use Rattle.joint_run.specs.Joint.{Beside}
 use Rattle.joint_run.specs.Run.{World}
-use Rattle.agreement.proofs.Model.{IsOnTime}
+use Rattle.fw_logic.specs.Ticks.{IsOnTime}
 
 -- it is as many cycles late as the prescaler says, less two: one at most
 pub record InTime (n : ℕ) (w : World Beside) : Type 0 where

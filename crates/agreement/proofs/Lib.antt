@@ -7,7 +7,10 @@ pub mod Looking
 pub mod Leaves
 pub mod Lit
 pub mod Pressing
-pub mod Framing
+pub mod AtLook
+pub mod Fitting
+pub mod AnyTick
+pub mod Does
 pub mod Ways
 pub mod OnWires
 pub mod Sides
@@ -16,6 +19,7 @@ pub mod Compiled
 pub mod Placed
 pub mod Going
 pub mod Frames
+pub mod Cutting
 pub mod Deciding
 pub mod Columns
 pub mod Holding

@@ -73,27 +73,23 @@ module _ (d : Board) (bytes : List ℕ) (hk : HasKernel bytes) (alike : IsSilent
 -- any board above the joint board
 module _ (edges : List Edge) (events : List HostEvent) (d : Board) (to : d.State → Beside)
     (over : IsOver edges events d to) where
-  -- where its joint board is known 22 cycles behind, it is known from there on, over lines that leave both wires to the
+  -- where its joint board is known 24 cycles behind, it is known from there on, over lines that leave both wires to the
   -- latch
-  pub behind_look : (lines : ℕ → Lines) (v start y j : ℕ) (s : d.State) (b : Pc) → y + 22 ≡ 256 + start
-      → to (ticks 22 y (d.tick v) s) ≡ record { pc = b; shown = lights_of v }
+  pub behind_look : (lines : ℕ → Lines) (v start y j : ℕ) (s : d.State) (b : Pc) → y + 24 ≡ 256 + start
+      → to (ticks 24 y (d.tick v) s) ≡ record { pc = b; shown = lights_of v }
       → ((o : ℕ) → 256 + start ≤ o → o < 256 + start + j → lines o ≡ latch_of v)
-      → to (ticks (22 + j) y (d.tick v) s)
+      → to (ticks (24 + j) y (d.tick v) s)
       ≡ record { pc = board_cycles events lines j (256 + start) b; shown = lights_of v }
   behind_look lines v start y j s b at is still =
       let there : Beside = record { pc = b; shown = lights_of v } in
-      ap to (ticks_add 22 j y (d.tick v) s)
-      ∙ ticks_over edges events d to over j (y + 22) v (ticks 22 y (d.tick v) s)
-      ∙ ap (λ t. ticks j (y + 22) ((joint_board edges events).tick v) t) is
+      ap to (ticks_add 24 j y (d.tick v) s)
+      ∙ ticks_over edges events d to over j (y + 24) v (ticks 24 y (d.tick v) s)
+      ∙ ap (λ t. ticks j (y + 24) ((joint_board edges events).tick v) t) is
       ∙ ap (λ c. ticks j c ((joint_board edges events).tick v) there) at
       ∙ still_wires edges events lines j (256 + start) v there refl still
 
   -- where the lights of the latch are those that are shown
-  module _ (bytes : List ℕ) (hk : HasKernel bytes) (alike : IsSilentAlike bytes)
-      (small : All IsByte bytes)
-      (low : (p1 p2 c : ℕ) (s : d.State) → (d.pins p1 p2 c s).bus < 256)
-      (w : World d.State) (s : IsStarted w.cpu) (few : length (edges_now d w) ≤ 4)
-      (lit : lights_of w.cpu.p2 ≡ (to w.board).shown) where
+  module _ (w : World d.State) (lit : lights_of w.cpu.p2 ≡ (to w.board).shown) where
     abbrev v : ℕ
     v = latch_now d w
 
@@ -113,13 +109,11 @@ module _ (edges : List Edge) (events : List HostEvent) (d : Board) (to : d.State
         ∙ still_wires edges events (λ o. latch_of w.cpu.p2) 232 w.cycle w.cpu.p2 (to w.board) lit (λ o a u. refl)
 
     -- what stands beside the processor at the look at the clock
-    pub looks : (l : Bool)
-        → to (ticks 22 (w.cycle + 3 + 231) (d.tick v) (shine d bytes hk alike small low w s few l))
+    pub at_clock : to (ticks 24 (w.cycle + 232) (d.tick v) (in_tick d w 232))
         ≡ record { pc = at_look edges events u; shown = lights_of v }
-    looks l =
+    at_clock =
         let x = w.cycle in
         let a : x + 232 ≡ 232 + x = omega arith in
-        ap to (from_lights d bytes hk alike small low w s few l 22 (x + 3 + 231) (omega arith))
-        ∙ ticks_over edges events d to over 24 (x + 232) v (in_tick d w 232)
+        ticks_over edges events d to over 24 (x + 232) v (in_tick d w 232)
         ∙ ap (λ t. ticks 24 (x + 232) joint t) before_is ∙ ap (λ c. ticks 24 c joint before) a
         ∙ lit_wires edges events (λ o. latch_of v) 23 (232 + x) v before (λ o a u. refl)

@@ -1,12 +1,10 @@
 -- The model's tick by what the columns show, with no list of starts in it.
-use Rattle.std.specs.Prelude.{◌≡◌, ℕ, ◌+◌, ◌-◌, ◌*◌, ◌/◌, Bool, List}
+use Rattle.std.specs.Prelude.{ℕ, ◌+◌, ◌-◌, ◌*◌, ◌/◌, Bool, List}
 use Rattle.board_lines.specs.declared.event.Edge.{Edge}
 use Rattle.board_lines.specs.declared.event.HostEvent.{HostEvent}
 use Rattle.byte_time.specs.ByteTime.{quietly}
 use Rattle.byte_time.specs.declared.UnderWay.{UnderWay}
 use Rattle.host_turn.specs.Run.{side_at_start}
-use Rattle.joint_run.specs.Run.{World}
-use Rattle.joint_run.specs.Joint.{Beside}
 use Rattle.link_model.specs.Expected.{Whole, whole_tick}
 use Rattle.link_model.specs.Machine.{Machine}
 use Rattle.link_model.specs.TickEdges.{is_down, shown}
@@ -24,7 +22,3 @@ at_first kb events cycle =
 abbrev pub by_columns : {S : Type 0} → Machine S → List Edge → List HostEvent → ℕ → ℕ → Whole S → Whole S
 by_columns kb edges events from to m =
     whole_tick kb events (shown (kb.held m.keys) (columns_in edges from)) from (to - from - 609) m
-
--- tick n starts as many cycles late as the prescaler says, less two
-abbrev pub IsOnTime : ℕ → World Beside → Type 0
-IsOnTime n w = w.cycle + 2 ≡ 4096 + 2048 * n + w.cpu.pre

@@ -1,5 +1,5 @@
 -- A tick whose board has gone on by its latch, at the wires of the joint board.
-use Rattle.std.proofs.Common.{◌≡◌, ◌≤◌, ℕ, ◌+◌, ◌-◌, List, refl, ap, sym, ◌∙◌, arith}
+use Rattle.std.proofs.Common.{◌≡◌, ◌≤◌, ℕ, ◌+◌, ◌-◌, ◌*◌, List, refl, ap, sym, ◌∙◌, arith}
 use Rattle.board_lines.specs.declared.event.Edge.{Edge}
 use Rattle.board_lines.specs.declared.event.HostEvent.{HostEvent}
 use Rattle.board_lines.specs.declared.lines.Lines.{Lines}
@@ -15,7 +15,10 @@ use Rattle.fw_logic.proofs.Blocks.{ticks_add}
 use Rattle.joint_run.specs.Joint.{Beside, joint_board, latch_of, lights_of}
 use Rattle.joint_run.specs.Run.{Board, World, ticks}
 use Rattle.kbd_model.specs.declared.meeting.Meeting.{Meeting}
+use Rattle.pc_wires.specs.Wires.{Pc}
+use Rattle.wires_agree.proofs.Whole.{cycles_more}
 use Rattle.wires_agree.specs.Cycles.{board_cycles}
+use Rattle.wires_agree.specs.Ticks.{at_meeting}
 use Rattle.agreement.proofs.Happened.{at_lights, at_look, Happened, AtWires}
 
 module _ (edges : List Edge) (events : List HostEvent) (d : Board) (to : d.State → Beside)
@@ -67,10 +70,10 @@ module _ (edges : List Edge) (events : List HostEvent) (d : Board) (to : d.State
       ∙ lit_wires edges events (λ o. latch_of v) 23 (232 + x) v before (λ o l m. refl)
 
   -- and from there on
-  behind_look : (k : ℕ)
+  pub behind_clock : (k : ℕ)
       → to (driven d x latch (256 + k) 0 w.board)
       ≡ record { pc = board_cycles events lines k (256 + x) (at_look edges events u); shown = lights_of v }
-  behind_look k =
+  behind_clock k =
       let a : x + 256 ≡ 256 + x = omega arith in
       driven_over edges events d to over x latch (256 + k) 0 w.board
       ∙ ticks_add 256 k 0 (λ o. joint.tick (latch o) (x + o)) (to w.board)
@@ -79,6 +82,18 @@ module _ (edges : List Edge) (events : List HostEvent) (d : Board) (to : d.State
       (λ o l m. lights_stay w.cpu.p2 v frame released.byte o (omega (arith, l)))
       (λ o l m. lines_are frame w.cpu.p2 v x released o (omega (arith, l)))
       ∙ ap (λ c. record { pc = board_cycles events lines k c (at_look edges events u); shown = lights_of v }) a
+
+  -- at the look of a cell, by the state at the first edge
+  pub at_cell : (k : ℕ) → (to (driven d x latch (306 + 32 * k) 0 w.board)).pc
+      ≡ board_cycles events lines (32 * k + 18) (288 + x) (at_meeting events lines x (at_look edges events u))
+  at_cell k =
+      let o : 306 + 32 * k ≡ 256 + (50 + 32 * k) = omega arith in
+      let e : 32 + (32 * k + 18) ≡ 50 + 32 * k = omega arith in
+      let a : 32 + (256 + x) ≡ 288 + x = omega arith in
+      let first : Pc = at_meeting events lines x (at_look edges events u) in
+      ap (λ n. (to (driven d x latch n 0 w.board)).pc) o ∙ ap (λ (t : Beside). t.pc) (behind_clock (50 + 32 * k))
+      ∙ cycles_more events lines 32 (32 * k + 18) (50 + 32 * k) (256 + x) (at_look edges events u) e
+      ∙ ap (λ c. board_cycles events lines (32 * k + 18) c first) a
 
   pub on_wires : (bytes : List ℕ) (meeting : Meeting) (e : World d.State) → w.cpu.pre ≤ 3
       → Happened d bytes meeting frame w e
@@ -94,4 +109,4 @@ module _ (edges : List Edge) (events : List HostEvent) (d : Board) (to : d.State
       is : (k : ℕ) → e.cycle ≡ 256 + x + k
           → to e.board
           ≡ record { pc = board_cycles events lines k (256 + x) (at_look edges events u); shown = lights_of v }
-      is k at = ap to (h.board (256 + k) (omega (arith, at))) ∙ behind_look k
+      is k at = ap to (h.board (256 + k) (omega (arith, at))) ∙ behind_clock k

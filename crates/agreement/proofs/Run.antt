@@ -27,11 +27,13 @@ use Rattle.mcs48_core.specs.Cpu.{Cpu}
 use Rattle.mcs48_core.specs.Reset.{reset_cpu}
 use Rattle.mcs48_ranges.specs.Sizes.{IsByte, IsFine}
 use Rattle.agreement.specs.Agreement.{AgreementLaw, AnyMemoryLaw, switched_on}
+use Rattle.agreement.specs.Memory.{Holds, MemoryLaw}
 use Rattle.agreement.specs.Wires.{DrivesFrame, WiresLaw}
 use Rattle.agreement.proofs.Above.{edges_over, low_over}
 use Rattle.agreement.proofs.Beginning.{begins, is_tick, begins_let_go}
 use Rattle.agreement.proofs.Columns.{bus_low, edges_are}
 use Rattle.agreement.proofs.Compiled.{has_kernel, has_rate, is_alike, are_bytes, silent_keys, same_keys, no_prefix}
+use Rattle.agreement.proofs.Cutting.{cut_since, is_cut_by}
 use Rattle.agreement.proofs.Deciding.{every_tick}
 use Rattle.agreement.proofs.Frames.{frame_in}
 use Rattle.agreement.proofs.Going.{Went}
@@ -39,12 +41,13 @@ use Rattle.agreement.proofs.Happened.{lit_latch, at_look}
 use Rattle.agreement.proofs.Holding.{HasPlaces, none_held, holds_now, places_shown}
 use Rattle.agreement.proofs.PortInBytes.{IsInBytes}
 use Rattle.agreement.proofs.InBytes.{look_in_bytes, tick_in_bytes, first_in_bytes, request_in_bytes}
-use Rattle.agreement.proofs.Model.{IsOnTime, at_first, by_columns, columns_in}
+use Rattle.fw_logic.specs.Ticks.{IsOnTime}
+use Rattle.agreement.proofs.Model.{at_first, by_columns, columns_in}
 use Rattle.agreement.proofs.Offering.{offers_byte, lit_released, lit_shows}
 use Rattle.agreement.proofs.Sides.{model_looks}
 use Rattle.agreement.proofs.Placed.{IsOfLayout, down_placed, shown_placed}
 use Rattle.agreement.proofs.Ties.{Ties}
-use Rattle.agreement.proofs.Whole.{keeps_time, agrees, drives}
+use Rattle.agreement.proofs.Whole.{keeps_time, at_starts, agrees, drives}
 
 module _ (layout : KeyLayout) (history : KeyHistory) (fine : IsKeyLayout layout)
     (ok : IsAcceptedFor layout history) where
@@ -90,7 +93,7 @@ module _ (layout : KeyLayout) (history : KeyHistory) (fine : IsKeyLayout layout)
 
     columns : edges_now (joint_board edges events) w ≡ shown (is_held m.keys.keyboard) (columns_in edges w.cycle)
     columns =
-        let early : 2 ≤ w.cpu.pre = tie.started.early in
+        let early : 2 ≤ w.cpu.pre = tie.started.entered.early in
         edges_are history w ok.accepted tie.started (omega (arith, time, early))
         ∙ ap (λ k. shown (is_held k) (columns_in edges w.cycle)) tie.keyboard
 
@@ -192,6 +195,9 @@ module _ (layout : KeyLayout) (history : KeyHistory) (fine : IsKeyLayout layout)
           before = (tie.released.clock, tie.released.data_wire);
           lit = lit;
           behind = (released.clock, released.data_wire);
+          cut = is_cut_by edges events w tie.lit released frame
+              (cut_since events lit w.cycle released (at_look edges events w) (m.keys.keyboard.test == 0)
+              (offer m.keys.keyboard));
           drives = drives_tick joint latch TICK bytes w
               (Went edges events W beneath above bytes layout (same_keys layout) (no_prefix layout fine) n (watched w) m
               time tie columns_above of_layout released lamps ok.accepted.flips frame)
@@ -211,13 +217,13 @@ every_memory layout history fine ok m small = (
   keeps_time LayeredKeyboard (switched_on history.edges history.host m) (image_of layout) history ok.accepted (keyboard layout)
       (Tied layout history fine ok) (λ k. HasPlaces k.keyboard) (fits layout history fine ok) (λ p l. none_held layout p)
       (holds_now layout) (tied_first layout history fine ok m small) (tied_next layout history fine ok)
-      (λ w m t. ap (λ (s : _). s.log) t.ties.side) (λ w m t. (t.ties.started.serves, t.ties.started.bank))
-      (λ w m t. (t.ties.started.early, t.ties.started.late)),
+      (λ w m t. ap (λ (s : _). s.log) t.ties.side) (λ w m t. (t.ties.started.entered.serves, t.ties.started.entered.bank))
+      (λ w m t. (t.ties.started.entered.early, t.ties.started.entered.late)),
   agrees LayeredKeyboard (switched_on history.edges history.host m) (image_of layout) history ok.accepted (keyboard layout)
       (Tied layout history fine ok) (λ k. HasPlaces k.keyboard) (fits layout history fine ok) (λ p l. none_held layout p)
       (holds_now layout) (tied_first layout history fine ok m small) (tied_next layout history fine ok)
-      (λ w m t. ap (λ (s : _). s.log) t.ties.side) (λ w m t. (t.ties.started.serves, t.ties.started.bank))
-      (λ w m t. (t.ties.started.early, t.ties.started.late)),
+      (λ w m t. ap (λ (s : _). s.log) t.ties.side) (λ w m t. (t.ties.started.entered.serves, t.ties.started.entered.bank))
+      (λ w m t. (t.ties.started.entered.early, t.ties.started.entered.late)),
 )
 
 -- cleared memory is one
@@ -245,7 +251,21 @@ every_wire layout history fine ok m small =
     drives LayeredKeyboard (switched_on history.edges history.host m) (image_of layout) history ok.accepted (keyboard layout)
     (Tied layout history fine ok) (λ k. HasPlaces k.keyboard) (fits layout history fine ok) (λ p l. none_held layout p)
     (holds_now layout) (tied_first layout history fine ok m small) (tied_next layout history fine ok)
-    (λ w m t. ap (λ (s : _). s.log) t.ties.side) (λ w m t. (t.ties.started.serves, t.ties.started.bank))
-    (λ w m t. (t.ties.started.early, t.ties.started.late))
+    (λ w m t. ap (λ (s : _). s.log) t.ties.side) (λ w m t. (t.ties.started.entered.serves, t.ties.started.entered.bank))
+    (λ w m t. (t.ties.started.entered.early, t.ties.started.entered.late))
     (begins_let_go history.edges history.host (image_of layout) (has_kernel layout) (are_bytes layout fine) m small)
     (tick_drives layout history fine ok)
+
+-- and data memory shows the model's keyboard
+pub every_holding : MemoryLaw
+every_holding layout history fine ok m small =
+    let a =
+    at_starts LayeredKeyboard (switched_on history.edges history.host m) (image_of layout) history ok.accepted
+    (keyboard layout)
+    (Tied layout history fine ok) (λ k. HasPlaces k.keyboard) (fits layout history fine ok) (λ p l. none_held layout p)
+    (holds_now layout) (tied_first layout history fine ok m small) (tied_next layout history fine ok)
+    (λ w m t. ap (λ (s : _). s.log) t.ties.side)
+    (λ w m t. (t.ties.started.entered.serves, t.ties.started.entered.bank))
+    (λ w m t. (t.ties.started.entered.early, t.ties.started.entered.late)) (λ w m. Holds w m.keys)
+    (λ n w m time t few. (t.ties.keyboard, t.ties.layers)) in
+    record { starts = a.0; each = a.1; holds = a.2 }

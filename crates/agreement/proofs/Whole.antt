@@ -19,7 +19,8 @@ use Rattle.link_model.specs.TickEdges.{shown, tick_edges}
 use Rattle.agreement.specs.Agreement.{AgreesFrom}
 use Rattle.agreement.specs.Wires.{DrivesFrame, DrivesWires}
 use Rattle.agreement.proofs.InTime.{InTime, on_time}
-use Rattle.agreement.proofs.Model.{IsOnTime, at_first, by_columns, columns_in}
+use Rattle.fw_logic.specs.Ticks.{IsOnTime}
+use Rattle.agreement.proofs.Model.{at_first, by_columns, columns_in}
 use Rattle.agreement.proofs.FewEdges.{WasNear, HeldBefore, edges_seen, at_most_four}
 
 -- A tick's law, with what it leaves open: what ties the run to the model, and of which keyboards it holds that a tick's
@@ -266,16 +267,27 @@ module _ (S : Type 0) (from : World Beside) (bytes : List ℕ) (history : KeyHis
       let stamp_is : stamp ≡ starts n = omega (arith, cycle, there, same) in
       subst (λ t. IsStart d TICK bytes from n t) stamp_is s
 
-  -- and at each the log is the model's
+  -- what holds of each start, with the model there; and the starts of the run's numbers
+  pub at_starts : (P : World Beside → Whole S → Type 0)
+      → ((n : ℕ) (w : World Beside) (m : Whole S) → IsOnTime n w → R w m
+      → length (shown (kb.held m.keys) (columns_in history.edges w.cycle)) ≤ 4 → P w m)
+      → (starts : ℕ → ℕ) × ((n : ℕ) → IsStart d TICK bytes from n (starts n))
+      × ((n stamp : ℕ) (s : IsStart d TICK bytes from n stamp)
+      → P s.state (whole_at kb history.edges history.host starts n))
+  at_starts P law = (
+    starts,
+    λ n. let s = keeps_time.starts n in is_start n s.0 s.1,
+    λ n stamp s.
+        let at : Stand n = stand n in
+        subst (λ w. P w (whole_at kb history.edges history.host starts n)) (sym (same_start n stamp s))
+        (subst (λ m. P at.w m) (model_is n) (law n at.w at.m at.time at.ties (few n at))),
+  )
+
+  -- at each the log is the model's
   pub agrees : AgreesFrom from bytes kb history.edges history.host
-  agrees = record {
-    starts = starts;
-    each = λ n. let s = keeps_time.starts n in is_start n s.0 s.1;
-    log = λ n stamp s.
-        ap (λ (v : World Beside). log_of v.board) (same_start n stamp s)
-        ∙ logs (stand n).w (stand n).m (stand n).ties
-        ∙ ap (λ (m : Whole S). m.side.log) (model_is n);
-  }
+  agrees =
+      let a = at_starts (λ w m. log_of w.board ≡ m.side.log) (λ n w m time ties few. logs w m ties) in
+      record { starts = a.0; each = a.1; log = a.2 }
 
   -- and the wires of each tick are as the law of a tick says
   pub drives : Drives d TICK bytes from (λ c. 255) (λ e. at_tick d TICK e ≡ true)
@@ -283,16 +295,8 @@ module _ (S : Type 0) (from : World Beside) (bytes : List ℕ) (history : KeyHis
       → length (shown (kb.held m.keys) (columns_in history.edges w.cycle)) ≤ 4
       → DrivesFrame history.edges history.host bytes (kb.offer m.keys) (meeting_from kb history.host w.cycle m) w)
       → DrivesWires from bytes kb history.edges history.host
-  drives begins law = record {
-    first = begins;
-    starts = starts;
-    each = λ n. let s = keeps_time.starts n in is_start n s.0 s.1;
-    frames = λ n stamp s.
-        let at : Stand n = stand n in
-        let model : Whole S = whole_at kb history.edges history.host starts n in
-        let D : World Beside → Whole S → Type 0 =
-        λ w m.
-        DrivesFrame history.edges history.host bytes (kb.offer m.keys) (meeting_from kb history.host w.cycle m) w in
-        subst (λ w. D w model) (sym (same_start n stamp s))
-        (subst (λ m. D at.w m) (model_is n) (law n at.w at.m at.time at.ties (few n at)));
-  }
+  drives begins law =
+      let a = at_starts
+      (λ w m. DrivesFrame history.edges history.host bytes (kb.offer m.keys) (meeting_from kb history.host w.cycle m) w)
+      law in
+      record { first = begins; starts = a.0; each = a.1; frames = a.2 }

@@ -1,2 +1,4 @@
 pub mod Agreement
 pub mod Wires
+pub mod Firmware
+pub mod Memory

@@ -1,17 +1,20 @@
 -- What the keyboard drives on the two wires in each tick of the joint run.
-use Rattle.std.specs.Prelude.{◌≡◌, ◌<◌, ℕ, ◌-◌, true, List, Some}
+use Rattle.std.specs.Prelude.{◌≡◌, ◌≤◌, ◌<◌, ℕ, zero, suc, ◌+◌, ◌-◌, ◌*◌, true, List, Some}
 use Rattle.std.specs.declared.option.Option.{Option}
 use Rattle.bits.specs.Bits.{bit}
 use Rattle.board_lines.specs.declared.event.Edge.{Edge}
 use Rattle.board_lines.specs.declared.event.HostEvent.{HostEvent}
 use Rattle.byte_time.specs.declared.meeting.Meeting.{Meeting}
 use Rattle.byte_time.specs.declared.meeting.Meeting.TheVariants.{Got, Inhibited, Idle, Sent, Cut}
+use Rattle.ctl_link.specs.Pulls.{pulled}
+use Rattle.ctl_link.specs.declared.link.Link.{Link}
+use Rattle.ctl_wire.specs.declared.wire.Wire.{Wire}
 use Rattle.fw_compile.specs.Image.{image_of}
 use Rattle.fw_kernel.specs.declared.labels.TheConstants.{TICK}
 use Rattle.fw_link.specs.Drives.{Drives, DrivesTick}
 use Rattle.fw_link.specs.Latch.{Frame, NoFrame, SentFrame, CutFrame, ReceivedFrame, tick_latch}
 use Rattle.joint_run.specs.Joint.{Beside, joint_board}
-use Rattle.joint_run.specs.Run.{World}
+use Rattle.joint_run.specs.Run.{World, ticks}
 use Rattle.joint_run.specs.Starts.{at_tick, IsStart}
 use Rattle.key_file.specs.Accepted.{IsAcceptedFor}
 use Rattle.key_file.specs.Histories.{KeyHistory}
@@ -23,7 +26,7 @@ use Rattle.mcs48_ranges.specs.Sizes.{IsFine}
 use Rattle.agreement.specs.Agreement.{switched_on}
 
 -- the frame of a tick with this meeting, where the keyboard offers this byte: the byte that is sent; the byte offered,
--- cut in one of ten cells; the frame in which the controller's byte is received; or none
+-- cut in a cell; the frame in which the controller's byte is received; or none
 abbrev pub IsFrameOf : Option ℕ → Meeting → Frame → Type 0
 IsFrameOf offered (Sent byte) frame = frame ≡ SentFrame byte
 IsFrameOf offered Cut (CutFrame byte cell) = (offered ≡ Some byte) × (cell < 10)
@@ -34,12 +37,31 @@ IsFrameOf offered (Got byte) frame = frame ≡ ReceivedFrame
 IsFrameOf offered Inhibited frame = frame ≡ NoFrame
 IsFrameOf offered Idle frame = frame ≡ NoFrame
 
+-- what stands beside the processor so many cycles past a tick's start, where the latch of port 2 is this, by the offset
+abbrev pub beside_in : List Edge → List HostEvent → (ℕ → ℕ) → World Beside → ℕ → Beside
+beside_in edges events latch w n = ticks n 0 (λ o. (joint_board edges events).tick (latch o) (w.cycle + o)) w.board
+
+-- the offset of the look at the clock in front of that of a cell: the tick's own, or that of the cell before
+abbrev pub look_before : ℕ → ℕ
+look_before zero = 256
+look_before (suc k) = 306 + 32 * k
+
+-- a frame is cut in the cell whose look is the first behind the cycle in which the controller began to pull the clock:
+-- by the controller's link at each offset, it pulls there, since a cycle that isn't earlier than the look in front
+abbrev pub IsCutBy : (ℕ → Link Wire) → ℕ → Frame → Type 0
+IsCutBy link start NoFrame = Unit {0}
+IsCutBy link start (SentFrame byte) = Unit {0}
+IsCutBy link start (CutFrame byte cell) =
+    (since : ℕ) × (pulled (link (306 + 32 * cell)) ≡ Some since) × (start + look_before cell ≤ since)
+IsCutBy link start ReceivedFrame = Unit {0}
+
 -- a latch of port 2 that pulls neither wire: bit 0 drives the clock, bit 1 data
 abbrev pub IsLetGo : ℕ → Type 0
 IsLetGo v = (bit 0 v ≡ true) × (bit 1 v ≡ true)
 
 -- a tick of the joint run from its start: the run comes to the next start, and in each cycle on the way the latch of
--- port 2 is that of a tick with the meeting's frame; outside the frame it pulls neither wire
+-- port 2 is that of a tick with the meeting's frame; outside the frame it pulls neither wire. A frame that is cut is cut
+-- in the cell whose look is the first that can see it
 pub record DrivesFrame (edges : List Edge) (events : List HostEvent) (bytes : List ℕ) (offered : Option ℕ)
     (meeting : Meeting) (w : World Beside) : Type 0 where
   pub frame : Frame
@@ -47,6 +69,7 @@ pub record DrivesFrame (edges : List Edge) (events : List HostEvent) (bytes : Li
   pub before : IsLetGo w.cpu.p2
   pub lit : ℕ
   pub behind : IsLetGo lit
+  pub cut : IsCutBy (λ o. (beside_in edges events (tick_latch w.cpu.p2 lit frame) w o).pc.side.port.link) w.cycle frame
   pub drives : DrivesTick (joint_board edges events) TICK bytes w
       (λ c. tick_latch w.cpu.p2 lit frame (c - w.cycle))
       (λ e. (at_tick (joint_board edges events) TICK e ≡ true) × (e.cpu.p2 ≡ lit))

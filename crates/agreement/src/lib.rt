@@ -8,6 +8,8 @@
 #![tactic(auto)]
 
 ghost use Rattle.agreement.specs.Agreement.{AgreementLaw, AnyMemoryLaw};
+ghost use Rattle.agreement.specs.Firmware.{TickLaw};
+ghost use Rattle.agreement.specs.Memory.{MemoryLaw};
 ghost use Rattle.agreement.specs.Wires.{WiresLaw};
 
 /// For every layout and every history that is accepted for it: the joint run of the layout's compiled image is never
@@ -23,7 +25,25 @@ pub fn run_and_model_agree()
 /// For every layout and every history that is accepted for it: in each tick of the joint run, in each of its cycles, what
 /// the keyboard drives on the two wires. Outside a frame it pulls neither wire. The frame is that of the model's meeting:
 /// the byte that is sent, whole or cut in one of its cells; the one in which the controller's byte is received; or none.
+/// It is cut in the cell whose look is the first behind the cycle in which the controller began to pull the clock.
 /// Nothing is done when it is called; the law is its contract.
 pub fn wires_are_driven()
     ensures wires { WiresLaw }
+{}
+
+/// For every layout and every history that is accepted for it: at each tick start of the joint run data memory shows the
+/// model's keyboard and its layers, so it goes on by the meetings of the model and the edges of its ticks. Nothing is
+/// done when it is called; the law is its contract.
+pub fn memory_holds_keyboard()
+    ensures memory { MemoryLaw }
+{}
+
+/// Every tick of the firmware, whatever the pins show: from a tick start at which data memory shows a keyboard the run
+/// comes to the next start, 2,048 cycles later give or take one. Data memory then shows that keyboard and its layers a
+/// tick of the model later, by the edges that the columns showed and by the meeting that the looks found; and in each
+/// cycle the latch of port 2 was that of a tick with the meeting's frame. All is counted from the tick's start: column c
+/// is read at offset 16 + 16 c, the lights are put at 232, the clock is looked at at 256 and data at 258, and in a frame
+/// the looks are at 306 + 32 k. Nothing is done when it is called; the law is its contract.
+pub fn every_tick()
+    ensures ticks { TickLaw }
 {}

@@ -4,12 +4,9 @@ use Rattle.std.proofs.Common.{List, [], ◌∷◌, ◌++◌, length, drop, bit_x
 use Rattle.mcs48_core.specs.Cpu.{Cpu}
 use Rattle.bits.specs.Bits.{bit}
 use Rattle.mcs48_core.specs.Status.{digit}
-use Rattle.mcs48_core.specs.declared.processor.Count.TheVariants.{Timer}
-use Rattle.fw_kernel.specs.declared.labels.TheConstants.{TICK, WAIT}
 use Rattle.mcs48_ranges.specs.Sizes.{IsFine}
-use Rattle.fw_logic.proofs.Block.{memory, put}
-use Rattle.fw_logic.proofs.Memory.{memory_is}
-use Rattle.fw_logic.proofs.Service.{serving, stacked, begun}
+use Rattle.fw_logic.proofs.Entered.{begun_is, entered_is}
+use Rattle.fw_logic.proofs.Service.{begun}
 use Rattle.fw_keys.proofs.Patch.{still}
 use Rattle.fw_keys.specs.State.{Inv}
 use Rattle.fw_keys.specs.Edges.{row_edges, column_edges}
@@ -57,67 +54,15 @@ columns_count ch dn c (suc n) =
     ∙ ap (λ k. k + length (column_edges (suc c) n ch dn)) (rows_count (8 * c) 0 8 (ch c) (dn c))
     ∙ ap (λ k. marks 0 8 (ch c) + k) (columns_count ch dn (suc c) n)
 
--- memory with the way back on the stack
-pub way_back : (f : ℕ → ℕ) (ring : List ℕ) → f 8 ≡ WAIT → f 9 ≡ 16 → memory f ring ≡ memory (stacked f) ring
-way_back f ring low high = ap (λ u. memory (put f 8 u) ring) low ∙ ap (λ u. memory (put (put f 8 WAIT) 9 u) ring) high
-
 -- a started processor is one that was begun
-pub begun_is : (m : Cpu) → IsStarted m → m ≡ begun (m.pre - 2) m.tf m.last_t1 (cells_in m.ram) (drop 112 m.ram) m
-begun_is m s =
-    let pre : m.pre ≡ m.pre - 2 + 2 = (let l : 2 ≤ m.pre = s.early in omega (arith, l)) in
-    let ram : m.ram ≡ memory (stacked (cells_in m.ram)) (drop 112 m.ram) =
-    memory_is m.ram s.fine.long ∙ way_back (cells_in m.ram) (drop 112 m.ram) s.back s.status in
-    ap (λ v. record m { pc = v }) s.pc
-    ∙ ap (λ v. record m { pc = TICK; rb = v }) s.bank
-    ∙ ap (λ v. record m { pc = TICK; rb = true; sp = v }) s.depth
-    ∙ ap (λ v. record m { pc = TICK; rb = true; sp = 1; mb = v }) s.lower
-    ∙ ap (λ v. record m { pc = TICK; rb = true; sp = 1; mb = false; ext_on = v }) s.external
-    ∙ ap (λ v. record m { pc = TICK; rb = true; sp = 1; mb = false; ext_on = false; tim_on = v }) s.enabled
-    ∙ ap (λ v. record m { pc = TICK; rb = true; sp = 1; mb = false; ext_on = false; tim_on = true; svc = v }) s.serves
-    ∙ ap (λ v. record m {
-      pc = TICK;
-      rb = true;
-      sp = 1;
-      mb = false;
-      ext_on = false;
-      tim_on = true;
-      svc = true;
-      ram = v;
-    }) ram
-    ∙ ap (λ v. record (serving TICK (stacked (cells_in m.ram)) (drop 112 m.ram) m) { c = v }) s.carry
-    ∙ ap (λ v. record (serving TICK (stacked (cells_in m.ram)) (drop 112 m.ram) m) { c = false; ac = v }) s.half
-    ∙ ap (λ v. record (serving TICK (stacked (cells_in m.ram)) (drop 112 m.ram) m) { c = false; ac = false; f0 = v })
-    s.flag
-    ∙ ap (λ v. record (serving TICK (stacked (cells_in m.ram)) (drop 112 m.ram)
-    m) { c = false; ac = false; f0 = false; run = v }) s.run
-    ∙ ap (λ v. record (serving TICK (stacked (cells_in m.ram)) (drop 112 m.ram)
-    m) { c = false; ac = false; f0 = false; run = Timer; t = v }) s.t
-    ∙ ap (λ v. record (serving TICK (stacked (cells_in m.ram)) (drop 112 m.ram)
-    m) { c = false; ac = false; f0 = false; run = Timer; t = 0; pre = v }) pre
-    ∙ ap (λ v. record (serving TICK (stacked (cells_in m.ram)) (drop 112 m.ram)
-    m) { c = false; ac = false; f0 = false; run = Timer; t = 0; pre = m.pre - 2 + 2; rq = v }) s.clear
+pub started_begun : (m : Cpu) → IsStarted m → m ≡ begun (m.pre - 2) m.tf m.last_t1 (cells_in m.ram) (drop 112 m.ram) m
+started_begun m s = begun_is m s.entered
 
 -- and the other way round
 pub started_is : (late : ℕ) → late ≤ 1 → (tf last : Bool) (now : ℕ → ℕ) (ring : List ℕ) (m : Cpu)
     → IsFine (begun late tf last now ring m) → Inv now → IsStarted (begun late tf last now ring m)
 started_is late few tf last now ring m fine inv = record {
-  pc = refl;
-  bank = refl;
-  depth = refl;
-  lower = refl;
-  external = refl;
-  enabled = refl;
-  serves = refl;
-  carry = refl;
-  half = refl;
-  flag = refl;
-  run = refl;
-  t = refl;
-  early = omega arith;
-  late = omega (arith, few);
-  clear = refl;
-  back = refl;
-  status = refl;
+  entered = entered_is late few tf last now ring m fine.long;
   fine = fine;
   inv = still (refl, refl, refl, refl, refl) inv;
 }

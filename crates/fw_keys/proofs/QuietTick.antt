@@ -8,7 +8,9 @@ use Rattle.fw_kernel.specs.Places.{HasKernel}
 use Rattle.joint_run.specs.Run.{Board, World, ticks}
 use Rattle.joint_run.specs.Starts.{Tick}
 use Rattle.mcs48_ranges.specs.Sizes.{IsByte, IsFine}
+use Rattle.fw_logic.proofs.Entered.{way_back}
 use Rattle.fw_logic.specs.Scan.{in_tick, levels_in}
+use Rattle.fw_logic.specs.Ticks.{column_read}
 use Rattle.fw_logic.proofs.Path.{Stage}
 use Rattle.fw_logic.proofs.Block.{memory}
 use Rattle.fw_logic.proofs.Blocks.{absolute, joined}
@@ -25,14 +27,14 @@ use Rattle.fw_keys.proofs.Keyboard.{IsPressedAt, quiet_pressed}
 use Rattle.fw_keys.proofs.Patch.{still}
 use Rattle.fw_keys.specs.State.{keyboard_of, layers_of, Inv}
 use Rattle.fw_keys.specs.Edges.{image_keys, tick_edges, IsSilentAlike}
-use Rattle.fw_keys.specs.Quiet.{cells_in, shown_by, IsStarted, down_now, changed_now, edges_now, latch_now}
+use Rattle.fw_keys.specs.Quiet.{cells_in, shown_by, IsStarted, changed_now, edges_now, latch_now}
 use Rattle.fw_keys.specs.Quiet.{IsQuiet, GoesOn, IsRepeating, layers_by}
 use Rattle.fw_keys.proofs.Step5.{all_edges}
 use Rattle.fw_keys.proofs.Scan.{edges_most}
 use Rattle.fw_keys.proofs.Ended.{AtHead, idle_works, inhibited_works, test_works}
 use Rattle.std.proofs.lemmas.List.Elements.{All-get_or}
 use Rattle.fw_keys.proofs.Serve.{kept_on, down, changed, held, first, first_board, fit, Goes, Work, tick, four_edges}
-use Rattle.fw_keys.proofs.Begun.{columns_same, columns_count, way_back, begun_is, started_is, xor_small}
+use Rattle.fw_keys.proofs.Begun.{columns_same, columns_count, started_begun, started_is, xor_small}
 
 module _ (d : Board) (bytes : List ℕ) (hk : HasKernel bytes) (alike : IsSilentAlike bytes) (small : All IsByte bytes)
     (low : (p1 p2 c : ℕ) (s : d.State) → (d.pins p1 p2 c s).bus < 256)
@@ -53,7 +55,7 @@ module _ (d : Board) (bytes : List ℕ) (hk : HasKernel bytes) (alike : IsSilent
   late = m.pre - 2
 
   pub soon : late ≤ 1
-  soon = let l : m.pre ≤ 3 = s.late in omega (arith, l)
+  soon = let l : m.pre ≤ 3 = s.entered.late in omega (arith, l)
 
   abbrev pub D : ℕ → ℕ
   D = down d bytes hk alike small low w.cycle late soon m.tf m.last_t1 f ring m w.board
@@ -67,23 +69,22 @@ module _ (d : Board) (bytes : List ℕ) (hk : HasKernel bytes) (alike : IsSilent
   abbrev new : ℕ → d.State → d.State
   new = d.tick (latch_now d w)
 
-  down_is : (c : ℕ) → D c ≡ down_now d w c
+  down_is : (c : ℕ) → D c ≡ column_read d w c
   down_is c =
       let x = w.cycle in
-      let a : x + 3 + (13 + 16 * c) ≡ x + 16 + 16 * c = omega arith in
+      let a : x + 3 + (13 + 16 * c) ≡ x + (16 + 16 * c) = omega arith in
       let n : 3 + (13 + 16 * c) ≡ 16 + 16 * c = omega arith in
-      let state : ticks (13 + 16 * c) 0 (λ o. old (x + 3 + o)) (ticks 3 x old w.board)
-      ≡ ticks (16 * c) (x + 16) old (in_tick d w 16) =
+      let state : ticks (13 + 16 * c) 0 (λ o. old (x + 3 + o)) (ticks 3 x old w.board) ≡ in_tick d w (16 + 16 * c) =
       absolute (13 + 16 * c) (x + 3) old (ticks 3 x old w.board) ∙ joined 3 (13 + 16 * c) x (x + 3) old w.board refl
-      ∙ ap (λ k. ticks k x old w.board) n ∙ sym (joined 16 (16 * c) x (x + 16) old w.board refl) in
+      ∙ ap (λ k. ticks k x old w.board) n in
       ap (λ b. 255 - (d.pins (32 + c) m.p2 (x + 3 + (13 + 16 * c)) b).bus) state
-      ∙ ap (λ k. 255 - (d.pins (32 + c) m.p2 k (ticks (16 * c) (x + 16) old (in_tick d w 16))).bus) a
+      ∙ ap (λ k. 255 - (d.pins (32 + c) m.p2 k (in_tick d w (16 + 16 * c))).bus) a
 
   changed_is : (c : ℕ) → C c ≡ changed_now d w c
   changed_is c = ap (λ v. bit_xor v (D c)) (kept_on f c) ∙ ap (λ v. bit_xor (f (32 + c)) v) (down_is c)
 
   edges_is : tick_edges C D ≡ edges_now d w
-  edges_is = columns_same C (changed_now d w) D (down_now d w) 0 12 refl (λ i l. changed_is i) (λ i l. down_is i)
+  edges_is = columns_same C (changed_now d w) D (column_read d w) 0 12 refl (λ i l. changed_is i) (λ i l. down_is i)
 
   -- a tick with four edges at most has its time
   pub four : edges_most C ≤ 728
@@ -98,7 +99,7 @@ module _ (d : Board) (bytes : List ℕ) (hk : HasKernel bytes) (alike : IsSilent
       (omega (arith, count, most))
 
   is : m ≡ begun late m.tf m.last_t1 f ring m
-  is = begun_is m s
+  is = started_begun m s
 
   pub fine : IsFine (begun late m.tf m.last_t1 f ring m)
   fine = subst (λ c. IsFine c) is s.fine
@@ -140,7 +141,7 @@ module _ (d : Board) (bytes : List ℕ) (hk : HasKernel bytes) (alike : IsSilent
       ∙ joined 2 n (x + 232) (x + 3 + 231) new (in_tick d w 232) (omega arith))
       ∙ ap (λ c. d.pins 44 (latch_now d w) c (ticks (2 + n) (x + 232) new (in_tick d w 232))) a
 
-  works : (meeting : Meeting) → IsQuiet d w meeting
+  pub works : (meeting : Meeting) → IsQuiet d w meeting
       → (max : ℕ) × (max ≤ 36) × ((l : Bool) → Work d bytes hk alike small low w.cycle late soon m.tf m.last_t1 f ring m
       w.board l meeting (231 + (max + (56 + (2 + edges_most C)))) (F l))
   works Idle (inl runs) = (
@@ -214,7 +215,7 @@ module _ (d : Board) (bytes : List ℕ) (hk : HasKernel bytes) (alike : IsSilent
       let cycle : v.cycle ≡ x + e.off + n.waited = ap (λ (u : World d.State). u.cycle) n.is in
       let time : e.off + n.waited + late ≡ 2048 + n.late' = n.time in
       let pre : v.cpu.pre ≡ n.late' + 2 = ap (λ (c : Cpu). c.pre) vcpu in
-      let early : 2 ≤ m.pre = s.early in
+      let early : 2 ≤ m.pre = s.entered.early in
       let off : e.off ≡ 3 + (g.from.off + g.n) = g.off in
       let here : x + e.off ≡ x + 3 + g.from.off + g.n = omega (arith, off) in
       let at : x + 3 + g.from.off ≡ x + (3 + g.from.off) = omega arith in

@@ -3,15 +3,15 @@ use Rattle.std.specs.Prelude.{◌≡◌, ◌≤◌, ◌<◌, ◌⊎◌, ℕ, ◌
 use Rattle.std.specs.Prelude.{All, drop, length, slice_index, slice_index_or, bit_xor, Some, None}
 use Rattle.std.specs.declared.option.Option.{Option}
 use Rattle.mcs48_core.specs.declared.levels.Pins.{Pins}
-use Rattle.mcs48_core.specs.declared.processor.Count.TheVariants.{Timer}
 use Rattle.mcs48_core.specs.Cpu.{Cpu}
-use Rattle.fw_kernel.specs.declared.labels.TheConstants.{TICK, WAIT}
+use Rattle.fw_kernel.specs.declared.labels.TheConstants.{TICK}
 use Rattle.fw_kernel.specs.Places.{HasKernel}
 use Rattle.joint_run.specs.Run.{Board, World}
 use Rattle.joint_run.specs.Starts.{Comes, Tick}
 use Rattle.mcs48_ranges.specs.Sizes.{IsByte, IsFine}
 use Rattle.fw_logic.specs.Boards.{numbered, power_on}
-use Rattle.fw_logic.specs.Scan.{levels_in, downs, in_tick, lights_cell}
+use Rattle.fw_logic.specs.Scan.{levels_in, in_tick, lights_cell}
+use Rattle.fw_logic.specs.Ticks.{IsEntered, column_read}
 use Rattle.kbd_model.specs.declared.meeting.Meeting.{Meeting}
 use Rattle.kbd_model.specs.declared.state.Repeat.{Repeat}
 use Rattle.kbd_model.specs.declared.meeting.Meeting.TheVariants.{Idle, Inhibited, Sent, Cut, Got}
@@ -41,38 +41,18 @@ IsPressed keys layers (Some r) =
 abbrev pub IsRepeating : List ℕ → List ℕ → Type 0
 IsRepeating bytes ram = IsPressed (image_keys bytes) (layers_by ram) (shown_by ram).repeats
 
--- a tick start: the timer's interrupt has just been entered, at most a cycle late, from the main program at WAIT with
--- clear flags, and what data memory holds is a keyboard
+-- a tick start at which data memory holds a keyboard
 pub record IsStarted (m : Cpu) : Type 0 where
-  pub pc : m.pc ≡ TICK
-  pub bank : m.rb ≡ true
-  pub depth : m.sp ≡ 1
-  pub lower : m.mb ≡ false
-  pub external : m.ext_on ≡ false
-  pub enabled : m.tim_on ≡ true
-  pub serves : m.svc ≡ true
-  pub carry : m.c ≡ false
-  pub half : m.ac ≡ false
-  pub flag : m.f0 ≡ false
-  pub run : m.run ≡ Timer
-  pub t : m.t ≡ 0
-  pub early : 2 ≤ m.pre
-  pub late : m.pre ≤ 3
-  pub clear : m.rq ≡ false
-  pub back : slice_index m.ram 8 ≡ WAIT
-  pub status : slice_index m.ram 9 ≡ 16
+  pub entered : IsEntered m
   pub fine : IsFine m
   pub inv : Inv (cells_in m.ram)
 
--- the keys that are down as each column is read, and those that differ from the tick before
-abbrev pub down_now : (d : Board) → World d.State → ℕ → ℕ
-down_now d w c = downs d (w.cycle + 16) w.cpu.p2 (in_tick d w 16) c
-
+-- the keys that differ from the tick before as each column is read, and the edges that they are
 abbrev pub changed_now : (d : Board) → World d.State → ℕ → ℕ
-changed_now d w c = bit_xor (slice_index w.cpu.ram (32 + c)) (down_now d w c)
+changed_now d w c = bit_xor (slice_index w.cpu.ram (32 + c)) (column_read d w c)
 
 abbrev pub edges_now : (d : Board) → World d.State → List (ℕ × Bool)
-edges_now d w = tick_edges (changed_now d w) (down_now d w)
+edges_now d w = tick_edges (changed_now d w) (column_read d w)
 
 -- what the looks see, at the clock at offset 256 and at data at 258
 abbrev pub latch_now : (d : Board) → World d.State → ℕ

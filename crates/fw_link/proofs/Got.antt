@@ -47,10 +47,10 @@ bits_alike f g h =
     let e7 : f 7 ≡ g 7 = h 7 (omega arith) in
     rw (e0, e1, e2, e3, e4, e5, e6, e7) refl
 
-frame_value : (byte : ℕ) → byte < 256 → value (read_bits (λ k. frame_bit byte (k + 1))) ≡ byte
+pub frame_value : (byte : ℕ) → byte < 256 → value (read_bits (λ k. frame_bit byte (k + 1))) ≡ byte
 frame_value = by_byte (λ b. value (read_bits (λ k. frame_bit b (k + 1)))) (λ b. b) refl
 
-frame_parity : (byte : ℕ) → byte < 256 → is_parity (frame_bit byte 9) byte ≡ true
+pub frame_parity : (byte : ℕ) → byte < 256 → is_parity (frame_bit byte 9) byte ≡ true
 frame_parity = tests_by 256 (λ b. is_parity (frame_bit b 9) b) (λ b. true) refl
 
 module _ (edges : List Edge) (events : List HostEvent) (d : Board) (to : d.State → Beside)

@@ -20,22 +20,21 @@ data_read d w k =
     (d.pins w.cpu.p1 w.cpu.p2 (w.cycle + (28 + 32 * k + 18))
     (ticks (28 + 32 * k + 18) 0 (λ o. d.tick (received_latch w.cpu.p2 o) (w.cycle + o)) w.board)).t1
 
--- the byte of the first eight, lowest bit first
-abbrev pub byte_read : (d : Board) → World d.State → ℕ
-byte_read d w =
-    value (data_read d w 0 ∷ data_read d w 1 ∷ data_read d w 2 ∷ data_read d w 3 ∷ data_read d w 4 ∷ data_read d w 5
-    ∷ data_read d w 6 ∷ data_read d w 7 ∷ [])
+-- the byte of the first eight levels read, lowest bit first
+abbrev pub byte_in : (ℕ → Bool) → ℕ
+byte_in level =
+    value (level 0 ∷ level 1 ∷ level 2 ∷ level 3 ∷ level 4 ∷ level 5 ∷ level 6 ∷ level 7 ∷ [])
 
 -- whether the ninth is its parity
-abbrev pub is_right : (d : Board) → World d.State → Bool
-is_right d w = if data_read d w 8 then parity_of (byte_read d w) else not (parity_of (byte_read d w))
+abbrev pub right_in : (ℕ → Bool) → Bool
+right_in level = if level 8 then parity_of (byte_in level) else not (parity_of (byte_in level))
 
 -- R4 is the byte; R5 is 255 where its parity was right, and else 0; the latch is as it was
 pub record Reads (d : Board) (w e : World d.State) : Type 0 where
   pub to : IsAt COMMAND e.cpu
   pub cycle : e.cycle ≡ w.cycle + 366
-  pub r4 : slice_index e.cpu.ram 28 ≡ byte_read d w
-  pub r5 : slice_index e.cpu.ram 29 ≡ 255 * digit (is_right d w)
+  pub r4 : slice_index e.cpu.ram 28 ≡ byte_in (data_read d w)
+  pub r5 : slice_index e.cpu.ram 29 ≡ 255 * digit (right_in (data_read d w))
   pub p2 : e.cpu.p2 ≡ w.cpu.p2
 
 -- so it is for any levels at the pins, in every image that has the kernel's bytes outside the layout's tables

@@ -23,6 +23,8 @@ pub mod Cells
 pub mod Scanned
 pub mod BlockLaws
 pub mod HeadLaw
+pub mod Entered
+pub mod FromStart
 pub mod Numbers
 pub mod Clockwork
 pub mod AtTick

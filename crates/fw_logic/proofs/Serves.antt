@@ -150,7 +150,7 @@ module _ (d : Board) (bytes : List ℕ) (has : HasKernel bytes) where
       (begins d bytes has now ring e.cpu b (x + off + 2) q.t' q.pre' q.tf' last q.small q.low))
 
   -- RETR
-  ends : (x late : ℕ) → late ≤ 1 → (last_off : ℕ) → last_off ≤ 2040
+  pub ends : (x late : ℕ) → late ≤ 1 → (last_off : ℕ) → last_off ≤ 2040
       → (R : (ℕ → ℕ) → List ℕ → Stage d.State → Type 0) (e : Stage d.State)
       → IsOver d last_off R e → IsTiming (clock_of e.cpu) → e.cpu.rq ≡ false
       → total (clock_of e.cpu) + 3 ≡ 6149 + late + e.off

@@ -1,5 +1,6 @@
 pub mod Boards
 pub mod Scan
+pub mod Ticks
 pub mod Blocks
 pub mod Steps
 pub mod JointRun

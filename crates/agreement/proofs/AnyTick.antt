@@ -1,0 +1,310 @@
+-- A tick on any board, by its frame and its meeting: what its looks find decides what it does.
+use Rattle.std.proofs.Common.{◌≡◌, ◌≤◌, ◌<◌, ℕ, ◌+◌, ◌*◌, ◌/◌, ◌%◌, List, All, Bool, true, false, length, drop}
+use Rattle.std.proofs.Common.{refl, ap, sym, ◌∙◌, subst, arith}
+use Rattle.mcs48_core.specs.Cpu.{Cpu}
+use Rattle.fw_kernel.specs.Places.{HasKernel}
+use Rattle.fw_kernel.specs.declared.labels.TheConstants.{TICK}
+use Rattle.fw_keys.proofs.Block.{Safe}
+use Rattle.fw_keys.proofs.Ended.{AtHead}
+use Rattle.fw_keys.proofs.Frames.{sent_works, cut_works, got_works}
+use Rattle.fw_keys.proofs.QuietTick.{late, soon, C, four, fine, inv, board3, H, k, Came, any_tick, works}
+use Rattle.fw_keys.proofs.Scan.{edges_most}
+use Rattle.fw_keys.proofs.Serve.{Work, fit}
+use Rattle.fw_keys.specs.Edges.{image_keys, IsSilentAlike}
+use Rattle.fw_keys.specs.Quiet.{cells_in, shown_by, layers_by, IsStarted, IsRepeating, IsQuiet, edges_now, latch_now}
+use Rattle.fw_keys.specs.Quiet.{clock_now, data_now}
+use Rattle.fw_keys.specs.State.{Inv}
+use Rattle.fw_link.proofs.Latches.{driven}
+use Rattle.fw_link.proofs.TickLatch.{before_data, within, behind, without_frame}
+use Rattle.fw_link.proofs.Wired.{IsReleased, lights_leave, spans_on, spans_as}
+use Rattle.fw_link.specs.Latch.{Frame, NoFrame, SentFrame, CutFrame, ReceivedFrame, frame_latch, frame_cycles}
+use Rattle.fw_link.specs.Latch.{wired, frame_bit, cut_after, tick_latch}
+use Rattle.fw_link.specs.Reading.{byte_in, right_in}
+use Rattle.fw_logic.proofs.Laws.{comes_as}
+use Rattle.fw_logic.proofs.Path.{Stage}
+use Rattle.fw_logic.proofs.Service.{stacked}
+use Rattle.fw_logic.specs.Scan.{in_tick}
+use Rattle.mcs48_ranges.specs.Sizes.{IsByte}
+use Rattle.joint_run.specs.Run.{Board, World, ticks}
+use Rattle.joint_run.specs.Starts.{Tick}
+use Rattle.kbd_model.specs.Keyboard.{Keyboard}
+use Rattle.kbd_model.specs.declared.meeting.Meeting.{Meeting}
+use Rattle.kbd_model.specs.declared.meeting.Meeting.TheVariants.{Sent, Cut, Got}
+use Rattle.agreement.proofs.AtLook.{one_byte, sent_at, received_at}
+use Rattle.agreement.proofs.Fitting.{Behind, clock, data_wire, clock_look, data_look}
+use Rattle.agreement.proofs.Fitting.{sends_frame, cuts_frame, gets_frame}
+use Rattle.agreement.proofs.Happened.{Happened}
+use Rattle.agreement.proofs.Lit.{shine, from_lights, from_head}
+use Rattle.agreement.proofs.Pressing.{pressed_at}
+use Rattle.agreement.specs.Firmware.{Finds, HasWholeCodes, Offers, IsOpen, clock_in, data_in, board_at}
+
+module _ (d : Board) (bytes : List ℕ) (hk : HasKernel bytes) (alike : IsSilentAlike bytes) (small : All IsByte bytes)
+    (low : (p1 p2 c : ℕ) (s : d.State) → (d.pins p1 p2 c s).bus < 256) (w : World d.State)
+    (s : IsStarted w.cpu) (repeats : IsRepeating bytes w.cpu.ram) (few : length (edges_now d w) ≤ 4) where
+  -- the latch from the lights on, the tick's start, and the keyboard
+  abbrev v : ℕ
+  v = latch_now d w
+
+  abbrev start : ℕ
+  start = w.cycle
+
+  abbrev kbd : Keyboard
+  kbd = shown_by w.cpu.ram
+
+  -- what the laws of a tick's work are told: cells, ring and held keys; where the work begins; and its head's end
+  abbrev f : ℕ → ℕ
+  f = cells_in w.cpu.ram
+
+  abbrev ring : List ℕ
+  ring = drop 112 w.cpu.ram
+
+  abbrev held : List Bool
+  held = H d bytes hk alike small low w s few
+
+  abbrev first : Bool → Cpu
+  first l = k d bytes hk alike small low w s few l
+
+  abbrev third : d.State
+  third = board3 d bytes hk alike small low w s few
+
+  abbrev begins : Inv (stacked f)
+  begins = inv d bytes hk alike small low w s few
+
+  abbrev y : ℕ
+  y = start + 3 + 231
+
+  abbrev shines : Bool → d.State
+  shines l = shine d bytes hk alike small low w s few l
+
+  -- the lights stand above the wires' bits
+  pub released : IsReleased v
+  released =
+      let lamps : f 77 ≡ 16 * (f 77 / 16 % 8) = s.inv.lamps in
+      lights_leave (f 77) (omega (arith, lamps)) (omega (arith, lamps))
+
+  -- the latch of the tick, with a frame; and the board so many cycles past its start
+  abbrev latch : Frame → ℕ → ℕ
+  latch frame = tick_latch w.cpu.p2 v frame
+
+  abbrev gone : Frame → ℕ → d.State
+  gone frame n = board_at d w frame n
+
+  abbrev Comes : Meeting → (Bool → Stage d.State → Type 0) → World d.State → Type 0
+  Comes meeting G u = Came d bytes hk alike small low w s few meeting G u
+
+  abbrev So : Meeting → Frame → World d.State → Type 0
+  So meeting frame u = Happened d bytes meeting frame w u
+
+  -- a tick that came to its end, by the board there
+  came_so : (meeting : Meeting) (G : Bool → Stage d.State → Type 0) (frame : Frame) (u : World d.State)
+      (c : Comes meeting G u) → c.from.cpu.p2 ≡ v → ((n : ℕ) → u.cycle ≡ start + n → u.board ≡ gone frame n)
+      → So meeting frame u
+  came_so meeting G frame u c p2 is = record {
+    started = c.started;
+    time = c.time;
+    keyboard = c.keyboard;
+    layers = c.layers;
+    repeating = c.repeating;
+    latch = c.p2 ∙ p2;
+    board = is;
+  }
+
+  -- without a frame no port is written from the head's end on
+  abbrev head : Bool → Stage d.State → Type 0
+  head l = AtHead d bytes hk alike small low held (start + 3) (first l) third (stacked f) ring
+
+  still_came : (meeting : Meeting) (u : World d.State) → Comes meeting head u → So meeting NoFrame u
+  still_came meeting u c =
+      came_so meeting head NoFrame u c c.facts.p2
+      (λ j e.
+      let off : c.from.off ≡ 231 = c.facts.off in
+      let at : u.cycle ≡ start + (3 + c.from.off) + c.n = c.cycle in
+      let z : start + (3 + c.from.off) ≡ y = omega (arith, off) in
+      let n : 234 + c.n ≡ j = omega (arith, off, at, e) in
+      c.board_now ∙ ap (λ p. ticks c.n (start + (3 + c.from.off)) (d.tick p) c.from.board) c.facts.p2
+      ∙ ap (λ q. ticks c.n (start + (3 + c.from.off)) (d.tick v) q) c.facts.board_is
+      ∙ ap (λ x. ticks c.n x (d.tick v) (shines c.l)) z
+      ∙ from_head d bytes hk alike small low w s few NoFrame c.l c.n
+      (λ i l. without_frame w.cpu.p2 v (232 + i) (omega arith))
+      ∙ ap (gone NoFrame) n)
+
+  -- the board in a frame, by the latch of the tick
+  abbrev framing : Bool → d.State
+  framing l = ticks 26 y (d.tick v) (shines l)
+
+  in_frame : (frame : Frame) (l : Bool) (n : ℕ) → n ≤ frame_cycles frame
+      → driven d (260 + start) (frame_latch frame v) n 0 (framing l) ≡ gone frame (260 + n)
+  in_frame frame l n room =
+      spans_as d start (latch frame) n 260 (260 + start) (frame_latch frame v) (framing l) w.board (omega arith)
+      (λ i u. sym (within w.cpu.p2 v frame i (omega (arith, u, room))))
+      (from_head d bytes hk alike small low w s few frame l 26
+      (λ i u. before_data w.cpu.p2 v frame i (omega (arith, u))))
+
+  -- a frame of n cycles, behind which the latch leaves both wires alone
+  abbrev framed : Frame → Bool → Stage d.State → Type 0
+  framed frame l = Behind d v start (frame_latch frame v) (frame_cycles frame) (framing l)
+
+  frame_came : (meeting : Meeting) (frame : Frame) (u : World d.State)
+      → Comes meeting (framed frame) u → So meeting frame u
+  frame_came meeting frame u c =
+      came_so meeting (framed frame) frame u c c.facts.p2
+      (λ j e.
+      let n : ℕ = frame_cycles frame in
+      let off : c.from.off ≡ 257 + n = c.facts.off in
+      let at : u.cycle ≡ start + (3 + c.from.off) + c.n = c.cycle in
+      let z : start + (3 + c.from.off) ≡ start + (260 + n) = omega (arith, off) in
+      let i : 260 + n + c.n ≡ j = omega (arith, off, at, e) in
+      c.board_now ∙ ap (λ p. ticks c.n (start + (3 + c.from.off)) (d.tick p) c.from.board) c.facts.p2
+      ∙ ap (λ q. ticks c.n (start + (3 + c.from.off)) (d.tick v) q) c.facts.board_is
+      ∙ spans_on d start (latch frame) c.n (260 + n) (start + (3 + c.from.off)) v
+      (driven d (260 + start) (frame_latch frame v) n 0 (framing c.l)) w.board z (λ i l. behind w.cpu.p2 v frame i)
+      (in_frame frame c.l n (omega arith))
+      ∙ ap (gone frame) i)
+
+  -- the looks of the tick
+  clock_is : (l : Bool)
+      → clock d bytes hk alike small low held (start + 3) (first l) third (stacked f) ring start refl released
+      ≡ clock_now d w
+  clock_is l =
+      let a : y + 22 ≡ start + 232 + 24 = omega arith in
+      ap (λ q. (d.pins 44 v (y + 22) q).t0) (from_lights d bytes hk alike small low w s few l 22 y (omega arith))
+      ∙ ap (λ c. (d.pins 44 v c (ticks 24 (start + 232) (d.tick v) (in_tick d w 232))).t0) a
+
+  data_is : (l : Bool)
+      → data_wire d bytes hk alike small low held (start + 3) (first l) third (stacked f) ring start refl released
+      ≡ data_now d w
+  data_is l =
+      let a : y + 24 ≡ start + 232 + 26 = omega arith in
+      ap (λ q. (d.pins 44 v (y + 24) q).t1) (from_lights d bytes hk alike small low w s few l 24 y (omega arith))
+      ∙ ap (λ c. (d.pins 44 v c (ticks 26 (start + 232) (d.tick v) (in_tick d w 232))).t1) a
+
+  -- those of a frame, by the offset from the look at data
+  abbrev look_off : ℕ → ℕ
+  look_off k = 28 + 32 * k + 18
+
+  clock_look_is : (l : Bool) (byte k : ℕ) → k < 10
+      → clock_look d bytes hk alike small low held (start + 3) (first l) third (stacked f) ring start refl released byte
+      k
+      ≡ clock_in d w byte k
+  clock_look_is l byte k few =
+      let frame : Frame = SentFrame byte in
+      let o : 260 + look_off k ≡ 306 + 32 * k = omega arith in
+      let a : 260 + start + look_off k ≡ start + (306 + 32 * k) = omega arith in
+      ap (λ b. (d.pins 44 (wired v true (frame_bit byte k)) (260 + start + look_off k) b).t0)
+      (in_frame frame l (look_off k) (omega (arith, few)) ∙ ap (gone frame) o)
+      ∙ ap (λ u. (d.pins 44 u (260 + start + look_off k) (gone frame (306 + 32 * k))).t0)
+      (sym (sent_at w.cpu.p2 v byte k few))
+      ∙ ap (λ c. (d.pins 44 (latch frame (306 + 32 * k)) c (gone frame (306 + 32 * k))).t0) a
+
+  data_look_is : (l : Bool) (k : ℕ) → k < 10
+      → data_look d bytes hk alike small low held (start + 3) (first l) third (stacked f) ring start refl released k
+      ≡ data_in d w k
+  data_look_is l k few =
+      let frame : Frame = ReceivedFrame in
+      let o : 260 + look_off k ≡ 306 + 32 * k = omega arith in
+      let a : 260 + start + look_off k ≡ start + (306 + 32 * k) = omega arith in
+      ap (λ b. (d.pins 44 v (260 + start + look_off k) b).t1)
+      (in_frame frame l (look_off k) (omega (arith, few)) ∙ ap (gone frame) o)
+      ∙ ap (λ u. (d.pins 44 u (260 + start + look_off k) (gone frame (306 + 32 * k))).t1)
+      (sym (received_at w.cpu.p2 v released k few))
+      ∙ ap (λ c. (d.pins 44 (latch frame (306 + 32 * k)) c (gone frame (306 + 32 * k))).t1) a
+
+  -- the work of a tick up to an offset; with four edges at most it is in time
+  abbrev Does : Meeting → ℕ → (Bool → Stage d.State → Type 0) → Type 0
+  Does meeting last_off G =
+      (l : Bool) → Work d bytes hk alike small low start (late d bytes hk alike small low w s few)
+      (soon d bytes hk alike small low w s few) w.cpu.tf w.cpu.last_t1 f ring w.cpu w.board l meeting last_off (G l)
+
+  abbrev most : ℕ
+  most = edges_most (C d bytes hk alike small low w s few)
+
+  abbrev edges_few : most ≤ 728
+  edges_few = four d bytes hk alike small low w s few
+
+  by_way : (meeting : Meeting) (frame : Frame) (last_off : ℕ) (G : Bool → Stage d.State → Type 0)
+      → 3 + last_off ≤ 2040 → Does meeting last_off G
+      → ((u : World d.State) → Comes meeting G u → So meeting frame u)
+      → Tick d TICK bytes w (So meeting frame)
+  by_way meeting frame last_off G room work turn =
+      let t = any_tick d bytes hk alike small low w s few meeting last_off
+      (pressed_at (image_keys bytes) meeting (layers_by w.cpu.ram) kbd repeats) room G work in
+      record {
+        at = t.at;
+        first = t.first;
+        step = t.step;
+        rest = comes_as d TICK bytes (Comes meeting G) (So meeting frame) t.first turn t.rest;
+      }
+
+  safe : (l : Bool) → Safe (first l) 10 (stacked f) ring
+  safe l =
+      fit d bytes hk alike small low start (late d bytes hk alike small low w s few)
+      (soon d bytes hk alike small low w s few) w.cpu.tf w.cpu.last_t1 f ring w.cpu w.board l
+      (fine d bytes hk alike small low w s few)
+
+  -- without a frame
+  pub quiet : (meeting : Meeting) → IsQuiet d w meeting → Tick d TICK bytes w (So meeting NoFrame)
+  quiet meeting q =
+      let h : most ≤ 728 = edges_few in
+      let a = works d bytes hk alike small low w s few meeting q in
+      let max : a.0 ≤ 36 = a.1 in
+      by_way meeting NoFrame (231 + (a.0 + (56 + (2 + most)))) head (omega (arith, h, max)) a.2 (still_came meeting)
+
+  -- what is offered is sent, or cut in a cell
+  pub sent : (byte : ℕ) → HasWholeCodes w.cpu.ram → Offers d w byte
+      → ((k : ℕ) → k < 10 → clock_in d w byte k ≡ true) → Tick d TICK bytes w (So Sent (SentFrame byte))
+  sent byte codes o looks =
+      let h : most ≤ 728 = edges_few in
+      let frame : Frame = SentFrame byte in
+      by_way Sent frame (231 + (394 + (9 + 48 + (56 + (2 + most))))) (framed frame) (omega (arith, h))
+      (λ l.
+      sent_works d bytes hk alike small low held (start + 3) (first l) third (stacked f) ring 394 (framed frame l)
+      begins o.0.0 codes
+      (sends_frame d bytes hk alike small low held (start + 3) (first l) third (stacked f) ring start refl released
+      o.0.0 (clock_is l ∙ o.0.1) byte o.2 (data_is l ∙ o.1)
+      (λ k u. clock_look_is l byte k u ∙ looks k u)) (safe l))
+      (frame_came Sent frame)
+
+  pub cut : (byte j : ℕ) → Offers d w byte → j < 10 → ((k : ℕ) → k < j → clock_in d w byte k ≡ true)
+      → clock_in d w byte j ≡ false → Tick d TICK bytes w (So Cut (CutFrame byte j))
+  cut byte j o below looks last =
+      let h : most ≤ 728 = edges_few in
+      let frame : Frame = CutFrame byte j in
+      let n : ℕ = cut_after j in
+      by_way Cut frame (231 + (26 + n + (0 + (56 + (2 + most))))) (framed frame) (omega (arith, h, below))
+      (λ l.
+      cut_works d bytes hk alike small low held (start + 3) (first l) third (stacked f) ring (26 + n) (framed frame l)
+      begins o.0.0
+      (cuts_frame d bytes hk alike small low held (start + 3) (first l) third (stacked f) ring start refl released
+      o.0.0 (clock_is l ∙ o.0.1) byte o.2 (data_is l ∙ o.1) j below
+      (λ k u. clock_look_is l byte k (omega (arith, u, below)) ∙ looks k u) (clock_look_is l byte j below ∙ last))
+      (safe l))
+      (frame_came Cut frame)
+
+  -- a byte is received: what the looks at data read
+  pub got : (byte : ℕ) (good : Bool) → byte_in (data_in d w) ≡ byte → right_in (data_in d w) ≡ good → IsOpen d w
+      → data_now d w ≡ false → Tick d TICK bytes w (So (Got byte good) ReceivedFrame)
+  got byte good is right ended pulled =
+      let h : most ≤ 728 = edges_few in
+      by_way (Got byte good) ReceivedFrame (231 + (392 + (68 + (56 + (2 + most))))) (framed ReceivedFrame)
+      (omega (arith, h))
+      (λ l.
+      let same = one_byte
+      (data_look d bytes hk alike small low held (start + 3) (first l) third (stacked f) ring start refl released)
+      (data_in d w) (λ k u. data_look_is l k (omega (arith, u))) in
+      got_works d bytes hk alike small low held (start + 3) (first l) third (stacked f) ring byte good 392
+      (framed ReceivedFrame l) begins ended.0
+      (gets_frame d bytes hk alike small low held (start + 3) (first l) third (stacked f) ring start refl released
+      ended.0 (clock_is l ∙ ended.1) byte good (data_is l ∙ pulled) (same.0 ∙ is) (same.1 ∙ right)) (safe l))
+      (frame_came (Got byte good) ReceivedFrame)
+
+  -- by what the looks find
+  pub every : (frame : Frame) (meeting : Meeting) → HasWholeCodes w.cpu.ram → Finds d w frame meeting
+      → Tick d TICK bytes w (So meeting frame)
+  every NoFrame meeting codes q = quiet meeting q
+  every (SentFrame byte) meeting codes q =
+      subst (λ m. Tick d TICK bytes w (So m (SentFrame byte))) (sym q.0) (sent byte codes q.1 q.2)
+  every (CutFrame byte j) meeting codes q =
+      subst (λ m. Tick d TICK bytes w (So m (CutFrame byte j))) (sym q.0) (cut byte j q.1 q.2 q.3 q.4)
+  every ReceivedFrame meeting codes q =
+      subst (λ m. Tick d TICK bytes w (So m ReceivedFrame)) (sym q.0)
+      (got (byte_in (data_in d w)) (right_in (data_in d w)) refl refl q.1 q.2)

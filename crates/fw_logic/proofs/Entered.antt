@@ -1,0 +1,71 @@
+-- A tick start as the processor that the interrupt's entry leaves.
+use Rattle.std.proofs.Common.{◌≡◌, ◌≤◌, ℕ, ◌+◌, ◌-◌, Bool, true, false, List, length, drop, refl, ap, ◌∙◌, arith}
+use Rattle.mcs48_core.specs.Cpu.{Cpu}
+use Rattle.mcs48_core.specs.declared.processor.Count.TheVariants.{Timer}
+use Rattle.fw_kernel.specs.declared.labels.TheConstants.{TICK, WAIT}
+use Rattle.fw_logic.specs.Ticks.{IsEntered}
+use Rattle.fw_logic.proofs.Block.{memory, put}
+use Rattle.fw_logic.proofs.BlockLaws.{cells_of}
+use Rattle.fw_logic.proofs.Memory.{memory_is}
+use Rattle.fw_logic.proofs.Service.{serving, stacked, begun}
+
+-- memory with the way back on the stack
+pub way_back : (f : ℕ → ℕ) (ring : List ℕ) → f 8 ≡ WAIT → f 9 ≡ 16 → memory f ring ≡ memory (stacked f) ring
+way_back f ring low high = ap (λ u. memory (put f 8 u) ring) low ∙ ap (λ u. memory (put (put f 8 WAIT) 9 u) ring) high
+
+-- an entered processor is one that was begun
+pub begun_is : (m : Cpu) → IsEntered m → m ≡ begun (m.pre - 2) m.tf m.last_t1 (cells_of m.ram) (drop 112 m.ram) m
+begun_is m s =
+    let f : ℕ → ℕ = cells_of m.ram in
+    let ring : List ℕ = drop 112 m.ram in
+    let at : Cpu = serving TICK (stacked f) ring m in
+    let pre : m.pre ≡ m.pre - 2 + 2 = (let l : 2 ≤ m.pre = s.early in omega (arith, l)) in
+    let ram : m.ram ≡ memory (stacked f) ring = memory_is m.ram s.memory ∙ way_back f ring s.back s.status in
+    ap (λ v. record m { pc = v }) s.pc
+    ∙ ap (λ v. record m { pc = TICK; rb = v }) s.bank
+    ∙ ap (λ v. record m { pc = TICK; rb = true; sp = v }) s.depth
+    ∙ ap (λ v. record m { pc = TICK; rb = true; sp = 1; mb = v }) s.lower
+    ∙ ap (λ v. record m { pc = TICK; rb = true; sp = 1; mb = false; ext_on = v }) s.external
+    ∙ ap (λ v. record m { pc = TICK; rb = true; sp = 1; mb = false; ext_on = false; tim_on = v }) s.enabled
+    ∙ ap (λ v. record m { pc = TICK; rb = true; sp = 1; mb = false; ext_on = false; tim_on = true; svc = v }) s.serves
+    ∙ ap (λ v. record m {
+      pc = TICK;
+      rb = true;
+      sp = 1;
+      mb = false;
+      ext_on = false;
+      tim_on = true;
+      svc = true;
+      ram = v;
+    }) ram
+    ∙ ap (λ v. record at { c = v }) s.carry
+    ∙ ap (λ v. record at { c = false; ac = v }) s.half
+    ∙ ap (λ v. record at { c = false; ac = false; f0 = v }) s.flag
+    ∙ ap (λ v. record at { c = false; ac = false; f0 = false; run = v }) s.run
+    ∙ ap (λ v. record at { c = false; ac = false; f0 = false; run = Timer; t = v }) s.t
+    ∙ ap (λ v. record at { c = false; ac = false; f0 = false; run = Timer; t = 0; pre = v }) pre
+    ∙ ap (λ v. record at { c = false; ac = false; f0 = false; run = Timer; t = 0; pre = m.pre - 2 + 2; rq = v }) s.clear
+
+-- and the other way round
+pub entered_is : (late : ℕ) → late ≤ 1 → (tf last : Bool) (f : ℕ → ℕ) (ring : List ℕ) (m : Cpu)
+    → length (memory (stacked f) ring) ≡ 128 → IsEntered (begun late tf last f ring m)
+entered_is late few tf last f ring m long = record {
+  pc = refl;
+  bank = refl;
+  depth = refl;
+  lower = refl;
+  external = refl;
+  enabled = refl;
+  serves = refl;
+  carry = refl;
+  half = refl;
+  flag = refl;
+  run = refl;
+  t = refl;
+  early = omega arith;
+  late = omega (arith, few);
+  clear = refl;
+  back = refl;
+  status = refl;
+  memory = long;
+}
