@@ -1,4 +1,5 @@
--- An edge of an accepted history breaks no rule, after the edges before it.
+-- An edge of an accepted history breaks no rule, after the edges before it. A `_` among types stands for one that
+-- `key_file` keeps to itself: that of rules, or of events.
 use Rattle.std.proofs.Common.{◌≡◌, ◌≤◌, ℕ, suc, ◌+◌, ◌-◌, Bool, true, false, cond, not, ◌==◌, List, [], ◌∷◌, ◌++◌, length, None, Some, refl, ap, sym, subst, ◌∙◌, append_assoc, arith}
 use Rattle.std.specs.Prelude.{nat_le, nat_lt}
 use Rattle.std.specs.List.{last_or}

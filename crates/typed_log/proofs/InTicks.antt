@@ -85,7 +85,8 @@ module _ (es : List Entry) (n : ℕ) where
       ∙ seen_before (suc k) ss fit.1 (omega (arith, l))
 
   -- in the ticks of a stroke
-  pub seen_at : (k m i : ℕ) (ss : List Stroke) (s : Stroke) (t : ℕ → Bool) → AllFit es ss → m ≡ i + k → slice_get ss i ≡ Some s
+  pub seen_at : (k m i : ℕ) (ss : List Stroke) (s : Stroke) (t : ℕ → Bool) → AllFit es ss → m ≡ i + k
+      → slice_get ss i ≡ Some s
       → 80 + 10 * m ≤ n → n < 90 + 10 * m → IsTickOf m t
       → filter (is_seen even n) (edges_from k ss) ≡ seen_by t (stroke_start m) s
   seen_at k m i [] s t fit z is lo hi h = absurd cc

@@ -39,7 +39,8 @@ abbrev pub IsLong : Option Repeat → Type 0
 IsLong None = Unit {0}
 IsLong (Some r) = (r.count == 1) ≡ false
 
-pub waits : (keys : Keys) (edges : List TickEdge) (rate last : ℕ) (bytes : List ℕ) (started : Bool) (rep : Option Repeat)
+pub waits : (keys : Keys) (edges : List TickEdge) (rate last : ℕ) (bytes : List ℕ) (started : Bool)
+    (rep : Option Repeat)
     (held : List Bool) → IsLong rep
     → scanned keys false edges (typing rate last bytes started rep held)
     ≡ edges_if true keys edges (typing rate last bytes started (later rep) held)
@@ -116,7 +117,8 @@ none_pressed place l = get_or-replicate 96 place false false l
 
 set_none : (place : ℕ) → place < 96 → set (replicate 96 false) place false ≡ replicate 96 false
 set_none place l =
-    ap (λ b. set (replicate 96 false) place b) (sym (none_pressed place l)) ∙ set-get_or (replicate 96 false) place false
+    ap (λ b. set (replicate 96 false) place b) (sym (none_pressed place l))
+    ∙ set-get_or (replicate 96 false) place false
 
 pub layers_of_press : (is_fn : ℕ → Bool) (place : ℕ) → place < 96 → is_fn place ≡ false
     → all_layers_after is_fn ((place, true) ∷ []) no_layers ≡ no_layers
@@ -140,7 +142,8 @@ set_set [] i a b = refl
 set_set (x ∷ xs) zero a b = refl
 set_set (x ∷ xs) (suc i) a b = ap (λ v. x ∷ v) (set_set xs i a b)
 
-pub struck : (held : List Bool) (place : ℕ) → get_or held place false ≡ false → turned place false (turned place true held) ≡ held
+pub struck : (held : List Bool) (place : ℕ) → get_or held place false ≡ false
+    → turned place false (turned place true held) ≡ held
 struck held place up =
     set_set held place true false ∙ ap (λ b. set held place b) (sym up) ∙ set-get_or held place false
 

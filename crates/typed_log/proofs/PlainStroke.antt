@@ -73,9 +73,11 @@ module _ (layout : KeyLayout) (h : KeyHistory) (ss : List Stroke) (edges : h.edg
       let r1 : At' (suc n) (line last (code ∷ []) false false out start m) (waiting key.place d) down words =
       turn layout h ss host n (line last [] false false out start m) (line last [] false false out start m) words []
       ((key.place, true) ∷ []) None (pressed_at layout.rate key.place) all_up down (code ∷ []) r
-      (one_then layout h ss edges host fit m (Plain key) is n 0 (presses key (stroke_start m)) (omega arith) (omega arith)
+      (one_then layout h ss edges host fit m (Plain key) is n 0 (presses key (stroke_start m)) (omega arith)
+      (omega arith)
       k.in_matrix refl)
-      tt (nothing (keys_of layout) layout.rate last false q) (press_moves layout key.place code [] None all_up only k refl)
+      tt (nothing (keys_of layout) layout.rate last false q)
+      (press_moves layout key.place code [] None all_up only k refl)
       (omega arith) tt words (append-nil words) in
       turn layout h ss host (suc n) (line last (code ∷ []) false false out start m)
       (line (sent last) [] false false scan (record start { words = w ∷ [] }) m) words (Port scan ∷ Word w ∷ []) []
@@ -120,17 +122,21 @@ module _ (layout : KeyLayout) (h : KeyHistory) (ss : List Stroke) (edges : h.edg
       let q : Pc = record { mark = false; out = out; bios = bios; done = m } in
       turn layout h ss host n (line last [] false false out bios m) (line last [] false false out bios m) words []
       ((key.place, false) ∷ []) (waiting key.place (d - 1 - 1 - 1 - 1)) None down all_up bytes r
-      (one_then layout h ss edges host fit m (Plain key) is n 5 (releases key (stroke_start m + 10240)) (omega arith) (omega arith)
+      (one_then layout h ss edges host fit m (Plain key) is n 5 (releases key (stroke_start m + 10240))
+      (omega arith) (omega arith)
       k.in_matrix refl)
       (not_one (d - 1 - 1 - 1 - 1) (omega (arith, delay_long layout.rate)))
       (nothing (keys_of layout) layout.rate last false q)
-      (ends_at_rest layout ((key.place, false) ∷ []) [] bytes rep (ended_at key.place rep) down (turned key.place false down)
-      all_up (ended_self key.place (d - 1 - 1 - 1 - 1 - 1)) (struck all_up key.place (up_at_first key.place k.in_matrix)) mv)
+      (ends_at_rest layout ((key.place, false) ∷ []) [] bytes rep (ended_at key.place rep) down
+      (turned key.place false down)
+      all_up (ended_self key.place (d - 1 - 1 - 1 - 1 - 1))
+      (struck all_up key.place (up_at_first key.place k.in_matrix)) mv)
       (omega arith) tt words (append-nil words)
 
   -- after the take nothing comes in the last ticks
   last_two : (last out : ℕ)
-      → At' (suc (suc (suc (suc (suc (suc (suc (suc (80 + 10 * m))))))))) (line last [] false false out start (m + 1)) None all_up
+      → At' (suc (suc (suc (suc (suc (suc (suc (suc (80 + 10 * m)))))))))
+      (line last [] false false out start (m + 1)) None all_up
       (words ++ Some w ∷ [])
       → Rest layout h ss edges host fit (suc m) (words ++ Some w ∷ [])
   last_two last out r =
@@ -140,12 +146,14 @@ module _ (layout : KeyLayout) (h : KeyHistory) (ss : List Stroke) (edges : h.edg
       (none_then layout h ss edges host fit m (Plain key) is n 8 (omega arith) (omega arith) refl) tt (omega arith) in
       let r10 : At' (suc (suc n)) (line last [] false false out start (m + 1)) None all_up (words ++ Some w ∷ []) =
       idle layout h ss edges host fit (suc n) last out (m + 1) start None all_up (words ++ Some w ∷ []) r9
-      (none_then layout h ss edges host fit m (Plain key) is (suc n) 9 (omega arith) (omega arith) refl) tt (omega arith) in
+      (none_then layout h ss edges host fit m (Plain key) is (suc n) 9 (omega arith) (omega arith) refl) tt
+      (omega arith) in
       rests layout h ss edges host fit (suc (suc n)) m last out (words ++ Some w ∷ []) (omega arith) r10
 
   -- the word is taken; a key that sends a break sends it around that
   silently : (last : ℕ) → IsKeyAt layout key.place code true
-      → At' (suc (suc (suc (suc (suc (80 + 10 * m)))))) (line last [] false false scan (record start { words = w ∷ [] }) m)
+      → At' (suc (suc (suc (suc (suc (80 + 10 * m))))))
+      (line last [] false false scan (record start { words = w ∷ [] }) m)
       (waiting key.place (d - 1 - 1 - 1 - 1)) down words
       → Rest layout h ss edges host fit (suc m) (words ++ Some w ∷ [])
   silently last k' r =
@@ -156,17 +164,20 @@ module _ (layout : KeyLayout) (h : KeyHistory) (ss : List Stroke) (edges : h.edg
       goes_up last scan bios []
       (silent_moves layout key.place code [] (waiting key.place (d - 1 - 1 - 1 - 1 - 1)) down k') r in
       let r7 : At' (suc n) (line last [] false false scan start (m + 1)) None all_up (words ++ Some w ∷ []) =
-      taking_turn layout h ss host n (line last [] false false scan bios m) (line last [] false false scan bios m) words []
+      taking_turn layout h ss host n (line last [] false false scan bios m) (line last [] false false scan bios m)
+      words []
       [] None None all_up all_up [] r6
       (none_then layout h ss edges host fit m (Plain key) is n 6 (omega arith) (omega arith) refl)
       tt (nothing (keys_of layout) layout.rate last false q) (no_edges layout [] None all_up) (omega arith) below
       (refl, tt) (words ++ Some w ∷ []) refl in
       last_two last scan
       (idle layout h ss edges host fit (suc n) last scan (m + 1) start None all_up (words ++ Some w ∷ []) r7
-      (none_then layout h ss edges host fit m (Plain key) is (suc n) 7 (omega arith) (omega arith) refl) tt (omega arith))
+      (none_then layout h ss edges host fit m (Plain key) is (suc n) 7 (omega arith) (omega arith) refl) tt
+      (omega arith))
 
   with_break : (last : ℕ) → IsKeyAt layout key.place code false
-      → At' (suc (suc (suc (suc (suc (80 + 10 * m)))))) (line last [] false false scan (record start { words = w ∷ [] }) m)
+      → At' (suc (suc (suc (suc (suc (80 + 10 * m))))))
+      (line last [] false false scan (record start { words = w ∷ [] }) m)
       (waiting key.place (d - 1 - 1 - 1 - 1)) down words
       → Rest layout h ss edges host fit (suc m) (words ++ Some w ∷ [])
   with_break last k' r =
@@ -187,10 +198,13 @@ module _ (layout : KeyLayout) (h : KeyHistory) (ss : List Stroke) (edges : h.edg
       (Port (with_bit 0x80 scan) ∷ []) [] None None all_up all_up [] r7
       (none_then layout h ss edges host fit m (Plain key) is (suc n) 7 (omega arith) (omega arith) refl)
       tt
-      (code_passes (keys_of layout) layout.rate 0xF0 code scan f.no_prefix f.scan_is [] true scan (m + 1) start start [] f.breaks)
-      (no_edges layout [] None all_up) (omega arith) (refl, tt) (words ++ Some w ∷ []) (append-nil (words ++ Some w ∷ [])))
+      (code_passes (keys_of layout) layout.rate 0xF0 code scan f.no_prefix f.scan_is [] true scan (m + 1) start
+      start [] f.breaks)
+      (no_edges layout [] None all_up) (omega arith) (refl, tt) (words ++ Some w ∷ [])
+      (append-nil (words ++ Some w ∷ [])))
 
-  pub plain_stroke : Rest layout h ss edges host fit m words → Rest layout h ss edges host fit (suc m) (words ++ Some w ∷ [])
+  pub plain_stroke : Rest layout h ss edges host fit m words
+      → Rest layout h ss edges host fit (suc m) (words ++ Some w ∷ [])
   plain_stroke r =
       let r5 : At' (suc (suc (suc (suc (suc (80 + 10 * m))))))
       (line (sent r.last) [] false false scan (record start { words = w ∷ [] }) m)

@@ -26,8 +26,16 @@ apart_from : (s k : ℕ) (ss : List Stroke) → s ≤ stroke_start k → Apart s
 apart_from s k [] l = tt
 apart_from s k (Plain key ∷ ss) l =
     (l, (omega arith, apart_from (stroke_start k + 10240 + 2048) (suc k) ss (omega arith)))
-apart_from s k (Shifted shift key ∷ ss) l =
-    (l, (omega arith, (omega arith, (omega arith, apart_from (stroke_start k + 10240 + 2048) (suc k) ss (omega arith)))))
+apart_from s k (Shifted shift key ∷ ss) l = (
+  l,
+  (
+    omega arith,
+    (
+      omega arith,
+      (omega arith, apart_from (stroke_start k + 10240 + 2048) (suc k) ss (omega arith)),
+    ),
+  ),
+)
 
 ordered_of : (s : ℕ) (es : List Edge) → Apart s es → AreInOrder es
 ordered_of s [] a = tt
@@ -63,7 +71,8 @@ dwells_of down s (e ∷ f ∷ es) p = (p.1.1.1.0, dwells_of e.down (e.stamp + 22
 abbrev Follows : ℕ → List Edge → Type 0
 Follows stop es = (s : ℕ) → s ≤ stop → Paced false s es
 
-plain_paced : (b : Bool) (key : Entry) (s k : ℕ) (es : List Edge) → s ≤ stroke_start k → Follows (stroke_start (suc k)) es
+plain_paced : (b : Bool) (key : Entry) (s k : ℕ) (es : List Edge) → s ≤ stroke_start k
+    → Follows (stroke_start (suc k)) es
     → let r : Edge = releases key (stroke_start k + 10240) in
     Paced false s (cond b (presses key (stroke_start k) ∷ cond b (r ∷ es) es) (cond b (r ∷ es) es))
 plain_paced true key s k es l more =
@@ -77,7 +86,8 @@ under b c shift key t es =
     let second : List Edge = cond c (presses key (t + 2048) ∷ third) third in
     cond b (presses shift t ∷ second) second
 
-shifted_paced : (b c : Bool) (shift key : Entry) (s k : ℕ) (es : List Edge) → (b ≡ true → c ≡ true → ⊥) → s ≤ stroke_start k
+shifted_paced : (b c : Bool) (shift key : Entry) (s k : ℕ) (es : List Edge) → (b ≡ true → c ≡ true → ⊥)
+    → s ≤ stroke_start k
     → Follows (stroke_start (suc k)) es → Paced false s (under b c shift key (stroke_start k) es)
 shifted_paced true true shift key s k es never l more = absurd (never refl refl)
 shifted_paced true false shift key s k es never l more =
@@ -91,7 +101,8 @@ module _ (es : List Entry) (place : ℕ) where
   one_of first second other a b =
       eqb-false first second other (eqb-true first place a ∙ sym (eqb-true second place b))
 
-  paced_from : (s k : ℕ) (ss : List Stroke) → AllFit es ss → s ≤ stroke_start k → Paced false s (of_place place (edges_from k ss))
+  paced_from : (s k : ℕ) (ss : List Stroke) → AllFit es ss → s ≤ stroke_start k
+      → Paced false s (of_place place (edges_from k ss))
   paced_from s k [] fit l = tt
   paced_from s k (Plain key ∷ ss) fit l =
       plain_paced (key.place == place) key s k (of_place place (edges_from (suc k) ss)) l
@@ -123,7 +134,8 @@ module _ (P : Edge → Type 0) (es : List Entry) (stop : ℕ)
       let last : Edge = releases shift (t + 10240) in
       let h : IsTaken es shift.place = fit.0.of_first in
       let g : IsTaken es key.place = fit.0.of_second in
-      All-cons P (presses shift t) (second ∷ third ∷ last ∷ rest) (each (presses shift t) h (omega arith) (omega (arith, l)))
+      All-cons P (presses shift t) (second ∷ third ∷ last ∷ rest)
+      (each (presses shift t) h (omega arith) (omega (arith, l)))
       (All-cons P second (third ∷ last ∷ rest) (each second g (omega arith) (omega (arith, l)))
       (All-cons P third (last ∷ rest) (each third g (omega arith) (omega (arith, l)))
       (All-cons P last rest (each last h (omega arith) (omega (arith, l))) more)))
@@ -134,7 +146,8 @@ module _ (P : HostEvent → Type 0) (stop : ℕ)
   all_takes : (k : ℕ) (ss : List Stroke) → stroke_start (length ss + k) ≤ stop → All P (takes_from k ss)
   all_takes k [] l = All-nil P
   all_takes k (s ∷ ss) l =
-      All-cons P (take_of (stroke_start k)) (takes_from (suc k) ss) (each (stroke_start k) (omega arith) (omega (arith, l)))
+      All-cons P (take_of (stroke_start k)) (takes_from (suc k) ss)
+      (each (stroke_start k) (omega arith) (omega (arith, l)))
       (all_takes (suc k) ss (omega (arith, l)))
 
 -- the host takes at rising stamps
@@ -160,8 +173,11 @@ few_takes k (s ∷ ss) = omega (arith, few_takes (suc k) ss)
 
 places_of : (edges : List Edge) → All (λ e. e.place < 96) edges → ArePlaces edges
 places_of [] all = tt
-places_of (e ∷ edges) all =
-    (All-head (λ (x : Edge). x.place < 96) e edges all, places_of edges (All-tail (λ (x : Edge). x.place < 96) e edges all))
+places_of (e ∷ edges) all = (
+  All-head (λ (x : Edge). x.place < 96) e edges all,
+  places_of edges
+      (All-tail (λ (x : Edge). x.place < 96) e edges all),
+)
 
 module _ (layout : KeyLayout) (ss : List Stroke) (fit : AllFit layout.entries ss) (l : length ss ≤ 10000) where
   ends : stroke_start (length ss + 0) ≤ stroke_start (length ss)
@@ -171,20 +187,24 @@ module _ (layout : KeyLayout) (ss : List Stroke) (fit : AllFit layout.entries ss
   unfolding planned
   accepted = record {
     in_matrix = places_of (edges_from 0 ss)
-        (all_edges (λ e. e.place < 96) layout.entries (stroke_start (length ss)) (λ e p m n. p.in_matrix) 0 ss fit ends);
+        (all_edges (λ e. e.place < 96) layout.entries (stroke_start (length ss)) (λ e p m n. p.in_matrix) 0 ss fit
+        ends);
     edges_in_order = ordered_of 0 (edges_from 0 ss) (apart_from 0 0 ss (omega arith));
     host_in_order = takes_in_order 0 ss;
     written = all_takes (λ e. WritesByte e.act) (stroke_start (length ss)) (λ t m n. tt) 0 ss ends;
     flips = all_takes (λ e. FlipsDataOrParity e.act) (stroke_start (length ss)) (λ t m n. tt) 0 ss ends;
     edges_before_end =
-        all_edges (λ e. e.stamp ≤ stroke_start (length ss)) layout.entries (stroke_start (length ss)) (λ e p m n. n) 0 ss fit ends;
+        all_edges (λ e. e.stamp ≤ stroke_start (length ss)) layout.entries (stroke_start (length ss)) (λ e p m n. n)
+        0 ss fit ends;
     host_before_end =
-        all_takes (λ e. e.stamp ≤ stroke_start (length ss)) (stroke_start (length ss)) (λ t m n. omega (arith, n)) 0 ss ends;
+        all_takes (λ e. e.stamp ≤ stroke_start (length ss)) (stroke_start (length ss)) (λ t m n. omega (arith, n)) 0
+        ss ends;
     end_in_range = omega (arith, l);
     number_in_range = omega (arith, l, few_edges 0 ss, few_takes 0 ss);
     alternate = λ p. alternates_of false 0 (of_place p (edges_from 0 ss))
         (paced_from layout.entries p 0 0 ss fit (omega arith));
-    dwell = λ p. dwells_of false 0 (of_place p (edges_from 0 ss)) (paced_from layout.entries p 0 0 ss fit (omega arith));
+    dwell = λ p. dwells_of false 0 (of_place p (edges_from 0 ss))
+        (paced_from layout.entries p 0 0 ss fit (omega arith));
     thin = thin_of 0 (edges_from 0 ss) (apart_from 0 0 ss (omega arith));
   }
 
@@ -201,7 +221,8 @@ module _ (layout : KeyLayout) (ss : List Stroke) (fit : AllFit layout.entries ss
       rising = takes_rise 0 ss;
       host_late = all_takes (λ e. IsLate e.stamp) (stroke_start (length ss)) (λ t m n. omega (arith, m)) 0 ss ends;
       edges_late =
-          all_edges (λ e. IsLate e.stamp) layout.entries (stroke_start (length ss)) (λ e p m n. omega (arith, m)) 0 ss fit ends;
+          all_edges (λ e. IsLate e.stamp) layout.entries (stroke_start (length ss)) (λ e p m n. omega (arith, m)) 0
+          ss fit ends;
       clear = inr (omega arith);
     };
   }

@@ -52,7 +52,8 @@ module _ (layout : KeyLayout) (h : KeyHistory) (ss : List Stroke) (edges : h.edg
       → n < 86 + 10 * done → At (suc n) (line last [] false false out bios done) (later rep) held words
   idle n last out done bios rep held words r sees long l =
       let q : Pc = record { mark = false; out = out; bios = bios; done = done } in
-      turn layout h ss host n (line last [] false false out bios done) (line last [] false false out bios done) words [] []
+      turn layout h ss host n (line last [] false false out bios done) (line last [] false false out bios done)
+      words [] []
       rep (later rep) held held [] r sees long (nothing (keys_of layout) layout.rate last false q)
       (no_edges layout [] (later rep) held) l tt words (append-nil words)
 
@@ -81,7 +82,8 @@ module _ (layout : KeyLayout) (h : KeyHistory) (ss : List Stroke) (edges : h.edg
         → filter (is_seen even n) h.edges ≡ seen_by (λ o. j == o) (stroke_start m) s
     seen_then n j z l =
         ap (λ v. filter (is_seen even n) v) edges
-        ∙ seen_at layout.entries n 0 m m ss s (λ o. j == o) fit (omega arith) is (omega (arith, z)) (omega (arith, z, l))
+        ∙ seen_at layout.entries n 0 m m ss s (λ o. j == o) fit (omega arith) is (omega (arith, z))
+        (omega (arith, z, l))
         (λ o u. tests_are n j o z)
 
     pub none_then : (n j : ℕ) → n ≡ j + (80 + 10 * m) → j < 10 → seen_by (λ o. j == o) (stroke_start m) s ≡ []

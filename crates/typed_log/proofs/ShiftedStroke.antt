@@ -58,7 +58,8 @@ module _ (layout : KeyLayout) (h : KeyHistory) (ss : List Stroke) (edges : h.edg
 
   -- shift goes down, then the key; both codes are sent and the word entered
   go_down : (last out : ℕ) → At' (80 + 10 * m) (line last [] false false out start m) None all_up words
-      → At' (suc (suc (suc (80 + 10 * m)))) (line (sent code (sent code' last)) [] false false scan (with_word left w) m)
+      → At' (suc (suc (suc (80 + 10 * m))))
+      (line (sent code (sent code' last)) [] false false scan (with_word left w) m)
       (waiting key.place (d - 1)) both_down words
   go_down last out r =
       let n : ℕ = 80 + 10 * m in
@@ -76,7 +77,8 @@ module _ (layout : KeyLayout) (h : KeyHistory) (ss : List Stroke) (edges : h.edg
       (waiting key.place d) both_down words =
       turn layout h ss host (suc n) (line last (code' ∷ []) false false out start m)
       (line (sent code' last) [] false false scan' (under_shift_key left) m) words (Port scan' ∷ [])
-      ((key.place, true) ∷ []) (waiting shift.place d) (pressed_at layout.rate key.place) shift_down both_down (code ∷ []) r1
+      ((key.place, true) ∷ []) (waiting shift.place d) (pressed_at layout.rate key.place) shift_down both_down
+      (code ∷ []) r1
       (one_then layout h ss edges host fit m (Shifted shift key) is (suc n) 1 (presses key (stroke_start m + 2048))
       (omega arith) (omega arith) k.in_matrix refl)
       (not_one d (omega (arith, long)))
@@ -84,7 +86,8 @@ module _ (layout : KeyLayout) (h : KeyHistory) (ss : List Stroke) (edges : h.edg
       (under_shift_key left) [] f.makes')
       (press_moves layout key.place code [] (waiting shift.place (d - 1)) shift_down only k refl)
       (omega arith) (refl, tt) words (append-nil words) in
-      turn layout h ss host (suc (suc n)) (line (sent code' last) (code ∷ []) false false scan' (under_shift_key left) m)
+      turn layout h ss host (suc (suc n))
+      (line (sent code' last) (code ∷ []) false false scan' (under_shift_key left) m)
       (line (sent code (sent code' last)) [] false false scan (with_word left w) m) words (Port scan ∷ Word w ∷ []) []
       (waiting key.place d) (waiting key.place (d - 1)) both_down both_down [] r2
       (none_then layout h ss edges host fit m (Shifted shift key) is (suc (suc n)) 2 (omega arith) (omega arith) refl)
@@ -98,31 +101,38 @@ module _ (layout : KeyLayout) (h : KeyHistory) (ss : List Stroke) (edges : h.edg
   key_up : (last : ℕ) (bytes : List ℕ)
       → Moves layout ((key.place, false) ∷ []) [] (waiting key.place (d - 1 - 1 - 1)) both_down bytes
       (ended_at key.place (waiting key.place (d - 1 - 1 - 1))) (turned key.place false both_down)
-      → At' (suc (suc (suc (80 + 10 * m)))) (line last [] false false scan (with_word left w) m) (waiting key.place (d - 1))
+      → At' (suc (suc (suc (80 + 10 * m)))) (line last [] false false scan (with_word left w) m)
+      (waiting key.place (d - 1))
       both_down words
-      → At' (suc (suc (suc (suc (suc (80 + 10 * m)))))) (line last bytes false false scan (with_word left w) m) None shift_down words
+      → At' (suc (suc (suc (suc (suc (80 + 10 * m)))))) (line last bytes false false scan (with_word left w) m) None
+      shift_down words
   key_up last bytes mv r =
       let n : ℕ = suc (suc (suc (80 + 10 * m))) in
       let long : 49 ≤ d = delay_long layout.rate in
       let q : Pc = record { mark = false; out = scan; bios = with_word left w; done = m } in
-      let r4 : At' (suc n) (line last [] false false scan (with_word left w) m) (waiting key.place (d - 1 - 1)) both_down words =
+      let r4 : At' (suc n) (line last [] false false scan (with_word left w) m) (waiting key.place (d - 1 - 1))
+      both_down words =
       idle layout h ss edges host fit n last scan m (with_word left w) (waiting key.place (d - 1)) both_down words r
       (none_then layout h ss edges host fit m (Shifted shift key) is n 3 (omega arith) (omega arith) refl)
       (not_one (d - 1) (omega (arith, long))) (omega arith) in
       turn layout h ss host (suc n) (line last [] false false scan (with_word left w) m)
-      (line last [] false false scan (with_word left w) m) words [] ((key.place, false) ∷ []) (waiting key.place (d - 1 - 1)) None
+      (line last [] false false scan (with_word left w) m) words [] ((key.place, false) ∷ [])
+      (waiting key.place (d - 1 - 1)) None
       both_down shift_down bytes r4
-      (one_then layout h ss edges host fit m (Shifted shift key) is (suc n) 4 (releases key (stroke_start m + 8192)) (omega arith)
+      (one_then layout h ss edges host fit m (Shifted shift key) is (suc n) 4 (releases key (stroke_start m + 8192))
+      (omega arith)
       (omega arith) k.in_matrix refl)
       (not_one (d - 1 - 1) (omega (arith, long)))
       (nothing (keys_of layout) layout.rate last false q)
       (ends_at_rest layout ((key.place, false) ∷ []) [] bytes (waiting key.place (d - 1 - 1 - 1))
       (ended_at key.place (waiting key.place (d - 1 - 1 - 1))) both_down (turned key.place false both_down) shift_down
-      (ended_self key.place (d - 1 - 1 - 1)) (struck shift_down key.place (up_beside key.place shift.place k.in_matrix apart)) mv)
+      (ended_self key.place (d - 1 - 1 - 1))
+      (struck shift_down key.place (up_beside key.place shift.place k.in_matrix apart)) mv)
       (omega arith) tt words (append-nil words)
 
   -- what shift's release does to a queue
-  shift_up : (bytes : List ℕ) → Moves layout ((shift.place, false) ∷ []) bytes None shift_down (bytes ++ 0xF0 ∷ code' ∷ []) None
+  shift_up : (bytes : List ℕ) → Moves layout ((shift.place, false) ∷ []) bytes None shift_down
+      (bytes ++ 0xF0 ∷ code' ∷ []) None
       (turned shift.place false shift_down)
       → Moves layout ((shift.place, false) ∷ []) bytes None shift_down (bytes ++ 0xF0 ∷ code' ∷ []) None all_up
   shift_up bytes mv =
@@ -131,18 +141,21 @@ module _ (layout : KeyLayout) (h : KeyHistory) (ss : List Stroke) (edges : h.edg
 
   -- after shift's break nothing comes
   last_one : (last out : ℕ)
-      → At' (suc (suc (suc (suc (suc (suc (suc (suc (suc (80 + 10 * m)))))))))) (line last [] false false out start (m + 1)) None
+      → At' (suc (suc (suc (suc (suc (suc (suc (suc (suc (80 + 10 * m))))))))))
+      (line last [] false false out start (m + 1)) None
       all_up (words ++ Some w ∷ [])
       → Rest layout h ss edges host fit (suc m) (words ++ Some w ∷ [])
   last_one last out r =
       let n : ℕ = suc (suc (suc (suc (suc (suc (suc (suc (suc (80 + 10 * m))))))))) in
       rests layout h ss edges host fit (suc n) m last out (words ++ Some w ∷ []) (omega arith)
       (idle layout h ss edges host fit n last out (m + 1) start None all_up (words ++ Some w ∷ []) r
-      (none_then layout h ss edges host fit m (Shifted shift key) is n 9 (omega arith) (omega arith) refl) tt (omega arith))
+      (none_then layout h ss edges host fit m (Shifted shift key) is n 9 (omega arith) (omega arith) refl) tt
+      (omega arith))
 
   -- the key sends no break: shift's is begun as the word is taken
   silently : (last : ℕ) → IsKeyAt layout key.place code true
-      → At' (suc (suc (suc (80 + 10 * m)))) (line last [] false false scan (with_word left w) m) (waiting key.place (d - 1))
+      → At' (suc (suc (suc (80 + 10 * m)))) (line last [] false false scan (with_word left w) m)
+      (waiting key.place (d - 1))
       both_down words
       → Rest layout h ss edges host fit (suc m) (words ++ Some w ∷ [])
   silently last k0 r =
@@ -153,22 +166,26 @@ module _ (layout : KeyLayout) (h : KeyHistory) (ss : List Stroke) (edges : h.edg
       key_up last [] (silent_moves layout key.place code [] (waiting key.place (d - 1 - 1 - 1)) both_down k0) r in
       let r6 : At' (suc n) (line last (0xF0 ∷ code' ∷ []) false false scan (with_word left w) m) None all_up words =
       turn layout h ss host n (line last [] false false scan (with_word left w) m)
-      (line last [] false false scan (with_word left w) m) words [] ((shift.place, false) ∷ []) None None shift_down all_up
+      (line last [] false false scan (with_word left w) m) words [] ((shift.place, false) ∷ []) None None shift_down
+      all_up
       (0xF0 ∷ code' ∷ []) r5
       (one_then layout h ss edges host fit m (Shifted shift key) is n 5 (releases shift (stroke_start m + 10240))
       (omega arith) (omega arith) k'.in_matrix refl)
       tt (nothing (keys_of layout) layout.rate last false q)
       (shift_up [] (break_moves layout shift.place code' [] None shift_down k' refl))
       (omega arith) tt words (append-nil words) in
-      let r7 : At' (suc (suc n)) (line 0xF0 (code' ∷ []) true true scan (under_shift_key left) (m + 1)) None all_up more =
+      let r7 : At' (suc (suc n)) (line 0xF0 (code' ∷ []) true true scan (under_shift_key left) (m + 1)) None all_up
+      more =
       taking_turn layout h ss host (suc n) (line last (0xF0 ∷ code' ∷ []) false false scan (with_word left w) m)
       (line 0xF0 (code' ∷ []) true true scan (with_word left w) m) words [] [] None None all_up all_up (code' ∷ []) r6
       (none_then layout h ss edges host fit m (Shifted shift key) is (suc n) 6 (omega arith) (omega arith) refl)
       tt (prefix (keys_of layout) layout.rate last (code' ∷ []) scan m (with_word left w))
       (no_edges layout (code' ∷ []) None all_up) (omega arith) below (refl, tt) more refl in
-      let r8 : At' (suc (suc (suc n))) (line (sent code' 0xF0) [] false false (with_bit 0x80 scan') start (m + 1)) None all_up more =
+      let r8 : At' (suc (suc (suc n))) (line (sent code' 0xF0) [] false false (with_bit 0x80 scan') start (m + 1))
+      None all_up more =
       turn layout h ss host (suc (suc n)) (line 0xF0 (code' ∷ []) true true scan (under_shift_key left) (m + 1))
-      (line (sent code' 0xF0) [] false false (with_bit 0x80 scan') start (m + 1)) more (Port (with_bit 0x80 scan') ∷ []) []
+      (line (sent code' 0xF0) [] false false (with_bit 0x80 scan') start (m + 1)) more
+      (Port (with_bit 0x80 scan') ∷ []) []
       None None all_up all_up [] r7
       (none_then layout h ss edges host fit m (Shifted shift key) is (suc (suc n)) 7 (omega arith) (omega arith) refl)
       tt
@@ -176,13 +193,16 @@ module _ (layout : KeyLayout) (h : KeyHistory) (ss : List Stroke) (edges : h.edg
       (under_shift_key left) start [] f.breaks')
       (no_edges layout [] None all_up) (omega arith) (refl, tt) more (append-nil more) in
       last_one (sent code' 0xF0) (with_bit 0x80 scan')
-      (idle layout h ss edges host fit (suc (suc (suc n))) (sent code' 0xF0) (with_bit 0x80 scan') (m + 1) start None all_up more r8
-      (none_then layout h ss edges host fit m (Shifted shift key) is (suc (suc (suc n))) 8 (omega arith) (omega arith) refl)
+      (idle layout h ss edges host fit (suc (suc (suc n))) (sent code' 0xF0) (with_bit 0x80 scan') (m + 1) start
+      None all_up more r8
+      (none_then layout h ss edges host fit m (Shifted shift key) is (suc (suc (suc n))) 8 (omega arith)
+      (omega arith) refl)
       tt (omega arith))
 
   -- the key's break is sent before shift's
   with_break : (last : ℕ) → IsKeyAt layout key.place code false
-      → At' (suc (suc (suc (80 + 10 * m)))) (line last [] false false scan (with_word left w) m) (waiting key.place (d - 1))
+      → At' (suc (suc (suc (80 + 10 * m)))) (line last [] false false scan (with_word left w) m)
+      (waiting key.place (d - 1))
       both_down words
       → Rest layout h ss edges host fit (suc m) (words ++ Some w ∷ [])
   with_break last k0 r =
@@ -192,44 +212,55 @@ module _ (layout : KeyLayout) (h : KeyHistory) (ss : List Stroke) (edges : h.edg
       let r5 : At' n (line last (0xF0 ∷ code ∷ []) false false scan (with_word left w) m) None shift_down words =
       key_up last (0xF0 ∷ code ∷ [])
       (break_moves layout key.place code [] (waiting key.place (d - 1 - 1 - 1)) both_down k0 refl) r in
-      let r6 : At' (suc n) (line 0xF0 (code ∷ 0xF0 ∷ code' ∷ []) true true scan (with_word left w) m) None all_up words =
+      let r6 : At' (suc n) (line 0xF0 (code ∷ 0xF0 ∷ code' ∷ []) true true scan (with_word left w) m) None all_up
+      words =
       turn layout h ss host n (line last (0xF0 ∷ code ∷ []) false false scan (with_word left w) m)
-      (line 0xF0 (code ∷ []) true true scan (with_word left w) m) words [] ((shift.place, false) ∷ []) None None shift_down all_up
+      (line 0xF0 (code ∷ []) true true scan (with_word left w) m) words [] ((shift.place, false) ∷ []) None None
+      shift_down all_up
       (code ∷ 0xF0 ∷ code' ∷ []) r5
       (one_then layout h ss edges host fit m (Shifted shift key) is n 5 (releases shift (stroke_start m + 10240))
       (omega arith) (omega arith) k'.in_matrix refl)
       tt (prefix (keys_of layout) layout.rate last (code ∷ []) scan m (with_word left w))
       (shift_up (code ∷ []) (break_moves layout shift.place code' (code ∷ []) None shift_down k' refl))
       (omega arith) tt words (append-nil words) in
-      let r7 : At' (suc (suc n)) (line (sent code 0xF0) (0xF0 ∷ code' ∷ []) false false out (under_shift_key left) (m + 1)) None
+      let r7 : At' (suc (suc n)) (line (sent code 0xF0) (0xF0 ∷ code' ∷ []) false false out (under_shift_key left)
+      (m + 1)) None
       all_up more =
       taking_turn layout h ss host (suc n) (line 0xF0 (code ∷ 0xF0 ∷ code' ∷ []) true true scan (with_word left w) m)
-      (line (sent code 0xF0) (0xF0 ∷ code' ∷ []) false false out (with_word left w) m) words (Port out ∷ []) [] None None
+      (line (sent code 0xF0) (0xF0 ∷ code' ∷ []) false false out (with_word left w) m) words (Port out ∷ []) [] None
+      None
       all_up all_up (0xF0 ∷ code' ∷ []) r6
       (none_then layout h ss edges host fit m (Shifted shift key) is (suc n) 6 (omega arith) (omega arith) refl)
       tt
       (code_passes (keys_of layout) layout.rate 0xF0 code scan f.no_prefix f.scan_is (0xF0 ∷ code' ∷ []) true scan m
       (with_word left w) (with_word left w) [] f.breaks)
       (no_edges layout (0xF0 ∷ code' ∷ []) None all_up) (omega arith) below (refl, (refl, tt)) more refl in
-      let r8 : At' (suc (suc (suc n))) (line 0xF0 (code' ∷ []) true true out (under_shift_key left) (m + 1)) None all_up more =
-      turn layout h ss host (suc (suc n)) (line (sent code 0xF0) (0xF0 ∷ code' ∷ []) false false out (under_shift_key left) (m + 1))
-      (line 0xF0 (code' ∷ []) true true out (under_shift_key left) (m + 1)) more [] [] None None all_up all_up (code' ∷ []) r7
+      let r8 : At' (suc (suc (suc n))) (line 0xF0 (code' ∷ []) true true out (under_shift_key left) (m + 1)) None
+      all_up more =
+      turn layout h ss host (suc (suc n))
+      (line (sent code 0xF0) (0xF0 ∷ code' ∷ []) false false out (under_shift_key left) (m + 1))
+      (line 0xF0 (code' ∷ []) true true out (under_shift_key left) (m + 1)) more [] [] None None all_up all_up
+      (code' ∷ []) r7
       (none_then layout h ss edges host fit m (Shifted shift key) is (suc (suc n)) 7 (omega arith) (omega arith) refl)
       tt (prefix (keys_of layout) layout.rate (sent code 0xF0) (code' ∷ []) out (m + 1) (under_shift_key left))
       (no_edges layout (code' ∷ []) None all_up) (omega arith) tt more (append-nil more) in
       last_one (sent code' 0xF0) (with_bit 0x80 scan')
       (turn layout h ss host (suc (suc (suc n))) (line 0xF0 (code' ∷ []) true true out (under_shift_key left) (m + 1))
-      (line (sent code' 0xF0) [] false false (with_bit 0x80 scan') start (m + 1)) more (Port (with_bit 0x80 scan') ∷ []) []
+      (line (sent code' 0xF0) [] false false (with_bit 0x80 scan') start (m + 1)) more
+      (Port (with_bit 0x80 scan') ∷ []) []
       None None all_up all_up [] r8
-      (none_then layout h ss edges host fit m (Shifted shift key) is (suc (suc (suc n))) 8 (omega arith) (omega arith) refl)
+      (none_then layout h ss edges host fit m (Shifted shift key) is (suc (suc (suc n))) 8 (omega arith)
+      (omega arith) refl)
       tt
       (code_passes (keys_of layout) layout.rate 0xF0 code' scan' f.no_prefix' f.scan_is' [] true out (m + 1)
       (under_shift_key left) start [] f.breaks')
       (no_edges layout [] None all_up) (omega arith) (refl, tt) more (append-nil more))
 
-  pub shifted_stroke : Rest layout h ss edges host fit m words → Rest layout h ss edges host fit (suc m) (words ++ Some w ∷ [])
+  pub shifted_stroke : Rest layout h ss edges host fit m words
+      → Rest layout h ss edges host fit (suc m) (words ++ Some w ∷ [])
   shifted_stroke r =
-      let r3 : At' (suc (suc (suc (80 + 10 * m)))) (line (sent code (sent code' r.last)) [] false false scan (with_word left w) m)
+      let r3 : At' (suc (suc (suc (80 + 10 * m))))
+      (line (sent code (sent code' r.last)) [] false false scan (with_word left w) m)
       (waiting key.place (d - 1)) both_down words = go_down r.last r.out r.is in
       elim only as (λ b. only ≡ b → Rest layout h ss edges host fit (suc m) (words ++ Some w ∷ [])) [
         | true ↦ λ e. silently (sent code (sent code' r.last)) (subst (λ b. IsKeyAt layout key.place code b) e k) r3

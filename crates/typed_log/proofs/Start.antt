@@ -53,7 +53,8 @@ none_repeats true keys rate left due = refl
 none_repeats false keys rate left due = refl
 
 -- a tick of the test
-test_tick : (layout : KeyLayout) (left after : ℕ) (last : Bool) → (left == 0) ≡ false → (left == 1) ≡ last → left - 1 ≡ after
+test_tick : (layout : KeyLayout) (left after : ℕ) (last : Bool) → (left == 0) ≡ false → (left == 1) ≡ last
+    → left - 1 ≡ after
     → stepped (keyboard layout) [] false (testing layout.rate left false) ≡ testing layout.rate after last
 test_tick layout left after last z o e =
     let keys : Keys = keys_of layout in
@@ -61,7 +62,8 @@ test_tick layout left after last z o e =
     ap (λ b. staged (layers_of (scanned keys (is_inhibited (met_as (calm_meeting b None))) []
     (tested_if (not b) (met (met_as (calm_meeting b None)) keys k)))) (met_by (calm_meeting b None) first_pc)) z
     ∙ ap (λ v. staged (layers_of v) first_pc)
-    (none_repeats (is_scanning (in_test layout.rate (left - 1) (if left == 1 then true else false))) keys layout.rate (left - 1)
+    (none_repeats (is_scanning (in_test layout.rate (left - 1) (if left == 1 then true else false))) keys
+    layout.rate (left - 1)
     (if left == 1 then true else false))
     ∙ ap (λ b. testing layout.rate (left - 1) (if b then true else false)) o
     ∙ due_is last
@@ -71,7 +73,8 @@ test_tick layout left after last z o e =
     due_is true = refl
     due_is false = refl
 
-test_silent : (layout : KeyLayout) (left : ℕ) → (left == 0) ≡ false → says (keyboard layout) false (testing layout.rate left false) ≡ []
+test_silent : (layout : KeyLayout) (left : ℕ) → (left == 0) ≡ false
+    → says (keyboard layout) false (testing layout.rate left false) ≡ []
 test_silent layout left z = ap (λ b. items_of_meeting (calm_meeting b None) first_pc ++ []) z
 
 -- its end is told
@@ -133,7 +136,8 @@ module _ (layout : KeyLayout) (h : KeyHistory) (ss : List Stroke) (edges : h.edg
   waits_on zero n z l = let e : 65 ≡ n = omega (arith, z) in subst waits_at e after_telling
   waits_on (suc count) zero z l = absurd (omega (arith, z))
   waits_on (suc count) (suc n) z l =
-      idle layout h ss edges host fit n 0xAA 0xAA 0 start None all_up [] (waits_on count n (omega (arith, z)) (omega (arith, l)))
+      idle layout h ss edges host fit n 0xAA 0xAA 0 start None all_up []
+      (waits_on count n (omega (arith, z)) (omega (arith, l)))
       (none_before_first layout h ss edges host fit n (omega (arith, l))) tt (omega (arith, l))
 
   pub at_rest : Rest layout h ss edges host fit 0 []

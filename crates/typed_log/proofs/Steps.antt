@@ -88,7 +88,8 @@ module _ {S : Type 0} (kb : Machine S) (h : KeyHistory) (ss : List Stroke) (host
         is = ap (λ v. calm_tick kb h n v) r.is ∙ next;
         kept = All-append (λ (line : LogLine). is_loss line.item ≡ false) (calm_lines kb h n)
             (in_tick n (calm_items kb h n (calm_at kb h n))) r.kept
-            (subst (λ v. All (λ (line : LogLine). is_loss line.item ≡ false) (in_tick n v)) (sym i) (kept_tick n items kept));
+            (subst (λ v. All (λ (line : LogLine). is_loss line.item ≡ false) (in_tick n v)) (sym i)
+            (kept_tick n items kept));
         taken_so_far = taken_append (calm_lines kb h n) (in_tick n (calm_items kb h n (calm_at kb h n)))
             ∙ ap (λ v. v ++ taken_in (in_tick n (calm_items kb h n (calm_at kb h n)))) r.taken_so_far
             ∙ ap (λ v. words ++ v) (taken_tick n (calm_items kb h n (calm_at kb h n)) ∙ ap taken_of i);

@@ -25,17 +25,21 @@ IsStroke es c (Plain key) = Found (enters base c) es key
 IsStroke es c (Shifted shift key) = IsUnderShift es c shift key
 
 module _ (es : List Entry) (are : AreEntries es) (c : ℕ) where
-  shifted_by : (a b : Option Entry) (s : Stroke) → shift_entry es ≡ a → find (enters shifted c) es ≡ b → under_shift a b ≡ Some s
+  shifted_by : (a b : Option Entry) (s : Stroke) → shift_entry es ≡ a → find (enters shifted c) es ≡ b
+      → under_shift a b ≡ Some s
       → IsStroke es c s
   shifted_by (Some shift) (Some key) s f g h =
       let k : Shifted shift key ≡ s = cc in
-      subst (λ v. IsStroke es c v) k (record { of_shift = found is_shift_entry shift es are f; of_key = found (enters shifted c) key es are g })
+      subst (λ v. IsStroke es c v) k (record
+      { of_shift = found is_shift_entry shift es are f; of_key = found (enters shifted c) key es are g })
   shifted_by (Some shift) None s f g h = absurd cc
   shifted_by None b s f g h = absurd cc
 
-  plain_by : (a : Option Entry) (b : Option Stroke) (s : Stroke) → find (enters base c) es ≡ a → (b ≡ Some s → IsStroke es c s)
+  plain_by : (a : Option Entry) (b : Option Stroke) (s : Stroke) → find (enters base c) es ≡ a
+      → (b ≡ Some s → IsStroke es c s)
       → option_or (plain a) b ≡ Some s → IsStroke es c s
-  plain_by (Some key) b s f g h = let k : Plain key ≡ s = cc in subst (λ v. IsStroke es c v) k (found (enters base c) key es are f)
+  plain_by (Some key) b s f g h = let k : Plain key
+      ≡ s = cc in subst (λ v. IsStroke es c v) k (found (enters base c) key es are f)
   plain_by None b s f g h = g h
 
   key_is : (s : Stroke) → key_of c es ≡ Some s → IsStroke es c s
@@ -125,7 +129,8 @@ abbrev pub Fits : List Entry → Stroke → Type 0
 Fits es (Plain key) = IsTaken es key.place
 Fits es (Shifted shift key) = AreApart es shift.place key.place
 
-pub apart_of : (es : List Entry) (c : ℕ) (shift key : Entry) → IsUnderShift es c shift key → (shift.place == key.place) ≡ false
+pub apart_of : (es : List Entry) (c : ℕ) (shift key : Entry) → IsUnderShift es c shift key
+    → (shift.place == key.place) ≡ false
 apart_of es c shift key u =
     elim (shift.place == key.place) as (λ b. (shift.place == key.place) ≡ b → b ≡ false) [
       | true ↦ λ h.

@@ -51,7 +51,8 @@ abbrev on_word : Option ℕ → (ℕ → Outcome) → Outcome
 on_word None f = quiet start
 on_word (Some w) f = if w % 256 == 0 then quiet start else f w
 
-on_word_is : (o : Option ℕ) (f g : ℕ → Outcome) (w : ℕ) → on_word o f ≡ on_word o g → o ≡ Some w → (w % 256 == 0) ≡ false
+on_word_is : (o : Option ℕ) (f g : ℕ → Outcome) (w : ℕ) → on_word o f ≡ on_word o g → o ≡ Some w → (w % 256 == 0)
+    ≡ false
     → f w ≡ g w
 on_word_is o f g w h e z =
     sym (ap (λ v. on_word v f) e ∙ ap (λ b. if b then quiet start else f w) z) ∙ h
@@ -64,18 +65,22 @@ abbrev pub entered : ℕ → State → Outcome
 entered w s = record { after = record s { words = w ∷ [] }; items = Word w ∷ [] }
 
 -- a key without a shift key: its word of the base column, and nothing at its break
-pub plain_makes : (k w : ℕ) → k < 84 → word_of base k ≡ Some w → (w % 256 == 0) ≡ false → fed (scan_at k) start ≡ entered w start
+pub plain_makes : (k w : ℕ) → k < 84 → word_of base k ≡ Some w → (w % 256 == 0) ≡ false → fed (scan_at k) start
+    ≡ entered w start
 unfolding keys words letter_on reverses fed marks on_sysreq alt_broken on_shift_key locks lock_made on_lock_key without_words in_pause with_alt with_ctrl alone
 plain_makes k w l e z =
     on_word_is (word_of base k) (λ w. fed (scan_at k) start) (λ w. entered w start) w
-    (at_table (λ k. on_word (word_of base k) (λ w. fed (scan_at k) start)) (λ k. on_word (word_of base k) (λ w. entered w start))
+    (at_table (λ k. on_word (word_of base k) (λ w. fed (scan_at k) start))
+    (λ k. on_word (word_of base k) (λ w. entered w start))
     84 refl k l) e z
 
-pub plain_breaks : (k w : ℕ) → k < 84 → word_of base k ≡ Some w → (w % 256 == 0) ≡ false → fed (broken k) start ≡ quiet start
+pub plain_breaks : (k w : ℕ) → k < 84 → word_of base k ≡ Some w → (w % 256 == 0) ≡ false → fed (broken k) start
+    ≡ quiet start
 unfolding keys words letter_on reverses fed marks on_sysreq alt_broken on_shift_key locks lock_made on_lock_key without_words in_pause with_alt with_ctrl alone
 plain_breaks k w l e z =
     on_word_is (word_of base k) (λ w. fed (broken k) start) (λ w. quiet start) w
-    (at_table (λ k. on_word (word_of base k) (λ w. fed (broken k) start)) (λ k. on_word (word_of base k) (λ w. quiet start))
+    (at_table (λ k. on_word (word_of base k) (λ w. fed (broken k) start))
+    (λ k. on_word (word_of base k) (λ w. quiet start))
     84 refl k l) e z
 
 -- a shift key that is down, left or right
@@ -110,7 +115,8 @@ shifted_makes_by : (left : Bool) (k w : ℕ) → k < 84 → word_of shifted k �
     ≡ table (λ k. on_word (word_of shifted k) (λ w. entered w (under_shift_key left))) 84
     → fed (scan_at k) (under_shift_key left) ≡ entered w (under_shift_key left)
 shifted_makes_by left k w l e z h =
-    on_word_is (word_of shifted k) (λ w. fed (scan_at k) (under_shift_key left)) (λ w. entered w (under_shift_key left)) w
+    on_word_is (word_of shifted k) (λ w. fed (scan_at k) (under_shift_key left))
+    (λ w. entered w (under_shift_key left)) w
     (at_table (λ k. on_word (word_of shifted k) (λ w. fed (scan_at k) (under_shift_key left)))
     (λ k. on_word (word_of shifted k) (λ w. entered w (under_shift_key left))) 84 h k l) e z
 

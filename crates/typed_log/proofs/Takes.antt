@@ -59,14 +59,16 @@ module _ (events : List HostEvent) where
   pub undue_silent : (n now stop : ℕ) (q : Pc) → n + now ≡ stop → IsUndueTo q.done stop → items_in events n now q ≡ []
   undue_silent zero now stop q z u = refl
   undue_silent (suc n) now stop q z u =
-      let w : (e : HostEvent) → slice_get events q.done ≡ Some e → now < e.stamp + 4096 = λ e g. omega (arith, z, u e g) in
+      let w : (e : HostEvent) → slice_get events q.done ≡ Some e
+      → now < e.stamp + 4096 = λ e g. omega (arith, z, u e g) in
       ap (λ v. v ++ items_in events n (suc now) (after_event now (slice_get events q.done) q))
       (silent_now now (slice_get events q.done) q w)
       ∙ ap (λ v. items_in events n (suc now) v) (waits_now now (slice_get events q.done) q w)
       ∙ undue_silent n (suc now) stop q (omega (arith, z)) u
 
   -- a take that is due, and nothing behind it
-  takes_now : (now t : ℕ) (o : Option HostEvent) (q : Pc) → o ≡ Some (take_of t) → t + 18432 ≡ now → after_event now o q ≡ took q
+  takes_now : (now t : ℕ) (o : Option HostEvent) (q : Pc) → o ≡ Some (take_of t) → t + 18432 ≡ now
+      → after_event now o q ≡ took q
   takes_now now t o q is at =
       let k : nat_le (t + 14336 + 4096) now ≡ true = grind (arith, nat_tests, at) in
       ap (λ v. after_event now v q) is
@@ -98,7 +100,8 @@ module _ (events : List HostEvent) where
       ∙ ap (λ v. Taken (first_word q.bios) ∷ v) (undue_silent n (suc now) stop (took q) (omega (arith, z)) u)
 
 -- the takes by their numbers
-pub take_at : (k i : ℕ) (ss : List Stroke) → i < length ss → slice_get (takes_from k ss) i ≡ Some (take_of (stroke_start (i + k)))
+pub take_at : (k i : ℕ) (ss : List Stroke) → i < length ss → slice_get (takes_from k ss) i
+    ≡ Some (take_of (stroke_start (i + k)))
 take_at k i [] l = absurd (omega (arith, l))
 take_at k zero (s ∷ ss) l = let z : k ≡ 0 + k = omega arith in ap (λ n. Some (take_of (stroke_start n))) z
 take_at k (suc i) (s ∷ ss) l =

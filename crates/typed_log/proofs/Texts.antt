@@ -78,7 +78,8 @@ sends_shift_key e is h =
     by e.sends refl is.sends (and-left (sends_shift e.sends) (not e.make_only) h)
     (not-true e.make_only (and-right (sends_shift e.sends) (not e.make_only) h))
   where
-    by : (o : Option ℕ) → e.sends ≡ o → IfSome o (λ k. k < 84) → sends_shift o ≡ true → e.make_only ≡ false → SendsShift e
+    by : (o : Option ℕ) → e.sends ≡ o → IfSome o (λ k. k < 84) → sends_shift o ≡ true → e.make_only ≡ false
+        → SendsShift e
     by None s l g m = absurd cc
     by (Some k) s l g m = record { key = k; is = s; below = l; shifts = g; only = m }
 
@@ -96,7 +97,8 @@ key_at layout is p e key f s =
       fn_is = sym ((is_silent_at_fn layout is).base e.place (rw f.own refl)) ∙ ap is_none code;
     }
 
-module _ (layout : KeyLayout) (ok : IsKeyLayout layout) (h : KeyHistory) (ss : List Stroke) (edges : h.edges ≡ edges_from 0 ss)
+module _ (layout : KeyLayout) (ok : IsKeyLayout layout) (h : KeyHistory) (ss : List Stroke)
+    (edges : h.edges ≡ edges_from 0 ss)
     (host : h.host ≡ takes_from 0 ss) (fit : AllFit layout.entries ss) where
   -- at rest after so many strokes, the words that were taken have these characters
   pub record Typed (m : ℕ) (characters : List (Option ℕ)) : Type 0 where
@@ -164,7 +166,8 @@ module _ (layout : KeyLayout) (ok : IsKeyLayout layout) (h : KeyHistory) (ss : L
   characters_of text = map (λ byte. Some (character byte)) text
 
   -- the rest of a text, where its strokes stand behind so many others
-  strokes_on : (m : ℕ) (text : List ℕ) (more : List Stroke) (characters : List (Option ℕ)) → AreStrokes layout.entries text more
+  strokes_on : (m : ℕ) (text : List ℕ) (more : List Stroke) (characters : List (Option ℕ))
+      → AreStrokes layout.entries text more
       → ((i : ℕ) → slice_get more i ≡ slice_get ss (i + m)) → m + length more ≡ length ss → Typed m characters
       → Typed (length ss) (characters ++ characters_of text)
   strokes_on m [] [] characters a at l r =
@@ -194,7 +197,8 @@ module _ (layout : KeyLayout) (ok : IsKeyLayout layout) (h : KeyHistory) (ss : L
       let e : calm_lines (keyboard layout) h (80 + 10 * length ss) ≡ quiet_log layout h =
       ap (λ n. calm_lines (keyboard layout) h n) (sym ends)
       ∙ sym (expected_is (keyboard layout) h quiet even (last_even h.end) (λ n l. even_law.cadence n)) in
-      subst (λ v. Says text v) e (record { nothing_lost = t.rest.is.kept; taken = ap (λ v. map (option_map low_byte) v) t.rest.is.taken_so_far ∙ t.low })
+      subst (λ v. Says text v) e (record
+      { nothing_lost = t.rest.is.kept; taken = ap (λ v. map (option_map low_byte) v) t.rest.is.taken_so_far ∙ t.low })
 
 pub strokes_say_text : StrokesSayText
 unfolding planned

@@ -104,9 +104,11 @@ module _ (edges : List Edge) (n : ℕ) where
   -- the edges of a tick that sees none, or one
   pub sees_none : filter (is_seen even n) edges ≡ [] → tick_edges even edges n ≡ []
   sees_none h =
-      by_seen ∙ ap (λ v. map change_of (by_place (λ p. of_place p v) 96)) h ∙ ap (λ v. map change_of v) (none_by_place 96)
+      by_seen ∙ ap (λ v. map change_of (by_place (λ p. of_place p v) 96)) h
+      ∙ ap (λ v. map change_of v) (none_by_place 96)
 
-  pub sees_one : (e : Edge) → e.place < 96 → filter (is_seen even n) edges ≡ e ∷ [] → tick_edges even edges n ≡ change_of e ∷ []
+  pub sees_one : (e : Edge) → e.place < 96 → filter (is_seen even n) edges ≡ e ∷ [] → tick_edges even edges n
+      ≡ change_of e ∷ []
   sees_one e l h =
       let k : nat_lt e.place 96 ≡ true = grind (arith, nat_tests, l) in
       by_seen ∙ ap (λ v. map change_of (by_place (λ p. of_place p v) 96)) h

@@ -65,8 +65,20 @@ module _ (keys : Keys) (rate last : ℕ) where
   -- F0 begins a break
   pub prefix : (bytes : List ℕ) (out done : ℕ) (bios : State)
       → Passes keys rate
-      (record { last = last; bytes = 0xF0 ∷ bytes; started = false; pc = record { mark = false; out = out; bios = bios; done = done } })
-      (record { last = 0xF0; bytes = bytes; started = true; pc = record { mark = true; out = out; bios = bios; done = done } })
+      (record {
+        last = last;
+        bytes = 0xF0 ∷ bytes;
+        started = false;
+        pc = record
+            { mark = false; out = out; bios = bios; done = done };
+      })
+      (record {
+        last = 0xF0;
+        bytes = bytes;
+        started = true;
+        pc = record
+            { mark = true; out = out; bios = bios; done = done };
+      })
       []
   prefix bytes out done bios = record {
     keyed = λ edges rep held l. waits keys edges rate 0xF0 bytes true rep held l;
@@ -87,7 +99,13 @@ module _ (keys : Keys) (rate last : ℕ) where
     pub code_passes : (bytes : List ℕ) (mark : Bool) (out done : ℕ) (bios after : State) (items : List Item)
         → fed (put mark) bios ≡ record { after = after; items = items }
         → Passes keys rate
-        (record { last = last; bytes = code ∷ bytes; started = mark; pc = record { mark = mark; out = out; bios = bios; done = done } })
+        (record {
+          last = last;
+          bytes = code ∷ bytes;
+          started = mark;
+          pc = record
+              { mark = mark; out = out; bios = bios; done = done };
+        })
         (record {
           last = if code == 0xFE then last else code;
           bytes = bytes;
@@ -101,7 +119,8 @@ module _ (keys : Keys) (rate last : ℕ) where
           ∙ ap (λ b. edges_if true keys edges
           (typing rate (if code == 0xFE then last else code) bytes (b && not mark) (later rep) held)) np;
       met =
-          ap (λ (t : Translated). read_of t.byte (marked t.mark (record { mark = mark; out = out; bios = bios; done = done })))
+          ap (λ (t : Translated). read_of t.byte
+          (marked t.mark (record { mark = mark; out = out; bios = bios; done = done })))
           (translation_is mark)
           ∙ ap (λ (o : Outcome). record { mark = false; out = put mark; bios = o.after; done = done }) f;
       said =
@@ -111,7 +130,8 @@ module _ (keys : Keys) (rate last : ℕ) where
     }
 
 -- the edges of a tick take the queue, the key that repeats and the keys that are held from one state to another
-pub record Moves (layout : KeyLayout) (edges : List (ℕ × Bool)) (bytes : List ℕ) (rep : Option Repeat) (held : List Bool)
+pub record Moves (layout : KeyLayout) (edges : List (ℕ × Bool)) (bytes : List ℕ) (rep : Option Repeat)
+    (held : List Bool)
     (bytes' : List ℕ) (rep' : Option Repeat) (held' : List Bool) : Type 0 where
   pub layers : all_layers_after (is_fn_place layout) edges no_layers ≡ no_layers
   pub keyed : (last : ℕ) (started : Bool)
@@ -120,7 +140,8 @@ pub record Moves (layout : KeyLayout) (edges : List (ℕ × Bool)) (bytes : List
       ≡ typing layout.rate last bytes' started rep' held'
 
 module _ (layout : KeyLayout) where
-  pub no_edges : (bytes : List ℕ) (rep : Option Repeat) (held : List Bool) → Moves layout [] bytes rep held bytes rep held
+  pub no_edges : (bytes : List ℕ) (rep : Option Repeat) (held : List Bool)
+      → Moves layout [] bytes rep held bytes rep held
   no_edges bytes rep held = record { layers = refl; keyed = λ last started. refl }
 
   -- a key of the layout that sends a code
@@ -132,7 +153,8 @@ module _ (layout : KeyLayout) where
 
   module _ (place code : ℕ) (bytes : List ℕ) (rep : Option Repeat) (held : List Bool) where
     pub press_moves : (only : Bool) → IsKeyAt place code only → nat_lt 16 (length bytes + length (code ∷ [])) ≡ false
-        → Moves layout ((place, true) ∷ []) bytes rep held (bytes ++ code ∷ []) (pressed_at layout.rate place) (turned place true held)
+        → Moves layout ((place, true) ∷ []) bytes rep held (bytes ++ code ∷ []) (pressed_at layout.rate place)
+        (turned place true held)
     press_moves only k room = record {
       layers = layers_of_press (is_fn_place layout) place k.in_matrix k.fn_is;
       keyed = λ last started.
@@ -146,11 +168,13 @@ module _ (layout : KeyLayout) where
       keyed = λ last started.
           ap (λ v. edges_if true (keys_of layout) v (typing layout.rate last bytes started rep held))
           (release_layered (is_fn_place layout) place k.in_matrix)
-          ∙ ends_silently (keys_of layout) layout.rate last bytes started rep held place code k.code_is k.fn_is k.only_is;
+          ∙ ends_silently (keys_of layout) layout.rate last bytes started rep held place code k.code_is k.fn_is
+          k.only_is;
     }
 
     pub break_moves : IsKeyAt place code false → nat_lt 16 (length bytes + length (0xF0 ∷ code ∷ [])) ≡ false
-        → Moves layout ((place, false) ∷ []) bytes rep held (bytes ++ 0xF0 ∷ code ∷ []) (ended_at place rep) (turned place false held)
+        → Moves layout ((place, false) ∷ []) bytes rep held (bytes ++ 0xF0 ∷ code ∷ []) (ended_at place rep)
+        (turned place false held)
     break_moves k room = record {
       layers = layers_of_release (is_fn_place layout) place k.fn_is;
       keyed = λ last started.
@@ -173,7 +197,8 @@ at_work rate line rep held = record {
 abbrev pub staged : LayeredKeyboard → Pc → Calm LayeredKeyboard
 staged k q = record { keys = k; pc = q; shown = 0 }
 
-meets_is : (bytes : List ℕ) (layout : KeyLayout) (rate last : ℕ) (started : Bool) (q : Pc) (rep : Option Repeat) (held : List Bool)
+meets_is : (bytes : List ℕ) (layout : KeyLayout) (rate last : ℕ) (started : Bool) (q : Pc) (rep : Option Repeat)
+    (held : List Bool)
     → meets (keyboard layout)
     (at_work rate (record { last = last; bytes = bytes; started = started; pc = q }) rep held) ≡ passing bytes
 meets_is [] layout rate last started q rep held = refl
@@ -204,7 +229,8 @@ module _ (layout : KeyLayout) (h : KeyHistory) (ss : List Stroke) (host : h.host
   next q =
       ap (λ v. staged ((keyboard layout).ticked v edges
       (layers_of (typing layout.rate before.last before.bytes before.started rep held))) q) met
-      ∙ ap (λ v. staged (record { keyboard = v; layers = all_layers_after (is_fn_place layout) edges no_layers }) q) keyed
+      ∙ ap (λ v. staged (record { keyboard = v; layers = all_layers_after (is_fn_place layout) edges no_layers }) q)
+      keyed
       ∙ ap (λ v. staged (record {
         keyboard = typing layout.rate after.last bytes' after.started rep' held';
         layers = v;
@@ -216,10 +242,12 @@ module _ (layout : KeyLayout) (h : KeyHistory) (ss : List Stroke) (host : h.host
   said_is : items_of_meeting (meets (keyboard layout) (at_work layout.rate before rep held)) before.pc ≡ items
   said_is = ap (λ v. items_of_meeting v before.pc) met ∙ p.said
 
-  pub turn : n < 86 + 10 * before.pc.done → AreKept items → (words' : List (Option ℕ)) → words ++ taken_of items ≡ words'
+  pub turn : n < 86 + 10 * before.pc.done → AreKept items → (words' : List (Option ℕ)) → words ++ taken_of items
+      ≡ words'
       → Reached (keyboard layout) h ss host (suc n) (at_work layout.rate (with_bytes after bytes') rep' held') words'
   turn l kept words' w =
-      subst (λ v. Reached (keyboard layout) h ss host (suc n) (at_work layout.rate (with_bytes after bytes') rep' held') v) w
+      subst (λ v. Reached (keyboard layout) h ss host (suc n)
+      (at_work layout.rate (with_bytes after bytes') rep' held') v) w
       (ticks_on (keyboard layout) h ss host n (at_work layout.rate before rep held)
       (at_work layout.rate (with_bytes after bytes') rep' held') words edges items sees r l
       (ap (λ v. staged ((keyboard layout).ticked (meets (keyboard layout) (at_work layout.rate before rep held)) edges
@@ -231,7 +259,12 @@ module _ (layout : KeyLayout) (h : KeyHistory) (ss : List Stroke) (host : h.host
       → AreKept (items ++ Taken (first_word after.pc.bios) ∷ []) → (words' : List (Option ℕ))
       → words ++ taken_of (items ++ Taken (first_word after.pc.bios) ∷ []) ≡ words'
       → Reached (keyboard layout) h ss host (suc n)
-      (at_work layout.rate (record { last = after.last; bytes = bytes'; started = after.started; pc = took after.pc }) rep' held') words'
+      (at_work layout.rate (record {
+        last = after.last;
+        bytes = bytes';
+        started = after.started;
+        pc = took after.pc;
+      }) rep' held') words'
   taking_turn at l kept words' w =
       let end : Line = record { last = after.last; bytes = bytes'; started = after.started; pc = took after.pc } in
       subst (λ v. Reached (keyboard layout) h ss host (suc n) (at_work layout.rate end rep' held') v) w
@@ -240,6 +273,7 @@ module _ (layout : KeyLayout) (h : KeyHistory) (ss : List Stroke) (host : h.host
       (ap (λ v. staged ((keyboard layout).ticked (meets (keyboard layout) (at_work layout.rate before rep held)) edges
       (layers_of (typing layout.rate before.last before.bytes before.started rep held))) (took v)) met_pc
       ∙ next (took after.pc))
-      (ap (λ v. v ++ Taken (first_word (met_by (meets (keyboard layout) (at_work layout.rate before rep held)) before.pc).bios) ∷ []) said_is
+      (ap (λ v. v ++ Taken (first_word
+      (met_by (meets (keyboard layout) (at_work layout.rate before rep held)) before.pc).bios) ∷ []) said_is
       ∙ ap (λ (v : Pc). items ++ Taken (first_word v.bios) ∷ []) met_pc)
       kept)
