@@ -188,17 +188,17 @@ fn a_line_outside_the_grammar_is_refused(rt: HostRuntime) -> Result<(), Fail> {
 
 /// Scripts whose first fault is in a later line, or is a probe that isn't there. No line before it is obeyed.
 static REFUSED: [(&str, &str); 9] = [
-    ("arm 3 000 00", "input: script line 1 fault 2\n"),
-    ("tell 3", "input: script line 1 fault 2\n"),
-    ("drop 3", "input: script line 1 fault 2\n"),
+    ("arm 4 000 00", "input: script line 1 fault 2\n"),
+    ("tell 4", "input: script line 1 fault 2\n"),
+    ("drop 4", "input: script line 1 fault 2\n"),
     ("tell 999999999", "input: script line 1 fault 2\n"),
     (
-        "step 0\ndrop 1\nram 00\ntell 2",
+        "step 0\ndrop 1\nram 00\ntell 3",
         "input: script line 4 fault 2\n",
     ),
     (
-        "drop 0\ndrop 0\ndrop 0\ndrop 0\n",
-        "input: script line 4 fault 2\n",
+        "drop 0\ndrop 0\ndrop 0\ndrop 0\ndrop 0\n",
+        "input: script line 5 fault 2\n",
     ),
     // A hunt never drops a probe.
     (
@@ -208,7 +208,7 @@ static REFUSED: [(&str, &str); 9] = [
     // Blank lines count.
     ("\nshow\n\nstop\n", "input: script line 4 fault 1\n"),
     // Of two faults the first line's is told, and in a line its form comes first.
-    ("show\ndrop 3 \ntell 3\n", "input: script line 2 fault 1\n"),
+    ("show\ndrop 3 \ntell 4\n", "input: script line 2 fault 1\n"),
 ];
 
 #[test]
