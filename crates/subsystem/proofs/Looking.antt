@@ -3,7 +3,8 @@ use Rattle.std.proofs.Common.{◌≡◌, ℕ, suc, List, map, Some, Ok, Err, OnE
 use Rattle.std.specs.declared.option.Option.{Option}
 use Rattle.std.specs.declared.result.Result.{Result}
 use Rattle.fw_debug.specs.Looks.{looked_at, looks}
-use Rattle.fw_debug.specs.Probes.{Watch, looked}
+use Rattle.fw_debug.proofs.Sights.{same_sight}
+use Rattle.fw_debug.specs.Probes.{Sight, Watch, looked, sight_in, sight_of}
 use Rattle.joint_feed.proofs.Going.{here}
 use Rattle.joint_feed.specs.Course.{IsOnCourse}
 use Rattle.joint_feed.specs.Stories.{Story, state_at, story}
@@ -11,16 +12,16 @@ use Rattle.joint_feed.specs.declared.course.Course.{Course}
 use Rattle.joint_run.specs.Joint.{Beside}
 use Rattle.joint_run.specs.Run.{World}
 use Rattle.key_file.specs.Histories.{KeyHistory}
-use Rattle.mcs48_core.specs.Cpu.{Cpu}
 use Rattle.subsystem.specs.Looking.{HaveLookedAtSome}
 
 -- a look at the machine is one at the state that its last step led to
 pub looked_next : (s : Story) (it : Course) (on : IsOnCourse s it) (k step : ℕ) (before after : List Watch) → it.joint.steps ≡ suc k → step ≡ it.joint.steps
-    → after ≡ map (looked step it.joint.mcu) before → after ≡ looked_at (suc k) (state_at s (suc k)) before
+    → after ≡ map (looked step (sight_of it.joint)) before → after ≡ looked_at (suc k) (state_at s (suc k)) before
 looked_next s it on k step before after steps at is =
     let there : state_at s (suc k) ≡ Some on.world = subst (λ (n : ℕ). state_at s n ≡ Some on.world) steps (here s it on) in
-    is ∙ ap (λ (n : ℕ). map (looked n it.joint.mcu) before) (at ∙ steps)
-    ∙ ap (λ (m : Cpu). map (looked (suc k) m) before) on.in_run.mcu
+    let sight : sight_of it.joint ≡ sight_in on.world = same_sight it.joint on.world on.in_run.mcu on.in_run.outside on.in_run.cycle in
+    is ∙ ap (λ (n : ℕ). map (looked n (sight_of it.joint)) before) (at ∙ steps)
+    ∙ ap (λ (v : Sight). map (looked (suc k) v) before) sight
     ∙ sym (ap (λ (o : Option (World Beside)). looked_at (suc k) o before) there)
 
 -- where no step was made they have looked at as many

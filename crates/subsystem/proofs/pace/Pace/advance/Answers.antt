@@ -1,6 +1,6 @@
 use Rattle.std.proofs.Common.{◌≡◌, suc, None, refl, sym, subst, ◌∙◌, arith}
 use Rattle.fw_debug.proofs.Over.{seen_map}
-use Rattle.fw_debug.specs.Probes.{looked}
+use Rattle.fw_debug.specs.Probes.{looked, sight_of}
 use Rattle.joint_feed.specs.Course.{IsOnCourse, IsSaid}
 use Rattle.joint_feed.specs.Stories.{state_at, story}
 use Rattle.subsystem.proofs.Advancing.{never_stuck, few_starts, so_far_again, said_more}
@@ -67,4 +67,4 @@ returns-clause-looked g c =
     let on : IsOnCourse (story c.args.image.now.bytes h) new =
     subst (λ bytes. IsOnCourse (story bytes h) new) c.requires.judged.stands.course.image c.in-Ok.ensures.on.0 in
     looked_next (story c.args.image.now.bytes h) new on k c.steps-steps.result _ _ c.in-Ok.ensures.on.1 c.steps-steps.ensures.steps
-    (c.look_all.ensures.looked ∙ sym (seen_map _ (looked c.steps-steps.result new.joint.mcu) c.args.probes.now.items))
+    (c.look_all.ensures.looked ∙ sym (seen_map _ (looked c.steps-steps.result (sight_of new.joint)) c.args.probes.now.items))
