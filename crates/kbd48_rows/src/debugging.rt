@@ -129,6 +129,23 @@ fn each_form_of_a_line_is_obeyed(rt: HostRuntime) -> Result<(), Fail> {
     Ok(())
 }
 
+#[test]
+fn the_fourth_probe_counts_transfers(rt: HostRuntime) -> Result<(), Fail> {
+    let outcome = outcome_of(
+        rt.alloc(),
+        KEYS,
+        b"arm 3 000 1C\nstep 999999999\ntell 3\n",
+        &[],
+    )?;
+    assert_eq!(rt; outcome.exit, Exit::Done);
+    let text = outcome.sink.taken();
+    let Some(end) = text.iter().position(|byte| *byte == b'p') else {
+        panic!(rt; "no tally")
+    };
+    assert!(rt; text[end..].starts_with(b"probe 3 count 2 first "));
+    Ok(())
+}
+
 /// Lines outside the grammar.
 static FORMLESS: [&str; 14] = [
     "step",

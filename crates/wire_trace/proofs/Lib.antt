@@ -1,3 +1,2 @@
-pub mod Behind
-pub mod Hearing
+pub mod Sampled
 pub mod Whole

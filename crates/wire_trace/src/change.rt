@@ -1,6 +1,6 @@
 //! The lines that a change of the wires is.
 
-ghost use Rattle.std.specs.Prelude.{◌≡◌, ◌+◌, ◌<◌, ◌≤◌, ◌^◌, ◌++◌, ◌∷◌, [], length};
+ghost use Rattle.std.specs.Prelude.{◌≡◌, ◌+◌, ◌≤◌, ◌++◌, ◌∷◌, []};
 ghost use Rattle.arrayvec.specs.ArrayVec.{array_vec_len};
 ghost use Rattle.wire_trace.specs.Text.{change_text, comment, differ, level_text, turns};
 
@@ -10,7 +10,7 @@ use fw_debug::Transfer;
 use short_text::{append, begun};
 
 /// The lines of one sample. None has more.
-pub(crate) type ChangeText = ArrayVec<u8, 64>;
+pub(crate) type ChangeText = ArrayVec<u8, 80>;
 
 /// A wire turns.
 fn turns(before: bool, now: bool) -> bool
@@ -28,7 +28,7 @@ pub(crate) fn differ(before: Lines, now: Lines) -> bool
 
 /// Appends the new level of the wire with this letter, if it turns.
 fn push_level(text: &mut ChangeText, wire: u8, before: bool, now: bool)
-    requires room { array_vec_len text.old + 3 ≤ 64 }
+    requires room { array_vec_len text.old + 3 ≤ 80 }
     ensures text { text.new.items ≡ text.old.items ++ level_text (wire ∷ []) before now }
     ensures short { array_vec_len text.new ≤ array_vec_len text.old + 3 }
 {
@@ -40,7 +40,7 @@ fn push_level(text: &mut ChangeText, wire: u8, before: bool, now: bool)
 
 /// Appends the comment of a transfer.
 fn push_comment(text: &mut ChangeText, transfer: Option<Transfer>)
-    requires room { array_vec_len text.old + 26 ≤ 64 }
+    requires room { array_vec_len text.old + 26 ≤ 80 }
     ensures text { text.new.items ≡ text.old.items ++ comment transfer }
 {
     if let Some(transfer) = transfer {
@@ -64,11 +64,11 @@ pub(crate) fn change(
     now: Lines,
     transfer: Option<Transfer>,
 ) -> ChangeText
-    requires soon { cycle < 2 ^ 40 }
     ensures { result.items ≡ change_text cycle before now transfer }
 {
     let mut text = begun(b"#");
-    append(&mut text, itoa::Buffer::new().format(25 * cycle).as_bytes());
+    let time = 25 * u128::from(cycle);
+    append(&mut text, itoa::Buffer::new().format(time).as_bytes());
     append(&mut text, b"\n");
     push_level(&mut text, b'c', before.clk, now.clk);
     push_level(&mut text, b'd', before.dat, now.dat);

@@ -1,6 +1,6 @@
 //! A sample of the wires, put into a sink.
 
-ghost use Rattle.std.specs.Prelude.{◌≡◌, ◌<◌, ◌^◌, true, OnErr, OnOk};
+ghost use Rattle.std.specs.Prelude.{◌≡◌, true, OnErr, OnOk};
 ghost use Rattle.fw_debug.specs.Transfers.{heard, is_behind, sample};
 ghost use Rattle.io_edge.specs.Faults.{Rose};
 ghost use Rattle.io_edge.specs.Said.{TakesAll, TakesPart};
@@ -20,7 +20,6 @@ pub(crate) fn put_sample<K: Sink>(
     lines: Lines,
 ) -> Result<(), SinkFault>
     requires rises { is_behind cycle decoder.old.last ≡ true }
-    requires soon { cycle < 2 ^ 40 }
     ensures heard { decoder.new ≡ heard (sample cycle lines) decoder.old }
     ensures all { OnOk result (TakesAll (K.taken out.old) (K.taken out.new) (sample_text (sample cycle lines) decoder.old)) }
     ensures steady { OnOk result (K.faults out.new ≡ K.faults out.old) }
