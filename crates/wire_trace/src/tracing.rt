@@ -24,7 +24,8 @@ use std::alloc::Global;
 use subsystem::{Engine, Pace};
 
 /// What stands before the first sample.
-const HEADER: &[u8] = b"$timescale 100 ns $end\n$scope module kbd $end\n$var wire 1 c clock $end\n$var wire 1 d data $end\n$upscope $end\n$enddefinitions $end\n#0\n1c\n1d\n";
+const HEADER: &[u8] =
+    b"$timescale 100 ns $end\n$scope module kbd $end\n$var wire 1 c clock $end\n$var wire 1 d data $end\n$upscope $end\n$enddefinitions $end\n#0\n1c\n1d\n";
 
 /// Puts what stands before the first sample.
 fn put_header<K: Sink>(out: &mut K) -> Result<(), SinkFault>
