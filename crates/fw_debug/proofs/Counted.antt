@@ -8,7 +8,7 @@ use Rattle.joint_feed.specs.Stories.{Story, state_at}
 use Rattle.fw_debug.specs.Counts.{counted_between}
 use Rattle.fw_debug.specs.CountLaw.{LooksCount, IsCounted, WalkCounts, HuntCounts}
 use Rattle.fw_debug.specs.Looks.{looked_at}
-use Rattle.fw_debug.specs.Probes.{Watch, first_met}
+use Rattle.fw_debug.specs.Probes.{Watch, first_met, sight_in}
 use Rattle.fw_debug.specs.Sessions.{Debug, Hunted, is_over, next_from, next_state, stepped_to, walk, hunt}
 use Rattle.fw_debug.proofs.Counting.{counted_both, counted_nowhere, counted_once, looked_if, map_as, map_same}
 
@@ -74,10 +74,10 @@ hit_or_on s n d w None one more = counted_on s d (stepped_to w d) (hunt s n (ste
 hunt_from : (s : Story) (n : ℕ) (d : Debug) (o : Option (World Beside)) → next_state s d.steps ≡ o → ((w : World Beside) → IsCounted s (stepped_to w d) (hunt s n (stepped_to w d)).debug)
     → IsCounted s d (elim o as (λ x. Hunted) [
       | None ↦ record { debug = d; hit = None }
-      | Some w ↦ elim (first_met 0 w.cpu d.probes) as (λ x. Hunted) [ Some probe ↦ record { debug = stepped_to w d; hit = Some probe } | None ↦ hunt s n (stepped_to w d) ]
+      | Some w ↦ elim (first_met 0 (sight_in w) d.probes) as (λ x. Hunted) [ Some probe ↦ record { debug = stepped_to w d; hit = Some probe } | None ↦ hunt s n (stepped_to w d) ]
     ]).debug
 hunt_from s n d None next more = counted_still s d
-hunt_from s n d (Some w) next more = hit_or_on s n d w (first_met 0 w.cpu d.probes) (counted_step s d w next) (more w)
+hunt_from s n d (Some w) next more = hit_or_on s n d w (first_met 0 (sight_in w) d.probes) (counted_step s d w next) (more w)
 
 pub hunt_counts : HuntCounts
 hunt_counts s zero d = counted_still s d

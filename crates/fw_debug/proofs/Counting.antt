@@ -1,23 +1,24 @@
 -- What a probe counts through several steps is what it counts through the first and then through the others.
 use Rattle.std.proofs.Common.{cond, ◌≡◌, ◌≤◌, ℕ, zero, suc, ◌+◌, ◌-◌, ◌^◌, Bool, true, false, List, [], ◌∷◌, ◌++◌, length, length-append, map, Some, None, refl, ap, sym, ◌∙◌, arith}
-use Rattle.std.specs.Prelude.{min, slice_get}
-use Rattle.std.specs.List.{filter, range_with_len}
+use Rattle.std.specs.Prelude.{if◌then◌else◌, min, slice_get}
 use Rattle.std.specs.declared.option.Option.{Option}
-use Rattle.std.proofs.lemmas.List.Elements.{filter-append}
+use Rattle.std.proofs.lemmas.List.{append_assoc}
 use Rattle.joint_run.specs.Joint.{Beside}
 use Rattle.joint_run.specs.Run.{World}
 use Rattle.joint_feed.specs.Stories.{Story, state_at}
-use Rattle.fw_debug.specs.Counts.{meets_if, met_between, grown, or_later, with_met, counted_between}
+use Rattle.fw_debug.specs.declared.tally.Arms.{Arms}
+use Rattle.fw_debug.specs.Counts.{meets_if, hears_if, met_from, ear_from, met_between, ear_between, grown, or_later, with_met, counted_between}
 use Rattle.fw_debug.specs.CountLaw.{CountsFromNone}
-use Rattle.fw_debug.specs.Probes.{Watch, meets, looked}
+use Rattle.fw_debug.specs.Probes.{Watch, listening, looked, meets, sight_in}
 use Rattle.fw_debug.specs.Tallies.{noted, or_step, one_more}
+use Rattle.fw_debug.specs.Transfers.{Ear}
 
--- what a probe counted, part by part
-abbrev pub as_counted : Watch → ℕ → Option ℕ → Watch
-as_counted w count first = record { kind = w.kind; counted = record { arms = w.counted.arms; count = count; first = first } }
+-- what a probe counted and heard, part by part
+abbrev pub as_counted : Watch → ℕ → Option ℕ → Ear → Watch
+as_counted w count first ear = record { kind = w.kind; counted = record { arms = w.counted.arms; count = count; first = first }; ear = ear }
 
-pub same_counts : (w : Watch) (m n : ℕ) (f g : Option ℕ) → m ≡ n → f ≡ g → as_counted w m f ≡ as_counted w n g
-same_counts w m n f g d e = ap (λ (k : ℕ). as_counted w k f) d ∙ ap (as_counted w n) e
+pub same_counts : (w : Watch) (m n : ℕ) (f g : Option ℕ) (a b : Ear) → m ≡ n → f ≡ g → a ≡ b → as_counted w m f a ≡ as_counted w n g b
+same_counts w m n f g a b d e h = ap (λ (k : ℕ). as_counted w k f a) d ∙ ap (λ (o : Option ℕ). as_counted w n o a) e ∙ ap (as_counted w n g) h
 
 grown_twice : (top count m n : ℕ) → min (min (count + suc m) top + suc n) top ≡ min (count + suc (m + suc n)) top
 grown_twice top count m n = omega arith
@@ -38,64 +39,96 @@ later_by None (x ∷ a) b = refl
 later_by (Some y) (x ∷ a) b = refl
 
 -- no step
-pub with_none : (w : Watch) → with_met [] w ≡ w
-with_none w = ap (λ (f : Option ℕ). as_counted w w.counted.count f) (later_none w.counted.first)
+pub with_none : (w : Watch) (ear : Ear) → with_met [] ear w ≡ as_counted w w.counted.count w.counted.first ear
+with_none w ear = ap (λ (f : Option ℕ). as_counted w w.counted.count f ear) (later_none w.counted.first)
 
 -- some steps, and then others
-pub with_both : (a b : List ℕ) (w : Watch) → with_met (a ++ b) w ≡ with_met b (with_met a w)
-with_both a b w =
+pub with_both : (a b : List ℕ) (ear mid : Ear) (w : Watch) → with_met (a ++ b) ear w ≡ with_met b ear (with_met a mid w)
+with_both a b ear mid w =
     let count : grown w.counted.count (length (a ++ b)) ≡ grown (grown w.counted.count (length a)) (length b) =
     ap (grown w.counted.count) (length-append a b) ∙ grown_by w.counted.count (length a) (length b) in
-    same_counts w _ _ _ _ count (later_by w.counted.first a b)
+    same_counts w _ _ _ _ ear ear count (later_by w.counted.first a b) refl
 
-range_both : (a m n : ℕ) → range_with_len a (m + n) ≡ range_with_len a m ++ range_with_len (a + m) n
-range_both a zero n = let d : 0 + n ≡ n = omega arith in let e : a ≡ a + 0 = omega arith in ap (range_with_len a) d ∙ ap (λ (k : ℕ). range_with_len k n) e
-range_both a (suc m) n =
-    let d : suc m + n ≡ suc (m + n) = omega arith in
-    let e : a + 1 + m ≡ a + suc m = omega arith in
-    ap (range_with_len a) d ∙ ap (λ (r : List ℕ). a ∷ r) (range_both (a + 1) m n) ∙ ap (λ (k : ℕ). a ∷ (range_with_len (a + 1) m ++ range_with_len k n)) e
+module _ (s : Story) (kind : ℕ) (arms : Option Arms) where
+  -- what is heard up to a step on the way, and then behind it
+  ear_both : (step m n : ℕ) (ear : Ear) → ear_from s kind step (m + n) ear ≡ ear_from s kind (step + m) n (ear_from s kind step m ear)
+  ear_both step zero n ear =
+      let d : 0 + n ≡ n = omega arith in
+      let e : step ≡ step + 0 = omega arith in
+      ap (λ (k : ℕ). ear_from s kind step k ear) d ∙ ap (λ (k : ℕ). ear_from s kind k n ear) e
+  ear_both step (suc m) n ear =
+      let d : suc m + n ≡ suc (m + n) = omega arith in
+      let e : step + 1 + m ≡ step + suc m = omega arith in
+      let next = hears_if kind (state_at s step) ear in
+      ap (λ (k : ℕ). ear_from s kind step k ear) d ∙ ear_both (step + 1) m n next
+      ∙ ap (λ (k : ℕ). ear_from s kind k n (ear_from s kind (step + 1) m next)) e
 
--- the steps up to one on the way, and those behind it
-pub met_both : (s : Story) (k m n : ℕ) (w : Watch) → k ≤ m → m ≤ n → met_between s k n w ≡ met_between s k m w ++ met_between s m n w
-met_both s k m n w a b =
-    let d : n - k ≡ (m - k) + (n - m) = omega (arith, a, b) in
-    let e : k + 1 + (m - k) ≡ m + 1 = omega (arith, a) in
-    ap (λ (i : ℕ). filter (λ step. meets_if (state_at s step) w) (range_with_len (k + 1) i)) d
-    ∙ ap (filter (λ step. meets_if (state_at s step) w)) (range_both (k + 1) (m - k) (n - m) ∙ ap (λ (i : ℕ). range_with_len (k + 1) (m - k) ++ range_with_len i (n - m)) e)
-    ∙ filter-append (λ step. meets_if (state_at s step) w) (range_with_len (k + 1) (m - k)) (range_with_len (m + 1) (n - m))
+  -- the steps up to one on the way, and those behind it
+  met_both : (step m n : ℕ) (ear : Ear)
+      → met_from s kind arms step (m + n) ear ≡ met_from s kind arms step m ear ++ met_from s kind arms (step + m) n (ear_from s kind step m ear)
+  met_both step zero n ear =
+      let d : 0 + n ≡ n = omega arith in
+      let e : step ≡ step + 0 = omega arith in
+      ap (λ (k : ℕ). met_from s kind arms step k ear) d ∙ ap (λ (k : ℕ). met_from s kind arms k n ear) e
+  met_both step (suc m) n ear =
+      let d : suc m + n ≡ suc (m + n) = omega arith in
+      let e : step + 1 + m ≡ step + suc m = omega arith in
+      let next = hears_if kind (state_at s step) ear in
+      let here : List ℕ = if meets_if kind arms ear (state_at s step) then step ∷ [] else [] in
+      ap (λ (k : ℕ). met_from s kind arms step k ear) d
+      ∙ ap (λ (v : List ℕ). here ++ v) (met_both (step + 1) m n next)
+      ∙ sym (append_assoc here (met_from s kind arms (step + 1) m next) (met_from s kind arms (step + 1 + m) n (ear_from s kind (step + 1) m next)))
+      ∙ ap (λ (k : ℕ). (here ++ met_from s kind arms (step + 1) m next) ++ met_from s kind arms k n (ear_from s kind (step + 1) m next)) e
 
 pub counted_both : (s : Story) (k m n : ℕ) → k ≤ m → m ≤ n → (w : Watch) → counted_between s k n w ≡ counted_between s m n (counted_between s k m w)
-counted_both s k m n a b w = ap (λ (steps : List ℕ). with_met steps w) (met_both s k m n w a b) ∙ with_both (met_between s k m w) (met_between s m n w) w
+counted_both s k m n a b w =
+    let kind = w.kind in
+    let arms = w.counted.arms in
+    let d : n - k ≡ (m - k) + (n - m) = omega (arith, a, b) in
+    let e : k + 1 + (m - k) ≡ m + 1 = omega (arith, a) in
+    let mid = ear_between s k m w in
+    let met : met_between s k n w ≡ met_between s k m w ++ met_from s kind arms (m + 1) (n - m) mid =
+    ap (λ (i : ℕ). met_from s kind arms (k + 1) i w.ear) d ∙ met_both s kind arms (k + 1) (m - k) (n - m) w.ear
+    ∙ ap (λ (i : ℕ). met_between s k m w ++ met_from s kind arms i (n - m) mid) e in
+    let ear : ear_between s k n w ≡ ear_from s kind (m + 1) (n - m) mid =
+    ap (λ (i : ℕ). ear_from s kind (k + 1) i w.ear) d ∙ ear_both s kind arms (k + 1) (m - k) (n - m) w.ear
+    ∙ ap (λ (i : ℕ). ear_from s kind i (n - m) mid) e in
+    ap (λ (steps : List ℕ). with_met steps (ear_between s k n w) w) met
+    ∙ ap (λ (h : Ear). with_met (met_between s k m w ++ met_from s kind arms (m + 1) (n - m) mid) h w) ear
+    ∙ with_both (met_between s k m w) (met_from s kind arms (m + 1) (n - m) mid) (ear_from s kind (m + 1) (n - m) mid) mid w
 
 -- between a step and itself there is none
 pub counted_nowhere : (s : Story) (k : ℕ) (w : Watch) → counted_between s k k w ≡ w
-counted_nowhere s k w = let e : k - k ≡ 0 = omega arith in ap (λ (n : ℕ). with_met (filter (λ step. meets_if (state_at s step) w) (range_with_len (k + 1) n)) w) e ∙ with_none w
+counted_nowhere s k w =
+    let e : k - k ≡ 0 = omega arith in
+    ap (λ (n : ℕ). with_met (met_from s w.kind w.counted.arms (k + 1) n w.ear) (ear_from s w.kind (k + 1) n w.ear) w) e ∙ with_none w w.ear
 
 -- a probe that has looked at a state, if there is one
 abbrev pub looked_if : ℕ → Option (World Beside) → Watch → Watch
 looked_if step None w = w
-looked_if step (Some v) w = looked step v.cpu w
+looked_if step (Some v) w = looked step (sight_in v) w
 
 first_step : (f : Option ℕ) (step : ℕ) → or_later f (Some step) ≡ or_step f step
 first_step None step = refl
 first_step (Some x) step = refl
 
-noted_by : (step : ℕ) (b : Bool) (w : Watch) → with_met (cond b (step ∷ []) []) w ≡ record { kind = w.kind; counted = noted step b w.counted }
-noted_by step true w = ap (λ (f : Option ℕ). as_counted w (one_more w.counted.count) f) (first_step w.counted.first step)
-noted_by step false w = with_none w
+noted_by : (step : ℕ) (b : Bool) (ear : Ear) (w : Watch) → with_met (cond b (step ∷ []) [] ++ []) ear w ≡ record { kind = w.kind; counted = noted step b w.counted; ear = ear }
+noted_by step true ear w = ap (λ (f : Option ℕ). as_counted w (one_more w.counted.count) f ear) (first_step w.counted.first step)
+noted_by step false ear w = with_none w ear
 
-met_if : (step : ℕ) (o : Option (World Beside)) (w : Watch) → with_met (cond (meets_if o w) (step ∷ []) []) w ≡ looked_if step o w
-met_if step None w = with_none w
-met_if step (Some v) w = noted_by step (meets v.cpu w) w
+met_if_so : (step : ℕ) (o : Option (World Beside)) (w : Watch)
+    → with_met (cond (meets_if w.kind w.counted.arms w.ear o) (step ∷ []) [] ++ []) (hears_if w.kind o w.ear) w ≡ looked_if step o w
+met_if_so step None w = with_none w w.ear
+met_if_so step (Some v) w = noted_by step (meets (sight_in v) w) (listening w.kind (sight_in v) w.ear) w
 
 -- one step is one look
 pub counted_once : (s : Story) (k : ℕ) (w : Watch) → counted_between s k (suc k) w ≡ looked_if (suc k) (state_at s (suc k)) w
 counted_once s k w =
     let d : suc k - k ≡ 1 = omega arith in
     let e : k + 1 ≡ suc k = omega arith in
-    ap (λ (n : ℕ). with_met (filter (λ step. meets_if (state_at s step) w) (range_with_len (k + 1) n)) w) d
-    ∙ ap (λ (i : ℕ). with_met (cond (meets_if (state_at s i) w) (i ∷ []) []) w) e
-    ∙ met_if (suc k) (state_at s (suc k)) w
+    ap (λ (n : ℕ). with_met (met_from s w.kind w.counted.arms (k + 1) n w.ear) (ear_from s w.kind (k + 1) n w.ear) w) d
+    ∙ ap (λ (i : ℕ). with_met (met_from s w.kind w.counted.arms i 1 w.ear) (ear_from s w.kind i 1 w.ear) w) e
+    ∙ met_if_so (suc k) (state_at s (suc k)) w
 
 pub map_as : {X Y : Type 0} (f g : X → Y) → ((x : X) → f x ≡ g x) → (xs : List X) → map f xs ≡ map g xs
 map_as f g h [] = refl

@@ -1,10 +1,9 @@
--- The first probe that a state meets, one probe after another.
+-- The first probe that is met by what is seen, one probe after another.
 use Rattle.std.proofs.Common.{◌≡◌, ℕ, suc, zero, ◌<◌, ◌+◌, Bool, true, false, length, map, List, [], ◌∷◌, take, drop, get_or, ◌++◌, Some, None, arith, ◌∙◌, ap, sym, refl}
 use Rattle.std.specs.Prelude.{if◌then◌else◌}
 use Rattle.std.specs.declared.option.Option.{Option}
 use Rattle.std.proofs.lemmas.List.{length-map}
-use Rattle.mcs48_core.specs.Cpu.{Cpu}
-use Rattle.fw_debug.specs.Probes.{Watch, meets, first_met, or_met}
+use Rattle.fw_debug.specs.Probes.{Watch, Sight, meets, first_met, or_met}
 use Rattle.fw_debug.proofs.Over.{read_map}
 
 -- behind those that were changed the next one is as it was
@@ -14,7 +13,7 @@ read_seam f [] (suc i) d = refl
 read_seam f (w ∷ ws) (suc i) d = read_seam f ws i d
 
 -- with one probe more
-met_more : (m : Cpu) (n i : ℕ) (ws : List Watch) (d : Watch) → i < length ws
+met_more : (m : Sight) (n i : ℕ) (ws : List Watch) (d : Watch) → i < length ws
     → or_met (first_met n m (take i ws)) (meets m (get_or ws i d)) (n + i) ≡ first_met n m (take (suc i) ws)
 met_more m n i [] d l = absurd (omega (arith, l))
 met_more m n zero (w ∷ ws) d l = let e : n + 0 ≡ n = omega arith in ap (λ (k : ℕ). if meets m w then Some k else None) e
@@ -27,7 +26,7 @@ met_more m n (suc i) (w ∷ ws) d l =
     ]
 
 -- the probe that is looked at next, as it is seen, is the next one of those before the loop
-pub hit_more : {X : Type 0} (see : X → Watch) (m : Cpu) (f : Watch → Watch) (old now : List X) (i : ℕ) (x : X) (met : Bool) (hit : Option ℕ)
+pub hit_more : {X : Type 0} (see : X → Watch) (m : Sight) (f : Watch → Watch) (old now : List X) (i : ℕ) (x : X) (met : Bool) (hit : Option ℕ)
     → i < length now → length now ≡ length old → map see now ≡ map f (take i (map see old)) ++ drop i (map see old) → x ≡ get_or now i x
     → met ≡ meets m (see (get_or now i x)) → hit ≡ first_met 0 m (take i (map see old)) → or_met hit met i ≡ first_met 0 m (take (i + 1) (map see old))
 hit_more see m f old now i x met hit l n inv is looks before =

@@ -5,27 +5,27 @@ use Rattle.joint_run.specs.Joint.{Beside}
 use Rattle.joint_run.specs.Run.{World}
 use Rattle.joint_run.specs.declared.machine.Machine.{Machine}
 use Rattle.joint_feed.specs.Stories.{Story, state_at}
-use Rattle.fw_debug.specs.Probes.{Watch, looked, first_met}
+use Rattle.fw_debug.specs.Probes.{Watch, Sight, looked, first_met, sight_in, sight_of}
 use Rattle.fw_debug.specs.Sessions.{Sitting, Debug, Hunted, debug, next_state, stepped_to, walk, hunt}
 use Rattle.fw_debug.specs.Advance.{IsStateAt, IsAdvanced}
 use Rattle.fw_debug.specs.Making.{IsMadeTo, IsMore}
 
 -- a step that was made, behind which each probe looked
 pub made : (old new : Sitting) (before after : List Watch) (step : ℕ) (m : Machine) (r : Option ℕ) → IsAdvanced old true new → IsStateAt new m → step ≡ new.steps
-    → after ≡ map (looked step m.mcu) before → r ≡ first_met 0 m.mcu before → (x : IsMadeTo old before new after) × (first_met 0 x.world.cpu before ≡ r)
+    → after ≡ map (looked step (sight_of m)) before → r ≡ first_met 0 (sight_of m) before → (x : IsMadeTo old before new after) × (first_met 0 (sight_in x.world) before ≡ r)
 made old new before after step m r on at is looks hit =
     let w : World Beside = on.1 in
     let steps : new.steps ≡ suc old.steps = ap (λ (s : Sitting). s.steps) on.0 in
     let there : state_at new.story new.steps ≡ Some w = ap (λ (s : Sitting). state_at s.story s.steps) on.0 ∙ on.2 in
     let both : Some at.world ≡ Some w = sym at.state ∙ there in
     let same : at.world ≡ w = cc both in
-    let cpu : m.mcu ≡ w.cpu = at.mcu ∙ ap (λ (v : World Beside). v.cpu) same in
-    let seen : after ≡ map (looked (suc old.steps) w.cpu) before =
-    looks ∙ ap (λ (n : ℕ). map (looked n m.mcu) before) (is ∙ steps) ∙ ap (λ p. map (looked (suc old.steps) p) before) cpu in
+    let sight : sight_of m ≡ sight_in w = at.sight ∙ ap sight_in same in
+    let seen : after ≡ map (looked (suc old.steps) (sight_in w)) before =
+    looks ∙ ap (λ (n : ℕ). map (looked n (sight_of m)) before) (is ∙ steps) ∙ ap (λ (p : Sight). map (looked (suc old.steps) p) before) sight in
     let all : debug new after ≡ stepped_to w (debug old before) =
     ap (λ (n : ℕ). debug (record { story = new.story; steps = n }) after) steps ∙ ap (debug (record { story = new.story; steps = suc old.steps })) seen in (
       record { world = w; next = on.3; story = ap (λ (s : Sitting). s.story) on.0; stepped = all },
-      ap (λ p. first_met 0 p before) (sym cpu) ∙ sym hit,
+      ap (λ (p : Sight). first_met 0 p before) (sym sight) ∙ sym hit,
     )
 
 walk_by : (s : Story) (n : ℕ) (d : Debug) (o : Option (World Beside)) → next_state s d.steps ≡ o → walk s (suc n) d ≡ elim o [ None ↦ d | Some w ↦ walk s n (stepped_to w d) ]
@@ -54,15 +54,15 @@ walk_next s n i old new before after all of l m so_far =
 hunt_by : (s : Story) (n : ℕ) (d : Debug) (o : Option (World Beside)) → next_state s d.steps ≡ o → hunt s (suc n) d
     ≡ elim o [
       | None ↦ record { debug = d; hit = None }
-      | Some w ↦ elim (first_met 0 w.cpu d.probes) [ Some probe ↦ record { debug = stepped_to w d; hit = Some probe } | None ↦ hunt s n (stepped_to w d) ]
+      | Some w ↦ elim (first_met 0 (sight_in w) d.probes) [ Some probe ↦ record { debug = stepped_to w d; hit = Some probe } | None ↦ hunt s n (stepped_to w d) ]
     ]
 hunt_by s n d o e =
     ap (λ (v : Option (World Beside)). elim v as (λ x. Hunted) [
       | None ↦ record { debug = d; hit = None }
-      | Some w ↦ elim (first_met 0 w.cpu d.probes) as (λ x. Hunted) [ Some probe ↦ record { debug = stepped_to w d; hit = Some probe } | None ↦ hunt s n (stepped_to w d) ]
+      | Some w ↦ elim (first_met 0 (sight_in w) d.probes) as (λ x. Hunted) [ Some probe ↦ record { debug = stepped_to w d; hit = Some probe } | None ↦ hunt s n (stepped_to w d) ]
     ]) e
 
-hit_by : (s : Story) (n : ℕ) (d : Debug) (w : World Beside) (o : Option ℕ) → first_met 0 w.cpu d.probes ≡ o → next_state s d.steps ≡ Some w → hunt s (suc n) d
+hit_by : (s : Story) (n : ℕ) (d : Debug) (w : World Beside) (o : Option ℕ) → first_met 0 (sight_in w) d.probes ≡ o → next_state s d.steps ≡ Some w → hunt s (suc n) d
     ≡ elim o [ Some probe ↦ record { debug = stepped_to w d; hit = Some probe } | None ↦ hunt s n (stepped_to w d) ]
 hit_by s n d w o f e = hunt_by s n d (Some w) e
     ∙ ap (λ (v : Option ℕ). elim v as (λ x. Hunted) [ Some probe ↦ record { debug = stepped_to w d; hit = Some probe } | None ↦ hunt s n (stepped_to w d) ]) f
@@ -88,13 +88,13 @@ module _ (s : Story) (n i : ℕ) (old new : Sitting) (before after : List Watch)
   one_less = omega (arith, l)
 
   -- a step that hits no probe
-  pub hunt_next : first_met 0 m.world.cpu before ≡ None → hunt s (n - (i + 1)) (debug new after) ≡ all
+  pub hunt_next : first_met 0 (sight_in m.world) before ≡ None → hunt s (n - (i + 1)) (debug new after) ≡ all
   hunt_next none =
       ap (hunt s (n - (i + 1))) m.stepped ∙ sym (hit_by s (n - (i + 1)) (debug old before) m.world None none next)
       ∙ sym (ap (λ (k : ℕ). hunt s k (debug old before)) one_less) ∙ so_far
 
   -- a step that hits one
-  pub hunt_hit : (probe : ℕ) → first_met 0 m.world.cpu before ≡ Some probe → all ≡ came (debug new after) (Some probe)
+  pub hunt_hit : (probe : ℕ) → first_met 0 (sight_in m.world) before ≡ Some probe → all ≡ came (debug new after) (Some probe)
   hunt_hit probe hit =
       sym so_far ∙ ap (λ (k : ℕ). hunt s k (debug old before)) one_less ∙ hit_by s (n - (i + 1)) (debug old before) m.world (Some probe) hit next
       ∙ ap (λ (d : Debug). came d (Some probe)) (sym m.stepped)

@@ -20,6 +20,7 @@ use Rattle.joint_feed.specs.Stories.{Story, state_at, starts_tick}
 use Rattle.fw_debug.specs.Sessions.{sitting, is_over, next_from, next_state, has_ended}
 use Rattle.fw_debug.specs.Stuck.{sticks}
 use Rattle.fw_debug.specs.Advance.{IsStateAt, IsAdvanced}
+use Rattle.fw_debug.proofs.Sights.{same_sight}
 
 none_after : (d : Board) (w : World d.State) (o : Option Stepped) → is_none (after_step d w o) ≡ is_none o
 none_after d w None = refl
@@ -93,7 +94,14 @@ module _ (s : Story) (c : Course) (h : IsOnCourse s c) where
       is ∙ ap (sticks s.bytes) h.in_run.mcu ∙ sym (none_step s.edges s.events s.bytes h.world) ∙ sym (ap is_none (next ∙ step))
 
   pub state_now : IsStateAt (sitting s c.joint.steps) c.joint
-  state_now = record { world = h.world; state = here; mcu = h.in_run.mcu; cycle = h.in_run.cycle; steps = refl }
+  state_now = record {
+    world = h.world;
+    state = here;
+    mcu = h.in_run.mcu;
+    cycle = h.in_run.cycle;
+    steps = refl;
+    sight = same_sight c.joint h.world h.in_run.mcu h.in_run.outside h.in_run.cycle;
+  }
 
 -- the same as an answer of the session, whose image is the one that is run
 pub stays : (s : Story) (old new : Course) (r : Result (Unit {0}) Stuck) → IsOnCourse s old → IsStepOn s old r new → IsOnCourse s new

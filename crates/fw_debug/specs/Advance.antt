@@ -4,15 +4,17 @@ use Rattle.joint_run.specs.Joint.{Beside}
 use Rattle.joint_run.specs.Run.{World}
 use Rattle.joint_run.specs.declared.machine.Machine.{Machine}
 use Rattle.joint_feed.specs.Stories.{state_at}
+use Rattle.fw_debug.specs.Probes.{sight_in, sight_of}
 use Rattle.fw_debug.specs.Sessions.{Sitting, is_over, next_state}
 
--- the machine has the processor and the counts of the run's state after so many steps
+-- the machine has the processor, the counts and the wires of the run's state after so many steps
 pub record IsStateAt (s : Sitting) (m : Machine) : Type 0 where
   pub world : World Beside
   pub state : state_at s.story s.steps ≡ Some world
   pub mcu : m.mcu ≡ world.cpu
   pub cycle : m.cycle ≡ world.cycle
   pub steps : m.steps ≡ s.steps
+  pub sight : sight_of m ≡ sight_in world
 
 -- what is answered of a session is whether its run is over before its next step
 abbrev pub TellsOver : Sitting → Bool → Type 0

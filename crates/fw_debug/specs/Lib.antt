@@ -8,8 +8,10 @@ pub mod Looks
 pub mod Making
 pub mod Obeyed
 pub mod Probes
+pub mod Samples
 pub mod Scripts
 pub mod Sessions
 pub mod Stuck
 pub mod Tallies
 pub mod Told
+pub mod Transfers

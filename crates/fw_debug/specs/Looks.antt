@@ -4,12 +4,12 @@ use Rattle.std.specs.declared.option.Option.{Option}
 use Rattle.joint_run.specs.Joint.{Beside}
 use Rattle.joint_run.specs.Run.{World}
 use Rattle.joint_feed.specs.Stories.{Story, state_at}
-use Rattle.fw_debug.specs.Probes.{Watch, looked}
+use Rattle.fw_debug.specs.Probes.{Watch, looked, sight_in}
 
 -- each of them looks at the state that the step of this number led to, if there is one
 abbrev pub looked_at : ℕ → Option (World Beside) → List Watch → List Watch
 looked_at step None probes = probes
-looked_at step (Some w) probes = map (looked step w.cpu) probes
+looked_at step (Some w) probes = map (looked step (sight_in w)) probes
 
 -- the probes after one look at each of the states that the first k steps lead to, in their order
 abbrev pub looks : Story → ℕ → List Watch → List Watch

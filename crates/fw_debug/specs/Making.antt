@@ -4,7 +4,7 @@ use Rattle.joint_run.specs.Joint.{Beside}
 use Rattle.joint_run.specs.Run.{World}
 use Rattle.fw_debug.specs.declared.stepping.Made.{Made}
 use Rattle.fw_debug.specs.declared.stepping.Made.TheVariants.{Ended, Missed, Hit}
-use Rattle.fw_debug.specs.Probes.{Watch, first_met}
+use Rattle.fw_debug.specs.Probes.{Watch, first_met, sight_in}
 use Rattle.fw_debug.specs.Sessions.{Sitting, debug, next_state, stepped_to}
 
 -- a step was made to this state
@@ -19,9 +19,9 @@ abbrev pub IsMade : Sitting → List Watch → Made → Sitting → List Watch �
 IsMade old before Ended new after =
     (next_state old.story old.steps ≡ None) × (new ≡ old) × (after ≡ before)
 IsMade old before Missed new after =
-    (m : IsMadeTo old before new after) × (first_met 0 m.world.cpu before ≡ None)
+    (m : IsMadeTo old before new after) × (first_met 0 (sight_in m.world) before ≡ None)
 IsMade old before (Hit probe) new after =
-    (m : IsMadeTo old before new after) × (first_met 0 m.world.cpu before ≡ Some probe)
+    (m : IsMadeTo old before new after) × (first_met 0 (sight_in m.world) before ≡ Some probe)
 
 -- the same without what was hit
 abbrev pub IsMore : Sitting → List Watch → Bool → Sitting → List Watch → Type 0

@@ -5,7 +5,7 @@ use Rattle.std.specs.declared.option.Option.{Option}
 use Rattle.joint_run.specs.Joint.{Beside}
 use Rattle.joint_run.specs.Run.{World}
 use Rattle.joint_feed.specs.Stories.{Story, state_at, starts_tick}
-use Rattle.fw_debug.specs.Probes.{Watch, looked, first_met}
+use Rattle.fw_debug.specs.Probes.{Watch, looked, first_met, sight_in}
 
 -- a session without its probes: what is run, and how many steps are made
 pub record Sitting : Type 0 where
@@ -42,7 +42,7 @@ has_ended s steps = is_none (next_state s steps)
 
 -- after a step that leads to this state each probe looks once
 abbrev pub stepped_to : World Beside → Debug → Debug
-stepped_to w d = record { steps = suc d.steps; probes = map (looked (suc d.steps) w.cpu) d.probes }
+stepped_to w d = record { steps = suc d.steps; probes = map (looked (suc d.steps) (sight_in w)) d.probes }
 
 -- so many steps, or as many as the run still has
 abbrev pub walk : Story → ℕ → Debug → Debug
@@ -60,7 +60,7 @@ hunt s zero d = record { debug = d; hit = None }
 hunt s (suc n) d =
     elim (next_state s d.steps) [
       | None ↦ record { debug = d; hit = None }
-      | Some w ↦ elim (first_met 0 w.cpu d.probes) [
+      | Some w ↦ elim (first_met 0 (sight_in w) d.probes) [
         | Some probe ↦ record { debug = stepped_to w d; hit = Some probe }
         | None ↦ hunt s n (stepped_to w d)
       ]

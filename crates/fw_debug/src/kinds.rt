@@ -1,4 +1,4 @@
-//! The three kinds of probes.
+//! The three kinds of probes that look at the processor.
 
 ghost use Rattle.std.specs.Prelude.{◌≡◌, ◌<◌, false, Some, None};
 ghost use Rattle.mcs48_core.specs.Registers.{register};

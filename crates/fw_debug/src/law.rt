@@ -1,7 +1,8 @@
-//! What a probe counts, as laws over the definitions, each a clause of a function that does nothing.
+//! What a probe counts and hears, as laws over the definitions, each a clause of a function that does nothing.
 
 ghost use Rattle.fw_debug.specs.CountLaw.{LooksCount, WalkCounts, HuntCounts};
 ghost use Rattle.fw_debug.specs.CountLaw.{CountsFromNone, LinesCount, CountsSinceArmed, LinesAreObeyed};
+ghost use Rattle.fw_debug.specs.Samples.{CompletesByFalls, KeepsElevenFalls};
 
 /// A probe counts the steps whose state meets it, over every run.
 ///
@@ -20,4 +21,14 @@ pub fn probes_count()
     ensures lines { LinesCount }
     ensures armed { CountsSinceArmed }
     ensures script { LinesAreObeyed }
+{}
+
+/// The last sample and the last eleven falls are enough to tell each transfer.
+///
+/// After samples of the wires, one after another, the decoder keeps the last of them and the last eleven of all their falls
+/// (`kept`); and a sample completes a transfer exactly where it is a fall, and the last eleven of all falls, of which it is
+/// the last, are one (`completed`).
+pub fn transfers_are_heard()
+    ensures kept { KeepsElevenFalls }
+    ensures completed { CompletesByFalls }
 {}

@@ -1,26 +1,28 @@
 //! A probe, whichever it is.
 
 ghost use Rattle.std.specs.Prelude.{◌≡◌, true, map};
-ghost use Rattle.fw_debug.specs.Probes.{Watch, meets, looked, armed, first_met, or_met};
+ghost use Rattle.fw_debug.specs.Probes.{Watch, meets, looked, armed, first_met, or_met, sight_of};
 ghost use Rattle.fw_debug.specs.Tallies.{tells_first};
 
 use crate::tally::Tally;
 use joint_run::Joint;
 
-/// Something that looks at the state after each step of a run, and counts the steps whose state meets what it is armed
-/// with.
+/// Something that looks at the state after each step of a run, with its cycle and the wires, and counts the steps that
+/// meet what it is armed with.
 pub trait Probe: Drop {
     ghost watch: { Self → Watch };
 
-    /// Arms the probe, which counts anew. What `a` and `b` stand for is up to its kind.
+    /// Arms the probe, which counts anew. What `a` and `b` stand for is up to its kind. What it has heard stays.
     fn arm(&mut self, a: u16, b: u8)
         ensures armed { watch self.new ≡ armed a b (watch self.old) };
 
     /// Looks at the state that the step of this number led to: answers whether it meets the probe's arms, and counts it
-    /// if so. A probe that was never armed is never met. A count at the greatest value stays there.
+    /// if so. A probe that was never armed is never met. A count at the greatest value stays there. A probe that listens
+    /// to the wires hears them, armed or not, unless the cycle isn't greater than at its last sample: then it hears and
+    /// counts nothing.
     fn look(&mut self, step: u64, joint: &Joint) -> bool
-        ensures looked { watch self.new ≡ looked step joint.now.mcu (watch self.old) }
-        ensures hit { result ≡ meets joint.now.mcu (watch self.old) };
+        ensures looked { watch self.new ≡ looked step (sight_of joint.now) (watch self.old) }
+        ensures hit { result ≡ meets (sight_of joint.now) (watch self.old) };
 
     /// How many steps it counted, and the first of them; none exactly where it counted none.
     fn tell(&self) -> Tally
@@ -31,8 +33,8 @@ pub trait Probe: Drop {
 
 /// One of them looks.
 fn look_one(probe: &mut Box<dyn Probe>, step: u64, joint: &Joint) -> bool
-    ensures looked { watch probe.new ≡ looked step joint.now.mcu (watch probe.old) }
-    ensures hit { result ≡ meets joint.now.mcu (watch probe.old) }
+    ensures looked { watch probe.new ≡ looked step (sight_of joint.now) (watch probe.old) }
+    ensures hit { result ≡ meets (sight_of joint.now) (watch probe.old) }
 {
     probe.look(step, joint)
 }
@@ -52,8 +54,8 @@ fn or_met(hit: Option<usize>, met: bool, number: usize) -> Option<usize>
 /// first, from 0, that it meets, if it meets one.
 pub fn look_all(probes: &mut Vec<Box<dyn Probe>>, step: u64, joint: &Joint) -> Option<usize>
     ensures looked { map (λ b. watch b) probes.new.items
-        ≡ map (λ b. looked step joint.now.mcu (watch b)) probes.old.items }
-    ensures hit { result ≡ first_met 0 joint.now.mcu (map (λ b. watch b) probes.old.items) }
+        ≡ map (λ b. looked step (sight_of joint.now) (watch b)) probes.old.items }
+    ensures hit { result ≡ first_met 0 (sight_of joint.now) (map (λ b. watch b) probes.old.items) }
 {
     let mut hit = None;
     let mut number = 0;

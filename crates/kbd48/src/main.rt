@@ -2,7 +2,7 @@
 //! top call, and ends with its status.
 #![tactic(auto)]
 
-use fw_debug::{AddressProbe, CellProbe, Probe, RegisterProbe};
+use fw_debug::{AddressProbe, CellProbe, LineProbe, Probe, RegisterProbe};
 use io_edge::{FileShelf, StreamSink};
 use kbd48_app::{Exit, kbd48};
 use std::process::ExitCode;
@@ -26,17 +26,19 @@ fn main(rt: HostRuntime) -> ExitCode {
         Err(_) => return ExitCode::from(Exit::Memory.status()),
     };
     let mut probes: Vec<Box<dyn Probe>> = Vec::new(rt.alloc());
-    // A function that makes a boxed `dyn` and hands it out isn't allowed, so the three are made here.
-    let (Ok(address), Ok(register), Ok(cell)) = (
+    // A function that makes a boxed `dyn` and hands it out isn't allowed, so the four are made here.
+    let (Ok(address), Ok(register), Ok(cell), Ok(line)) = (
         Box::new(rt.alloc(), AddressProbe::new()),
         Box::new(rt.alloc(), RegisterProbe::new()),
         Box::new(rt.alloc(), CellProbe::new()),
+        Box::new(rt.alloc(), LineProbe::new()),
     ) else {
         return ExitCode::from(Exit::Memory.status());
     };
     if probes.push(address).is_err()
         || probes.push(register).is_err()
         || probes.push(cell).is_err()
+        || probes.push(line).is_err()
     {
         return ExitCode::from(Exit::Memory.status());
     }

@@ -129,6 +129,23 @@ fn each_form_of_a_line_is_obeyed(rt: HostRuntime) -> Result<(), Fail> {
     Ok(())
 }
 
+#[test]
+fn the_fourth_probe_counts_transfers(rt: HostRuntime) -> Result<(), Fail> {
+    let outcome = outcome_of(
+        rt.alloc(),
+        KEYS,
+        b"arm 3 000 1C\nstep 999999999\ntell 3\n",
+        &[],
+    )?;
+    assert_eq!(rt; outcome.exit, Exit::Done);
+    let text = outcome.sink.taken();
+    let Some(end) = text.iter().position(|byte| *byte == b'p') else {
+        panic!(rt; "no tally")
+    };
+    assert!(rt; text[end..].starts_with(b"probe 3 count 2 first "));
+    Ok(())
+}
+
 /// Lines outside the grammar.
 static FORMLESS: [&str; 14] = [
     "step",
@@ -188,17 +205,17 @@ fn a_line_outside_the_grammar_is_refused(rt: HostRuntime) -> Result<(), Fail> {
 
 /// Scripts whose first fault is in a later line, or is a probe that isn't there. No line before it is obeyed.
 static REFUSED: [(&str, &str); 9] = [
-    ("arm 3 000 00", "input: script line 1 fault 2\n"),
-    ("tell 3", "input: script line 1 fault 2\n"),
-    ("drop 3", "input: script line 1 fault 2\n"),
+    ("arm 4 000 00", "input: script line 1 fault 2\n"),
+    ("tell 4", "input: script line 1 fault 2\n"),
+    ("drop 4", "input: script line 1 fault 2\n"),
     ("tell 999999999", "input: script line 1 fault 2\n"),
     (
-        "step 0\ndrop 1\nram 00\ntell 2",
+        "step 0\ndrop 1\nram 00\ntell 3",
         "input: script line 4 fault 2\n",
     ),
     (
-        "drop 0\ndrop 0\ndrop 0\ndrop 0\n",
-        "input: script line 4 fault 2\n",
+        "drop 0\ndrop 0\ndrop 0\ndrop 0\ndrop 0\n",
+        "input: script line 5 fault 2\n",
     ),
     // A hunt never drops a probe.
     (
@@ -208,7 +225,7 @@ static REFUSED: [(&str, &str); 9] = [
     // Blank lines count.
     ("\nshow\n\nstop\n", "input: script line 4 fault 1\n"),
     // Of two faults the first line's is told, and in a line its form comes first.
-    ("show\ndrop 3 \ntell 3\n", "input: script line 2 fault 1\n"),
+    ("show\ndrop 3 \ntell 4\n", "input: script line 2 fault 1\n"),
 ];
 
 #[test]

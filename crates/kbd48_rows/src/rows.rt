@@ -1,6 +1,6 @@
 //! A row of the table, and how it is run.
 
-use fw_debug::{AddressProbe, CellProbe, Probe, RegisterProbe};
+use fw_debug::{AddressProbe, CellProbe, LineProbe, Probe, RegisterProbe};
 use io_edge::{MemShelf, MemSink};
 use kbd48_app::{Exit, kbd48};
 use std::alloc::{AllocError, Global};
@@ -78,6 +78,7 @@ pub fn run_into(
     probes.push(Box::new(alloc, AddressProbe::new())?)?;
     probes.push(Box::new(alloc, RegisterProbe::new())?)?;
     probes.push(Box::new(alloc, CellProbe::new())?)?;
+    probes.push(Box::new(alloc, LineProbe::new())?)?;
     let exit = kbd48(alloc, &owned(alloc, words)?, shelf, &mut sink, &mut probes);
     Ok(Outcome { exit, sink })
 }

@@ -2,7 +2,8 @@
 use Rattle.std.proofs.Common.{◌≡◌, ◌<◌, ◌^◌, ℕ, suc, ◌+◌, ◌-◌, false, List, [], ◌++◌, length, map, Some, Ok, refl, ap, sym, subst, ◌∙◌, arith}
 use Rattle.std.proofs.lemmas.List.{append-nil}
 use Rattle.fw_debug.specs.Looks.{looked_at, looks}
-use Rattle.fw_debug.specs.Probes.{Watch, looked}
+use Rattle.fw_debug.proofs.Sights.{same_sight}
+use Rattle.fw_debug.specs.Probes.{Sight, Watch, looked, sight_in, sight_of}
 use Rattle.fw_logic.specs.JointRun.{TellsTick}
 use Rattle.std.specs.declared.option.Option.{Option}
 use Rattle.joint_feed.proofs.Going.{here, on, step, on_again, steps_more as one_more_step, cycle_more, is_said}
@@ -57,18 +58,20 @@ module _ (bytes : List ℕ) (h : KeyHistory) (old : Pace) (new : Machine) (seen 
       subst (λ (k : ℕ). state_at of_it k ≡ Some goes_on.next) next_is
       (subst (λ (b : List ℕ). run_at (joint_board h.edges h.host) b joint_start new.steps ≡ Some goes_on.next) image goes_on.in_run.run)
 
-  pub looked_on : (number : ℕ) (before after : List Watch) → number ≡ new.steps → after ≡ map (looked number new.mcu) before
+  pub looked_on : (number : ℕ) (before after : List Watch) → number ≡ new.steps → after ≡ map (looked number (sight_of new)) before
       → after ≡ looked_at (suc old.course.joint.steps) (state_at of_it (suc old.course.joint.steps)) before
   looked_on number before after at same =
-      same ∙ ap (λ (n : ℕ). map (looked n new.mcu) before) (at ∙ next_is)
-      ∙ ap (λ (m : Cpu). map (looked (suc old.course.joint.steps) m) before) goes_on.in_run.mcu
+      let sight : sight_of new ≡ sight_in goes_on.next =
+      same_sight new goes_on.next goes_on.in_run.mcu goes_on.in_run.outside goes_on.in_run.cycle in
+      same ∙ ap (λ (n : ℕ). map (looked n (sight_of new)) before) (at ∙ next_is)
+      ∙ ap (λ (v : Sight). map (looked (suc old.course.joint.steps) v) before) sight
       ∙ sym (ap (λ (o : Option (World Beside)). looked_at (suc old.course.joint.steps) o before) there)
 
 pub stepped_now : (bytes : List ℕ) (h : KeyHistory) (old new : Pace) (before after : List Watch) (number : ℕ) → IsGoing bytes h old
     → IsJointStep old.course.ahead.due old.course.joint (due_step old.course.ahead.due old.course.joint) (Ok new.course.seen) new.course.joint
     → IsStepOfRun old.course.ahead.due old.course.joint (Ok new.course.seen) new.course.joint → 0 < new.course.seen.cycles → new.course.seen.cycles < 3
     → new.course.ahead ≡ old.course.ahead → new.starts ≡ old.starts → number ≡ new.course.joint.steps
-    → after ≡ map (looked number new.course.joint.mcu) before → IsStepped bytes h old new before after
+    → after ≡ map (looked number (sight_of new.course.joint)) before → IsStepped bytes h old new before after
 stepped_now bytes h old new before after number g is run some few ahead starts at same = record {
   step = is;
   run = run;

@@ -134,6 +134,15 @@ impl<F: Feed> Engine<F> {
         Ok(Engine { image, feed, pace })
     }
 
+    /// The parts of the run, for a caller that makes its steps and keeps something else of them: the image, the feed, and the
+    /// joint machine before the first step, with room for each tick start.
+    pub fn into_parts(self) -> (Image, F, Pace)
+        ensures ready { IsReady result.0.bytes (F.told result.1) result.2 }
+        ensures run { story result.0.bytes (F.told result.1).history ≡ self }
+    {
+        (self.image, self.feed, self.pace)
+    }
+
     /// Makes the joint run from power-on to the first tick start at or after the end stamp, before the step that begins
     /// there, and takes no memory. After each step each probe looks at the state that it led to, and then each line of the
     /// log that arose in the step is put, whole and alone.

@@ -24,5 +24,6 @@ pub use engine::Engine;
 pub use law::{runs_are_alike, runs_are_expected};
 pub use link_model::LogLine;
 pub use outcome::Run;
+pub use pace::Pace;
 pub use printing::print_log;
 pub use running::run;

@@ -1,7 +1,7 @@
 //! The run so far: the joint machine, and the tick starts.
 
-ghost use Rattle.std.specs.Prelude.{◌≡◌, ◌+◌, ◌-◌, ◌++◌, ◌^◌, ◌<◌, ◌≤◌, List, [], length, map, Ok, true, false, nat_le, vec_capacity};
-ghost use Rattle.std.specs.Prelude.{IfOk, OnErr, OnOk};
+ghost use Rattle.std.specs.Prelude.{◌≡◌, ◌+◌, ◌-◌, ◌++◌, ◌^◌, ◌<◌, ◌≤◌, suc, List, [], length, map, Ok, true, false, nat_le};
+ghost use Rattle.std.specs.Prelude.{vec_capacity, IfOk, OnErr, OnOk};
 ghost use Rattle.fw_debug.specs.Looks.{looks};
 ghost use Rattle.fw_debug.specs.Probes.{Watch};
 ghost use Rattle.fw_logic.specs.JointRun.{KeepsTime, TellsTick};
@@ -155,6 +155,27 @@ impl Pace {
     {
         self.glide(image, probes);
         self.course.ahead.count(feed, &self.course.seen);
+    }
+
+    /// Makes one joint step. What it says is left in the course.
+    pub fn step<F: Feed>(&mut self, image: &Image, feed: &mut F)
+        requires accepted { IsAccepted (F.told feed.old).history }
+        requires judged { IsJudged (story image.now.bytes (F.told feed.old).history) false self.old }
+        requires time { let h = (F.told feed.old).history in KeepsTime image.now.bytes h.edges h.host }
+        requires soon { self.old.course.joint.cycle < 2 ^ 31 }
+        requires taken { HasTaken (F.told feed.old) self.old.course.ahead }
+        ensures so_far { IsSoFar (story image.now.bytes (F.told feed.old).history) self.new }
+        ensures steps { self.new.course.joint.steps ≡ suc self.old.course.joint.steps }
+        ensures later { self.old.course.joint.cycle < self.new.course.joint.cycle }
+        ensures starts { self.new.starts ≡ self.old.starts }
+        ensures taken { HasTaken (F.told feed.new) self.new.course.ahead }
+        ensures history { (F.told feed.new).history ≡ (F.told feed.old).history }
+    {
+        match self.course.go_on(feed) {
+            // The kernel never comes to a byte without an instruction.
+            Err(_stuck) => unreachable!(),
+            Ok(()) => {}
+        }
     }
 
     /// The tick of the last start, or 0 where none has started.

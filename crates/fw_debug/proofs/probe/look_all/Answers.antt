@@ -1,12 +1,12 @@
 use Rattle.std.proofs.Common.{◌≡◌, ◌≤◌, ◌<◌, ◌+◌, length, ap, ◌∙◌, arith}
-use Rattle.fw_debug.specs.Probes.{looked, or_met}
+use Rattle.fw_debug.specs.Probes.{looked, or_met, sight_of}
 use Rattle.fw_debug.proofs.Hits.{hit_more}
 use Rattle.fw_debug.proofs.Over.{over_more, over_all_of}
 use Rattle.fw_debug.proofs.probe.look_all.Goals as goal
 
 pub loop-probe-preserved : goal.loop-probe-preserved
 loop-probe-preserved g c =
-    let m = c.args.joint.now.mcu in
+    let m = sight_of c.args.joint.now in
     let l = c.loop-probe in
     let inv = c.loop-probe.invariant in
     let all : length l.probe-items ≡ length c.args.probes.now.items = omega (arith, l.auto.probe-items, c.args.probes.now.ok.0, c.deref_mut-probe-items.ensures.len) in
@@ -23,4 +23,4 @@ returns-clause-looked g c =
     let l = c.loop-probe in
     let len : c.args.probes.now.len ≡ length l.probe-items = omega (arith, l.auto.probe-items, c.args.probes.now.ok.0, c.deref_mut-probe-items.ensures.len) in
     let done : length c.args.probes.now.items ≤ l.probe-index = omega (arith, c.loop-probe-test.false, l.auto.probe-items, c.args.probes.now.ok.0, c.deref_mut-probe-items.ensures.len) in
-    over_all_of _ (looked c.args.step c.args.joint.now.mcu) c.args.probes.now.items l.probe-items _ c.args.probes.now.len l.probe-index len done l.invariant.so_far
+    over_all_of _ (looked c.args.step (sight_of c.args.joint.now)) c.args.probes.now.items l.probe-items _ c.args.probes.now.len l.probe-index len done l.invariant.so_far

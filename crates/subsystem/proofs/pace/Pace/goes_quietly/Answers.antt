@@ -1,7 +1,7 @@
 use Rattle.std.proofs.Common.{◌≡◌, suc, true, false, refl, sym, subst, ◌∙◌, arith}
 use Rattle.std.proofs.lemmas.Bool.{not-true}
 use Rattle.fw_debug.proofs.Over.{seen_map}
-use Rattle.fw_debug.specs.Probes.{looked}
+use Rattle.fw_debug.specs.Probes.{looked, sight_of}
 use Rattle.fw_logic.specs.JointRun.{TellsTick}
 use Rattle.joint_feed.proofs.Going.{no_further}
 use Rattle.joint_feed.specs.Stories.{story}
@@ -28,7 +28,7 @@ returns-then-not-is_silent-clause-stepped g c = λ h is.
     let e = c.in-Ok.ensures in
     stepped_now c.args.image.now.bytes h c.args.self.now (record { course = new; starts = c.args.self.now.starts }) _ _ c.steps-steps.result is
     e.step e.run e.some e.few e.ahead refl c.steps-steps.ensures.steps
-    (c.look_all.ensures.looked ∙ sym (seen_map _ (looked c.steps-steps.result new.joint.mcu) c.args.probes.now.items))
+    (c.look_all.ensures.looked ∙ sym (seen_map _ (looked c.steps-steps.result (sight_of new.joint)) c.args.probes.now.items))
 
 pub returns-clause-stepped : goal.returns-clause-stepped
 returns-clause-stepped g c = λ h is.
@@ -36,7 +36,7 @@ returns-clause-stepped g c = λ h is.
     let e = c.in-Ok.ensures in
     stepped_now c.args.image.now.bytes h c.args.self.now (record { course = new; starts = c.args.self.now.starts }) _ _ c.steps-steps.result is
     e.step e.run e.some e.few e.ahead refl c.steps-steps.ensures.steps
-    (c.look_all.ensures.looked ∙ sym (seen_map _ (looked c.steps-steps.result new.joint.mcu) c.args.probes.now.items))
+    (c.look_all.ensures.looked ∙ sym (seen_map _ (looked c.steps-steps.result (sight_of new.joint)) c.args.probes.now.items))
 
 pub returns-clause-onward : goal.returns-clause-onward
 returns-clause-onward g c = λ h is on.
@@ -46,7 +46,7 @@ returns-clause-onward g c = λ h is on.
     let stepped =
     stepped_now c.args.image.now.bytes h old (record { course = new; starts = old.starts }) _ _ c.steps-steps.result is
     e.step e.run e.some e.few e.ahead refl c.steps-steps.ensures.steps
-    (c.look_all.ensures.looked ∙ sym (seen_map _ (looked c.steps-steps.result new.joint.mcu) c.args.probes.now.items)) in
+    (c.look_all.ensures.looked ∙ sym (seen_map _ (looked c.steps-steps.result (sight_of new.joint)) c.args.probes.now.items)) in
     let silent : c.is_silent.result ≡ true = cc c.if-not-is_silent.false in
     let off : c.at_tick.result ≡ false = not-true c.at_tick.result on in
     one_onward c.args.image.now.bytes h old (record { course = new; starts = old.starts }) _ _ is stepped

@@ -1,0 +1,3 @@
+pub mod Sampled
+pub mod Traced
+pub mod Whole

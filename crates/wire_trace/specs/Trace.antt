@@ -1,0 +1,38 @@
+-- The trace of a run: a sample after each of its steps.
+use Rattle.std.specs.Prelude.{ℕ, zero, suc, List, [], ◌++◌, Some, None}
+use Rattle.std.specs.declared.option.Option.{Option}
+use Rattle.joint_feed.specs.Stories.{Story, state_at}
+use Rattle.joint_run.specs.Joint.{Beside, latch_of}
+use Rattle.joint_run.specs.Run.{World}
+use Rattle.pc_wires.specs.Wires.{wires}
+use Rattle.fw_debug.specs.declared.heard.Sample.{Sample}
+use Rattle.fw_debug.specs.Transfers.{Ear, heard, sample, silence}
+use Rattle.wire_trace.specs.Text.{header, sample_text}
+
+-- the sample that a state is: the cycles that are done, and the wires after the last of them
+abbrev pub sample_in : World Beside → Sample
+sample_in w = sample w.cycle (wires (latch_of w.cpu.p2) w.board.pc)
+
+-- what is kept after the sample of a state, if there is one
+abbrev pub heard_in : Option (World Beside) → Ear → Ear
+heard_in None ear = ear
+heard_in (Some w) ear = heard (sample_in w) ear
+
+-- after the samples of the first k steps
+abbrev pub heard_to : Story → ℕ → Ear
+heard_to s zero = silence
+heard_to s (suc k) = heard_in (state_at s (suc k)) (heard_to s k)
+
+-- what the sample of a state adds, if there is one
+abbrev pub text_in : Option (World Beside) → Ear → List ℕ
+text_in None ear = []
+text_in (Some w) ear = sample_text (sample_in w) ear
+
+-- what the samples of the first k steps add
+abbrev pub changes_to : Story → ℕ → List ℕ
+changes_to s zero = []
+changes_to s (suc k) = changes_to s k ++ text_in (state_at s (suc k)) (heard_to s k)
+
+-- the text after the first k steps
+abbrev pub trace_to : Story → ℕ → List ℕ
+trace_to s k = header ++ changes_to s k

@@ -1,0 +1,116 @@
+//! The trace of a run.
+
+ghost use Rattle.std.specs.Prelude.{◌≡◌, true, Err, OnErr, OnOk};
+ghost use Rattle.fw_compile.specs.Image.{image_of};
+ghost use Rattle.io_edge.specs.Faults.{Rose};
+ghost use Rattle.io_edge.specs.Said.{TakesAll, TakesPart};
+ghost use Rattle.joint_feed.specs.Stories.{story};
+ghost use Rattle.key_file.specs.Accepted.{IsAcceptedFor};
+ghost use Rattle.key_file.specs.Feeds.{Fed};
+ghost use Rattle.subsystem.specs.Progress.{IsJudged, IsReady};
+ghost use Rattle.wire_trace.specs.declared.fault.TraceFault.TheVariants.{Memory, Write};
+ghost use Rattle.wire_trace.specs.Ending.{TakesPrefix, TakesSomeChanges, TakesTrace};
+ghost use Rattle.wire_trace.specs.Text.{header};
+ghost use Rattle.wire_trace.specs.Trace.{changes_to};
+
+use crate::fault::TraceFault;
+use crate::sampling::put_sample;
+use fw_debug::LineDecoder;
+use io_edge::{Sink, SinkFault, say};
+use key_file::Feed;
+use layout_reader::Layout;
+use mcs48_isa::Image;
+use std::alloc::Global;
+use subsystem::{Engine, Pace};
+
+/// What stands before the first sample.
+const HEADER: &[u8] =
+    b"$timescale 100 ns $end\n$scope module kbd $end\n$var wire 1 c clock $end\n$var wire 1 d data $end\n$upscope $end\n$enddefinitions $end\n#0\n1c\n1d\n";
+
+/// Puts what stands before the first sample.
+fn put_header<K: Sink>(out: &mut K) -> Result<(), SinkFault>
+    ensures all { OnOk result (TakesAll (K.taken out.old) (K.taken out.new) header) }
+    ensures steady { OnOk result (K.faults out.new ≡ K.faults out.old) }
+    ensures part { OnErr result (TakesPart (K.taken out.old) (K.taken out.new) header) }
+    ensures failed { OnErr result (Rose (K.faults out.old) (K.faults out.new)) }
+{
+    say(out, HEADER)
+}
+
+/// Goes on from power-on to the run's end, and puts what each sample adds.
+fn put_changes<F: Feed, K: Sink>(
+    pace: &mut Pace,
+    image: &Image,
+    feed: &mut F,
+    out: &mut K,
+) -> Result<(), SinkFault>
+    requires ready { IsReady image.now.bytes (F.told feed.old) pace.old }
+    ensures judged { OnOk result (IsJudged (story image.now.bytes (F.told feed.old).history) true pace.new) }
+    ensures all { let run = story image.now.bytes (F.told feed.old).history in
+        OnOk result (TakesAll (K.taken out.old) (K.taken out.new) (changes_to run pace.new.course.joint.steps)) }
+    ensures steady { OnOk result (K.faults out.new ≡ K.faults out.old) }
+    ensures part { let run = story image.now.bytes (F.told feed.old).history in
+        OnErr result (TakesSomeChanges run (K.taken out.old) (K.taken out.new)) }
+    ensures failed { OnErr result (Rose (K.faults out.old) (K.faults out.new)) }
+{
+    let mut decoder = LineDecoder::new();
+    'steps: while !pace.judge_within(image, feed) {
+        pace.step(image, feed);
+        let cycle = pace.course.joint.cycle();
+        let lines = pace.course.joint.lines();
+        put_sample(out, &mut decoder, cycle, lines)?;
+    }
+    Ok(())
+}
+
+/// Puts the text of a run that is ready.
+fn put_trace<F: Feed, K: Sink>(
+    engine: Engine<F>,
+    out: &mut K,
+) -> Result<(), SinkFault>
+    ensures whole { OnOk result (TakesTrace engine (K.taken out.old) (K.taken out.new)) }
+    ensures steady { OnOk result (K.faults out.new ≡ K.faults out.old) }
+    ensures part { OnErr result (TakesPrefix engine (K.taken out.old) (K.taken out.new)) }
+    ensures failed { OnErr result (Rose (K.faults out.old) (K.faults out.new)) }
+{
+    let (image, feed, pace) = engine.into_parts();
+    let mut feed = feed;
+    let mut pace = pace;
+    put_header(out)?;
+    put_changes(&mut pace, &image, &mut feed, out)
+}
+
+/// Puts the two wires of the run of a layout's compiled image, under the history of a feed of which nothing was taken and
+/// which is accepted for this layout, as a value change dump, each line whole. The wires are sampled after each step of
+/// the run, from power-on to the first tick start at or after the end stamp; each change has its time, in units of 100 ns,
+/// of which a cycle has 25; and a byte that passes over the wires is a comment behind the change that completes it.
+///
+/// On Ok the sink has taken the whole text, and its count of faults is as it was. Write comes only where that count rose:
+/// then the sink has a prefix of the text. After Memory the sink has taken nothing, and its count is as it was; the feed is
+/// given up. All memory is taken before the first step.
+pub fn trace<F: Feed, K: Sink>(
+    alloc: Global,
+    layout: &Layout,
+    feed: F,
+    out: &mut K,
+) -> Result<(), TraceFault>
+    requires no_edge { (F.told feed).edges ≡ 0 }
+    requires no_host { (F.told feed).host ≡ 0 }
+    requires accepted { IsAcceptedFor layout.now (F.told feed).history }
+    ensures whole { let run = story (image_of layout.now) (F.told feed).history in
+        OnOk result (TakesTrace run (K.taken out.old) (K.taken out.new)) }
+    ensures steady { OnOk result (K.faults out.new ≡ K.faults out.old) }
+    ensures part { let run = story (image_of layout.now) (F.told feed).history in
+        result ≡ Err Write → TakesPrefix run (K.taken out.old) (K.taken out.new) }
+    ensures failed { result ≡ Err Write → Rose (K.faults out.old) (K.faults out.new) }
+    ensures nothing { result ≡ Err Memory → K.taken out.new ≡ K.taken out.old }
+    ensures unharmed { result ≡ Err Memory → K.faults out.new ≡ K.faults out.old }
+{
+    match Engine::new(alloc, layout, feed) {
+        Err(_error) => Err(TraceFault::Memory),
+        Ok(engine) => match put_trace(engine, out) {
+            Err(_fault) => Err(TraceFault::Write),
+            Ok(()) => Ok(()),
+        },
+    }
+}
