@@ -1,9 +1,8 @@
 -- What types a text on a layout: the key of each character, and the history in which these keys are struck.
-use Rattle.std.specs.Prelude.{ℕ, ◌+◌, ◌*◌, ◌%◌, ◌==◌, Bool, true, false, not, ◌&&◌, ◌||◌, if◌then◌else◌}
+use Rattle.std.specs.Prelude.{ℕ, suc, ◌+◌, ◌*◌, ◌%◌, ◌==◌, Bool, true, false, not, ◌&&◌, ◌||◌, if◌then◌else◌}
 use Rattle.std.specs.Prelude.{List, [], ◌∷◌, ◌++◌, length, find, codes, Some, None, is_none, option_and_then}
 use Rattle.std.specs.Option.{option_or}
 use Rattle.std.specs.Str.{bytes_eq}
-use Rattle.std.proofs.Common.{suc}
 use Rattle.std.specs.declared.option.Option.{Option}
 use Rattle.pc_tables.specs.declared.words.WordRow.{WordRow}
 use Rattle.pc_tables.specs.Keys.{name_at, scan_at}
