@@ -64,10 +64,7 @@ fn put_changes<F: Feed, K: Sink>(
 }
 
 /// Puts the text of a run that is ready.
-fn put_trace<F: Feed, K: Sink>(
-    engine: Engine<F>,
-    out: &mut K,
-) -> Result<(), SinkFault>
+fn put_trace<F: Feed, K: Sink>(engine: Engine<F>, out: &mut K) -> Result<(), SinkFault>
     ensures whole { OnOk result (TakesTrace engine (K.taken out.old) (K.taken out.new)) }
     ensures steady { OnOk result (K.faults out.new ≡ K.faults out.old) }
     ensures part { OnErr result (TakesPrefix engine (K.taken out.old) (K.taken out.new)) }
