@@ -8,23 +8,24 @@ use Rattle.kbd48_app.specs.declared.kind.Kind.{Kind}
 use Rattle.kbd48_app.specs.declared.kind.Kind.TheVariants as kinds
 use Rattle.kbd48_app.specs.declared.words.Command.{Command}
 use Rattle.kbd48_app.specs.declared.words.Command.TheVariants.{OverFile, OverPair, Debug, Feed}
-use Rattle.kbd48_app.specs.declared.words.PairCommand.TheVariants.{Certify, OverRun}
+use Rattle.kbd48_app.specs.declared.words.PairCommand.TheVariants.{Certify, Spell, OverRun}
 use Rattle.kbd48_app.specs.declared.words.FileCommand.{FileCommand}
 use Rattle.kbd48_app.specs.declared.words.FileCommand.TheVariants.{Step, Listing, Assemble, Compile}
 use Rattle.kbd48_app.specs.Answers.{OnFetched}
 use Rattle.kbd48_app.specs.Causes.{IsStuck}
 use Rattle.kbd48_app.specs.Kinds.{kind_of, limit_of}
-use Rattle.kbd48_app.specs.Plans.{Plan, Gives, Certifies, Runs, Debugs, Fetches, plan_of, file_said, script_next}
+use Rattle.kbd48_app.specs.Plans.{Plan, Gives, Certifies, Spells, Runs, Debugs, Fetches, plan_of, file_said, script_next}
 use Rattle.kbd48_app.specs.Reached.{on_fetched, IsUnserved, IsTooLong, Reads}
 use Rattle.kbd48_app.specs.Says.{exit_said}
 use Rattle.kbd48_app.specs.Words.{name_in, second_in, third_in}
 use Rattle.kbd48_app.proofs.Certs.{fault_led_by_cert}
-use Rattle.kbd48_app.proofs.Ends.{leads, script_exit}
-use Rattle.kbd48_app.proofs.Faults.{Fault, InHex, InAsm, InLayout, InCert, InKeys, InScript, HasFault, exit_at}
+use Rattle.kbd48_app.proofs.Ends.{leads, exit_by}
+use Rattle.kbd48_app.proofs.Faults.{Fault, InHex, InAsm, InLayout, InCert, InKeys, InScript, InText, HasFault, exit_at}
 use Rattle.kbd48_app.proofs.Faults.{faulty_file}
 use Rattle.kbd48_app.proofs.FileExits.{hex_answered, asm_answered, layout_answered, stop_answered}
 use Rattle.kbd48_app.proofs.Reaching.{fetch_read, leads_found}
 use Rattle.kbd48_app.proofs.Runs.{IsReadThird, IsScriptLed, fault_led_by_run}
+use Rattle.kbd48_app.proofs.Texts.{fault_led_by_text}
 
 -- the exit of a fetch, by what the fetch comes to
 fetch_led : (fails long : Type 0) (on : List ℕ → Type 0) (exit : List ℕ → Exit) (wanted : Exit)
@@ -43,6 +44,7 @@ IsOfFile kinds.Layout = Unit {0}
 IsOfFile kinds.Keys = ⊥
 IsOfFile kinds.Cert = ⊥
 IsOfFile kinds.Script = ⊥
+IsOfFile kinds.Text = ⊥
 
 is_of_file : (command : FileCommand) → IsOfFile (kind_of command)
 is_of_file (Step count) = tt
@@ -63,6 +65,7 @@ module _ (n : ℕ) where
   pub unserved : (p : Plan) (shelf : Told) → IsUnserved p shelf → leads n p shelf ≡ exits.Read
   unserved (Gives said) shelf h = absurd h
   unserved (Certifies image text) shelf h = absurd h
+  unserved (Spells layout text) shelf h = absurd h
   unserved (Runs command layout history) shelf h = absurd h
   unserved (Debugs layout history script) shelf h = absurd h
   unserved (Fetches kind name next) shelf h =
@@ -73,6 +76,7 @@ module _ (n : ℕ) where
   pub too_long : (long : Kind) (p : Plan) (shelf : Told) → IsTooLong long p shelf → leads n p shelf ≡ exits.Input
   too_long long (Gives said) shelf h = absurd h
   too_long long (Certifies image text) shelf h = absurd h
+  too_long long (Spells layout text) shelf h = absurd h
   too_long long (Runs command layout history) shelf h = absurd h
   too_long long (Debugs layout history script) shelf h = absurd h
   too_long long (Fetches kind name next) shelf h =
@@ -111,13 +115,15 @@ module _ (n : ℕ) where
       absurd (subst IsOfFile (file_read command words shelf kinds.Keys h.4 h.5).0 (is_of_file command))
   file_led (InScript fault) command words shelf h =
       absurd (subst IsOfFile (file_read command words shelf kinds.Script h.0 h.1).0 (is_of_file command))
+  file_led (InText fault) command words shelf h =
+      absurd (subst IsOfFile (file_read command words shelf kinds.Text h.4 h.5).0 (is_of_file command))
 
   -- the first fault of a script
   script_led : (name : List ℕ) → IsScriptLed n (script_next name)
   script_led name script fault layout history shelf h is =
       elim (fetch_read kinds.Script script kinds.Script name (Debugs layout history) shelf h) [
         | inl this ↦
-            leads_found n kinds.Script name script (Debugs layout history) shelf this.1 ∙ ap script_exit is
+            leads_found n kinds.Script name script (Debugs layout history) shelf this.1 ∙ ap exit_by is
         | inr more ↦ absurd more.2
       ]
 
@@ -130,6 +136,8 @@ module _ (n : ℕ) where
   fault_led fault (Some (OverFile command)) words shelf h = file_led fault command words shelf h
   fault_led fault (Some (OverPair Certify)) words shelf h =
       fault_led_by_cert n (name_in words) (second_in words) shelf fault h
+  fault_led fault (Some (OverPair Spell)) words shelf h =
+      fault_led_by_text n (name_in words) (second_in words) shelf fault h
   fault_led fault (Some (OverPair (OverRun command))) words shelf h =
       fault_led_by_run n (Runs command) (λ read file layout history after third. absurd third)
       (λ script at layout history after third is. absurd third) (name_in words) (second_in words) shelf fault h

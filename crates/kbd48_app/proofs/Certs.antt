@@ -20,7 +20,7 @@ use Rattle.kbd48_app.specs.Plans.{Plan, Certifies, cert_next, pair_plan, with_im
 use Rattle.kbd48_app.specs.Reached.{Reads}
 use Rattle.kbd48_app.specs.Says.{exit_said}
 use Rattle.kbd48_app.proofs.Ends.{leads}
-use Rattle.kbd48_app.proofs.Faults.{Fault, InHex, InAsm, InLayout, InCert, InKeys, InScript, HasFault, exit_at}
+use Rattle.kbd48_app.proofs.Faults.{Fault, InHex, InAsm, InLayout, InCert, InKeys, InScript, InText, HasFault, exit_at}
 use Rattle.kbd48_app.proofs.Reaching.{fetch_read, leads_found}
 
 abbrev plan_from : List ℕ → List ℕ → Plan
@@ -64,6 +64,7 @@ IsOfCert kinds.Layout = ⊥
 IsOfCert kinds.Keys = ⊥
 IsOfCert kinds.Cert = Unit {0}
 IsOfCert kinds.Script = ⊥
+IsOfCert kinds.Text = ⊥
 
 is_of_cert : (read : Kind) (file first second : List ℕ) (shelf : Told)
     → Reads read file (pair_plan Certify first second) shelf → IsOfCert read
@@ -134,6 +135,7 @@ module _ (n : ℕ) (first second : List ℕ) (shelf : Told) where
   fault_led_by_cert (InLayout fault) h = absurd (is_of_cert kinds.Layout h.0 first second shelf h.1)
   fault_led_by_cert (InKeys fault) h = absurd (is_of_cert kinds.Keys h.4 first second shelf h.5)
   fault_led_by_cert (InScript fault) h = absurd (is_of_cert kinds.Script h.0 first second shelf h.1)
+  fault_led_by_cert (InText fault) h = absurd (is_of_cert kinds.Text h.4 first second shelf h.5)
 
   -- where nothing stands in the way, all is said
   pub cert_done : (bytes image text : List ℕ) (proved : Proved) → fetched shelf first (limit_of kinds.Hex) ≡ Found bytes

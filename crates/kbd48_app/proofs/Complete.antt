@@ -15,7 +15,7 @@ use Rattle.kbd48_app.specs.declared.exit.Exit.{Exit}
 use Rattle.kbd48_app.specs.declared.exit.Exit.TheVariants as exits
 use Rattle.kbd48_app.specs.declared.words.Command.{Command}
 use Rattle.kbd48_app.specs.declared.words.Command.TheVariants.{OverFile, OverPair, Debug, Feed}
-use Rattle.kbd48_app.specs.declared.words.PairCommand.TheVariants.{Certify, OverRun}
+use Rattle.kbd48_app.specs.declared.words.PairCommand.TheVariants.{Certify, Spell, OverRun}
 use Rattle.kbd48_app.specs.declared.words.FileCommand.{FileCommand}
 use Rattle.kbd48_app.specs.declared.words.FileCommand.TheVariants.{Step, Listing, Assemble, Compile}
 use Rattle.kbd48_app.specs.Answers.{MayAnswerOf, MayAnswer, MayEndAs}
@@ -29,8 +29,9 @@ use Rattle.kbd48_app.specs.Says.{ByLines, Says, exit_said}
 use Rattle.kbd48_app.specs.Stepping.{Progress, Stands, Stopped, after_steps}
 use Rattle.kbd48_app.specs.Words.{command_of, name_in, second_in, third_in}
 use Rattle.kbd48_app.proofs.Certs.{cert_done}
-use Rattle.kbd48_app.proofs.Ends.{leads, ends_so, script_exit, IsLed}
+use Rattle.kbd48_app.proofs.Ends.{leads, ends_so, exit_by, IsLed}
 use Rattle.kbd48_app.proofs.Runs.{history_exit, leads_both}
+use Rattle.kbd48_app.proofs.Texts.{text_done}
 
 -- the exit of a run
 run_left : (count : ℕ) (run : Progress) → IsLeft (Some (OverFile (Step count))) (exit_said (run_said count run))
@@ -54,6 +55,7 @@ memory_left (OverFile Listing) = inr refl
 memory_left (OverFile Assemble) = inr refl
 memory_left (OverFile Compile) = inr refl
 memory_left (OverPair Certify) = inr refl
+memory_left (OverPair Spell) = inr refl
 memory_left (OverPair (OverRun command)) = inr refl
 memory_left Debug = inr refl
 
@@ -73,9 +75,9 @@ found_left command bytes outcome is sound =
     (sound_left command bytes sound)
 
 -- a script without a fault
-script_done : (n : ℕ) (script : List ℕ) (outcome : Fetched) → outcome ≡ Found script → script_fault n script ≡ None → on_fetched exits.Read exits.Input (λ s. script_exit (script_fault n s)) outcome ≡ exits.Done
+script_done : (n : ℕ) (script : List ℕ) (outcome : Fetched) → outcome ≡ Found script → script_fault n script ≡ None → on_fetched exits.Read exits.Input (λ s. exit_by (script_fault n s)) outcome ≡ exits.Done
 script_done n script outcome is has =
-    ap (on_fetched exits.Read exits.Input (λ s. script_exit (script_fault n s))) is ∙ ap script_exit has
+    ap (on_fetched exits.Read exits.Input (λ s. exit_by (script_fault n s))) is ∙ ap exit_by has
 
 answers_left : (words : List (List ℕ)) (command : Option Command) (shelf after : Option Told) (answer : Answer) (probes left : List Watch) → IsFaultlessAs (length probes) command words shelf → MayEndAs command words shelf answer after probes left → IsLeft command (exit_said answer)
 answers_left words None shelf after answer probes left faultless may = absurd faultless
@@ -92,6 +94,12 @@ answers_left words (Some (OverPair Certify)) (Some shelf) after answer probes le
     let h = faultless in
     answer_left (OverPair Certify) (leads (length probes) p shelf) answer (may_lack p shelf)
     (inl (cert_done (length probes) (name_in words) (second_in words) shelf h.0 h.2 h.4 h.6 h.1 h.3 h.5 h.7))
+    (ends_so p shelf answer after probes left may)
+answers_left words (Some (OverPair Spell)) (Some shelf) after answer probes left faultless may =
+    let p = plan_of (Some (OverPair Spell)) words in
+    let h = faultless in
+    answer_left (OverPair Spell) (leads (length probes) p shelf) answer (may_lack p shelf)
+    (inl (text_done (length probes) (name_in words) (second_in words) shelf h.0 h.4 h.2 h.1 h.3 h.5 h.6))
     (ends_so p shelf answer after probes left may)
 answers_left words (Some (OverPair (OverRun command))) (Some shelf) after answer probes left faultless may =
     let p = plan_of (Some (OverPair (OverRun command))) words in

@@ -1,35 +1,38 @@
 -- How a plan ends over a shelf that tells its files.
-use Rattle.std.proofs.Common.{◌≡◌, ℕ, Bool, true, false, List, length, Some, None, Err, inl, inr, refl, ap, subst, ◌∙◌, ◌⊎◌}
+use Rattle.std.proofs.Common.{◌≡◌, ℕ, Bool, true, false, List, length, Some, None, Err, inl, inr, refl, ap, subst, sym, ◌∙◌, ◌⊎◌}
 use Rattle.std.specs.declared.option.Option.{Option}
 use Rattle.fw_compile.specs.Image.{image_of}
 use Rattle.fw_debug.specs.Probes.{Watch}
 use Rattle.joint_feed.specs.Stories.{Story, story}
+use Rattle.layout_reader.specs.Layouts.{KeyLayout}
+use Rattle.typed_log.specs.Typing.{first_without}
 use Rattle.io_edge.specs.Shelf.{Told, Fetched, Fails, Long, Found, after_fetch, fetched}
 use Rattle.kbd48_app.specs.declared.exit.Exit.{Exit}
 use Rattle.kbd48_app.specs.declared.exit.Exit.TheVariants as exits
 use Rattle.kbd48_app.specs.declared.kind.Kind.{Kind}
 use Rattle.kbd48_app.specs.declared.refusal.Refusal.TheVariants.{Read, TooLong, Memory}
 use Rattle.kbd48_app.specs.declared.words.Command.{Command}
-use Rattle.kbd48_app.specs.Answers.{OnFetched, MayAnswerOf, MayAnswerSession, MayEnd, MayEndAs, MayAnswer}
+use Rattle.kbd48_app.specs.Answers.{OnFetched, MayAnswerOf, MayAnswerSession, MayAnswerText, MayEnd, MayEndAs, MayAnswer}
 use Rattle.kbd48_app.specs.CertTexts.{cert_said}
 use Rattle.kbd48_app.specs.Debugging.{script_fault}
 use Rattle.kbd48_app.specs.Kinds.{limit_of}
-use Rattle.kbd48_app.specs.Plans.{Answer, Plan, Gives, Certifies, Runs, Debugs, Fetches, plan, plan_of}
+use Rattle.kbd48_app.specs.Plans.{Answer, Plan, Gives, Certifies, Spells, Runs, Debugs, Fetches, plan, plan_of}
 use Rattle.kbd48_app.specs.Reached.{on_fetched, may_lack}
 use Rattle.kbd48_app.specs.Says.{Says, exit_said}
 use Rattle.kbd48_app.specs.Words.{command_of}
 
--- the exit of a script, by its first fault
-abbrev pub script_exit : Option (ℕ × ℕ) → Exit
-script_exit None = exits.Done
-script_exit (Some fault) = exits.Input
+-- the exit of a script or a text, by its first fault
+abbrev pub exit_by : Option (ℕ × ℕ) → Exit
+exit_by None = exits.Done
+exit_by (Some fault) = exits.Input
 
 -- the exit where memory isn't wanting, and there are so many probes
 abbrev pub leads : ℕ → Plan → Told → Exit
 leads n (Gives said) shelf = exit_said said
 leads n (Certifies image text) shelf = exit_said (cert_said image text)
+leads n (Spells layout text) shelf = exit_by (first_without layout text)
 leads n (Runs command layout history) shelf = exits.Done
-leads n (Debugs layout history script) shelf = script_exit (script_fault n script)
+leads n (Debugs layout history script) shelf = exit_by (script_fault n script)
 leads n (Fetches kind name next) shelf =
     on_fetched exits.Read exits.Input (λ bytes. leads n (next bytes) (after_fetch shelf)) (fetched shelf name (limit_of kind))
 
@@ -45,16 +48,27 @@ after_fetched kind on exit end answer goes (Found bytes) h = elim h [ inl memory
 weaker : (exit : Exit) (lack : Bool) (answer : Answer) → IsLed exit lack answer → IsLed exit true answer
 weaker exit lack answer h = elim h [ inl same ↦ inl same | inr memory ↦ inr (memory.0, refl) ]
 
-session_led : (first : Option (ℕ × ℕ)) (s : Story) (script : List ℕ) (answer : Answer) (probes left : List Watch) → MayAnswerSession first s script answer probes left → IsLed (script_exit first) true answer
+session_led : (first : Option (ℕ × ℕ)) (s : Story) (script : List ℕ) (answer : Answer) (probes left : List Watch) → MayAnswerSession first s script answer probes left → IsLed (exit_by first) true answer
 session_led None s script answer probes left h = elim h [ inl memory ↦ inr (memory.0, refl) | inr said ↦ inl (ap exit_said said.2) ]
 session_led (Some fault) s script answer probes left h = inl (ap exit_said h.0)
 
 said_led : (said answer : Answer) → MayAnswerOf said answer → IsLed (exit_said said) true answer
 said_led said answer h = elim h [ inl memory ↦ inr (memory, refl) | inr same ↦ inl (ap exit_said same) ]
 
+text_led : (layout : KeyLayout) (text : List ℕ) (answer : Answer) → MayAnswerText layout text answer → IsLed (exit_by (first_without layout text)) true answer
+text_led layout text answer h =
+    elim h [
+      | inl memory ↦ inr (memory, refl)
+      | inr more ↦ elim more [
+        | inl fault ↦ inl (ap exit_said fault.2 ∙ sym (ap exit_by fault.1))
+        | inr plan ↦ inl (ap exit_said plan.2 ∙ sym (ap exit_by plan.1.keys))
+      ]
+    ]
+
 pub ends_so : (p : Plan) (shelf : Told) (answer : Answer) (after : Option Told) (probes left : List Watch) → MayEnd p (Some shelf) answer after probes left → IsLed (leads (length probes) p shelf) (may_lack p shelf) answer
 ends_so (Gives said) shelf answer after probes left h = said_led said answer h.0
 ends_so (Certifies image text) shelf answer after probes left h = said_led (cert_said image text) answer h.0.0
+ends_so (Spells layout text) shelf answer after probes left h = text_led layout text answer h.0
 ends_so (Runs command layout history) shelf answer after probes left h =
     elim h.0 [ inl memory ↦ inr (memory.0, refl) | inr said ↦ inl (ap exit_said said.2) ]
 ends_so (Debugs layout history script) shelf answer after probes left h =

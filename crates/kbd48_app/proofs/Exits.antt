@@ -8,7 +8,7 @@ use Rattle.kbd48_app.specs.declared.kind.Kind.{Kind}
 use Rattle.kbd48_app.specs.declared.kind.Kind.TheVariants as kinds
 use Rattle.kbd48_app.specs.declared.words.Command.{Command}
 use Rattle.kbd48_app.specs.declared.words.Command.TheVariants.{OverFile, OverPair, Debug, Feed}
-use Rattle.kbd48_app.specs.declared.words.PairCommand.TheVariants.{Certify, OverRun}
+use Rattle.kbd48_app.specs.declared.words.PairCommand.TheVariants.{Certify, Spell, OverRun}
 use Rattle.kbd48_app.specs.declared.words.FileCommand.{FileCommand}
 use Rattle.kbd48_app.specs.Causes.{HasFileFault, IsStuck, IsUntimely, MayExit}
 use Rattle.kbd48_app.specs.Kinds.{kind_of}
@@ -21,6 +21,7 @@ use Rattle.kbd48_app.proofs.CertExits.{cert_caused}
 use Rattle.kbd48_app.proofs.Ends.{leads, IsExit}
 use Rattle.kbd48_app.proofs.FileExits.{Exits, file_exits}
 use Rattle.kbd48_app.proofs.RunExits.{run_caused, debug_caused}
+use Rattle.kbd48_app.proofs.TextExits.{text_caused}
 use Rattle.kbd48_app.proofs.Within.{fetch_caused, whole}
 
 module _ (n : ℕ) where
@@ -71,6 +72,8 @@ module _ (n : ℕ) where
   caused (Some (OverFile command)) words shelf = over_file command words shelf
   caused (Some (OverPair Certify)) words shelf =
       cert_caused n (Some (OverPair Certify)) (name_in words) (second_in words) shelf
+  caused (Some (OverPair Spell)) words shelf =
+      text_caused n (Some (OverPair Spell)) (name_in words) (second_in words) shelf
   caused (Some (OverPair (OverRun command))) words shelf =
       run_caused n (Some (OverPair (OverRun command))) command (name_in words) (second_in words) shelf
   caused (Some Debug) words shelf =

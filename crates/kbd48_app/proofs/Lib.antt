@@ -26,4 +26,6 @@ pub mod Sessions
 pub mod Found
 pub mod Caused
 pub mod CertExits
+pub mod Texts
+pub mod TextExits
 pub mod Received

@@ -9,7 +9,7 @@ use Rattle.kbd48_app.specs.declared.refusal.Refusal.TheVariants.{Read, TooLong, 
 use Rattle.kbd48_app.specs.declared.words.Command.{Command}
 use Rattle.kbd48_app.specs.Answers.{OnFetched, MayEnd, MayEndAs, MayAnswer}
 use Rattle.kbd48_app.specs.Kinds.{limit_of}
-use Rattle.kbd48_app.specs.Plans.{Answer, Plan, Gives, Certifies, Runs, Debugs, Fetches, plan, plan_of}
+use Rattle.kbd48_app.specs.Plans.{Answer, Plan, Gives, Certifies, Spells, Runs, Debugs, Fetches, plan, plan_of}
 use Rattle.kbd48_app.specs.Reached.{on_fetched, fetches_of, after_fetches, Makes}
 use Rattle.kbd48_app.specs.Says.{Says, exit_said}
 use Rattle.kbd48_app.specs.Words.{command_of}
@@ -40,6 +40,7 @@ made_by first kind shelf on rest after kept answer goes (Found bytes) h =
 made : (p : Plan) (shelf : Told) (answer : Answer) (after : Option Told) (probes left : List Watch) → MayEnd p (Some shelf) answer after probes left → MakesSo (fetches_of p shelf) shelf after answer
 made (Gives said) shelf answer after probes left h = (0, omega arith, h.1.0, inl refl)
 made (Certifies image text) shelf answer after probes left h = (0, omega arith, h.1.0, inl refl)
+made (Spells layout text) shelf answer after probes left h = (0, omega arith, h.1.0, inl refl)
 made (Runs command layout history) shelf answer after probes left h = (0, omega arith, h.1, inl refl)
 made (Debugs layout history script) shelf answer after probes left h = (0, omega arith, h.1, inl refl)
 made (Fetches kind name next) shelf answer after probes left h =

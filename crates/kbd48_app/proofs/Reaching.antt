@@ -5,7 +5,7 @@ use Rattle.kbd48_app.specs.declared.exit.Exit.TheVariants as exits
 use Rattle.kbd48_app.specs.declared.kind.Kind.{Kind}
 use Rattle.kbd48_app.specs.Answers.{OnFetched}
 use Rattle.kbd48_app.specs.Kinds.{limit_of}
-use Rattle.kbd48_app.specs.Plans.{Plan, Gives, Certifies, Runs, Debugs, Fetches}
+use Rattle.kbd48_app.specs.Plans.{Plan, Gives, Certifies, Spells, Runs, Debugs, Fetches}
 use Rattle.kbd48_app.specs.Reached.{on_fetched, may_lack, Reads}
 use Rattle.kbd48_app.proofs.Ends.{leads}
 
@@ -50,6 +50,7 @@ pub lacks : (plan : Plan) (shelf : Told) (kind : Kind) (file : List ℕ)
     → Reads kind file plan shelf → may_lack plan shelf ≡ true
 lacks (Gives said) shelf kind file h = refl
 lacks (Certifies image text) shelf kind file h = refl
+lacks (Spells layout text) shelf kind file h = refl
 lacks (Runs command layout history) shelf kind file h = refl
 lacks (Debugs layout history script) shelf kind file h = refl
 lacks (Fetches first name next) shelf kind file h =

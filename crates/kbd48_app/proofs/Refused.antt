@@ -19,14 +19,14 @@ use Rattle.kbd48_app.specs.declared.exit.Exit.TheVariants as exits
 use Rattle.kbd48_app.specs.declared.refusal.Refusal.TheVariants.{Words, Read, TooLong, Memory}
 use Rattle.kbd48_app.specs.declared.words.Command.{Command}
 use Rattle.kbd48_app.specs.declared.words.Command.TheVariants.{OverFile, OverPair, Debug, Feed}
-use Rattle.kbd48_app.specs.declared.words.PairCommand.TheVariants.{Certify, OverRun}
+use Rattle.kbd48_app.specs.declared.words.PairCommand.TheVariants.{Certify, Spell, OverRun}
 use Rattle.kbd48_app.specs.declared.words.FileCommand.{FileCommand}
 use Rattle.std.specs.Option.{option_map}
 use Rattle.kbd48_app.specs.Answers.{OnFetched, MayAnswerOf, MayAnswerSession, MayAnswer, MayEnd, MayEndAs}
 use Rattle.kbd48_app.specs.Debugging.{script_fault}
 use Rattle.kbd48_app.specs.declared.kind.Kind.{Kind}
 use Rattle.kbd48_app.specs.CertTexts.{cert_said}
-use Rattle.kbd48_app.specs.Plans.{Answer, Plan, Gives, Certifies, Runs, Debugs, Fetches, cert_next, file_said, keys_next, plan_of, script_next, with_history, with_image, with_layout}
+use Rattle.kbd48_app.specs.Plans.{Answer, Plan, Gives, Certifies, Spells, Runs, Debugs, Fetches, cert_next, file_said, keys_next, plan_of, script_next, text_next, with_history, with_image, with_layout}
 use Rattle.kbd48_app.specs.Says.{Says, exit_said}
 use Rattle.kbd48_app.specs.Words.{command_of, second_in, third_in}
 use Rattle.kbd48_app.proofs.Certs.{cert_exits}
@@ -55,6 +55,7 @@ never_certified image text is =
 abbrev Never : Plan → Type 0
 Never (Gives said) = exit_said said ≡ exits.Words → ⊥
 Never (Certifies image text) = Unit {0}
+Never (Spells layout text) = Unit {0}
 Never (Runs command layout history) = Unit {0}
 Never (Debugs layout history script) = Unit {0}
 Never (Fetches kind name next) = (bytes : List ℕ) → Never (next bytes)
@@ -80,6 +81,14 @@ never_ends : (p : Plan) → Never p → (shelf after : Option Told) (answer : An
 never_ends (Gives said) never shelf after answer probes left h is = never_said said answer never h.0 is
 never_ends (Certifies image text) never shelf after answer probes left h is =
     never_said (cert_said image text) answer (never_certified image text) h.0.0 is
+never_ends (Spells layout text) never shelf after answer probes left h is =
+    elim h.0 [
+      | inl memory ↦ let e : exits.Memory ≡ exits.Words = sym (ap exit_said memory) ∙ is in cc
+      | inr more ↦ elim more [
+        | inl fault ↦ let e : exits.Input ≡ exits.Words = sym (ap exit_said fault.2) ∙ is in cc
+        | inr plan ↦ let e : exits.Done ≡ exits.Words = sym (ap exit_said plan.2) ∙ is in cc
+      ]
+    ]
 never_ends (Runs command layout history) never shelf after answer probes left h is =
     elim h.0 [
       | inl memory ↦ let e : exits.Memory ≡ exits.Words = sym (ap exit_said memory.0) ∙ is in cc
@@ -95,6 +104,10 @@ never_image : (second : List ℕ) (outcome : HexOutcome) → Never (with_image (
 never_image second (Ok image) = λ text. tt
 never_image second (Err fault) = λ is. cc
 
+never_text : (second : List ℕ) (outcome : Result KeyLayout LayoutRefusal) → Never (with_layout (text_next second) outcome)
+never_text second (Ok layout) = λ text. tt
+never_text second (Err fault) = λ is. cc
+
 never_history : (next : KeyLayout → KeyHistory → Plan) → ((layout : KeyLayout) (history : KeyHistory) → Never (next layout history)) → (layout : KeyLayout) (outcome : Result KeyHistory KeyFault) → Never (with_history (next layout) outcome)
 never_history next never layout (Ok history) = never layout history
 never_history next never layout (Err (faults.Input line number)) = λ is. cc
@@ -109,6 +122,7 @@ never_command : (command : Command) (words : List (List ℕ)) → Never (plan_of
 never_command (Feed bytes) words = λ is. cc
 never_command (OverFile command) words = λ bytes. never_file command bytes (file_said command bytes) (file_exits command bytes)
 never_command (OverPair Certify) words = λ bytes. never_image (second_in words) (hex_of bytes)
+never_command (OverPair Spell) words = λ bytes. never_text (second_in words) (layout_of_document bytes)
 never_command (OverPair (OverRun command)) words = λ bytes. never_layout (Runs command) (λ layout history. tt) (second_in words) (layout_of_document bytes)
 never_command Debug words = λ bytes. never_layout (script_next (third_in words)) (λ layout history script. tt) (second_in words) (layout_of_document bytes)
 

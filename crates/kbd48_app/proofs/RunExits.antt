@@ -16,7 +16,7 @@ use Rattle.kbd48_app.specs.Plans.{Plan, Debugs, Runs, debug_plan, history_plan, 
 use Rattle.kbd48_app.specs.Plans.{script_next, with_history, with_layout}
 use Rattle.kbd48_app.specs.Reached.{Reads}
 use Rattle.kbd48_app.proofs.Caused.{IsCaused}
-use Rattle.kbd48_app.proofs.Ends.{leads, script_exit}
+use Rattle.kbd48_app.proofs.Ends.{leads, exit_by}
 use Rattle.kbd48_app.proofs.Reaching.{lacks}
 use Rattle.kbd48_app.proofs.Runs.{Following, HistoryOutcome, LayoutOutcome, plan_from}
 use Rattle.kbd48_app.proofs.Within.{IsWithin, fetch_caused, whole}
@@ -58,9 +58,9 @@ module _ (n : ℕ) (command : Option Command) (plan : Plan) (shelf : Told) where
 
   -- behind a script
   script_caused : (script : List ℕ) (fault : Option (ℕ × ℕ)) → script_fault n script ≡ fault
-      → Reads kinds.Script script plan shelf → IsCaused n command plan shelf (script_exit fault)
+      → Reads kinds.Script script plan shelf → IsCaused n command plan shelf (exit_by fault)
   script_caused script None is read = tt
-  script_caused script (Some fault) is read = inr (inr (inr (inr (inr (inr (fault, (script, read, is)))))))
+  script_caused script (Some fault) is read = inr (inr (inr (inr (inr (inr (inl (fault, (script, read, is))))))))
 
   script_exits : (name : List ℕ) → IsCausedThird (script_next name)
   script_exits name layout history after within =

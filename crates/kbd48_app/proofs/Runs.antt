@@ -19,7 +19,7 @@ use Rattle.kbd48_app.specs.Plans.{Plan, history_plan, keys_next, keys_refusal, w
 use Rattle.kbd48_app.specs.Reached.{Reads}
 use Rattle.kbd48_app.specs.Refusals.{exit_of}
 use Rattle.kbd48_app.proofs.Ends.{leads}
-use Rattle.kbd48_app.proofs.Faults.{Fault, InHex, InAsm, InLayout, InCert, InKeys, InScript, HasFault, exit_at}
+use Rattle.kbd48_app.proofs.Faults.{Fault, InHex, InAsm, InLayout, InCert, InKeys, InScript, InText, HasFault, exit_at}
 use Rattle.kbd48_app.proofs.Reaching.{fetch_read, leads_found}
 
 abbrev pub HistoryOutcome : Type 0
@@ -114,6 +114,7 @@ IsOfRun kinds.Layout = Unit {0}
 IsOfRun kinds.Keys = Unit {0}
 IsOfRun kinds.Cert = ⊥
 IsOfRun kinds.Script = Unit {0}
+IsOfRun kinds.Text = ⊥
 
 -- what is read behind both is a script
 abbrev pub IsReadThird : Following → Type 0
@@ -213,3 +214,4 @@ module _ (n : ℕ) (next : Following) where
     fault_led_by_run (InHex fault) h = absurd (is_of_run kinds.Hex h.0 next first second shelf third h.1)
     fault_led_by_run (InAsm fault) h = absurd (is_of_run kinds.Asm h.0 next first second shelf third h.1)
     fault_led_by_run (InCert fault) h = absurd (is_of_run kinds.Cert h.4 next first second shelf third h.5)
+    fault_led_by_run (InText fault) h = absurd (is_of_run kinds.Text h.4 next first second shelf third h.5)

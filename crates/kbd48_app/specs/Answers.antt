@@ -10,17 +10,19 @@ use Rattle.fw_debug.specs.Probes.{Watch}
 use Rattle.joint_feed.specs.Stories.{Story, story}
 use Rattle.io_edge.specs.Shelf.{Told, Fetched, Fails, Long, Found, after_fetch, fetched}
 use Rattle.kbd48_app.specs.declared.refusal.Refusal.{Refusal}
-use Rattle.kbd48_app.specs.declared.refusal.Refusal.TheVariants.{Words, Read, TooLong, Script, Memory}
+use Rattle.kbd48_app.specs.declared.refusal.Refusal.TheVariants.{Words, Read, TooLong, Script, Text, Memory}
 use Rattle.kbd48_app.specs.declared.words.Command.{Command}
 use Rattle.kbd48_app.specs.declared.words.RunCommand.{RunCommand}
 use Rattle.key_file.specs.Histories.{KeyHistory}
 use Rattle.layout_reader.specs.Layouts.{KeyLayout}
+use Rattle.typed_log.specs.Typing.{first_without}
 use Rattle.fw_debug.specs.Obeyed.{IsObeyed, IsObeyedInPart}
 use Rattle.kbd48_app.specs.CertTexts.{cert_said, IsCertText}
 use Rattle.kbd48_app.specs.Debugging.{script_fault}
 use Rattle.kbd48_app.specs.Kinds.{limit_of}
-use Rattle.kbd48_app.specs.Plans.{Answer, Plan, Gives, Certifies, Runs, Debugs, Fetches, plan_of}
+use Rattle.kbd48_app.specs.Plans.{Answer, Plan, Gives, Certifies, Spells, Runs, Debugs, Fetches, plan_of}
 use Rattle.kbd48_app.specs.RunTexts.{IsRunText, HaveLooked}
+use Rattle.kbd48_app.specs.TextPlans.{IsPlanText}
 use Rattle.kbd48_app.specs.Words.{command_of}
 
 -- the bytes of a fetch that found a file are within the limit that it was given
@@ -41,6 +43,13 @@ MayAnswerOf said answer = (answer ≡ Err Memory) ⊎ (answer ≡ said)
 -- the same of a certificate for an image; where it is found right, its places keep their bounds
 abbrev pub MayAnswerCert : List ℕ → List ℕ → Answer → Type 0
 MayAnswerCert image text answer = MayAnswerOf (cert_said image text) answer × IfOk answer (IsCertText image text)
+
+-- the same of a text for a layout: its plan, or the number of its first byte without a key, from 1
+abbrev pub MayAnswerText : KeyLayout → List ℕ → Answer → Type 0
+MayAnswerText layout text answer =
+    (answer ≡ Err Memory)
+    ⊎ ((first : ℕ × ℕ) × (first_without layout text ≡ Some first) × (answer ≡ Err (Text first.0)))
+    ⊎ ((said : List ℕ) × IsPlanText layout text said × (answer ≡ Ok said))
 
 -- the same of the run of a layout under a history, at which the probes look
 abbrev pub MayAnswerRun : RunCommand → KeyLayout → KeyHistory → Answer → List Watch → List Watch → Type 0
@@ -79,6 +88,8 @@ abbrev pub MayEnd : Plan → Option Told → Answer → Option Told → List Wat
 MayEnd (Gives said) shelf answer after probes left = MayAnswerOf said answer × IsKept shelf after probes left
 MayEnd (Certifies image text) shelf answer after probes left =
     MayAnswerCert image text answer × IsKept shelf after probes left
+MayEnd (Spells layout text) shelf answer after probes left =
+    MayAnswerText layout text answer × IsKept shelf after probes left
 MayEnd (Runs command layout history) shelf answer after probes left =
     MayAnswerRun command layout history answer probes left × (after ≡ shelf)
 MayEnd (Debugs layout history script) shelf answer after probes left =

@@ -7,6 +7,7 @@ use Rattle.mcs48_asm.specs.Assembly.{assembly_of}
 use Rattle.layout_reader.specs.Documents.{layout_of_document}
 use Rattle.layout_reader.specs.Faults.{Refusal as LayoutRefusal}
 use Rattle.layout_reader.specs.Layouts.{KeyLayout}
+use Rattle.typed_log.specs.Typing.{first_without}
 use Rattle.key_file.specs.KeyFile.{history_of}
 use Rattle.key_file.specs.declared.fault.KeyFault.{KeyFault}
 use Rattle.key_file.specs.declared.fault.KeyFault.TheVariants.{Input as InputFault, Timing as TimingFault}
@@ -15,7 +16,7 @@ use Rattle.io_edge.specs.Shelf.{Told}
 use Rattle.kbd48_app.specs.declared.exit.Exit.{Exit}
 use Rattle.kbd48_app.specs.declared.exit.Exit.TheVariants.{Memory, Write}
 use Rattle.kbd48_app.specs.declared.kind.Kind.{Kind}
-use Rattle.kbd48_app.specs.declared.kind.Kind.TheVariants.{Hex, Asm, Layout, Keys, Cert, Script}
+use Rattle.kbd48_app.specs.declared.kind.Kind.TheVariants.{Hex, Asm, Layout, Keys, Cert, Script, Text}
 use Rattle.kbd48_app.specs.declared.refusal.Refusal.TheVariants as refusals
 use Rattle.kbd48_app.specs.declared.words.Command.{Command}
 use Rattle.kbd48_app.specs.declared.words.Command.TheVariants.{OverFile}
@@ -66,6 +67,13 @@ abbrev pub HasScriptFault : ℕ → ℕ × ℕ → Plan → Told → Type 0
 HasScriptFault probes fault plan shelf =
     (script : List ℕ) × Reads Script script plan shelf × (script_fault probes script ≡ Some fault)
 
+-- a text is reached, for the layout of a document, and this is its first byte without a key: its number, from 1, and
+-- the byte
+abbrev pub HasTextFault : ℕ × ℕ → Plan → Told → Type 0
+HasTextFault fault plan shelf =
+    (bytes : List ℕ) × Reads Layout bytes plan shelf × (layout : KeyLayout) × (layout_of_document bytes ≡ Ok layout)
+    × (text : List ℕ) × Reads Text text plan shelf × (first_without layout text ≡ Some fault)
+
 -- a file that is reached has too many bytes, or a fault, which is none of time
 abbrev pub HasFileFault : ℕ → Plan → Told → Type 0
 HasFileFault probes plan shelf =
@@ -76,6 +84,7 @@ HasFileFault probes plan shelf =
     ⊎ ((fault : ℕ × ℕ) × HasCertFault fault plan shelf)
     ⊎ ((fault : ℕ × ℕ) × HasKeysFault fault plan shelf)
     ⊎ ((fault : ℕ × ℕ) × HasScriptFault probes fault plan shelf)
+    ⊎ ((fault : ℕ × ℕ) × HasTextFault fault plan shelf)
 
 -- one of the COUNT steps of `step`, over the image of the HEX file, meets a byte without an instruction
 abbrev pub IsStuck : Option Command → Plan → Told → Type 0

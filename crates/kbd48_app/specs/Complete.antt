@@ -8,6 +8,7 @@ use Rattle.io_edge.specs.Shelf.{Told, Found, after_fetch, fetched}
 use Rattle.mcs48_asm.specs.Assembly.{assembly_of}
 use Rattle.layout_reader.specs.Documents.{layout_of_document}
 use Rattle.layout_reader.specs.Layouts.{KeyLayout}
+use Rattle.typed_log.specs.Typing.{first_without}
 use Rattle.key_file.specs.Histories.{KeyHistory}
 use Rattle.key_file.specs.KeyFile.{history_of}
 use Rattle.kbd48_app.specs.declared.exit.Exit.{Exit}
@@ -17,8 +18,8 @@ use Rattle.kbd48_app.specs.declared.words.Command.TheVariants.{OverFile, OverPai
 use Rattle.kbd48_app.specs.declared.words.FileCommand.{FileCommand}
 use Rattle.kbd48_app.specs.declared.words.FileCommand.TheVariants.{Step, Listing, Assemble, Compile}
 use Rattle.kbd48_app.specs.declared.words.PairCommand.{PairCommand}
-use Rattle.kbd48_app.specs.declared.words.PairCommand.TheVariants.{Certify, OverRun}
-use Rattle.kbd48_app.specs.declared.kind.Kind.TheVariants.{Hex, Layout, Keys, Cert, Script}
+use Rattle.kbd48_app.specs.declared.words.PairCommand.TheVariants.{Certify, Spell, OverRun}
+use Rattle.kbd48_app.specs.declared.kind.Kind.TheVariants.{Hex, Layout, Keys, Cert, Script, Text}
 use Rattle.kbd48_app.specs.Debugging.{script_fault}
 use Rattle.kbd48_app.specs.Kinds.{limit_of, kind_of}
 use Rattle.kbd48_app.specs.Words.{command_of, name_in, second_in, third_in}
@@ -45,6 +46,11 @@ AreServed Certify first second (Some shelf) =
     × (image : List ℕ) × (hex_of bytes ≡ Ok image)
     × (text : List ℕ) × (fetched (after_fetch shelf) second (limit_of Cert) ≡ Found text)
     × (proved : Proved) × (certificate_said image text ≡ Ok proved)
+AreServed Spell first second (Some shelf) =
+    (bytes : List ℕ) × (fetched shelf first (limit_of Layout) ≡ Found bytes)
+    × (layout : KeyLayout) × (layout_of_document bytes ≡ Ok layout)
+    × (text : List ℕ) × (fetched (after_fetch shelf) second (limit_of Text) ≡ Found text)
+    × (first_without layout text ≡ None)
 AreServed (OverRun command) first second (Some shelf) =
     (bytes : List ℕ) × (fetched shelf first (limit_of Layout) ≡ Found bytes)
     × (layout : KeyLayout) × (layout_of_document bytes ≡ Ok layout)

@@ -1,7 +1,7 @@
 -- The kinds of files: their limits in bytes, and how refusals name them.
 use Rattle.std.specs.Prelude.{ℕ, List, codes}
 use Rattle.kbd48_app.specs.declared.kind.Kind.{Kind}
-use Rattle.kbd48_app.specs.declared.kind.Kind.TheVariants.{Hex, Asm, Layout, Keys, Cert, Script}
+use Rattle.kbd48_app.specs.declared.kind.Kind.TheVariants.{Hex, Asm, Layout, Keys, Cert, Script, Text}
 use Rattle.kbd48_app.specs.declared.words.FileCommand.{FileCommand}
 use Rattle.kbd48_app.specs.declared.words.FileCommand.TheVariants.{Step, Listing, Assemble, Compile}
 
@@ -12,6 +12,7 @@ limit_of Layout = 65536
 limit_of Keys = 4194304
 limit_of Cert = 65536
 limit_of Script = 65536
+limit_of Text = 10000
 
 abbrev pub name_of : Kind → List ℕ
 name_of Hex = codes "hex"
@@ -20,6 +21,7 @@ name_of Layout = codes "layout"
 name_of Keys = codes "keys"
 name_of Cert = codes "cert"
 name_of Script = codes "script"
+name_of Text = codes "text"
 
 -- the kind of the file that a command over one file names
 abbrev pub kind_of : FileCommand → Kind

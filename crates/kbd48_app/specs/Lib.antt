@@ -9,6 +9,7 @@ pub mod RunTexts
 pub mod Debugging
 pub mod Plans
 pub mod CertTexts
+pub mod TextPlans
 pub mod Answers
 pub mod PrintAlike
 pub mod Fetching

@@ -25,7 +25,7 @@ use Rattle.kbd48_app.specs.declared.words.Command.TheVariants.{OverFile, OverPai
 use Rattle.kbd48_app.specs.declared.words.FileCommand.{FileCommand}
 use Rattle.kbd48_app.specs.declared.words.FileCommand.TheVariants.{Step, Listing, Assemble, Compile}
 use Rattle.kbd48_app.specs.declared.words.PairCommand.{PairCommand}
-use Rattle.kbd48_app.specs.declared.words.PairCommand.TheVariants.{Certify, OverRun}
+use Rattle.kbd48_app.specs.declared.words.PairCommand.TheVariants.{Certify, Spell, OverRun}
 use Rattle.kbd48_app.specs.declared.words.RunCommand.{RunCommand}
 use Rattle.kbd48_app.specs.Kinds.{kind_of}
 use Rattle.kbd48_app.specs.Feeding.{fed_text}
@@ -36,12 +36,13 @@ use Rattle.kbd48_app.specs.Stepping.{Progress, Stands, Stopped, after_steps}
 abbrev pub Answer : Type 0
 Answer = Result (List ℕ) Refusal
 
--- a plan says something, or what is found of a certificate for an image, or what a command says of the run of a layout
--- under a history, or what a script says in a session over such a run, or it fetches the file of this kind and name,
--- and goes on with the file's bytes
+-- a plan says something, or what is found of a certificate for an image, or with which keys of a layout a text is
+-- typed, or what a command says of the run of a layout under a history, or what a script says in a session over such a
+-- run, or it fetches the file of this kind and name, and goes on with the file's bytes
 pub data Plan : Type 0 where
   Gives : Answer → Plan
   Certifies : List ℕ → List ℕ → Plan
+  Spells : KeyLayout → List ℕ → Plan
   Runs : RunCommand → KeyLayout → KeyHistory → Plan
   Debugs : KeyLayout → KeyHistory → List ℕ → Plan
   Fetches : Kind → List ℕ → (List ℕ → Plan) → Plan
@@ -87,6 +88,10 @@ abbrev pub with_layout : (KeyLayout → Plan) → Result KeyLayout LayoutRefusal
 with_layout next (Ok layout) = next layout
 with_layout next (Err refusal) = Gives (Err (Layout refusal.entry refusal.number))
 
+-- `type`: the layout comes first, and then the text
+abbrev pub text_next : List ℕ → KeyLayout → Plan
+text_next name layout = Fetches kinds.Text name (Spells layout)
+
 -- the refusal of a key file; want of memory is no fault of the file
 abbrev pub keys_refusal : KeyFault → Refusal
 keys_refusal (keys.Input line number) = Keys line number
@@ -117,6 +122,7 @@ debug_plan first second third = history_plan (script_next third) first second
 -- a command over two files, by their names
 abbrev pub pair_plan : PairCommand → List ℕ → List ℕ → Plan
 pair_plan Certify first second = Fetches kinds.Hex first (λ bytes. with_image (cert_next second) (hex_of bytes))
+pair_plan Spell first second = Fetches kinds.Layout first (λ bytes. with_layout (text_next second) (layout_of_document bytes))
 pair_plan (OverRun command) first second = history_plan (Runs command) first second
 
 -- a command's plan, with the words that it came from; words without a command are refused

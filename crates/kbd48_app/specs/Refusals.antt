@@ -8,7 +8,7 @@ use Rattle.kbd48_app.specs.declared.kind.Kind.{Kind}
 use Rattle.kbd48_app.specs.declared.kind.Kind.TheVariants as kinds
 use Rattle.kbd48_app.specs.declared.refusal.Refusal.{Refusal}
 use Rattle.kbd48_app.specs.declared.refusal.Refusal.TheVariants.{Words, Read, TooLong, Hex, Asm, Layout, Keys}
-use Rattle.kbd48_app.specs.declared.refusal.Refusal.TheVariants.{Cert, Script, Timing, Stuck, Memory}
+use Rattle.kbd48_app.specs.declared.refusal.Refusal.TheVariants.{Cert, Script, Text, Timing, Stuck, Memory}
 
 abbrev pub exit_of : Refusal → Exit
 exit_of Words = exits.Words
@@ -20,6 +20,7 @@ exit_of (Layout entry number) = exits.Input
 exit_of (Keys line number) = exits.Input
 exit_of (Cert line number) = exits.Input
 exit_of (Script line number) = exits.Input
+exit_of (Text at) = exits.Input
 exit_of (Timing line number first second) = exits.Timing
 exit_of (Stuck stuck) = exits.Stuck
 exit_of Memory = exits.Memory
@@ -45,6 +46,7 @@ line_of (Layout entry number) = fault_line kinds.Layout (codes " entry ") entry 
 line_of (Keys line number) = fault_line kinds.Keys (codes " line ") line number
 line_of (Cert line number) = fault_line kinds.Cert (codes " line ") line number
 line_of (Script line number) = fault_line kinds.Script (codes " line ") line number
+line_of (Text at) = fault_line kinds.Text (codes " byte ") at 1
 line_of (Timing line number first second) = timing_line line number first second
 line_of (Stuck stuck) =
     codes "stuck: pc " ++ hex_address stuck.pc ++ codes " byte " ++ hex_byte stuck.byte ++ codes "\n"

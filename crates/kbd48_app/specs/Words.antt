@@ -14,7 +14,7 @@ use Rattle.kbd48_app.specs.declared.words.Command.TheVariants.{OverFile, OverPai
 use Rattle.kbd48_app.specs.declared.words.FileCommand.{FileCommand}
 use Rattle.kbd48_app.specs.declared.words.FileCommand.TheVariants.{Step, Listing, Assemble, Compile}
 use Rattle.kbd48_app.specs.declared.words.PairCommand.{PairCommand}
-use Rattle.kbd48_app.specs.declared.words.PairCommand.TheVariants.{Certify, OverRun}
+use Rattle.kbd48_app.specs.declared.words.PairCommand.TheVariants.{Certify, Spell, OverRun}
 use Rattle.kbd48_app.specs.declared.words.RunCommand.{RunCommand}
 use Rattle.kbd48_app.specs.declared.words.RunCommand.TheVariants.{Log, Expect}
 
@@ -50,7 +50,7 @@ abbrev pub named_of : FileCommand → List (List ℕ) → Option Command
 named_of command (name ∷ []) = if is_name name then Some (OverFile command) else None
 named_of command words = None
 
--- a command with two NAMEs alone: `cert` NAME NAME, `expect` NAME NAME
+-- a command with two NAMEs alone: `cert` NAME NAME, `type` NAME NAME, `expect` NAME NAME
 abbrev pub pair_of : PairCommand → List (List ℕ) → Option Command
 pair_of command (first ∷ second ∷ []) = if is_name first && is_name second then Some (OverPair command) else None
 pair_of command words = None
@@ -101,10 +101,11 @@ command_of (command ∷ words) =
     else (if bytes_eq command (codes "asm") then named_of Assemble words
     else (if bytes_eq command (codes "compile") then named_of Compile words
     else (if bytes_eq command (codes "cert") then pair_of Certify words
+    else (if bytes_eq command (codes "type") then pair_of Spell words
     else (if bytes_eq command (codes "run") then run_of words
     else (if bytes_eq command (codes "expect") then pair_of (OverRun Expect) words
     else (if bytes_eq command (codes "debug") then debug_of words
-    else (if bytes_eq command (codes "words") then feed_of words else None))))))))
+    else (if bytes_eq command (codes "words") then feed_of words else None)))))))))
 
 -- the words have an accepted form
 abbrev pub is_form : List (List ℕ) → Bool

@@ -1,6 +1,6 @@
 //! From the words and the files to the answer: a text, or the refusal that stands in its place.
 
-ghost use Rattle.std.specs.Prelude.{◌≡◌, ◌⊎◌, ◌≤◌, List, map, string_bytes, length, true, Ok, Err, IfOk, MatchResult};
+ghost use Rattle.std.specs.Prelude.{◌≡◌, ◌⊎◌, ◌≤◌, List, map, string_bytes, length, true, Some, Ok, Err, IfOk, MatchResult};
 ghost use Rattle.io_edge.specs.Faults.{Rose};
 ghost use Rattle.kbd48_app.specs.Answers.{answer_of, MayAnswer, MayAnswerOf, MayEnd};
 ghost use Rattle.kbd48_app.specs.Kinds.{limit_of, kind_of};
@@ -24,6 +24,7 @@ use crate::feeding::feed;
 use crate::fetching::fetch_file;
 use crate::kind::Kind;
 use crate::refusal::Refusal;
+use crate::spelling::spell;
 use crate::stepping::step;
 use crate::telling::tell;
 use crate::words::{Command, FileCommand, PairCommand, RunCommand, read_command};
@@ -154,6 +155,24 @@ fn over_cert<F: Shelf>(
     certify(alloc, &image, &text)
 }
 
+/// `type`: fetches the layout and judges it, and then fetches the text and plans how it is typed on the layout.
+fn over_text<F: Shelf>(
+    alloc: Global,
+    layout: &str,
+    text: &str,
+    shelf: &mut F,
+) -> Result<Vec<u8>, Refusal>
+    ensures ends { (probes : List Watch) → MayEnd (pair_plan PairCommand.Spell layout.now text.now)
+        (F.told shelf.old) (answer_of result) (F.told shelf.new) probes probes }
+    ensures read { result ≡ Err Refusal.Read → Rose (F.faults shelf.old) (F.faults shelf.new) }
+    ensures steady { (result ≡ Err Refusal.Read) ⊎ (F.faults shelf.new ≡ F.faults shelf.old) }
+{
+    let document = fetch_file(alloc, shelf, layout, Kind::Layout)?;
+    let layout = layout_in(alloc, &document)?;
+    let text = fetch_file(alloc, shelf, text, Kind::Text)?;
+    spell(alloc, &layout, &text)
+}
+
 /// `run` and `expect`: fetches the layout and judges it, then fetches the key file and judges it for the layout, and
 /// then makes the run.
 fn over_run<F: Shelf>(
@@ -228,13 +247,14 @@ fn over_pair<F: Shelf>(
 ) -> Result<Vec<u8>, Refusal>
     ensures ends { MayEnd (pair_plan command first.now second.now) (F.told shelf.old) (answer_of result)
         (F.told shelf.new) (map (λ b. watch b) probes.old.items) (map (λ b. watch b) probes.new.items) }
-    ensures untouched { command ≡ PairCommand.Certify
+    ensures untouched { is_without_run (Some (Command.OverPair command)) ≡ true
         → map (λ b. watch b) probes.new.items ≡ map (λ b. watch b) probes.old.items }
     ensures read { result ≡ Err Refusal.Read → Rose (F.faults shelf.old) (F.faults shelf.new) }
     ensures steady { (result ≡ Err Refusal.Read) ⊎ (F.faults shelf.new ≡ F.faults shelf.old) }
 {
     match command {
         PairCommand::Certify => over_cert(alloc, first, second, shelf),
+        PairCommand::Spell => over_text(alloc, first, second, shelf),
         PairCommand::OverRun(command) => over_run(alloc, command, first, second, shelf, probes),
     }
 }

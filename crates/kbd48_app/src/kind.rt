@@ -11,6 +11,7 @@ pub enum Kind {
     Keys,
     Cert,
     Script,
+    Text,
 }
 
 impl Kind {
@@ -25,6 +26,7 @@ impl Kind {
             Kind::Asm => 262_144,
             Kind::Layout | Kind::Cert | Kind::Script => 65_536,
             Kind::Keys => 4_194_304,
+            Kind::Text => 10_000,
         }
     }
 
@@ -39,6 +41,7 @@ impl Kind {
             Kind::Keys => "keys",
             Kind::Cert => "cert",
             Kind::Script => "script",
+            Kind::Text => "text",
         }
     }
 }

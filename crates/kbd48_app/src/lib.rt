@@ -16,6 +16,7 @@ mod fetching;
 mod kind;
 mod law;
 mod refusal;
+mod spelling;
 mod stepping;
 mod telling;
 mod top;

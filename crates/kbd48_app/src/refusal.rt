@@ -48,6 +48,10 @@ pub enum Refusal {
         line: u32,
         number: u8,
     },
+    /// The byte of the text, counted from 1, that has no key.
+    Text {
+        at: u32,
+    },
     /// The line of the key file, counted from 1, its fault, which is one of time, and two stamps, in cycles.
     Timing {
         line: u32,
@@ -138,7 +142,8 @@ impl Refusal {
             | Refusal::Layout { .. }
             | Refusal::Keys { .. }
             | Refusal::Cert { .. }
-            | Refusal::Script { .. } => Exit::Input,
+            | Refusal::Script { .. }
+            | Refusal::Text { .. } => Exit::Input,
             Refusal::Timing { .. } => Exit::Timing,
             Refusal::Stuck(_) => Exit::Stuck,
             Refusal::Memory => Exit::Memory,
@@ -164,6 +169,7 @@ impl Refusal {
             Refusal::Keys { line, number } => fault_line(Kind::Keys, " line ", *line, *number),
             Refusal::Cert { line, number } => fault_line(Kind::Cert, " line ", *line, *number),
             Refusal::Script { line, number } => fault_line(Kind::Script, " line ", *line, *number),
+            Refusal::Text { at } => fault_line(Kind::Text, " byte ", *at, 1),
             Refusal::Timing {
                 line,
                 number,

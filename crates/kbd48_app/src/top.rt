@@ -8,7 +8,7 @@ ghost use Rattle.layout_reader.specs.Faults.{Refusal as LayoutRefusal};
 ghost use Rattle.kbd48_app.specs.declared.kind.Kind.{Kind};
 ghost use Rattle.kbd48_app.specs.Answers.{answer_of, MayAnswer};
 ghost use Rattle.kbd48_app.specs.Causes.{HasAsmFault, HasCertFault, HasFileFault, HasHexFault, HasKeysFault};
-ghost use Rattle.kbd48_app.specs.Causes.{HasLayoutFault, HasScriptFault, HasTimingFault, IsStuck, IsUntimely};
+ghost use Rattle.kbd48_app.specs.Causes.{HasLayoutFault, HasScriptFault, HasTextFault, HasTimingFault, IsStuck, IsUntimely};
 ghost use Rattle.kbd48_app.specs.Causes.{MayExit};
 ghost use Rattle.kbd48_app.specs.Complete.{IsFaultless, IsLeft};
 ghost use Rattle.kbd48_app.specs.Plans.{Answer, plan};
@@ -106,6 +106,8 @@ pub fn kbd48<F: Shelf, K: Sink>(
     ensures script { IfSome (F.told shelf.old) (λ told. (fault : ℕ × ℕ) →
         HasScriptFault (length probes.old.items) fault (plan (map string_bytes words.now)) told
         → MayExit Exit.Input result) }
+    ensures text { IfSome (F.told shelf.old) (λ told. (fault : ℕ × ℕ) →
+        HasTextFault fault (plan (map string_bytes words.now)) told → MayExit Exit.Input result) }
     ensures input_only { IfSome (F.told shelf.old) (λ told.
         result ≡ Exit.Input → HasFileFault (length probes.old.items) (plan (map string_bytes words.now)) told) }
     // Timing, of a shelf that tells its files: exactly where a key file that is reached has a fault of time first.

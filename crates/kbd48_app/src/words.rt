@@ -40,6 +40,8 @@ pub enum RunCommand {
 pub enum PairCommand {
     /// `cert` NAME NAME: a HEX image, and a certificate for it.
     Certify,
+    /// `type` NAME NAME: a layout, and a text to be typed on it.
+    Spell,
     /// `run` NAME NAME and its options, `expect` NAME NAME: a layout, and a key file for it.
     OverRun(RunCommand),
 }
@@ -239,6 +241,7 @@ pub fn read_command(words: &[String]) -> Option<Command>
         "asm" => read_named(FileCommand::Assemble, words),
         "compile" => read_named(FileCommand::Compile, words),
         "cert" => read_pair(PairCommand::Certify, words),
+        "type" => read_pair(PairCommand::Spell, words),
         "run" => read_run(words),
         "expect" => read_pair(PairCommand::OverRun(RunCommand::Expect), words),
         "debug" => read_debug(words),

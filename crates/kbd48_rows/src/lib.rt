@@ -39,4 +39,6 @@ mod step;
 #[cfg(test)]
 mod ticks;
 #[cfg(test)]
+mod typing;
+#[cfg(test)]
 mod words;

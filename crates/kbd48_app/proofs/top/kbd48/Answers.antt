@@ -3,7 +3,7 @@ use Rattle.std.proofs.lemmas.List.{length-map}
 use Rattle.key_file.specs.declared.fault.KeyFault.TheVariants.{Input}
 use Rattle.kbd48_app.specs.Answers.{answer_of}
 use Rattle.kbd48_app.proofs.Complete.{left, left_told}
-use Rattle.kbd48_app.proofs.Faults.{InHex, InAsm, InLayout, InCert, InKeys, InScript}
+use Rattle.kbd48_app.proofs.Faults.{InHex, InAsm, InLayout, InCert, InKeys, InScript, InText}
 use Rattle.kbd48_app.proofs.Refused.{words_only, words_refused}
 use Rattle.kbd48_app.proofs.Told.{told_unserved, told_unserved_only, told_too_long, told_fault, told_timing, told_timing_only, told_input_only, told_stuck, told_stuck_only, told_memory, told_fetches}
 use Rattle.kbd48_app.specs.Says.{text_said}
@@ -108,4 +108,9 @@ returns-clause-timing_only g c =
 pub returns-clause-script : goal.returns-clause-script
 returns-clause-script g c =
     told_fault InScript _ (map string_bytes c.args.words.now) (g.F.Shelf.told c.args.shelf.now) _ _ _ _ _ _ (length-map c.args.probes.now.items _)
+    (answer_of c.answer-answer.result, c.answer-answer.ensures.ends, c.conclude.ensures.says)
+
+pub returns-clause-text : goal.returns-clause-text
+returns-clause-text g c =
+    told_fault InText _ (map string_bytes c.args.words.now) (g.F.Shelf.told c.args.shelf.now) _ _ _ _ _ _ refl
     (answer_of c.answer-answer.result, c.answer-answer.ensures.ends, c.conclude.ensures.says)
