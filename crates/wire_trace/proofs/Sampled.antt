@@ -15,7 +15,7 @@ use Rattle.joint_feed.specs.declared.course.Course.{Course}
 use Rattle.joint_run.specs.Cycle.{outside_wires}
 use Rattle.joint_run.specs.Joint.{Beside}
 use Rattle.joint_run.specs.Run.{World}
-use Rattle.subsystem.proofs.Takes.{all_then_all, all_then_part}
+use Rattle.io_edge.proofs.Takes.{all_then_all, all_then_part}
 use Rattle.subsystem.specs.Progress.{IsJudged}
 use Rattle.subsystem.specs.declared.pace.Pace.{Pace}
 use Rattle.wire_trace.specs.Ending.{IsWhole}

@@ -12,7 +12,7 @@ use Rattle.joint_feed.specs.Stories.{Story, state_at, starts_tick}
 use Rattle.joint_run.specs.Joint.{Beside, joint_board, joint_start}
 use Rattle.joint_run.specs.Run.{World}
 use Rattle.joint_run.specs.Starts.{IsEnd}
-use Rattle.subsystem.proofs.Takes.{all_then_all, all_then_part, part_of_more}
+use Rattle.io_edge.proofs.Takes.{all_then_all, all_then_part, part_of_more}
 use Rattle.subsystem.specs.Running.{GoesOnTo, is_over}
 use Rattle.wire_trace.specs.Ending.{IsWhole, TakesPrefix, TakesSomeChanges, TakesTrace}
 use Rattle.wire_trace.specs.Text.{header}
