@@ -25,7 +25,7 @@ use Rattle.fw_logic.proofs.Path.{Stage}
 use Rattle.fw_logic.proofs.Service.{stacked}
 use Rattle.fw_logic.specs.Scan.{in_tick}
 use Rattle.mcs48_ranges.specs.Sizes.{IsByte}
-use Rattle.joint_run.specs.Run.{Board, World, ticks}
+use Rattle.joint_run.specs.Run.{Board, World, after_cycles}
 use Rattle.joint_run.specs.Starts.{Tick}
 use Rattle.kbd_model.specs.Keyboard.{Keyboard}
 use Rattle.kbd_model.specs.declared.meeting.Meeting.{Meeting}
@@ -121,16 +121,16 @@ module _ (d : Board) (bytes : List ℕ) (hk : HasKernel bytes) (alike : IsSilent
       let at : u.cycle ≡ start + (3 + c.from.off) + c.n = c.cycle in
       let z : start + (3 + c.from.off) ≡ y = omega (arith, off) in
       let n : 234 + c.n ≡ j = omega (arith, off, at, e) in
-      c.board_now ∙ ap (λ p. ticks c.n (start + (3 + c.from.off)) (d.tick p) c.from.board) c.facts.p2
-      ∙ ap (λ q. ticks c.n (start + (3 + c.from.off)) (d.tick v) q) c.facts.board_is
-      ∙ ap (λ x. ticks c.n x (d.tick v) (shines c.l)) z
+      c.board_now ∙ ap (λ p. after_cycles c.n (start + (3 + c.from.off)) (d.cycle p) c.from.board) c.facts.p2
+      ∙ ap (λ q. after_cycles c.n (start + (3 + c.from.off)) (d.cycle v) q) c.facts.board_is
+      ∙ ap (λ x. after_cycles c.n x (d.cycle v) (shines c.l)) z
       ∙ from_head d bytes hk alike small low w s few NoFrame c.l c.n
       (λ i l. without_frame w.cpu.p2 v (232 + i) (omega arith))
       ∙ ap (gone NoFrame) n)
 
   -- the board in a frame, by the latch of the tick
   abbrev framing : Bool → d.State
-  framing l = ticks 26 y (d.tick v) (shines l)
+  framing l = after_cycles 26 y (d.cycle v) (shines l)
 
   in_frame : (frame : Frame) (l : Bool) (n : ℕ) → n ≤ frame_cycles frame
       → driven d (260 + start) (frame_latch frame v) n 0 (framing l) ≡ gone frame (260 + n)
@@ -154,8 +154,8 @@ module _ (d : Board) (bytes : List ℕ) (hk : HasKernel bytes) (alike : IsSilent
       let at : u.cycle ≡ start + (3 + c.from.off) + c.n = c.cycle in
       let z : start + (3 + c.from.off) ≡ start + (260 + n) = omega (arith, off) in
       let i : 260 + n + c.n ≡ j = omega (arith, off, at, e) in
-      c.board_now ∙ ap (λ p. ticks c.n (start + (3 + c.from.off)) (d.tick p) c.from.board) c.facts.p2
-      ∙ ap (λ q. ticks c.n (start + (3 + c.from.off)) (d.tick v) q) c.facts.board_is
+      c.board_now ∙ ap (λ p. after_cycles c.n (start + (3 + c.from.off)) (d.cycle p) c.from.board) c.facts.p2
+      ∙ ap (λ q. after_cycles c.n (start + (3 + c.from.off)) (d.cycle v) q) c.facts.board_is
       ∙ spans_on d start (latch frame) c.n (260 + n) (start + (3 + c.from.off)) v
       (driven d (260 + start) (frame_latch frame v) n 0 (framing c.l)) w.board z (λ i l. behind w.cpu.p2 v frame i)
       (in_frame frame c.l n (omega arith))
@@ -168,7 +168,7 @@ module _ (d : Board) (bytes : List ℕ) (hk : HasKernel bytes) (alike : IsSilent
   clock_is l =
       let a : y + 22 ≡ start + 232 + 24 = omega arith in
       ap (λ q. (d.pins 44 v (y + 22) q).t0) (from_lights d bytes hk alike small low w s few l 22 y (omega arith))
-      ∙ ap (λ c. (d.pins 44 v c (ticks 24 (start + 232) (d.tick v) (in_tick d w 232))).t0) a
+      ∙ ap (λ c. (d.pins 44 v c (after_cycles 24 (start + 232) (d.cycle v) (in_tick d w 232))).t0) a
 
   data_is : (l : Bool)
       → data_wire d bytes hk alike small low held (start + 3) (first l) third (stacked f) ring start refl released
@@ -176,7 +176,7 @@ module _ (d : Board) (bytes : List ℕ) (hk : HasKernel bytes) (alike : IsSilent
   data_is l =
       let a : y + 24 ≡ start + 232 + 26 = omega arith in
       ap (λ q. (d.pins 44 v (y + 24) q).t1) (from_lights d bytes hk alike small low w s few l 24 y (omega arith))
-      ∙ ap (λ c. (d.pins 44 v c (ticks 26 (start + 232) (d.tick v) (in_tick d w 232))).t1) a
+      ∙ ap (λ c. (d.pins 44 v c (after_cycles 26 (start + 232) (d.cycle v) (in_tick d w 232))).t1) a
 
   -- those of a frame, by the offset from the look at data
   abbrev look_off : ℕ → ℕ

@@ -27,7 +27,7 @@ use Rattle.mcs48_core.specs.Cpu.{Cpu}
 use Rattle.mcs48_ranges.specs.Sizes.{IsByte, IsFine}
 use Rattle.host_turn.specs.Run.{side_at_start}
 use Rattle.joint_run.specs.Joint.{Beside, beside_at_start, joint_board, latch_of, lights_of}
-use Rattle.joint_run.specs.Run.{Board, World, ticks}
+use Rattle.joint_run.specs.Run.{Board, World, after_cycles}
 use Rattle.joint_run.specs.Starts.{at_tick, Comes}
 use Rattle.agreement.proofs.Above.{low_over}
 use Rattle.kbd_model.specs.Codes.{Keys}
@@ -87,7 +87,7 @@ begins_let_go edges events bytes hk small m fine =
     let W : Board = watching joint latch in
     let b : W.State = record { under = beside_at_start; good = true } in
     let above : IsOver edges events W (λ s. s.under) =
-    record { pins = λ p1 p2 cycle s. refl; tick = λ p2 cycle s. refl } in
+    record { pins = λ p1 p2 cycle s. refl; cycle = λ p2 cycle s. refl } in
     drives_by joint latch TICK bytes (switched_on edges events m) (λ e. IsFirst W bytes b e × FromPowerOn bytes e.cpu)
     (λ e. at_tick joint TICK e ≡ true)
     (λ e h. (
@@ -100,7 +100,7 @@ begins_let_go edges events bytes hk small m fine =
 module _ (edges : List Edge) (events : List HostEvent) (noise : AreFlips events) where
   -- what stands beside the processor stays as it is up to stamp 0, and then goes on at its wires
   beside : (first late all : ℕ) → first ≤ 4096 → first + late ≡ all
-      → ticks all 0 ((joint_board edges events).tick 255) beside_at_start
+      → after_cycles all 0 ((joint_board edges events).cycle 255) beside_at_start
       ≡ record { pc = board_cycles events high late first pc_at_start; shown = 0 }
   beside first late all l sum =
       let none : first + 0 ≡ first = omega arith in
@@ -116,7 +116,7 @@ module _ (edges : List Edge) (events : List HostEvent) (noise : AreFlips events)
 
   -- so it is at the first start
   at_first_start : (late : ℕ) (b : Beside)
-      → b ≡ ticks (4096 + late) 0 ((joint_board edges events).tick 255) beside_at_start → AtFirst events b late
+      → b ≡ after_cycles (4096 + late) 0 ((joint_board edges events).cycle 255) beside_at_start → AtFirst events b late
   at_first_start late b is =
       let e = is ∙ beside 4096 late (4096 + late) (omega arith) refl in
       let g = between events high late 4096 pc_at_start (λ o a b. refl) refl in

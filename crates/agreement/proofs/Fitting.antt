@@ -29,7 +29,7 @@ use Rattle.fw_logic.proofs.Path.{Stage}
 use Rattle.fw_logic.proofs.Short.{has_rows}
 use Rattle.fw_logic.proofs.Sound.{weaken}
 use Rattle.mcs48_ranges.specs.Sizes.{IsByte, IsFine}
-use Rattle.joint_run.specs.Run.{Board, ticks}
+use Rattle.joint_run.specs.Run.{Board, after_cycles}
 use Rattle.kbd_model.specs.Keyboard.{offer}
 use Rattle.agreement.proofs.Leaves.{Leaves, sent_leaves, got_leaves, is_offered}
 use Rattle.agreement.proofs.Looking.{looked_in, Looked, with_frame, to_send, to_got}
@@ -75,17 +75,17 @@ module _ (d : Board) (bytes : List ℕ) (hk : HasKernel bytes) (alike : IsSilent
 
   -- the board where a frame begins, and n cycles later
   abbrev pub entered : d.State
-  entered = ticks 26 (y + 231) (d.tick v) shine
+  entered = after_cycles 26 (y + 231) (d.cycle v) shine
 
   abbrev pub passed : (ℕ → ℕ) → ℕ → d.State
   passed frame n = driven d (260 + start) frame n 0 entered
 
   -- both looks of the tick; those at the clock in a sent frame, and those at data in a received one
   abbrev pub clock : Bool
-  clock = (d.pins 44 v (y + 231 + 22) (ticks 22 (y + 231) (d.tick v) shine)).t0
+  clock = (d.pins 44 v (y + 231 + 22) (after_cycles 22 (y + 231) (d.cycle v) shine)).t0
 
   abbrev pub data_wire : Bool
-  data_wire = (d.pins 44 v (y + 231 + 24) (ticks 24 (y + 231) (d.tick v) shine)).t1
+  data_wire = (d.pins 44 v (y + 231 + 24) (after_cycles 24 (y + 231) (d.cycle v) shine)).t1
 
   abbrev pub clock_look : ℕ → ℕ → Bool
   clock_look byte k =

@@ -19,7 +19,7 @@ use Rattle.fw_logic.proofs.Service.{stacked}
 use Rattle.fw_logic.specs.Scan.{in_tick}
 use Rattle.mcs48_ranges.specs.Sizes.{IsByte}
 use Rattle.joint_run.specs.Joint.{Beside, joint_board, latch_of, lights_of}
-use Rattle.joint_run.specs.Run.{Board, World, ticks}
+use Rattle.joint_run.specs.Run.{Board, World, after_cycles}
 use Rattle.pc_wires.specs.Wires.{Pc}
 use Rattle.wires_agree.specs.Cycles.{board_cycles}
 use Rattle.agreement.proofs.Happened.{at_lights, at_look}
@@ -30,10 +30,10 @@ module _ (d : Board) (bytes : List ℕ) (hk : HasKernel bytes) (alike : IsSilent
     (low : (p1 p2 c : ℕ) (s : d.State) → (d.pins p1 p2 c s).bus < 256) (w : World d.State) (s : IsStarted w.cpu)
     (few : length (edges_now d w) ≤ 4) where
   abbrev old : ℕ → d.State → d.State
-  old = d.tick w.cpu.p2
+  old = d.cycle w.cpu.p2
 
   abbrev new : ℕ → d.State → d.State
-  new = d.tick (latch_now d w)
+  new = d.cycle (latch_now d w)
 
   -- the board where the head of the tick ends, two cycles past the lights
   abbrev pub shine : Bool → d.State
@@ -43,9 +43,9 @@ module _ (d : Board) (bytes : List ℕ) (hk : HasKernel bytes) (alike : IsSilent
 
   -- the board so many cycles later
   pub from_lights : (l : Bool) (n z : ℕ) → z ≡ w.cycle + 234
-      → ticks n z new (shine l) ≡ ticks (2 + n) (w.cycle + 232) new (in_tick d w 232)
+      → after_cycles n z new (shine l) ≡ after_cycles (2 + n) (w.cycle + 232) new (in_tick d w 232)
   from_lights l n z at =
-      ap (λ b. ticks n z new b) (shone_is d bytes hk alike small low w s few)
+      ap (λ b. after_cycles n z new b) (shone_is d bytes hk alike small low w s few)
       ∙ joined 2 n (w.cycle + 232) z new (in_tick d w 232) (omega (arith, at))
 
   -- the board so many cycles past the tick's start, by the latch of a tick with a frame
@@ -61,7 +61,7 @@ module _ (d : Board) (bytes : List ℕ) (hk : HasKernel bytes) (alike : IsSilent
   -- so it goes on from the head's end, while the latch stays
   pub from_head : (frame : Frame) (l : Bool) (n : ℕ)
       → ((i : ℕ) → i < 2 + n → tick_latch w.cpu.p2 (latch_now d w) frame (232 + i) ≡ latch_now d w)
-      → ticks n (w.cycle + 3 + 231) new (shine l) ≡ gone frame (234 + n)
+      → after_cycles n (w.cycle + 3 + 231) new (shine l) ≡ gone frame (234 + n)
   from_head frame l n still =
       let latch : ℕ → ℕ = tick_latch w.cpu.p2 (latch_now d w) frame in
       let at : 232 + (2 + n) ≡ 234 + n = omega arith in
@@ -76,16 +76,16 @@ module _ (edges : List Edge) (events : List HostEvent) (d : Board) (to : d.State
   -- where its joint board is known 24 cycles behind, it is known from there on, over lines that leave both wires to the
   -- latch
   pub behind_look : (lines : ℕ → Lines) (v start y j : ℕ) (s : d.State) (b : Pc) → y + 24 ≡ 256 + start
-      → to (ticks 24 y (d.tick v) s) ≡ record { pc = b; shown = lights_of v }
+      → to (after_cycles 24 y (d.cycle v) s) ≡ record { pc = b; shown = lights_of v }
       → ((o : ℕ) → 256 + start ≤ o → o < 256 + start + j → lines o ≡ latch_of v)
-      → to (ticks (24 + j) y (d.tick v) s)
+      → to (after_cycles (24 + j) y (d.cycle v) s)
       ≡ record { pc = board_cycles events lines j (256 + start) b; shown = lights_of v }
   behind_look lines v start y j s b at is still =
       let there : Beside = record { pc = b; shown = lights_of v } in
-      ap to (ticks_add 24 j y (d.tick v) s)
-      ∙ ticks_over edges events d to over j (y + 24) v (ticks 24 y (d.tick v) s)
-      ∙ ap (λ t. ticks j (y + 24) ((joint_board edges events).tick v) t) is
-      ∙ ap (λ c. ticks j c ((joint_board edges events).tick v) there) at
+      ap to (ticks_add 24 j y (d.cycle v) s)
+      ∙ ticks_over edges events d to over j (y + 24) v (after_cycles 24 y (d.cycle v) s)
+      ∙ ap (λ t. after_cycles j (y + 24) ((joint_board edges events).cycle v) t) is
+      ∙ ap (λ c. after_cycles j c ((joint_board edges events).cycle v) there) at
       ∙ still_wires edges events lines j (256 + start) v there refl still
 
   -- where the lights of the latch are those that are shown
@@ -94,7 +94,7 @@ module _ (edges : List Edge) (events : List HostEvent) (d : Board) (to : d.State
     v = latch_now d w
 
     abbrev joint : ℕ → Beside → Beside
-    joint = (joint_board edges events).tick v
+    joint = (joint_board edges events).cycle v
 
     -- the joint board's state of the run
     abbrev u : World Beside
@@ -109,11 +109,11 @@ module _ (edges : List Edge) (events : List HostEvent) (d : Board) (to : d.State
         ∙ still_wires edges events (λ o. latch_of w.cpu.p2) 232 w.cycle w.cpu.p2 (to w.board) lit (λ o a u. refl)
 
     -- what stands beside the processor at the look at the clock
-    pub at_clock : to (ticks 24 (w.cycle + 232) (d.tick v) (in_tick d w 232))
+    pub at_clock : to (after_cycles 24 (w.cycle + 232) (d.cycle v) (in_tick d w 232))
         ≡ record { pc = at_look edges events u; shown = lights_of v }
     at_clock =
         let x = w.cycle in
         let a : x + 232 ≡ 232 + x = omega arith in
         ticks_over edges events d to over 24 (x + 232) v (in_tick d w 232)
-        ∙ ap (λ t. ticks 24 (x + 232) joint t) before_is ∙ ap (λ c. ticks 24 c joint before) a
+        ∙ ap (λ t. after_cycles 24 (x + 232) joint t) before_is ∙ ap (λ c. after_cycles 24 c joint before) a
         ∙ lit_wires edges events (λ o. latch_of v) 23 (232 + x) v before (λ o a u. refl)

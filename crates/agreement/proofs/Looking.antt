@@ -14,7 +14,7 @@ use Rattle.fw_logic.proofs.Leads.{Leads}
 use Rattle.fw_logic.proofs.Path.{Stage, Code, Until, Go}
 use Rattle.fw_logic.proofs.Short.{has_rows}
 use Rattle.fw_logic.proofs.Sound.{chain}
-use Rattle.joint_run.specs.Run.{Board, ticks}
+use Rattle.joint_run.specs.Run.{Board, after_cycles}
 
 -- the registers behind the looks: R1 is the test's cell, R0 is counted down
 abbrev pub looked_in : (ℕ → ℕ) → ℕ → ℕ
@@ -27,7 +27,7 @@ module _ (d : Board) (bytes : List ℕ) (has : HasKernel bytes) (z : ℕ) (m : C
 
   -- the board so many cycles behind
   abbrev pub board_at : ℕ → d.State
-  board_at n = ticks n z (d.tick m.p2) board
+  board_at n = after_cycles n z (d.cycle m.p2) board
 
   -- the clock is looked at in cycle 22, data in cycle 24
   abbrev pub clock : Bool
@@ -40,11 +40,11 @@ module _ (d : Board) (bytes : List ℕ) (has : HasKernel bytes) (z : ℕ) (m : C
   abbrev pub Looked : ℕ → Stage d.State → Type 0
   Looked to = At d (record m { f1 = false }) to (looked_in g) ring 26 (board_at 26)
 
-  clock_is : (d.pins m.p1 m.p2 (z + 22) (ticks 22 0 (λ o. d.tick m.p2 (z + o)) board)).t0 ≡ clock
-  clock_is = ap (λ b. (d.pins m.p1 m.p2 (z + 22) b).t0) (absolute 22 z (d.tick m.p2) board)
+  clock_is : (d.pins m.p1 m.p2 (z + 22) (after_cycles 22 0 (λ o. d.cycle m.p2 (z + o)) board)).t0 ≡ clock
+  clock_is = ap (λ b. (d.pins m.p1 m.p2 (z + 22) b).t0) (absolute 22 z (d.cycle m.p2) board)
 
-  data_is : (d.pins m.p1 m.p2 (z + 24) (ticks 24 0 (λ o. d.tick m.p2 (z + o)) board)).t1 ≡ data_wire
-  data_is = ap (λ b. (d.pins m.p1 m.p2 (z + 24) b).t1) (absolute 24 z (d.tick m.p2) board)
+  data_is : (d.pins m.p1 m.p2 (z + 24) (after_cycles 24 0 (λ o. d.cycle m.p2 (z + o)) board)).t1 ≡ data_wire
+  data_is = ap (λ b. (d.pins m.p1 m.p2 (z + 24) b).t1) (absolute 24 z (d.cycle m.p2) board)
 
   -- both wires are high
   pub to_send : IsFree m → (g 69 == 0) ≡ true → clock ≡ true → data_wire ≡ true
@@ -57,7 +57,7 @@ module _ (d : Board) (bytes : List ℕ) (has : HasKernel bytes) (z : ℕ) (m : C
           ap not (clock_is ∙ high),
           (
             ap not (data_is ∙ high'),
-            (refl, refl, absolute 26 z (d.tick m.p2) board),
+            (refl, refl, absolute 26 z (d.cycle m.p2) board),
           ),
         ),
       )
@@ -73,7 +73,7 @@ module _ (d : Board) (bytes : List ℕ) (has : HasKernel bytes) (z : ℕ) (m : C
           ap not (clock_is ∙ high),
           (
             ap not (data_is ∙ low),
-            (refl, refl, absolute 26 z (d.tick m.p2) board),
+            (refl, refl, absolute 26 z (d.cycle m.p2) board),
           ),
         ),
       )

@@ -13,7 +13,7 @@ use Rattle.fw_link.proofs.TickLatch.{before_lights, before_data, lights_stay, li
 use Rattle.fw_link.proofs.Wired.{IsReleased, spans_on}
 use Rattle.fw_logic.proofs.Blocks.{ticks_add}
 use Rattle.joint_run.specs.Joint.{Beside, joint_board, latch_of, lights_of}
-use Rattle.joint_run.specs.Run.{Board, World, ticks}
+use Rattle.joint_run.specs.Run.{Board, World, after_cycles}
 use Rattle.kbd_model.specs.declared.meeting.Meeting.{Meeting}
 use Rattle.pc_wires.specs.Wires.{Pc}
 use Rattle.wires_agree.proofs.Whole.{cycles_more}
@@ -65,8 +65,8 @@ module _ (edges : List Edge) (events : List HostEvent) (d : Board) (to : d.State
       let a : x + 232 ≡ 232 + x = omega arith in
       sym (spans_on joint x latch 24 232 (x + 232) v (after 232) (to w.board) refl
       (λ i l. before_data w.cpu.p2 v frame i (omega (arith, l))) refl)
-      ∙ ap (λ t. ticks 24 (x + 232) (joint.tick v) t) to_lights
-      ∙ ap (λ c. ticks 24 c (joint.tick v) before) a
+      ∙ ap (λ t. after_cycles 24 (x + 232) (joint.cycle v) t) to_lights
+      ∙ ap (λ c. after_cycles 24 c (joint.cycle v) before) a
       ∙ lit_wires edges events (λ o. latch_of v) 23 (232 + x) v before (λ o l m. refl)
 
   -- and from there on
@@ -76,7 +76,7 @@ module _ (edges : List Edge) (events : List HostEvent) (d : Board) (to : d.State
   behind_clock k =
       let a : x + 256 ≡ 256 + x = omega arith in
       driven_over edges events d to over x latch (256 + k) 0 w.board
-      ∙ ticks_add 256 k 0 (λ o. joint.tick (latch o) (x + o)) (to w.board)
+      ∙ ticks_add 256 k 0 (λ o. joint.cycle (latch o) (x + o)) (to w.board)
       ∙ ap (λ t. driven joint x latch k 256 t) to_look
       ∙ at_wires edges events x latch lines k 256 there
       (λ o l m. lights_stay w.cpu.p2 v frame released.byte o (omega (arith, l)))

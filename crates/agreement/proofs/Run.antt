@@ -177,7 +177,7 @@ module _ (layout : KeyLayout) (history : KeyHistory) (fine : IsKeyLayout layout)
     beneath s = s.under
 
     above : IsOver edges events W beneath
-    above = record { pins = λ p1 p2 cycle s. refl; tick = λ p2 cycle s. refl }
+    above = record { pins = λ p1 p2 cycle s. refl; cycle = λ p2 cycle s. refl }
 
     columns_above : edges_now W (watched w) ≡ shown (is_held m.keys.keyboard) (columns_in edges w.cycle)
     columns_above = edges_over edges events W beneath above (watched w) ∙ columns

@@ -25,7 +25,7 @@ use Rattle.fw_link.specs.Latch.{Frame, NoFrame, SentFrame, CutFrame, ReceivedFra
 use Rattle.fw_logic.specs.Scan.{in_tick}
 use Rattle.mcs48_ranges.specs.Sizes.{IsByte}
 use Rattle.joint_run.specs.Joint.{Beside, latch_of, lights_of}
-use Rattle.joint_run.specs.Run.{Board, World, ticks}
+use Rattle.joint_run.specs.Run.{Board, World, after_cycles}
 use Rattle.joint_run.specs.Starts.{Tick}
 use Rattle.kbd_model.proofs.Whole.{IsWhole}
 use Rattle.kbd_model.specs.Keyboard.{Keyboard, offer}
@@ -73,7 +73,7 @@ module _ (edges : List Edge) (events : List HostEvent) (d : Board) (to : d.State
   -- the look at the clock, and that at data two cycles later
   sees_clock : clock_now d w ≡ (drive b.side.port.link).clk
   sees_clock =
-      clock_is edges events d to over 44 v (start + 232 + 24) (ticks 24 (start + 232) (d.tick v) (in_tick d w 232))
+      clock_is edges events d to over 44 v (start + 232 + 24) (after_cycles 24 (start + 232) (d.cycle v) (in_tick d w 232))
       ∙ ap (λ (t : Beside). (latch_of v).clk && (drive t.pc.side.port.link).clk) (at_clock edges events d to over w lit)
       ∙ ap (λ c. c && (drive b.side.port.link).clk) free_latch.clock
 
@@ -82,7 +82,7 @@ module _ (edges : List Edge) (events : List HostEvent) (d : Board) (to : d.State
 
   sees_data : data_now d w ≡ (drive later.side.port.link).dat
   sees_data =
-      data_is edges events d to over 44 v (start + 232 + 26) (ticks 26 (start + 232) (d.tick v) (in_tick d w 232))
+      data_is edges events d to over 44 v (start + 232 + 26) (after_cycles 26 (start + 232) (d.cycle v) (in_tick d w 232))
       ∙ ap (λ (t : Beside). (latch_of v).dat && (drive t.pc.side.port.link).dat)
       (behind_look edges events d to over (λ o. latch_of v) v start (start + 232) 2 (in_tick d w 232) b (omega arith)
       (at_clock edges events d to over w lit) (λ o a u. refl))

@@ -10,7 +10,7 @@ use Rattle.fw_keys.specs.Quiet.{latch_now, clock_now, data_now}
 use Rattle.fw_link.specs.Latch.{Frame, NoFrame, SentFrame, CutFrame, ReceivedFrame, tick_latch}
 use Rattle.fw_link.specs.Reading.{byte_in, right_in}
 use Rattle.fw_logic.specs.Boards.{numbered}
-use Rattle.joint_run.specs.Run.{Board, World, ticks}
+use Rattle.joint_run.specs.Run.{Board, World, after_cycles}
 use Rattle.joint_run.specs.Starts.{Tick}
 use Rattle.kbd_model.specs.Keyboard.{offer}
 use Rattle.kbd_model.specs.Laws.{whole}
@@ -23,7 +23,7 @@ abbrev pub latch_at : (d : Board) → World d.State → Frame → ℕ → ℕ
 latch_at d w frame o = tick_latch w.cpu.p2 (latch_now d w) frame o
 
 abbrev pub board_at : (d : Board) → World d.State → Frame → ℕ → d.State
-board_at d w frame n = ticks n 0 (λ o. d.tick (latch_at d w frame o) (w.cycle + o)) w.board
+board_at d w frame n = after_cycles n 0 (λ o. d.cycle (latch_at d w frame o) (w.cycle + o)) w.board
 
 -- the levels at the pins at an offset, once the columns are read
 abbrev pub levels_at : (d : Board) → World d.State → Frame → ℕ → Pins

@@ -14,7 +14,7 @@ use Rattle.fw_kernel.specs.declared.labels.TheConstants.{TICK}
 use Rattle.fw_link.specs.Drives.{Drives, DrivesTick}
 use Rattle.fw_link.specs.Latch.{Frame, NoFrame, SentFrame, CutFrame, ReceivedFrame, tick_latch}
 use Rattle.joint_run.specs.Joint.{Beside, joint_board}
-use Rattle.joint_run.specs.Run.{World, ticks}
+use Rattle.joint_run.specs.Run.{World, after_cycles}
 use Rattle.joint_run.specs.Starts.{at_tick, IsStart}
 use Rattle.key_file.specs.Accepted.{IsAcceptedFor}
 use Rattle.key_file.specs.Histories.{KeyHistory}
@@ -39,7 +39,7 @@ IsFrameOf offered Idle frame = frame ≡ NoFrame
 
 -- what stands beside the processor so many cycles past a tick's start, where the latch of port 2 is this, by the offset
 abbrev pub beside_in : List Edge → List HostEvent → (ℕ → ℕ) → World Beside → ℕ → Beside
-beside_in edges events latch w n = ticks n 0 (λ o. (joint_board edges events).tick (latch o) (w.cycle + o)) w.board
+beside_in edges events latch w n = after_cycles n 0 (λ o. (joint_board edges events).cycle (latch o) (w.cycle + o)) w.board
 
 -- the offset of the look at the clock in front of that of a cell: the tick's own, or that of the cell before
 abbrev pub look_before : ℕ → ℕ

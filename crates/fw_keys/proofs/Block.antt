@@ -1,7 +1,7 @@
 -- What a block of code leaves that writes no port: place, time, A and memory.
 use Rattle.std.specs.Prelude.{◌≡◌, ◌≤◌, ◌<◌, ℕ, List, length, slice_index}
 use Rattle.mcs48_core.specs.Cpu.{Cpu}
-use Rattle.joint_run.specs.Run.{Board, ticks}
+use Rattle.joint_run.specs.Run.{Board, after_cycles}
 use Rattle.fw_logic.proofs.Clock.{IsFree}
 use Rattle.mcs48_ranges.specs.Sizes.{IsFine}
 use Rattle.fw_logic.proofs.Path.{Stage}
@@ -14,7 +14,7 @@ pub record Ends (d : Board) (x : ℕ) (m : Cpu) (board : d.State) (pc max : ℕ)
   pub ring : List ℕ
   pub cpu : e.cpu ≡ scratched m pc (memory now ring) e.cpu
   pub short : e.off ≤ max
-  pub board_now : e.board ≡ ticks e.off x (d.tick m.p2) board
+  pub board_now : e.board ≡ after_cycles e.off x (d.cycle m.p2) board
   pub facts : M e.cpu.a now ring
 
 -- what every block may assume: no interrupt comes, and bytes are bytes

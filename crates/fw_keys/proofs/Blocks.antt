@@ -19,7 +19,7 @@ use Rattle.fw_logic.proofs.Clock.{IsFree}
 use Rattle.fw_logic.proofs.Leads.{HasRows, Leads}
 use Rattle.fw_logic.proofs.Path.{Code, Note, Path, Stage, world_at}
 use Rattle.mcs48_ranges.specs.Sizes.{IsByte, IsFine}
-use Rattle.joint_run.specs.Run.{Board, ticks}
+use Rattle.joint_run.specs.Run.{Board, after_cycles}
 
 -- cells and ring of a memory
 pub cell-get : (f : ℕ → ℕ) (from n : ℕ) (ring : List ℕ) (i : ℕ) → i < n → get_or (before f from n ring) i 0
@@ -107,9 +107,9 @@ module _ (d : Board) (code : Code) (has : HasRows code) (small : All IsByte code
         ring = b.ring;
         cpu = b.cpu ∙ ap (λ k. scratched k to (memory b.now b.ring) e2.cpu) a.cpu;
         short = let r : e2.off ≤ more = b.short in omega (arith, l, r);
-        board_now = b.board_now ∙ ap (λ k. ticks e2.off (x + o) (d.tick k.p2) e.board) a.cpu
-            ∙ ap (λ q. ticks e2.off (x + o) (d.tick m.p2) q) a.board_now
-            ∙ sym (ticks_add o e2.off x (d.tick m.p2) board);
+        board_now = b.board_now ∙ ap (λ k. after_cycles e2.off (x + o) (d.cycle k.p2) e.board) a.cpu
+            ∙ ap (λ q. after_cycles e2.off (x + o) (d.cycle m.p2) q) a.board_now
+            ∙ sym (ticks_add o e2.off x (d.cycle m.p2) board);
         facts = b.facts;
       }) h in
       subst (λ k. Leads d code x (record { cpu = k; board = e.board; off = o }) (Ends d x m board to (max + more) N))
@@ -145,8 +145,8 @@ module _ (d : Board) (code : Code) (has : HasRows code) (small : All IsByte code
         ring = r;
         cpu = h.0;
         short = within e.off max h.1;
-        board_now = h.2 ∙ sym (ticks_from e.off 0 x (d.tick n.p2) board)
-            ∙ ap (λ k. ticks e.off k (d.tick n.p2) board) z;
+        board_now = h.2 ∙ sym (ticks_from e.off 0 x (d.cycle n.p2) board)
+            ∙ ap (λ k. after_cycles e.off k (d.cycle n.p2) board) z;
         facts = facts e.cpu.a;
       })
       (sound d code has x plan (Shape d x n board to max g r) (begin_at d from f ring m board) path free)
@@ -164,8 +164,8 @@ module _ (d : Board) (code : Code) (has : HasRows code) (small : All IsByte code
         ring = r;
         cpu = s.0;
         short = within e.off max s.1;
-        board_now = s.2 ∙ sym (ticks_from e.off 0 x (d.tick n.p2) board)
-            ∙ ap (λ k. ticks e.off k (d.tick n.p2) board) z;
+        board_now = s.2 ∙ sym (ticks_from e.off 0 x (d.cycle n.p2) board)
+            ∙ ap (λ k. after_cycles e.off k (d.cycle n.p2) board) z;
         facts = subst (λ a. M a g r) (sym h.1) facts;
       })
       (sound d code has x plan (ShapeA d x n board to max v g r) (begin_at d from f ring m board) path free)
@@ -286,9 +286,9 @@ module _ (d : Board) (code : Code) (has : HasRows code) (small : All IsByte code
         ring = b.ring;
         cpu = b.cpu ∙ ap (λ k. scratched (record k { f0 = v }) to (memory b.now b.ring) e2.cpu) a.cpu;
         short = let r : e2.off ≤ more = b.short in omega (arith, l, r);
-        board_now = b.board_now ∙ ap (λ k. ticks e2.off (x + o) (d.tick k.p2) e.board) a.cpu
-            ∙ ap (λ q. ticks e2.off (x + o) (d.tick m.p2) q) a.board_now
-            ∙ sym (ticks_add o e2.off x (d.tick m.p2) board);
+        board_now = b.board_now ∙ ap (λ k. after_cycles e2.off (x + o) (d.cycle k.p2) e.board) a.cpu
+            ∙ ap (λ q. after_cycles e2.off (x + o) (d.cycle m.p2) q) a.board_now
+            ∙ sym (ticks_add o e2.off x (d.cycle m.p2) board);
         facts = b.facts;
       })
       (rest (x + o) e.cpu e.board a.now a.ring a.cpu a.facts (safe_at pc m a.now a.ring e.cpu a.cpu free af.1)))

@@ -4,7 +4,7 @@ use Rattle.std.proofs.Common.{◌∙◌, arith, None}
 use Rattle.mcs48_core.specs.Cpu.{Cpu}
 use Rattle.fw_kernel.specs.declared.labels.TheConstants.{DONE}
 use Rattle.fw_kernel.specs.Places.{HasKernel}
-use Rattle.joint_run.specs.Run.{Board, ticks}
+use Rattle.joint_run.specs.Run.{Board, after_cycles}
 use Rattle.mcs48_ranges.specs.Sizes.{IsByte}
 use Rattle.fw_logic.proofs.Path.{Stage}
 use Rattle.fw_logic.proofs.Leads.{Leads}
@@ -55,7 +55,7 @@ module _ (d : Board) (bytes : List ℕ) (hk : HasKernel bytes) (alike : IsSilent
     pub facts : F from
     pub off : e.off ≡ from.off + n
     pub p2 : e.cpu.p2 ≡ from.cpu.p2
-    pub board_now : e.board ≡ ticks n (y + from.off) (d.tick from.cpu.p2) from.board
+    pub board_now : e.board ≡ after_cycles n (y + from.off) (d.cycle from.cpu.p2) from.board
 
   -- without a frame no port is written from the lights on
   pub record AtHead (e : Stage d.State) : Type 0 where
@@ -112,7 +112,7 @@ module _ (d : Board) (bytes : List ℕ) (hk : HasKernel bytes) (alike : IsSilent
   -- the clock is low
   pub inhibited_works : Inv f → (f 69 == 0) ≡ true
       → (d.pins 44 (255 - f 77) (y + 231 + 22)
-      (ticks 22 0 (λ o. d.tick (255 - f 77) (y + 231 + o)) (shining d bytes hk alike small low held y m board f
+      (after_cycles 22 0 (λ o. d.cycle (255 - f 77) (y + 231 + o)) (shining d bytes hk alike small low held y m board f
       ring))).t0
       ≡ false → Safe m 10 f ring
       → Works Inhibited (231 + (31 + (56 + (2 + edges_most changes_now)))) AtHead

@@ -5,7 +5,7 @@ use Rattle.std.proofs.Common.{refl, ap, sym, ◌∙◌, subst, arith, Some}
 use Rattle.mcs48_core.specs.Cpu.{Cpu}
 use Rattle.fw_kernel.specs.declared.labels.TheConstants.{DONE, SCAN, TESTED, SENT, COMMAND}
 use Rattle.fw_kernel.specs.Places.{HasKernel}
-use Rattle.joint_run.specs.Run.{Board, ticks}
+use Rattle.joint_run.specs.Run.{Board, after_cycles}
 use Rattle.mcs48_ranges.specs.Sizes.{IsByte, IsFine}
 use Rattle.fw_logic.proofs.Clock.{IsFree}
 use Rattle.fw_logic.proofs.Path.{Stage}
@@ -169,7 +169,7 @@ module _ (d : Board) (bytes : List ℕ) (hk : HasKernel bytes) (alike : IsSilent
           facts = a.facts;
           off = omega arith;
           p2 = ap (λ (c : Cpu). c.p2) is;
-          board_now = b.board_now ∙ ap (λ c. ticks e2.off c (d.tick e.cpu.p2) e.board) at;
+          board_now = b.board_now ∙ ap (λ c. after_cycles e2.off c (d.cycle e.cpu.p2) e.board) at;
         }) tail
 
     pub framed : Safe m 10 f ring → Works d bytes hk alike small low held y m board f ring meeting last_off F

@@ -22,7 +22,7 @@ use Rattle.fw_logic.proofs.Leads.{Leads}
 use Rattle.fw_logic.proofs.Path.{Acc, Go, Note, Path, Stage, Until}
 use Rattle.fw_logic.proofs.Short.{has_rows}
 use Rattle.mcs48_ranges.specs.Sizes.{IsByte}
-use Rattle.joint_run.specs.Run.{Board, ticks}
+use Rattle.joint_run.specs.Run.{Board, after_cycles}
 use Rattle.kbd_model.specs.Keyboard.{offer}
 use Rattle.kbd_model.specs.Queue.{first_of}
 use Rattle.fw_keys.proofs.Bytes.{or_none, twice}
@@ -30,7 +30,7 @@ use Rattle.fw_keys.proofs.Bytes.{or_none, twice}
 -- the keys of column c that are down: it is read 13 + 16 c cycles behind
 abbrev pub shown : (d : Board) → ℕ → ℕ → d.State → ℕ → ℕ
 shown d y p2 board c = 255 - (d.pins (32 + c) p2 (y + (13 + 16 * c))
-    (ticks (13 + 16 * c) 0 (λ o. d.tick p2 (y + o)) board)).bus
+    (after_cycles (13 + 16 * c) 0 (λ o. d.cycle p2 (y + o)) board)).bus
 
 -- memory after the head
 abbrev pub headed : (ℕ → ℕ) → (ℕ → ℕ) → ℕ → ℕ → ℕ → ℕ
@@ -85,7 +85,7 @@ module _ (d : Board) (bytes : List ℕ) (hk : HasKernel bytes) (small : All IsBy
 
     -- the board at the head's end: the lights are put in the cycle 229 behind
     abbrev pub board_lit : d.State
-    board_lit = ticks 2 229 (λ o. d.tick (255 - f 77) (y + o)) (ticks 229 0 (λ o. d.tick m.p2 (y + o)) board)
+    board_lit = after_cycles 2 229 (λ o. d.cycle (255 - f 77) (y + o)) (after_cycles 229 0 (λ o. d.cycle m.p2 (y + o)) board)
 
     abbrev HeadShape : ℕ → ℕ → Stage d.State → Type 0
     HeadShape r4 r5 e =

@@ -5,7 +5,7 @@ use Rattle.std.proofs.Common.{inl, inr}
 use Rattle.mcs48_core.specs.Cpu.{Cpu}
 use Rattle.fw_kernel.specs.declared.labels.TheConstants.{TICK, DONE}
 use Rattle.fw_kernel.specs.Places.{HasKernel}
-use Rattle.joint_run.specs.Run.{Board, World, ticks}
+use Rattle.joint_run.specs.Run.{Board, World, after_cycles}
 use Rattle.joint_run.specs.Starts.{Tick}
 use Rattle.mcs48_ranges.specs.Sizes.{IsByte, IsFine}
 use Rattle.fw_logic.proofs.Entered.{way_back}
@@ -64,19 +64,19 @@ module _ (d : Board) (bytes : List ℕ) (hk : HasKernel bytes) (alike : IsSilent
   C = changed d bytes hk alike small low w.cycle late soon m.tf m.last_t1 f ring m w.board
 
   abbrev old : ℕ → d.State → d.State
-  old = d.tick m.p2
+  old = d.cycle m.p2
 
   abbrev new : ℕ → d.State → d.State
-  new = d.tick (latch_now d w)
+  new = d.cycle (latch_now d w)
 
   down_is : (c : ℕ) → D c ≡ column_read d w c
   down_is c =
       let x = w.cycle in
       let a : x + 3 + (13 + 16 * c) ≡ x + (16 + 16 * c) = omega arith in
       let n : 3 + (13 + 16 * c) ≡ 16 + 16 * c = omega arith in
-      let state : ticks (13 + 16 * c) 0 (λ o. old (x + 3 + o)) (ticks 3 x old w.board) ≡ in_tick d w (16 + 16 * c) =
-      absolute (13 + 16 * c) (x + 3) old (ticks 3 x old w.board) ∙ joined 3 (13 + 16 * c) x (x + 3) old w.board refl
-      ∙ ap (λ k. ticks k x old w.board) n in
+      let state : after_cycles (13 + 16 * c) 0 (λ o. old (x + 3 + o)) (after_cycles 3 x old w.board) ≡ in_tick d w (16 + 16 * c) =
+      absolute (13 + 16 * c) (x + 3) old (after_cycles 3 x old w.board) ∙ joined 3 (13 + 16 * c) x (x + 3) old w.board refl
+      ∙ ap (λ k. after_cycles k x old w.board) n in
       ap (λ b. 255 - (d.pins (32 + c) m.p2 (x + 3 + (13 + 16 * c)) b).bus) state
       ∙ ap (λ k. 255 - (d.pins (32 + c) m.p2 k (in_tick d w (16 + 16 * c))).bus) a
 
@@ -120,26 +120,26 @@ module _ (d : Board) (bytes : List ℕ) (hk : HasKernel bytes) (alike : IsSilent
   F l = AtHead d bytes hk alike small low H (w.cycle + 3) (k l) board3 (stacked f) ring
 
   abbrev shone : d.State
-  shone = ticks 2 229 (λ o. new (w.cycle + 3 + o)) (ticks 229 0 (λ o. old (w.cycle + 3 + o)) board3)
+  shone = after_cycles 2 229 (λ o. new (w.cycle + 3 + o)) (after_cycles 229 0 (λ o. old (w.cycle + 3 + o)) board3)
 
-  pub shone_is : shone ≡ ticks 2 (w.cycle + 232) new (in_tick d w 232)
+  pub shone_is : shone ≡ after_cycles 2 (w.cycle + 232) new (in_tick d w 232)
   shone_is =
       let x = w.cycle in
       let a : x + 3 + 229 ≡ x + 232 = omega arith in
-      ap (λ b. ticks 2 229 (λ o. new (x + 3 + o)) b) (absolute 229 (x + 3) old board3
+      ap (λ b. after_cycles 2 229 (λ o. new (x + 3 + o)) b) (absolute 229 (x + 3) old board3
       ∙ joined 3 229 x (x + 3) old w.board refl)
-      ∙ sym (ticks_from 2 229 (x + 3) new (in_tick d w 232)) ∙ ap (λ c. ticks 2 c new (in_tick d w 232)) a
+      ∙ sym (ticks_from 2 229 (x + 3) new (in_tick d w 232)) ∙ ap (λ c. after_cycles 2 c new (in_tick d w 232)) a
 
   look_is : (n : ℕ) → d.pins 44 (latch_now d w) (w.cycle + 3 + 231 + n)
-      (ticks n 0 (λ o. new (w.cycle + 3 + 231 + o)) shone) ≡ levels_in d (w.cycle + 232) 44 (latch_now d w)
+      (after_cycles n 0 (λ o. new (w.cycle + 3 + 231 + o)) shone) ≡ levels_in d (w.cycle + 232) 44 (latch_now d w)
       (in_tick d w 232) (2 + n)
   look_is n =
       let x = w.cycle in
       let a : x + 3 + 231 + n ≡ x + 232 + (2 + n) = omega arith in
       ap (λ b. d.pins 44 (latch_now d w) (x + 3 + 231 + n) b)
-      (absolute n (x + 3 + 231) new shone ∙ ap (λ b. ticks n (x + 3 + 231) new b) shone_is
+      (absolute n (x + 3 + 231) new shone ∙ ap (λ b. after_cycles n (x + 3 + 231) new b) shone_is
       ∙ joined 2 n (x + 232) (x + 3 + 231) new (in_tick d w 232) (omega arith))
-      ∙ ap (λ c. d.pins 44 (latch_now d w) c (ticks (2 + n) (x + 232) new (in_tick d w 232))) a
+      ∙ ap (λ c. d.pins 44 (latch_now d w) c (after_cycles (2 + n) (x + 232) new (in_tick d w 232))) a
 
   pub works : (meeting : Meeting) → IsQuiet d w meeting
       → (max : ℕ) × (max ≤ 36) × ((l : Bool) → Work d bytes hk alike small low w.cycle late soon m.tf m.last_t1 f ring m
@@ -185,7 +185,7 @@ module _ (d : Board) (bytes : List ℕ) (hk : HasKernel bytes) (alike : IsSilent
     pub facts : G l from
     pub cycle : v.cycle ≡ w.cycle + (3 + from.off) + n
     pub p2 : v.cpu.p2 ≡ from.cpu.p2
-    pub board_now : v.board ≡ ticks n (w.cycle + (3 + from.off)) (d.tick from.cpu.p2) from.board
+    pub board_now : v.board ≡ after_cycles n (w.cycle + (3 + from.off)) (d.cycle from.cpu.p2) from.board
 
   comes_to : (meeting : Meeting) (G : Bool → Stage d.State → Type 0) (v : World d.State)
       → Next d w.cycle late (Goes d bytes hk alike small low w.cycle late soon m.tf m.last_t1 f ring m w.board
@@ -219,7 +219,7 @@ module _ (d : Board) (bytes : List ℕ) (hk : HasKernel bytes) (alike : IsSilent
       let off : e.off ≡ 3 + (g.from.off + g.n) = g.off in
       let here : x + e.off ≡ x + 3 + g.from.off + g.n = omega (arith, off) in
       let at : x + 3 + g.from.off ≡ x + (3 + g.from.off) = omega arith in
-      let step : ℕ → d.State → d.State = d.tick g.from.cpu.p2 in
+      let step : ℕ → d.State → d.State = d.cycle g.from.cpu.p2 in
       record {
         started = subst (λ c. IsStarted c) (sym vcpu)
             (started_is n.late' n.most n.tf n.last n.now n.ring e.cpu fineB
@@ -241,10 +241,10 @@ module _ (d : Board) (bytes : List ℕ) (hk : HasKernel bytes) (alike : IsSilent
         p2 = ap (λ (c : Cpu). c.p2) vcpu ∙ g.p2;
         board_now =
             ap (λ (u : World d.State). u.board) n.is
-            ∙ ap (λ b. ticks n.waited (x + e.off) (d.tick e.cpu.p2) b) g.board_now
-            ∙ ap (λ p. ticks n.waited (x + e.off) (d.tick p) (ticks g.n (x + 3 + g.from.off) step g.from.board)) g.p2
+            ∙ ap (λ b. after_cycles n.waited (x + e.off) (d.cycle e.cpu.p2) b) g.board_now
+            ∙ ap (λ p. after_cycles n.waited (x + e.off) (d.cycle p) (after_cycles g.n (x + 3 + g.from.off) step g.from.board)) g.p2
             ∙ joined g.n n.waited (x + 3 + g.from.off) (x + e.off) step g.from.board here
-            ∙ ap (λ c. ticks (g.n + n.waited) c step g.from.board) at;
+            ∙ ap (λ c. after_cycles (g.n + n.waited) c step g.from.board) at;
       }
 
   pub any_tick : (meeting : Meeting) (last_off : ℕ) → IsPressedAt keys meeting (layers_by m.ram) (shown_by m.ram)

@@ -5,7 +5,7 @@ use Rattle.std.proofs.lemmas.Bool.Decides.{nat_tests}
 use Rattle.mcs48_core.specs.Cpu.{Cpu}
 use Rattle.fw_kernel.specs.declared.labels.TheConstants.{TICK, DONE, WAIT}
 use Rattle.fw_kernel.specs.Places.{HasKernel}
-use Rattle.joint_run.specs.Run.{Board, World, ticks}
+use Rattle.joint_run.specs.Run.{Board, World, after_cycles}
 use Rattle.joint_run.specs.Starts.{Tick}
 use Rattle.mcs48_ranges.specs.Sizes.{IsByte, IsFine}
 use Rattle.fw_logic.proofs.Path.{Stage}
@@ -85,7 +85,7 @@ module _ (d : Board) (bytes : List ℕ) (hk : HasKernel bytes) (alike : IsSilent
   first l = work_cpu late tf l f ring m
 
   abbrev pub first_board : d.State
-  first_board = ticks 3 x (d.tick m.p2) board
+  first_board = after_cycles 3 x (d.cycle m.p2) board
 
   -- the keys that are down as each column is read, and what differs from the tick before
   abbrev pub down : ℕ → ℕ
@@ -117,7 +117,7 @@ module _ (d : Board) (bytes : List ℕ) (hk : HasKernel bytes) (alike : IsSilent
     pub facts : F l from
     pub off : e.off ≡ 3 + (from.off + n)
     pub p2 : e.cpu.p2 ≡ from.cpu.p2
-    pub board_now : e.board ≡ ticks n (x + 3 + from.off) (d.tick from.cpu.p2) from.board
+    pub board_now : e.board ≡ after_cycles n (x + 3 + from.off) (d.cycle from.cpu.p2) from.board
 
   -- the processor is fit for the work where it is at the tick's start
   pub fit : (l : Bool) → IsFine (begun late tf last f ring m) → Safe (first l) 10 (stacked f) ring

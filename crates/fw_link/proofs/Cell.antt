@@ -15,7 +15,7 @@ use Rattle.fw_logic.proofs.Leads.{Leads}
 use Rattle.fw_logic.proofs.Path.{Stage, Until, Go, Acc, Ram}
 use Rattle.fw_logic.proofs.Short.{has_rows}
 use Rattle.fw_logic.proofs.Sound.{sound}
-use Rattle.joint_run.specs.Run.{Board, ticks}
+use Rattle.joint_run.specs.Run.{Board, after_cycles}
 
 -- R0, R3 and R6 behind a cell: R6 is turned through the carry
 abbrev pub turned : (ℕ → ℕ) → Bool → ℕ → ℕ → ℕ
@@ -38,8 +38,8 @@ risen m = bit_or (bit_and m.p2 254) 1
 
 -- the board at a cell's look, 18 cycles into it
 abbrev pub board_at_look : (d : Board) → ℕ → Cpu → d.State → d.State
-board_at_look d y m board = ticks 2 16 (λ o. d.tick (risen m) (y + o))
-    (ticks 16 0 (λ o. d.tick (fallen m) (y + o)) board)
+board_at_look d y m board = after_cycles 2 16 (λ o. d.cycle (risen m) (y + o))
+    (after_cycles 16 0 (λ o. d.cycle (fallen m) (y + o)) board)
 
 -- the number of cells left goes down by one, and is tested
 pub one_less : (c n : ℕ) → c ≡ suc n → n < 255 → (c + 255) % 256 ≡ n
@@ -52,10 +52,10 @@ module _ (d : Board) (bytes : List ℕ) (has : HasKernel bytes) (y : ℕ) (m : C
     (ring : List ℕ) where
   -- the board 20 cycles into the cell, and at its end
   abbrev pub board_at_put : d.State
-  board_at_put = ticks 4 16 (λ o. d.tick (risen m) (y + o)) (ticks 16 0 (λ o. d.tick (fallen m) (y + o)) board)
+  board_at_put = after_cycles 4 16 (λ o. d.cycle (risen m) (y + o)) (after_cycles 16 0 (λ o. d.cycle (fallen m) (y + o)) board)
 
   abbrev pub board_behind : ℕ → d.State
-  board_behind v = ticks 12 20 (λ o. d.tick v (y + o)) board_at_put
+  board_behind v = after_cycles 12 20 (λ o. d.cycle v (y + o)) board_at_put
 
   -- the clock wire at the cell's look
   abbrev pub clock_seen : Bool
@@ -68,7 +68,7 @@ module _ (d : Board) (bytes : List ℕ) (has : HasKernel bytes) (y : ℕ) (m : C
 
   -- where the clock is low at the look both wires are released: 24 cycles in all
   abbrev pub board_cut : d.State
-  board_cut = ticks 4 20 (λ o. d.tick (bit_or (risen m) 3) (y + o)) board_at_put
+  board_cut = after_cycles 4 20 (λ o. d.cycle (bit_or (risen m) 3) (y + o)) board_at_put
 
   abbrev pub half_turned : ℕ → ℕ
   half_turned = put (put f 30 (128 * digit m.c + f 30 / 2)) 24 0

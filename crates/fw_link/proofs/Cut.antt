@@ -21,7 +21,7 @@ use Rattle.fw_link.proofs.Cell.{cut, board_cut, half_turned}
 use Rattle.fw_link.proofs.Frame.{begins, cells_pass}
 use Rattle.fw_link.proofs.Sending.{InFrame, sending, left_at, look, risen_is, high_span, look_is}
 use Rattle.fw_link.proofs.Wired.{IsReleased, releases, spans, ticks_alike}
-use Rattle.joint_run.specs.Run.{Board, ticks}
+use Rattle.joint_run.specs.Run.{Board, after_cycles}
 
 -- the latch of a frame that is cut, before the cut and behind it
 pub as_sent : (v byte j o : ℕ) → o < 28 + 32 * j + 20 → cut_latch v byte j o ≡ sent_latch v byte o
@@ -44,9 +44,9 @@ module _ (d : Board) (bytes : List ℕ) (has : HasKernel bytes) (x : ℕ) (m : C
 
   up_to_cut : (j n : ℕ) → n ≤ 28 + 32 * j + 20 → driven d x (sent_latch v byte) n 0 board ≡ cut_board j n
   up_to_cut j n l =
-      ticks_alike n 0 0 (λ o. d.tick (sent_latch v byte o) (x + o)) (λ o. d.tick (cut_latch v byte j o) (x + o)) board
+      ticks_alike n 0 0 (λ o. d.cycle (sent_latch v byte o) (x + o)) (λ o. d.cycle (cut_latch v byte j o) (x + o)) board
       (λ i t u. let k : 0 + i < 28 + 32 * j + 20 = omega (arith, l, u) in
-      ap (λ w. d.tick w (x + (0 + i)) t) (sym (as_sent v byte j (0 + i) k)))
+      ap (λ w. d.cycle w (x + (0 + i)) t) (sym (as_sent v byte j (0 + i) k)))
 
   abbrev Cut : ℕ → ℕ → Stage d.State → Type 0
   Cut j n e =
@@ -96,8 +96,8 @@ module _ (d : Board) (bytes : List ℕ) (has : HasKernel bytes) (x : ℕ) (m : C
         now =
             a.now
             ∙ spans d x (cut_latch v byte j) 4 (28 + 32 * j + 20) (x + t.off) 20 u
-            (ticks 4 16 (λ o. d.tick (bit_or (bit_and t.cpu.p2 254) 1) (x + t.off + o))
-            (ticks 16 0 (λ o. d.tick (bit_and t.cpu.p2 254) (x + t.off + o)) t.board))
+            (after_cycles 4 16 (λ o. d.cycle (bit_or (bit_and t.cpu.p2 254) 1) (x + t.off + o))
+            (after_cycles 16 0 (λ o. d.cycle (bit_and t.cpu.p2 254) (x + t.off + o)) t.board))
             board (omega (arith, o, k)) (λ i l. as_cut v byte j i ∙ sym free_again)
             (high_span d bytes has x m board f ring v byte released small 4 q.k (x + t.off) t.cpu.p2 t.board few y w
             q.board_now

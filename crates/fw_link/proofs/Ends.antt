@@ -16,7 +16,7 @@ use Rattle.fw_logic.proofs.Leads.{Leads}
 use Rattle.fw_logic.proofs.Path.{Stage, Run, Until, Go, Acc}
 use Rattle.fw_logic.proofs.Short.{has_rows}
 use Rattle.fw_logic.proofs.Sound.{sound, weaken}
-use Rattle.joint_run.specs.Run.{Board, ticks}
+use Rattle.joint_run.specs.Run.{Board, after_cycles}
 
 -- a byte folded upon itself: its halves, then its quarters, then its eighths
 abbrev rotated : ℕ → ℕ
@@ -49,7 +49,7 @@ module _ (d : Board) (bytes : List ℕ) (has : HasKernel bytes) (y : ℕ) (m : C
 
   abbrev pub board_readied : d.State
   board_readied =
-      ticks 18 10 (λ o. d.tick (bit_and (255 - f 77) 253) (y + o)) (ticks 10 0 (λ o. d.tick m.p2 (y + o)) board)
+      after_cycles 18 10 (λ o. d.cycle (bit_and (255 - f 77) 253) (y + o)) (after_cycles 10 0 (λ o. d.cycle m.p2 (y + o)) board)
 
   abbrev pub Readied : Stage d.State → Type 0
   Readied e =
@@ -76,8 +76,8 @@ module _ (d : Board) (bytes : List ℕ) (has : HasKernel bytes) (y : ℕ) (m : C
   -- the eleventh fall: 16 cycles with the clock low, and 4 more
   abbrev pub board_stopped : d.State
   board_stopped =
-      ticks 4 16 (λ o. d.tick (bit_or (bit_and m.p2 254) 1) (y + o))
-      (ticks 16 0 (λ o. d.tick (bit_and m.p2 254) (y + o)) board)
+      after_cycles 4 16 (λ o. d.cycle (bit_or (bit_and m.p2 254) 1) (y + o))
+      (after_cycles 16 0 (λ o. d.cycle (bit_and m.p2 254) (y + o)) board)
 
   pub stops : IsFree m
       → Leads d (kernel_in true bytes) y (begin_at d S_STOP f ring m board)

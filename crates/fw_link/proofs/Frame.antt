@@ -20,7 +20,7 @@ use Rattle.fw_link.proofs.Latches.{driven}
 use Rattle.fw_link.proofs.Ends.{in_quarters, readied, readies, Readied, stops, board_stopped}
 use Rattle.fw_link.proofs.Sending.{InFrame, one_cell, sending, look, risen_is, high_span}
 use Rattle.fw_link.proofs.Wired.{IsReleased, both_high, spans}
-use Rattle.joint_run.specs.Run.{Board, ticks}
+use Rattle.joint_run.specs.Run.{Board, after_cycles}
 
 -- before the first cell: the wires are left alone, then data is pulled for the start bit
 before_start : (v byte i : ℕ) → i < 10 → sent_latch v byte (0 + i) ≡ v
@@ -57,12 +57,12 @@ module _ (d : Board) (bytes : List ℕ) (has : HasKernel bytes) (x : ℕ) (m : C
   begins free out lit is some =
       let low : f 28 < 256 = subst (λ b. b < 256) (sym is) small in
       let data_low : bit_and (255 - f 77) 253 ≡ wired v true false = ap (λ w. bit_and w 253) lit in
-      let here : ticks 10 0 (λ o. d.tick m.p2 (x + o)) board ≡ at_offset 10 =
+      let here : after_cycles 10 0 (λ o. d.cycle m.p2 (x + o)) board ≡ at_offset 10 =
       spans d x (sent_latch v byte) 10 0 x 0 m.p2 board board refl (λ i l. before_start v byte i l ∙ sym out) refl in
-      let there : ticks 18 10 (λ o. d.tick (bit_and (255 - f 77) 253) (x + o))
-      (ticks 10 0 (λ o. d.tick m.p2 (x + o)) board) ≡ at_offset 28 =
+      let there : after_cycles 18 10 (λ o. d.cycle (bit_and (255 - f 77) 253) (x + o))
+      (after_cycles 10 0 (λ o. d.cycle m.p2 (x + o)) board) ≡ at_offset 28 =
       spans d x (sent_latch v byte) 18 10 x 10 (bit_and (255 - f 77) 253)
-      (ticks 10 0 (λ o. d.tick m.p2 (x + o)) board) board refl
+      (after_cycles 10 0 (λ o. d.cycle m.p2 (x + o)) board) board refl
       (λ i l. start_put v byte i l ∙ sym data_low) here in
       weaken d (kernel_in true bytes) (has_rows true bytes has) x (Readied d bytes has x m board f ring) (In 10)
       (begin_at d SEND f ring m board)

@@ -215,7 +215,7 @@ module _ (edges : List Edge) (events : List HostEvent) (w : World Beside) (latch
   beneath s = s.under
 
   watch_over : IsOver edges events watch beneath
-  watch_over = record { pins = λ p1 p2 cycle s. refl; tick = λ p2 cycle s. refl }
+  watch_over = record { pins = λ p1 p2 cycle s. refl; cycle = λ p2 cycle s. refl }
 
   watched_by : (bytes : List ℕ) (n : ℕ) (Q : World Beside → Type 0)
       → Comes watch TICK bytes (watched w)

@@ -14,7 +14,7 @@ use Rattle.fw_link.proofs.Wires.{Drives, clock_of_latch, sent_is_frame, sent_bef
 use Rattle.fw_link.proofs.WiresGot.{received_is_frame, received_before, received_ends, received_bit}
 use Rattle.host_turn.specs.Run.{says_lights}
 use Rattle.joint_run.specs.Joint.{Beside, latch_of, lights_of, joint_cycle, joint_board}
-use Rattle.joint_run.specs.Run.{ticks}
+use Rattle.joint_run.specs.Run.{after_cycles}
 use Rattle.pc_wires.specs.Wires.{Pc, board_cycle}
 use Rattle.wires_agree.specs.Cells.{IsUp, IsFrame}
 use Rattle.wires_agree.specs.Cycles.{board_cycles}
@@ -23,7 +23,7 @@ use Rattle.wires_agree.specs.Ticks.{EndsFrame}
 -- cycles in which the latch stays as it is, and its lights are shown already
 pub still_wires : (edges : List Edge) (events : List HostEvent) (lines : ℕ → Lines) (n y v : ℕ) (s : Beside)
     → lights_of v ≡ s.shown → ((o : ℕ) → y ≤ o → o < y + n → lines o ≡ latch_of v)
-    → ticks n y ((joint_board edges events).tick v) s
+    → after_cycles n y ((joint_board edges events).cycle v) s
     ≡ record { pc = board_cycles events lines n y s.pc; shown = s.shown }
 still_wires edges events lines zero y v s lit is = refl
 still_wires edges events lines (suc n) y v s lit is =
@@ -31,7 +31,7 @@ still_wires edges events lines (suc n) y v s lit is =
     one_cycle events v y s lit ∙ ap (λ q. record { pc = board_cycle events y q s.pc; shown = s.shown })
     (sym (is y (omega arith) (omega arith))) in
     let next : y + 1 ≡ suc y = omega arith in
-    ap (λ t. ticks n (y + 1) (joint_cycle events v) t) first
+    ap (λ t. after_cycles n (y + 1) (joint_cycle events v) t) first
     ∙ still_wires edges events lines n (y + 1) v
     (record { pc = board_cycle events y (lines y) s.pc; shown = s.shown }) lit
     (λ o a b. is o (omega (arith, a)) (omega (arith, b)))
@@ -53,7 +53,7 @@ lit_cycle events p2 now s = refl
 -- the same for cycles in the first of which the lights may change
 pub lit_wires : (edges : List Edge) (events : List HostEvent) (lines : ℕ → Lines) (n y v : ℕ) (s : Beside)
     → ((o : ℕ) → y ≤ o → o < y + suc n → lines o ≡ latch_of v)
-    → ticks (suc n) y ((joint_board edges events).tick v) s
+    → after_cycles (suc n) y ((joint_board edges events).cycle v) s
     ≡ record {
       pc = board_cycles events lines (suc n) y (record s.pc { side = says_lights y s.shown (lights_of v) s.pc.side });
       shown = lights_of v;
@@ -64,7 +64,7 @@ lit_wires edges events lines n y v s is =
     lit_cycle events v y s ∙ ap (λ q. record { pc = board_cycle events y q said; shown = lights_of v })
     (sym (is y (omega arith) (omega arith))) in
     let next : y + 1 ≡ suc y = omega arith in
-    ap (λ t. ticks n (y + 1) (joint_cycle events v) t) first
+    ap (λ t. after_cycles n (y + 1) (joint_cycle events v) t) first
     ∙ still_wires edges events lines n (y + 1) v
     (record { pc = board_cycle events y (lines y) said; shown = lights_of v }) refl
     (λ o a b. is o (omega (arith, a)) (omega (arith, b)))

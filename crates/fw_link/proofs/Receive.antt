@@ -19,7 +19,7 @@ use Rattle.fw_logic.proofs.Short.{has_rows}
 use Rattle.fw_logic.proofs.Sound.{sound}
 use Rattle.fw_link.proofs.Cell.{fallen, risen, board_at_look, one_less, asks}
 use Rattle.fw_link.proofs.Ends.{in_quarters, in_eighths}
-use Rattle.joint_run.specs.Run.{Board, ticks}
+use Rattle.joint_run.specs.Run.{Board, after_cycles}
 
 -- both ways of a look at data meet, with this in A
 abbrev looked : ℕ → (ℕ → Bool → ℕ) → Cpu → Bool → Cpu → Cpu
@@ -51,7 +51,7 @@ weighed false false = refl
 module _ (d : Board) (bytes : List ℕ) (has : HasKernel bytes) (y : ℕ) (m : Cpu) (board : d.State) (f : ℕ → ℕ)
     (ring : List ℕ) where
   abbrev pub board_behind_bit : d.State
-  board_behind_bit = ticks 16 16 (λ o. d.tick (risen m) (y + o)) (ticks 16 0 (λ o. d.tick (fallen m) (y + o)) board)
+  board_behind_bit = after_cycles 16 16 (λ o. d.cycle (risen m) (y + o)) (after_cycles 16 0 (λ o. d.cycle (fallen m) (y + o)) board)
 
   -- the data wire at the cell's look
   abbrev pub bit_seen : Bool
@@ -61,7 +61,7 @@ module _ (d : Board) (bytes : List ℕ) (has : HasKernel bytes) (y : ℕ) (m : C
   abbrev pub Awaits : Stage d.State → Type 0
   Awaits e =
       (e.cpu ≡ scratched m R_CELL (memory (put (put f 27 8) 24 0) ring) e.cpu) × (e.cpu.a ≡ m.a) × (e.off ≡ 28)
-      × (e.board ≡ ticks 28 0 (λ o. d.tick m.p2 (y + o)) board)
+      × (e.board ≡ after_cycles 28 0 (λ o. d.cycle m.p2 (y + o)) board)
 
   pub awaits : IsFree m → Leads d (kernel_in true bytes) y (begin_at d GOT f ring m board) Awaits
   awaits free =
@@ -149,8 +149,8 @@ module _ (d : Board) (bytes : List ℕ) (has : HasKernel bytes) (y : ℕ) (m : C
   -- the eleventh fall: both wires are low for 16 cycles
   abbrev pub board_acked : d.State
   board_acked =
-      ticks 2 16 (λ o. d.tick (bit_or (bit_and m.p2 252) 3) (y + o))
-      (ticks 16 0 (λ o. d.tick (bit_and m.p2 252) (y + o)) board)
+      after_cycles 2 16 (λ o. d.cycle (bit_or (bit_and m.p2 252) 3) (y + o))
+      (after_cycles 16 0 (λ o. d.cycle (bit_and m.p2 252) (y + o)) board)
 
   pub acks : IsFree m
       → Leads d (kernel_in true bytes) y (begin_at d R_ACK f ring m board)

@@ -24,7 +24,7 @@ use Rattle.fw_link.proofs.Receive.{board_behind_bit, board_acked}
 use Rattle.fw_link.proofs.Taking.{taken, taken_is, taken_small, read_bits, InBits, one_bit, bit_read, risen_is}
 use Rattle.fw_link.proofs.Taking.{cell_span, look_is, in_cell, before_cells}
 use Rattle.fw_link.proofs.Wired.{IsReleased, both_high, restores, spans}
-use Rattle.joint_run.specs.Run.{Board, ticks}
+use Rattle.joint_run.specs.Run.{Board, after_cycles}
 
 -- the registers behind a received frame: R4 is the byte, R5 is 255 where its parity was right and else 0
 abbrev pub got_cells : (ℕ → ℕ) → ℕ → Bool → ℕ → ℕ
@@ -153,7 +153,7 @@ module _ (d : Board) (bytes : List ℕ) (has : HasKernel bytes) (x : ℕ) (m : C
       let w : t.cpu.p2 ≡ m.p2 = ap (λ (z : Cpu). z.p2) q.cpu in
       let u = bit_or (bit_and t.cpu.p2 252) 3 in
       let free_again : u ≡ m.p2 = ap (λ z. bit_or (bit_and z 252) 3) w ∙ restores m.p2 released in
-      let first : ticks 16 0 (λ o. d.tick (bit_and t.cpu.p2 252) (x + t.off + o)) t.board
+      let first : after_cycles 16 0 (λ o. d.cycle (bit_and t.cpu.p2 252) (x + t.off + o)) t.board
       ≡ at_offset (28 + 32 * 10 + 16) =
       spans d x (received_latch m.p2) 16 (28 + 32 * 10) (x + t.off) 0 (bit_and t.cpu.p2 252) t.board board
       (omega (arith, o))
@@ -170,7 +170,7 @@ module _ (d : Board) (bytes : List ℕ) (has : HasKernel bytes) (x : ℕ) (m : C
         now =
             a.now
             ∙ spans d x (received_latch m.p2) 2 (28 + 32 * 10 + 16) (x + t.off) 16 u
-            (ticks 16 0 (λ o. d.tick (bit_and t.cpu.p2 252) (x + t.off + o)) t.board) board (omega (arith, o))
+            (after_cycles 16 0 (λ o. d.cycle (bit_and t.cpu.p2 252) (x + t.off + o)) t.board) board (omega (arith, o))
             (λ i l. last_high m.p2 i l ∙ both_high m.p2 released ∙ sym free_again) first;
       })
       (acks d bytes has (x + t.off) t.cpu t.board got ring free)

@@ -21,7 +21,7 @@ use Rattle.fw_link.proofs.Latches.{driven}
 use Rattle.fw_link.proofs.Cell.{turned, cell, Celled}
 use Rattle.fw_link.proofs.Ends.{in_quarters}
 use Rattle.fw_link.proofs.Wired.{IsReleased, falls, rises, puts, spans, cell_low, cell_high, cell_next}
-use Rattle.joint_run.specs.Run.{Board, ticks}
+use Rattle.joint_run.specs.Run.{Board, after_cycles}
 
 -- the carry, and R6, at cell k
 abbrev pub carry_at : ℕ → ℕ → Bool
@@ -68,7 +68,7 @@ module _ (d : Board) (bytes : List ℕ) (has : HasKernel bytes) (x : ℕ) (m : C
   -- the board in cell k, by the law of a cell
   low_span : (k y w : ℕ) (s : d.State) → y ≡ x + (28 + 32 * k) → w ≡ wired v true (frame_bit byte k)
       → s ≡ board_in (28 + 32 * k)
-      → ticks 16 0 (λ o. d.tick (bit_and w 254) (y + o)) s ≡ board_in (28 + 32 * k + 16)
+      → after_cycles 16 0 (λ o. d.cycle (bit_and w 254) (y + o)) s ≡ board_in (28 + 32 * k + 16)
   low_span k y w s e is b =
       spans d x latch 16 (28 + 32 * k) y 0 (bit_and w 254) s board (omega (arith, e))
       (λ i l. cell_low v byte k i l ∙ sym (falls (frame_bit byte k) v released.byte) ∙ ap (λ q. bit_and q 254) (sym is))
@@ -82,26 +82,26 @@ module _ (d : Board) (bytes : List ℕ) (has : HasKernel bytes) (x : ℕ) (m : C
 
   pub high_span : (n k y w : ℕ) (s : d.State) → n ≤ 4 → y ≡ x + (28 + 32 * k) → w ≡ wired v true (frame_bit byte k)
       → s ≡ board_in (28 + 32 * k)
-      → ticks n 16 (λ o. d.tick (bit_or (bit_and w 254) 1) (y + o)) (ticks 16 0 (λ o. d.tick (bit_and w 254) (y + o)) s)
+      → after_cycles n 16 (λ o. d.cycle (bit_or (bit_and w 254) 1) (y + o)) (after_cycles 16 0 (λ o. d.cycle (bit_and w 254) (y + o)) s)
       ≡ board_in (28 + 32 * k + 16 + n)
   high_span n k y w s few e is b =
       spans d x latch n (28 + 32 * k + 16) y 16 (bit_or (bit_and w 254) 1)
-      (ticks 16 0 (λ o. d.tick (bit_and w 254) (y + o)) s) board
+      (after_cycles 16 0 (λ o. d.cycle (bit_and w 254) (y + o)) s) board
       (omega (arith, e))
       (λ i l. let q : i < 4 = omega (arith, l, few) in cell_high v byte k i q ∙ sym (risen_is k w is))
       (low_span k y w s e is b)
 
   behind_span : (k y w u : ℕ) (s : d.State) → y ≡ x + (28 + 32 * k) → w ≡ wired v true (frame_bit byte k)
       → u ≡ wired v true (frame_bit byte (suc k)) → s ≡ board_in (28 + 32 * k)
-      → ticks 12 20 (λ o. d.tick u (y + o))
-      (ticks 4 16 (λ o. d.tick (bit_or (bit_and w 254) 1) (y + o)) (ticks 16 0 (λ o. d.tick (bit_and w 254) (y + o)) s))
+      → after_cycles 12 20 (λ o. d.cycle u (y + o))
+      (after_cycles 4 16 (λ o. d.cycle (bit_or (bit_and w 254) 1) (y + o)) (after_cycles 16 0 (λ o. d.cycle (bit_and w 254) (y + o)) s))
       ≡ board_in (28 + 32 * suc k)
   behind_span k y w u s e is next b =
       let few : 4 ≤ 4 = omega arith in
       let p : 28 + 32 * k + 16 + 4 ≡ 28 + 32 * k + 20 = omega arith in
       let q : 28 + 32 * k + 20 + 12 ≡ 28 + 32 * suc k = omega arith in
       spans d x latch 12 (28 + 32 * k + 20) y 20 u
-      (ticks 4 16 (λ o. d.tick (bit_or (bit_and w 254) 1) (y + o)) (ticks 16 0 (λ o. d.tick (bit_and w 254) (y + o)) s))
+      (after_cycles 4 16 (λ o. d.cycle (bit_or (bit_and w 254) 1) (y + o)) (after_cycles 16 0 (λ o. d.cycle (bit_and w 254) (y + o)) s))
       board (omega (arith, e))
       (λ i l. cell_next v byte k i l ∙ sym next) (high_span 4 k y w s few e is b ∙ ap board_in p)
       ∙ ap board_in q
@@ -110,14 +110,14 @@ module _ (d : Board) (bytes : List ℕ) (has : HasKernel bytes) (x : ℕ) (m : C
   pub look_is : (k y w p1 : ℕ) (s : d.State) → p1 ≡ m.p1 → y ≡ x + (28 + 32 * k) → w ≡ wired v true (frame_bit byte k)
       → s ≡ board_in (28 + 32 * k)
       → (d.pins p1 (bit_or (bit_and w 254) 1) (y + 18)
-      (ticks 2 16 (λ o. d.tick (bit_or (bit_and w 254) 1) (y + o))
-      (ticks 16 0 (λ o. d.tick (bit_and w 254) (y + o)) s))).t0 ≡ look k
+      (after_cycles 2 16 (λ o. d.cycle (bit_or (bit_and w 254) 1) (y + o))
+      (after_cycles 16 0 (λ o. d.cycle (bit_and w 254) (y + o)) s))).t0 ≡ look k
   look_is k y w p1 s one e is b =
       let few : 2 ≤ 4 = omega arith in
       let p : 28 + 32 * k + 16 + 2 ≡ 28 + 32 * k + 18 = omega arith in
       let c : y + 18 ≡ x + (28 + 32 * k + 18) = omega (arith, e) in
-      let at : ticks 2 16 (λ o. d.tick (bit_or (bit_and w 254) 1) (y + o))
-      (ticks 16 0 (λ o. d.tick (bit_and w 254) (y + o)) s) ≡ board_in (28 + 32 * k + 18) =
+      let at : after_cycles 2 16 (λ o. d.cycle (bit_or (bit_and w 254) 1) (y + o))
+      (after_cycles 16 0 (λ o. d.cycle (bit_and w 254) (y + o)) s) ≡ board_in (28 + 32 * k + 18) =
       high_span 2 k y w s few e is b ∙ ap board_in p in
       ap (λ t. (d.pins p1 (bit_or (bit_and w 254) 1) (y + 18) t).t0) at
       ∙ ap (λ q. (d.pins q (bit_or (bit_and w 254) 1) (y + 18) (board_in (28 + 32 * k + 18))).t0) one

@@ -87,10 +87,10 @@ module _ (edges : List Edge) (events : List HostEvent) (d : Board) (to : d.State
     -- up to that look it is a frame that is sent
     still_sent : (k : ℕ) → k ≤ j → to (sent_board (28 + 32 * k + 18)) ≡ there (28 + 32 * k + 18)
     still_sent k l =
-        ap to (ticks_alike (28 + 32 * k + 18) 0 0 (λ o. d.tick (sent_latch v byte o) (260 + start + o))
-        (λ o. d.tick (cut_latch v byte j o) (260 + start + o)) s
+        ap to (ticks_alike (28 + 32 * k + 18) 0 0 (λ o. d.cycle (sent_latch v byte o) (260 + start + o))
+        (λ o. d.cycle (cut_latch v byte j o) (260 + start + o)) s
         (λ i t u. let k : 0 + i < 28 + 32 * j + 20 = omega (arith, u, l) in
-        ap (λ w. d.tick w (260 + start + (0 + i)) t) (sym (as_sent v byte j (0 + i) k))))
+        ap (λ w. d.cycle w (260 + start + (0 + i)) t) (sym (as_sent v byte j (0 + i) k))))
         ∙ at_cut (28 + 32 * k + 18) (omega (arith, l))
 
     pub sent_cut : ((k : ℕ) → k < j → lets k ≡ true) → lets j ≡ false → (n : ℕ) → j + suc n ≡ 10 → IsFree m

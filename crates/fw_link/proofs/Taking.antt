@@ -20,7 +20,7 @@ use Rattle.fw_link.specs.Latch.{wired, received_cell, received_latch}
 use Rattle.fw_link.proofs.Latches.{driven}
 use Rattle.fw_link.proofs.Receive.{takes_bit, TakesBit}
 use Rattle.fw_link.proofs.Wired.{IsReleased, both_high, rises, spans}
-use Rattle.joint_run.specs.Run.{Board, ticks}
+use Rattle.joint_run.specs.Run.{Board, after_cycles}
 
 -- A behind k data bits
 abbrev pub taken : (ℕ → Bool) → ℕ → ℕ → ℕ
@@ -116,25 +116,25 @@ module _ (d : Board) (bytes : List ℕ) (has : HasKernel bytes) (x : ℕ) (m : C
   risen_is w is = ap (λ q. bit_or (bit_and q 254) 1) is ∙ rises true m.p2 released ∙ both_high m.p2 released
 
   low_span : (k y w : ℕ) (s : d.State) → k < 10 → y ≡ x + (28 + 32 * k) → w ≡ m.p2 → s ≡ board_in (28 + 32 * k)
-      → ticks 16 0 (λ o. d.tick (bit_and w 254) (y + o)) s ≡ board_in (28 + 32 * k + 16)
+      → after_cycles 16 0 (λ o. d.cycle (bit_and w 254) (y + o)) s ≡ board_in (28 + 32 * k + 16)
   low_span k y w s few e is b =
       spans d x (received_latch m.p2) 16 (28 + 32 * k) y 0 (bit_and w 254) s board (omega (arith, e))
       (λ i l. cell_low m.p2 k i few l ∙ sym (ap (λ q. bit_and q 254) is)) b
 
   pub high_span : (n k y w : ℕ) (s : d.State) → n ≤ 16 → k < 10 → y ≡ x + (28 + 32 * k) → w ≡ m.p2
       → s ≡ board_in (28 + 32 * k)
-      → ticks n 16 (λ o. d.tick (bit_or (bit_and w 254) 1) (y + o)) (ticks 16 0 (λ o. d.tick (bit_and w 254) (y + o)) s)
+      → after_cycles n 16 (λ o. d.cycle (bit_or (bit_and w 254) 1) (y + o)) (after_cycles 16 0 (λ o. d.cycle (bit_and w 254) (y + o)) s)
       ≡ board_in (28 + 32 * k + 16 + n)
   high_span n k y w s short few e is b =
       spans d x (received_latch m.p2) n (28 + 32 * k + 16) y 16 (bit_or (bit_and w 254) 1)
-      (ticks 16 0 (λ o. d.tick (bit_and w 254) (y + o)) s) board
+      (after_cycles 16 0 (λ o. d.cycle (bit_and w 254) (y + o)) s) board
       (omega (arith, e))
       (λ i l. let q : i < 16 = omega (arith, l, short) in cell_high m.p2 k i q ∙ both_high m.p2 released
       ∙ sym (risen_is w is)) (low_span k y w s few e is b)
 
   pub cell_span : (k y w : ℕ) (s : d.State) → k < 10 → y ≡ x + (28 + 32 * k) → w ≡ m.p2 → s ≡ board_in (28 + 32 * k)
-      → ticks 16 16 (λ o. d.tick (bit_or (bit_and w 254) 1) (y + o))
-      (ticks 16 0 (λ o. d.tick (bit_and w 254) (y + o)) s)
+      → after_cycles 16 16 (λ o. d.cycle (bit_or (bit_and w 254) 1) (y + o))
+      (after_cycles 16 0 (λ o. d.cycle (bit_and w 254) (y + o)) s)
       ≡ board_in (28 + 32 * suc k)
   cell_span k y w s few e is b =
       let p : 28 + 32 * k + 16 + 16 ≡ 28 + 32 * suc k = omega arith in
@@ -144,13 +144,13 @@ module _ (d : Board) (bytes : List ℕ) (has : HasKernel bytes) (x : ℕ) (m : C
   pub look_is : (k y w p1 : ℕ) (s : d.State) → k < 10 → p1 ≡ m.p1 → y ≡ x + (28 + 32 * k) → w ≡ m.p2
       → s ≡ board_in (28 + 32 * k)
       → (d.pins p1 (bit_or (bit_and w 254) 1) (y + 18)
-      (ticks 2 16 (λ o. d.tick (bit_or (bit_and w 254) 1) (y + o))
-      (ticks 16 0 (λ o. d.tick (bit_and w 254) (y + o)) s))).t1 ≡ bit_read k
+      (after_cycles 2 16 (λ o. d.cycle (bit_or (bit_and w 254) 1) (y + o))
+      (after_cycles 16 0 (λ o. d.cycle (bit_and w 254) (y + o)) s))).t1 ≡ bit_read k
   look_is k y w p1 s few one e is b =
       let p : 28 + 32 * k + 16 + 2 ≡ 28 + 32 * k + 18 = omega arith in
       let c : y + 18 ≡ x + (28 + 32 * k + 18) = omega (arith, e) in
-      let at : ticks 2 16 (λ o. d.tick (bit_or (bit_and w 254) 1) (y + o))
-      (ticks 16 0 (λ o. d.tick (bit_and w 254) (y + o)) s) ≡ board_in (28 + 32 * k + 18) =
+      let at : after_cycles 2 16 (λ o. d.cycle (bit_or (bit_and w 254) 1) (y + o))
+      (after_cycles 16 0 (λ o. d.cycle (bit_and w 254) (y + o)) s) ≡ board_in (28 + 32 * k + 18) =
       high_span 2 k y w s (omega arith) few e is b ∙ ap board_in p in
       ap (λ t. (d.pins p1 (bit_or (bit_and w 254) 1) (y + 18) t).t1) at
       ∙ ap (λ q. (d.pins q (bit_or (bit_and w 254) 1) (y + 18) (board_in (28 + 32 * k + 18))).t1) one

@@ -8,7 +8,7 @@ use Rattle.mcs48_core.specs.Step.{Stepped, stepped}
 use Rattle.bits.proofs.Every.{same_of, and-left, and-right}
 use Rattle.fw_link.specs.Drives.{Drives, DrivesTick}
 use Rattle.fw_link.proofs.Latches.{driven}
-use Rattle.joint_run.specs.Run.{Board, World, ticks, seen, after_step, joint_step}
+use Rattle.joint_run.specs.Run.{Board, World, after_cycles, seen, after_step, joint_step}
 use Rattle.joint_run.specs.Starts.{at_tick, calm_step, calm, Comes, Tick}
 
 -- whether the latch was this in each cycle so far
@@ -20,7 +20,7 @@ abbrev pub watching : Board → (ℕ → ℕ) → Board
 watching d latch = record {
   State = Watched d.State;
   pins = λ p1 p2 c s. d.pins p1 p2 c s.under;
-  tick = λ p2 c s. record { under = d.tick p2 c s.under; good = s.good && (p2 == latch c) };
+  cycle = λ p2 c s. record { under = d.cycle p2 c s.under; good = s.good && (p2 == latch c) };
 }
 
 -- a state of the run that is watched from now on, and one beneath it
@@ -45,29 +45,29 @@ module _ (d : Board) (latch : ℕ → ℕ) where
       → ((o : ℕ) → from ≤ o → o < from + n → l o ≡ latch (x + o)) → s.good ≡ true → (driven W x l n from s).good ≡ true
   driven_good x l zero from s is good = good
   driven_good x l (suc n) from s is good =
-      driven_good x l n (from + 1) (W.tick (l from) (x + from) s)
+      driven_good x l n (from + 1) (W.cycle (l from) (x + from) s)
       (λ o a u. is o (omega (arith, a)) (omega (arith, u)))
       (ap (λ b. b && (l from == latch (x + from))) good
       ∙ same_number (l from) (latch (x + from)) (is from (omega arith) (omega arith)))
 
   -- so is one that stays
   pub ticks_stay_good : (n y v : ℕ) (s : W.State) → ((c : ℕ) → y ≤ c → c < y + n → v ≡ latch c) → s.good ≡ true
-      → (ticks n y (W.tick v) s).good ≡ true
+      → (after_cycles n y (W.cycle v) s).good ≡ true
   ticks_stay_good zero y v s is good = good
   ticks_stay_good (suc n) y v s is good =
-      ticks_stay_good n (y + 1) v (W.tick v y s) (λ c a u. is c (omega (arith, a)) (omega (arith, u)))
+      ticks_stay_good n (y + 1) v (W.cycle v y s) (λ c a u. is c (omega (arith, a)) (omega (arith, u)))
       (ap (λ b. b && (v == latch y)) good ∙ same_number v (latch y) (is y (omega arith) (omega arith)))
 
-  ticks_under : (n y v : ℕ) (s : W.State) → (ticks n y (W.tick v) s).under ≡ ticks n y (d.tick v) s.under
+  ticks_under : (n y v : ℕ) (s : W.State) → (after_cycles n y (W.cycle v) s).under ≡ after_cycles n y (d.cycle v) s.under
   ticks_under zero y v s = refl
-  ticks_under (suc n) y v s = ticks_under n (y + 1) v (W.tick v y s)
+  ticks_under (suc n) y v s = ticks_under n (y + 1) v (W.cycle v y s)
 
   -- in a step, too
-  ticks_good : (n y v : ℕ) (s : W.State) → (ticks n y (W.tick v) s).good ≡ true
+  ticks_good : (n y v : ℕ) (s : W.State) → (after_cycles n y (W.cycle v) s).good ≡ true
       → (s.good ≡ true) × ((c : ℕ) → y ≤ c → c < y + n → v ≡ latch c)
   ticks_good zero y v s good = (good, λ c a u. absurd (omega (arith, a, u)))
   ticks_good (suc n) y v s good =
-      let later = ticks_good n (y + 1) v (W.tick v y s) good in
+      let later = ticks_good n (y + 1) v (W.cycle v y s) good in
       let found : (s.good && (v == latch y)) ≡ true = later.0 in (
         and-left s.good (v == latch y) found,
         λ c a u. by_case c a (c == y) refl (same_of v (latch y) (and-right s.good (v == latch y) found))
@@ -89,7 +89,7 @@ module _ (d : Board) (latch : ℕ → ℕ) where
         → after_step W v x ≡ Some e → Steps v e
     steps_by v e None is h = absurd cc
     steps_by v e (Some n) is h =
-        let s : W.State = ticks n.cycles v.cycle (W.tick n.cpu.p2) v.board in
+        let s : W.State = after_cycles n.cycles v.cycle (W.cycle n.cpu.p2) v.board in
         let z : World W.State = record { cpu = n.cpu; board = s; cycle = v.cycle + n.cycles } in
         subst (λ u. Steps v u) (some_same z e h) (record {
           step = ap (λ o. after_step d (bare v) o) is

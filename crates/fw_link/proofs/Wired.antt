@@ -9,7 +9,7 @@ use Rattle.fw_logic.proofs.Blocks.{ticks_add, absolute}
 use Rattle.bits.proofs.Every.{every_below, by_byte, tests_by}
 use Rattle.fw_link.specs.Latch.{wired, frame_bit, sent_cell, sent_latch}
 use Rattle.fw_link.proofs.Latches.{driven}
-use Rattle.joint_run.specs.Run.{Board, ticks}
+use Rattle.joint_run.specs.Run.{Board, after_cycles}
 
 -- a latch that pulls neither wire
 pub record IsReleased (v : ℕ) : Type 0 where
@@ -65,7 +65,7 @@ restores = by_released (λ v. bit_or (bit_and v 252) 3) (λ v. v) refl
 
 -- cycles by two functions that agree
 pub ticks_alike : {S : Type 0} (n a b : ℕ) (F G : ℕ → S → S) (s : S)
-    → ((i : ℕ) (t : S) → i < n → F (a + i) t ≡ G (b + i) t) → ticks n a F s ≡ ticks n b G s
+    → ((i : ℕ) (t : S) → i < n → F (a + i) t ≡ G (b + i) t) → after_cycles n a F s ≡ after_cycles n b G s
 ticks_alike zero a b F G s h = refl
 ticks_alike (suc n) a b F G s h =
     let first : F a s ≡ G b s =
@@ -73,7 +73,7 @@ ticks_alike (suc n) a b F G s h =
     let p : a ≡ a + 0 = omega arith in
     let q : b + 0 ≡ b = omega arith in
     ap (λ k. F k s) p ∙ h 0 s l ∙ ap (λ k. G k s) q) in
-    ap (λ t. ticks n (a + 1) F t) first
+    ap (λ t. after_cycles n (a + 1) F t) first
     ∙ ticks_alike n (a + 1) (b + 1) F G (G b s)
     (λ i t l.
     let k : suc i < suc n = omega (arith, l) in
@@ -85,23 +85,23 @@ module _ (d : Board) (x : ℕ) (latch : ℕ → ℕ) where
   -- cycles with one latch go on with a run over the latch
   pub spans : (n a y b w : ℕ) (s t : d.State) → y + b ≡ x + a
       → ((i : ℕ) → i < n → latch (a + i) ≡ w) → s ≡ driven d x latch a 0 t
-      → ticks n b (λ o. d.tick w (y + o)) s ≡ driven d x latch (a + n) 0 t
+      → after_cycles n b (λ o. d.cycle w (y + o)) s ≡ driven d x latch (a + n) 0 t
   spans n a y b w s t e h is =
-      ap (λ k. ticks n b (λ o. d.tick w (y + o)) k) is
-      ∙ ticks_alike n b a (λ o. d.tick w (y + o)) (λ o. d.tick (latch o) (x + o)) (driven d x latch a 0 t)
+      ap (λ k. after_cycles n b (λ o. d.cycle w (y + o)) k) is
+      ∙ ticks_alike n b a (λ o. d.cycle w (y + o)) (λ o. d.cycle (latch o) (x + o)) (driven d x latch a 0 t)
       (λ i u l.
       let p : y + (b + i) ≡ x + (a + i) = omega (arith, e) in
-      ap (λ k. d.tick k (y + (b + i)) u) (sym (h i l)) ∙ ap (λ c. d.tick (latch (a + i)) c u) p)
-      ∙ (let z : 0 + a ≡ a = omega arith in ap (λ c. ticks n c (λ o. d.tick (latch o) (x + o)) (driven d x latch a 0 t))
+      ap (λ k. d.cycle k (y + (b + i)) u) (sym (h i l)) ∙ ap (λ c. d.cycle (latch (a + i)) c u) p)
+      ∙ (let z : 0 + a ≡ a = omega arith in ap (λ c. after_cycles n c (λ o. d.cycle (latch o) (x + o)) (driven d x latch a 0 t))
       (sym z))
-      ∙ sym (ticks_add a n 0 (λ o. d.tick (latch o) (x + o)) t)
+      ∙ sym (ticks_add a n 0 (λ o. d.cycle (latch o) (x + o)) t)
 
   -- the same where the cycles are counted from the first
   pub spans_on : (n a y w : ℕ) (s t : d.State) → y ≡ x + a → ((i : ℕ) → i < n → latch (a + i) ≡ w)
       → s ≡ driven d x latch a 0 t
-      → ticks n y (d.tick w) s ≡ driven d x latch (a + n) 0 t
+      → after_cycles n y (d.cycle w) s ≡ driven d x latch (a + n) 0 t
   spans_on n a y w s t e h is =
-      sym (absolute n y (d.tick w) s) ∙ spans n a y 0 w s t (omega (arith, e)) h is
+      sym (absolute n y (d.cycle w) s) ∙ spans n a y 0 w s t (omega (arith, e)) h is
 
   -- and where the latch is another function of another offset
   pub spans_as : (n a y : ℕ) (other : ℕ → ℕ) (s t : d.State) → y ≡ x + a
@@ -109,14 +109,14 @@ module _ (d : Board) (x : ℕ) (latch : ℕ → ℕ) where
       → driven d y other n 0 s ≡ driven d x latch (a + n) 0 t
   spans_as n a y other s t e h is =
       ap (λ k. driven d y other n 0 k) is
-      ∙ ticks_alike n 0 a (λ o. d.tick (other o) (y + o)) (λ o. d.tick (latch o) (x + o)) (driven d x latch a 0 t)
+      ∙ ticks_alike n 0 a (λ o. d.cycle (other o) (y + o)) (λ o. d.cycle (latch o) (x + o)) (driven d x latch a 0 t)
       (λ i u l.
       let z : 0 + i ≡ i = omega arith in
       let p : y + (0 + i) ≡ x + (a + i) = omega (arith, e) in
-      ap (λ k. d.tick k (y + (0 + i)) u) (ap other z ∙ h i l) ∙ ap (λ c. d.tick (latch (a + i)) c u) p)
-      ∙ (let z : 0 + a ≡ a = omega arith in ap (λ c. ticks n c (λ o. d.tick (latch o) (x + o)) (driven d x latch a 0 t))
+      ap (λ k. d.cycle k (y + (0 + i)) u) (ap other z ∙ h i l) ∙ ap (λ c. d.cycle (latch (a + i)) c u) p)
+      ∙ (let z : 0 + a ≡ a = omega arith in ap (λ c. after_cycles n c (λ o. d.cycle (latch o) (x + o)) (driven d x latch a 0 t))
       (sym z))
-      ∙ sym (ticks_add a n 0 (λ o. d.tick (latch o) (x + o)) t)
+      ∙ sym (ticks_add a n 0 (λ o. d.cycle (latch o) (x + o)) t)
 
 -- the latch in cell k
 pub in_cell : (v byte k i : ℕ) → i < 32 → sent_latch v byte (28 + 32 * k + i) ≡ sent_cell v byte k i

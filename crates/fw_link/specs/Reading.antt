@@ -8,7 +8,7 @@ use Rattle.fw_kernel.specs.declared.labels.TheConstants.{TICK, GOT, COMMAND}
 use Rattle.fw_logic.specs.Blocks.{IsAt}
 use Rattle.fw_logic.specs.Boards.{numbered}
 use Rattle.fw_link.specs.Latch.{received_latch}
-use Rattle.joint_run.specs.Run.{Board, World, ticks}
+use Rattle.joint_run.specs.Run.{Board, World, after_cycles}
 use Rattle.joint_run.specs.Starts.{Comes}
 use Rattle.mcs48_core.specs.Status.{digit}
 use Rattle.mcs48_core.specs.declared.levels.Pins.{Pins}
@@ -18,7 +18,7 @@ use Rattle.mcs48_core.specs.declared.levels.Pins.{Pins}
 abbrev pub data_read : (d : Board) → World d.State → ℕ → Bool
 data_read d w k =
     (d.pins w.cpu.p1 w.cpu.p2 (w.cycle + (28 + 32 * k + 18))
-    (ticks (28 + 32 * k + 18) 0 (λ o. d.tick (received_latch w.cpu.p2 o) (w.cycle + o)) w.board)).t1
+    (after_cycles (28 + 32 * k + 18) 0 (λ o. d.cycle (received_latch w.cpu.p2 o) (w.cycle + o)) w.board)).t1
 
 -- the byte of the first eight levels read, lowest bit first
 abbrev pub byte_in : (ℕ → Bool) → ℕ

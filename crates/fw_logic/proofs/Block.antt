@@ -1,7 +1,7 @@
 -- What a block of code leaves that writes no port. Its offsets count from its own start.
 use Rattle.std.specs.Prelude.{◌≡◌, ℕ, zero, suc, ◌+◌, true, false, ◌==◌, nat_le, if◌then◌else◌, List, ◌∷◌}
 use Rattle.mcs48_core.specs.Cpu.{Cpu}
-use Rattle.joint_run.specs.Run.{Board, ticks}
+use Rattle.joint_run.specs.Run.{Board, after_cycles}
 use Rattle.fw_logic.proofs.Path.{Stage}
 
 -- cells by a function, before a list
@@ -43,7 +43,7 @@ begin_at d pc f ring m board = record { cpu = scratched m pc (memory f ring) m; 
 abbrev pub Shape : (d : Board) → ℕ → Cpu → d.State → ℕ → ℕ → (ℕ → ℕ) → List ℕ → Stage d.State → Type 0
 Shape d x m board pc max f ring e =
     (e.cpu ≡ scratched m pc (memory f ring) e.cpu) × (nat_le e.off max ≡ true) ×
-    (e.board ≡ ticks e.off 0 (λ o. d.tick m.p2 (x + o)) board)
+    (e.board ≡ after_cycles e.off 0 (λ o. d.cycle m.p2 (x + o)) board)
 
 -- where a block ends: the place, the cells, the cycles it took, and the board; A, the carries and the timer are its own
 pub record At (d : Board) (k : Cpu) (pc : ℕ) (f : ℕ → ℕ) (ring : List ℕ) (cycles : ℕ) (board : d.State)

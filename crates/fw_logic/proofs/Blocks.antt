@@ -3,7 +3,7 @@ use Rattle.std.proofs.Common.{◌≡◌, ◌≤◌, ℕ, suc, zero, ◌+◌, Lis
 use Rattle.std.proofs.Common.{arith, zero-add, add-zero}
 use Rattle.std.proofs.lemmas.Bool.Decides.{nat_tests}
 use Rattle.mcs48_core.specs.Cpu.{Cpu}
-use Rattle.joint_run.specs.Run.{Board, ticks}
+use Rattle.joint_run.specs.Run.{Board, after_cycles}
 use Rattle.joint_run.specs.Starts.{calm}
 use Rattle.fw_logic.proofs.Clock.{IsFree, clock_of, total}
 use Rattle.fw_logic.proofs.Path.{Stage, Code, Note, Path}
@@ -12,7 +12,7 @@ use Rattle.fw_logic.proofs.Block.{memory, scratched, begin_at, At}
 use Rattle.fw_logic.proofs.Sound.{weaken, sound, ticks_from}
 
 pub ticks_add : {S : Type 0} (n k x : ℕ) (f : ℕ → S → S) (s : S)
-    → ticks (n + k) x f s ≡ ticks k (x + n) f (ticks n x f s)
+    → after_cycles (n + k) x f s ≡ after_cycles k (x + n) f (after_cycles n x f s)
 ticks_add zero k x f s = let e : x + 0 ≡ x = omega arith in rw (zero-add, e) refl
 ticks_add (suc n) k x f s =
     let e : suc n + k ≡ suc (n + k) = omega arith in
@@ -78,10 +78,10 @@ module _ (d : Board) (code : Code) (has : HasRows code) where
       (sound d code has y plan Q (begin_at d from f ring k board) path free)
 
 -- cycles by offsets from a cycle
-pub absolute : {S : Type 0} (n y : ℕ) (f : ℕ → S → S) (s : S) → ticks n 0 (λ o. f (y + o)) s ≡ ticks n y f s
-absolute n y f s = sym (ticks_from n 0 y f s) ∙ ap (λ c. ticks n c f s) (add-zero y)
+pub absolute : {S : Type 0} (n y : ℕ) (f : ℕ → S → S) (s : S) → after_cycles n 0 (λ o. f (y + o)) s ≡ after_cycles n y f s
+absolute n y f s = sym (ticks_from n 0 y f s) ∙ ap (λ c. after_cycles n c f s) (add-zero y)
 
 -- cycles of a board behind other cycles of it
 pub joined : {S : Type 0} (n m y z : ℕ) (f : ℕ → S → S) (s : S) → z ≡ y + n
-    → ticks m z f (ticks n y f s) ≡ ticks (n + m) y f s
-joined n m y z f s e = ap (λ c. ticks m c f (ticks n y f s)) e ∙ sym (ticks_add n m y f s)
+    → after_cycles m z f (after_cycles n y f s) ≡ after_cycles (n + m) y f s
+joined n m y z f s e = ap (λ c. after_cycles m c f (after_cycles n y f s)) e ∙ sym (ticks_add n m y f s)

@@ -9,7 +9,7 @@ use Rattle.mcs48_core.specs.Cpu.{Cpu}
 use Rattle.mcs48_core.specs.Registers.{past}
 use Rattle.mcs48_core.specs.Timer.{after_timer}
 use Rattle.mcs48_core.specs.Step.{Stepped, row_at, stepped, effect, executed, entered, takes_external, takes_timer}
-use Rattle.joint_run.specs.Run.{Board, World, ticks, seen, after_step, joint_step}
+use Rattle.joint_run.specs.Run.{Board, World, after_cycles, seen, after_step, joint_step}
 use Rattle.joint_run.specs.Starts.{calm_step, calm}
 use Rattle.fw_logic.proofs.Clock.{IsFree, is_plain, is_closed, clock_of, total, IsLater}
 use Rattle.fw_logic.proofs.Path.{Stage, Code}
@@ -57,7 +57,7 @@ stepped_is bytes pins m r free row =
 
 -- offsets are cycles from x on
 pub ticks_from : {S : Type 0} (n off x : ℕ) (f : ℕ → S → S) (s : S)
-    → ticks n (x + off) f s ≡ ticks n off (λ o. f (x + o)) s
+    → after_cycles n (x + off) f s ≡ after_cycles n off (λ o. f (x + o)) s
 ticks_from zero off x f s = refl
 ticks_from (suc n) off x f s =
     let e : x + off + 1 ≡ x + (off + 1) = omega arith in rw e (ticks_from n (off + 1) x f (f (x + off) s))
@@ -146,14 +146,14 @@ module _ (d : Board) (code : Code) (has : HasRows code) (x : ℕ) where
       let step : joint_step d code.bytes w
       ≡ Some (record {
         cpu = m;
-        board = ticks r.cycles (x + s.off) (d.tick m.p2) s.board;
+        board = after_cycles r.cycles (x + s.off) (d.cycle m.p2) s.board;
         cycle = x + s.off + r.cycles;
       }) =
       ap (λ o. after_step d w o) (stepped_is code.bytes (pins_at d x s) s.cpu r free row) in
       let sum : x + s.off + r.cycles ≡ x + (s.off + r.cycles) = omega arith in
       let one : joint_step d code.bytes w ≡ Some (world_at x next) =
       step ∙ ap (λ b. Some (record { cpu = m; board = b; cycle = x + s.off + r.cycles }))
-      (ticks_from r.cycles s.off x (d.tick m.p2) s.board)
+      (ticks_from r.cycles s.off x (d.cycle m.p2) s.board)
       ∙ ap (λ n. Some (record { cpu = m; board = next.board; cycle = n })) sum in
       let calm_one : calm_step d code.tick code.bytes w ≡ Some (world_at x next) =
       ap

@@ -4,7 +4,7 @@ use Rattle.std.proofs.Common.{refl, ap, if◌then◌else◌}
 use Rattle.mcs48_core.specs.Cpu.{Cpu}
 use Rattle.fw_kernel.specs.declared.labels.TheConstants.{READ, OFFER}
 use Rattle.fw_kernel.specs.Places.{HasKernel}
-use Rattle.joint_run.specs.Run.{Board, ticks}
+use Rattle.joint_run.specs.Run.{Board, after_cycles}
 use Rattle.fw_logic.specs.Scan.{downs}
 use Rattle.fw_logic.proofs.Clock.{IsFree}
 use Rattle.fw_logic.proofs.Path.{Until}
@@ -27,27 +27,27 @@ scanned shows f i =
 
 -- what the columns show, by offsets from a cycle
 abbrev pub shows : (d : Board) → ℕ → ℕ → d.State → ℕ → ℕ
-shows d y p2 board c = 255 - (d.pins (32 + c) p2 (y + 16 * c) (ticks (16 * c) 0 (λ o. d.tick p2 (y + o)) board)).bus
+shows d y p2 board c = 255 - (d.pins (32 + c) p2 (y + 16 * c) (after_cycles (16 * c) 0 (λ o. d.cycle p2 (y + o)) board)).bus
 
 pub shows_is : (d : Board) (y p2 : ℕ) (board : d.State) (c : ℕ) → shows d y p2 board c ≡ downs d y p2 board c
 shows_is d y p2 board c = ap (λ b. 255 - (d.pins (32 + c) p2 (y + 16 * c) b).bus)
-    (absolute (16 * c) y (d.tick p2) board)
+    (absolute (16 * c) y (d.cycle p2) board)
 
 module _ (d : Board) (bytes : List ℕ) (has : HasKernel bytes) where
   -- the head behind the timer's write: thirteen cycles
   pub head : (y : ℕ) (k : Cpu) (f : ℕ → ℕ) (ring : List ℕ) (board : d.State) → IsFree k
       → Leads d (kernel_in true bytes) y (begin_at d 10 f ring k board)
-      (At d (record k { p1 = 32 }) READ (ready f) ring 13 (ticks 13 y (d.tick k.p2) board))
+      (At d (record k { p1 = 32 }) READ (ready f) ring 13 (after_cycles 13 y (d.cycle k.p2) board))
   head y k f ring board free =
       straight d (kernel_in true bytes) (has_rows true bytes has) (Until READ ∷ []) y k 10 READ 13 f (ready f) ring
-      (record k { p1 = 32 }) board (ticks 13 y (d.tick k.p2) board) free (refl, refl, absolute 13 y (d.tick k.p2) board)
+      (record k { p1 = 32 }) board (after_cycles 13 y (d.cycle k.p2) board) free (refl, refl, absolute 13 y (d.cycle k.p2) board)
 
   -- the columns: 192 cycles, one column read in each 16
   pub columns : (y : ℕ) (k : Cpu) (f : ℕ → ℕ) (ring : List ℕ) (board : d.State) → IsFree k
       → Leads d (kernel_in true bytes) y (begin_at d READ (ready f) ring (record k { p1 = 32 }) board)
-      (At d (record k { p1 = 44 }) OFFER (scanned (shows d y k.p2 board) f) ring 192 (ticks 192 y (d.tick k.p2) board))
+      (At d (record k { p1 = 44 }) OFFER (scanned (shows d y k.p2 board) f) ring 192 (after_cycles 192 y (d.cycle k.p2) board))
   columns y k f ring board free =
       straight d (kernel_in true bytes) (has_rows true bytes has) (Until OFFER ∷ []) y (record k { p1 = 32 }) READ OFFER
       192 (ready f)
-      (scanned (shows d y k.p2 board) f) ring (record k { p1 = 44 }) board (ticks 192 y (d.tick k.p2) board) free
-      (refl, refl, absolute 192 y (d.tick k.p2) board)
+      (scanned (shows d y k.p2 board) f) ring (record k { p1 = 44 }) board (after_cycles 192 y (d.cycle k.p2) board) free
+      (refl, refl, absolute 192 y (d.cycle k.p2) board)

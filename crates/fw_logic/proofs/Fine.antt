@@ -4,7 +4,7 @@ use Rattle.std.specs.declared.option.Option.{Option}
 use Rattle.mcs48_core.specs.Step.{Stepped, stepped}
 use Rattle.mcs48_ranges.specs.Sizes.{IsByte, IsFine, IsFinePins}
 use Rattle.mcs48_ranges.proofs.Steps.{stepped_fine}
-use Rattle.joint_run.specs.Run.{Board, World, ticks, seen, after_step, joint_step}
+use Rattle.joint_run.specs.Run.{Board, World, after_cycles, seen, after_step, joint_step}
 use Rattle.joint_run.specs.Starts.{at_tick, calm}
 
 module _ (d : Board) (tick : ℕ) (bytes : List ℕ) (b : All IsByte bytes)
@@ -16,7 +16,7 @@ module _ (d : Board) (tick : ℕ) (bytes : List ℕ) (b : All IsByte bytes)
       let f = stepped_fine bytes (seen d w) w.cpu n b (levels w.cpu.p1 w.cpu.p2 w.cycle w.board) h step in
       let same : record {
         cpu = n.cpu;
-        board = ticks n.cycles w.cycle (d.tick n.cpu.p2) w.board;
+        board = after_cycles n.cycles w.cycle (d.cycle n.cpu.p2) w.board;
         cycle = w.cycle + n.cycles;
       } ≡ e =
       cc in

@@ -11,7 +11,7 @@ use Rattle.mcs48_core.specs.Timer.{after_timer}
 use Rattle.mcs48_core.specs.Step.{Stepped, stepped, executed, row_at}
 use Rattle.fw_kernel.specs.declared.labels.TheConstants.{TICK, WAIT, DONE}
 use Rattle.fw_kernel.specs.Places.{HasKernel}
-use Rattle.joint_run.specs.Run.{Board, World, ticks, seen}
+use Rattle.joint_run.specs.Run.{Board, World, after_cycles, seen}
 use Rattle.joint_run.specs.Starts.{Comes}
 use Rattle.fw_logic.proofs.Blocks.{ticks_add}
 use Rattle.fw_logic.proofs.Laws.{comes_here, comes_by, comes_then}
@@ -35,7 +35,7 @@ module _ (d : Board) (bytes : List ℕ) (has : HasKernel bytes) where
       → (Q : World d.State → Type 0)
       → Comes d TICK bytes (record {
         cpu = begun late tf (d.pins m.p1 m.p2 cycle board).t1 f ring m;
-        board = ticks 2 cycle (d.tick m.p2) board;
+        board = after_cycles 2 cycle (d.cycle m.p2) board;
         cycle = cycle + 2;
       }) Q
       → Comes d TICK bytes (record { cpu = waiting 0 late tf last true (plain f ring m); board = board; cycle = cycle })
@@ -66,14 +66,14 @@ module _ (d : Board) (bytes : List ℕ) (has : HasKernel bytes) where
       (waits d bytes waits_row n board cycle total t pre tf last l low refl)
       (λ w due.
       let k = due.waited in
-      let now : d.State = ticks k cycle (d.tick m.p2) board in
+      let now : d.State = after_cycles k cycle (d.cycle m.p2) board in
       let time : total + k ≡ 8192 + due.late = due.time in
       let sum : cycle + k + 2 ≡ cycle + (k + 2) = omega arith in
       let next : Cpu = begun due.late due.tf (d.pins m.p1 m.p2 (cycle + k) now).t1 f ring m in
       subst (λ w. Comes d TICK bytes w (IsBegun d f ring m board cycle total)) (sym due.is)
       (enters due.tf due.last f ring m now (cycle + k) due.late due.most (IsBegun d f ring m board cycle total)
       (comes_here d TICK bytes (IsBegun d f ring m board cycle total)
-      (record { cpu = next; board = ticks 2 (cycle + k) (d.tick m.p2) now; cycle = cycle + k + 2 })
+      (record { cpu = next; board = after_cycles 2 (cycle + k) (d.cycle m.p2) now; cycle = cycle + k + 2 })
       (record {
         late = due.late;
         tf = due.tf;
@@ -81,8 +81,8 @@ module _ (d : Board) (bytes : List ℕ) (has : HasKernel bytes) where
         waited = k + 2;
         is =
             ap (λ b. record { cpu = next; board = b; cycle = cycle + k + 2 })
-            (sym (ticks_add k 2 cycle (d.tick m.p2) board))
-            ∙ ap (λ c. record { cpu = next; board = ticks (k + 2) cycle (d.tick m.p2) board; cycle = c }) sum;
+            (sym (ticks_add k 2 cycle (d.cycle m.p2) board))
+            ∙ ap (λ c. record { cpu = next; board = after_cycles (k + 2) cycle (d.cycle m.p2) board; cycle = c }) sum;
         most = due.most;
         time = omega (arith, time);
       }))))

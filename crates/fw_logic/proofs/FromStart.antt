@@ -5,7 +5,7 @@ use Rattle.std.proofs.lemmas.Bool.Decides.{nat_tests}
 use Rattle.mcs48_core.specs.Cpu.{Cpu}
 use Rattle.fw_kernel.specs.declared.labels.TheConstants.{TICK, WAIT, DONE}
 use Rattle.fw_kernel.specs.Places.{HasKernel}
-use Rattle.joint_run.specs.Run.{Board, World, ticks}
+use Rattle.joint_run.specs.Run.{Board, World, after_cycles}
 use Rattle.joint_run.specs.Starts.{Comes, Tick}
 use Rattle.fw_logic.specs.Blocks.{IsAt, is_counting, is_read, Heads, ReadsColumns}
 use Rattle.fw_logic.specs.Boards.{numbered}
@@ -46,7 +46,7 @@ module _ (d : Board) (bytes : List ℕ) (has : HasKernel bytes) (w : World d.Sta
   x = w.cycle
 
   abbrev f : ℕ → d.State → d.State
-  f = d.tick w.cpu.p2
+  f = d.cycle w.cpu.p2
 
   -- the columns, behind the head
   reads_so : (v e : World d.State) → Heads d w v → ReadsColumns d v e → ReadsTick d w e
@@ -62,7 +62,7 @@ module _ (d : Board) (bytes : List ℕ) (has : HasKernel bytes) (w : World d.Sta
         to = r.to;
         cycle = omega (arith, cycle, later);
         board =
-            r.board ∙ ap (λ p. ticks 192 v.cycle (d.tick p) v.board) h.p2 ∙ ap (λ b. ticks 192 v.cycle f b) h.board
+            r.board ∙ ap (λ p. after_cycles 192 v.cycle (d.cycle p) v.board) h.p2 ∙ ap (λ b. after_cycles 192 v.cycle f b) h.board
             ∙ joined 16 192 x v.cycle f w.board cycle;
         p2 = r.p2 ∙ h.p2;
         held = held;
@@ -171,9 +171,9 @@ module _ (d : Board) (bytes : List ℕ) (has : HasKernel bytes) (w : World d.Sta
           board = λ k at.
               let waited : n.waited ≡ k = omega (arith, at, cycle, off, behind) in
               ap (λ (u : World d.State). u.board) n.is
-              ∙ ap (λ (s : Stage d.State). ticks n.waited (x + s.off) (d.tick s.cpu.p2) s.board) same
-              ∙ ap (λ c. ticks n.waited c (d.tick e.cpu.p2) e.board) there
-              ∙ ap (λ j. ticks j e.cycle (d.tick e.cpu.p2) e.board) waited;
+              ∙ ap (λ (s : Stage d.State). after_cycles n.waited (x + s.off) (d.cycle s.cpu.p2) s.board) same
+              ∙ ap (λ c. after_cycles n.waited c (d.cycle e.cpu.p2) e.board) there
+              ∙ ap (λ j. after_cycles j e.cycle (d.cycle e.cpu.p2) e.board) waited;
         }
 
     pub next : Comes d TICK bytes e (IsNext d w e)

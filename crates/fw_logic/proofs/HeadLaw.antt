@@ -12,7 +12,7 @@ use Rattle.mcs48_core.specs.Timer.{after_timer}
 use Rattle.mcs48_core.specs.Step.{takes_timer}
 use Rattle.fw_kernel.specs.declared.labels.TheConstants.{TICK, READ}
 use Rattle.fw_kernel.specs.Places.{HasKernel}
-use Rattle.joint_run.specs.Run.{Board, World, ticks, seen, joint_step, after_step}
+use Rattle.joint_run.specs.Run.{Board, World, after_cycles, seen, joint_step, after_step}
 use Rattle.joint_run.specs.Starts.{at_tick, Comes, Tick}
 use Rattle.fw_logic.specs.Blocks.{IsAt, is_counting, Heads}
 use Rattle.fw_logic.proofs.Clock.{IsFree, IsTiming, clock_of}
@@ -57,7 +57,7 @@ module _ (d : Board) (bytes : List ℕ) (has : HasKernel bytes) (x : ℕ) (k : C
   second last =
       record {
         cpu = record at_cpu { pc = 9; a = 192; pre = k.pre + 2; last_t1 = last };
-        board = ticks 2 x (d.tick k.p2) board;
+        board = after_cycles 2 x (d.cycle k.p2) board;
         off = 2;
       }
 
@@ -81,7 +81,7 @@ module _ (d : Board) (bytes : List ℕ) (has : HasKernel bytes) (x : ℕ) (k : C
 
   abbrev IsSet : Stage d.State → Type 0
   IsSet e = (last : Bool) × (e.cpu ≡ third last) × (e.off ≡ 3)
-      × (e.board ≡ ticks 1 2 (λ o. d.tick k.p2 (x + o)) (ticks 2 x (d.tick k.p2) board))
+      × (e.board ≡ after_cycles 1 2 (λ o. d.cycle k.p2 (x + o)) (after_cycles 2 x (d.cycle k.p2) board))
 
   sets : (last : Bool) → Leads d (kernel_in false bytes) x (second last) IsSet
   sets last =
@@ -90,7 +90,7 @@ module _ (d : Board) (bytes : List ℕ) (has : HasKernel bytes) (x : ℕ) (k : C
       let e : nat_le 32 (k.pre + 2 + 1) ≡ false = grind (arith, nat_tests, few) in
       let Q : Stage d.State → Type 0 = λ e. (e.cpu ≡ after_timer Timer 1 pins (record s.cpu { pc = 10; t = 192 }))
       × (e.off ≡ 3)
-      × (e.board ≡ ticks 1 2 (λ o. d.tick k.p2 (x + o)) (ticks 2 x (d.tick k.p2) board)) in
+      × (e.board ≡ after_cycles 1 2 (λ o. d.cycle k.p2 (x + o)) (after_cycles 2 x (d.cycle k.p2) board)) in
       let h = sound d (kernel_in false bytes) (has_rows false bytes has) x (Run 1 ∷ []) Q s (refl, refl, refl) free in
       record {
         steps = h.steps;
@@ -104,20 +104,20 @@ module _ (d : Board) (bytes : List ℕ) (has : HasKernel bytes) (x : ℕ) (k : C
 
   -- the rest of the head, which leaves the timer alone
   abbrev at_third : Bool → Stage d.State
-  at_third last = record { cpu = third last; board = ticks 3 x (d.tick k.p2) board; off = 3 }
+  at_third last = record { cpu = third last; board = after_cycles 3 x (d.cycle k.p2) board; off = 3 }
 
   abbrev IsHeaded : Bool → Stage d.State → Type 0
   IsHeaded last e =
       (e.cpu ≡ scratched (record (third last) { p1 = 32 }) READ (memory (ready f) ring) e.cpu) × (e.off ≡ 16)
-      × (e.board ≡ ticks 16 x (d.tick k.p2) board)
+      × (e.board ≡ after_cycles 16 x (d.cycle k.p2) board)
 
   headed : (last : Bool) → Leads d (kernel_in true bytes) x (at_third last) (IsHeaded last)
   headed last =
-      let b : d.State = ticks 3 x (d.tick k.p2) board in
+      let b : d.State = after_cycles 3 x (d.cycle k.p2) board in
       from_stage d (kernel_in true bytes) (has_rows true bytes has) x 10 (third last) f ring (at_third last)
-      (At d (record (third last) { p1 = 32 }) READ (ready f) ring 13 (ticks 13 (x + 3) (d.tick k.p2) b)) (IsHeaded last)
+      (At d (record (third last) { p1 = 32 }) READ (ready f) ring 13 (after_cycles 13 (x + 3) (d.cycle k.p2) b)) (IsHeaded last)
       refl
-      (λ e h. (h.cpu, ap (λ o. 3 + o) h.off, h.now ∙ joined 3 13 x (x + 3) (d.tick k.p2) board refl))
+      (λ e h. (h.cpu, ap (λ o. 3 + o) h.off, h.now ∙ joined 3 13 x (x + 3) (d.cycle k.p2) board refl))
       (head d bytes has (x + 3) (third last) f ring b free)
 
   -- what it all leaves
@@ -154,7 +154,7 @@ module _ (d : Board) (bytes : List ℕ) (has : HasKernel bytes) (x : ℕ) (k : C
   pub from_start : Tick d TICK bytes start (Heads d start)
   from_start =
       let two = second (seen d start).t1 in
-      let f3 = d.tick k.p2 in
+      let f3 = d.cycle k.p2 in
       let set = sets (seen d start).t1 in
       let e = set.end in
       let g = set.goal in
@@ -163,7 +163,7 @@ module _ (d : Board) (bytes : List ℕ) (has : HasKernel bytes) (x : ℕ) (k : C
       ap (λ c. world_at x (record { cpu = c; board = e.board; off = e.off })) g.1
       ∙ ap (λ o. world_at x (record { cpu = third last; board = e.board; off = o })) g.2
       ∙ ap (λ b. world_at x (record { cpu = third last; board = b; off = 3 }))
-      (g.3 ∙ sym (ticks_from 1 2 x f3 (ticks 2 x f3 board)) ∙ joined 2 1 x (x + 2) f3 board refl) in
+      (g.3 ∙ sym (ticks_from 1 2 x f3 (after_cycles 2 x f3 board)) ∙ joined 2 1 x (x + 2) f3 board refl) in
       let h = headed last in
       let v = h.end in
       let off : v.off ≡ 16 = h.goal.1 in

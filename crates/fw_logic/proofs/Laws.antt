@@ -3,7 +3,7 @@ use Rattle.std.proofs.Common.{◌≡◌, ℕ, suc, zero, ◌+◌, List, true, fa
 use Rattle.std.proofs.Common.{arith, zero-add}
 use Rattle.std.specs.declared.option.Option.{Option}
 use Rattle.mcs48_core.specs.Step.{Stepped, stepped}
-use Rattle.joint_run.specs.Run.{Board, World, ticks, seen, after_step, joint_step}
+use Rattle.joint_run.specs.Run.{Board, World, after_cycles, seen, after_step, joint_step}
 use Rattle.joint_run.specs.Starts.{at_tick, calm_step, calm, Comes}
 use Rattle.fw_logic.proofs.Clock.{IsFree}
 use Rattle.fw_logic.proofs.Path.{Stage, Code}
@@ -51,7 +51,7 @@ module _ (d : Board) (tick : ℕ) (bytes : List ℕ) where
       → Comes d tick bytes
       (record {
         cpu = next.cpu;
-        board = ticks next.cycles w.cycle (d.tick next.cpu.p2) w.board;
+        board = after_cycles next.cycles w.cycle (d.cycle next.cpu.p2) w.board;
         cycle = w.cycle + next.cycles;
       }) Q
       → Comes d tick bytes w Q
@@ -59,7 +59,7 @@ module _ (d : Board) (tick : ℕ) (bytes : List ℕ) where
       let e : World d.State =
       record {
         cpu = next.cpu;
-        board = ticks next.cycles w.cycle (d.tick next.cpu.p2) w.board;
+        board = after_cycles next.cycles w.cycle (d.cycle next.cpu.p2) w.board;
         cycle = w.cycle + next.cycles;
       } in
       let one : calm_step d tick bytes w ≡ Some e =

@@ -3,7 +3,7 @@ use Rattle.std.proofs.Common.{◌≡◌, ℕ, ◌+◌, ◌-◌, List, [], ◌∷
 use Rattle.mcs48_core.specs.Cpu.{Cpu}
 use Rattle.fw_kernel.specs.declared.labels.TheConstants.{LAMPS, TESTED, LOOKS, SEND, GOT, PULLED}
 use Rattle.fw_kernel.specs.Places.{HasKernel}
-use Rattle.joint_run.specs.Run.{Board, ticks}
+use Rattle.joint_run.specs.Run.{Board, after_cycles}
 use Rattle.fw_logic.specs.Scan.{levels_in}
 use Rattle.fw_logic.proofs.Clock.{IsFree}
 use Rattle.fw_logic.proofs.Path.{Until, Go}
@@ -17,14 +17,14 @@ use Rattle.fw_logic.proofs.Short.{has_rows}
 module _ (d : Board) (bytes : List ℕ) (has : HasKernel bytes) (y : ℕ) (k : Cpu) (f : ℕ → ℕ) (ring : List ℕ)
     (board : d.State) (free : IsFree k) where
   abbrev step : ℕ → d.State → d.State
-  step = d.tick k.p2
+  step = d.cycle k.p2
 
   -- the lights are put in the fifth of six cycles
   abbrev pub lit : Cpu
   lit = record k { p2 = 255 - f 77 }
 
   abbrev pub lit_board : d.State
-  lit_board = ticks 2 (y + 4) (d.tick (255 - f 77)) (ticks 4 y step board)
+  lit_board = after_cycles 2 (y + 4) (d.cycle (255 - f 77)) (after_cycles 4 y step board)
 
   pub lamps : Leads d (kernel_in true bytes) y (begin_at d LAMPS f ring k board)
       (At d lit TESTED (put f 25 77) ring 6 lit_board)
@@ -34,8 +34,8 @@ module _ (d : Board) (bytes : List ℕ) (has : HasKernel bytes) (y : ℕ) (k : C
       lit board lit_board free (
         refl,
         refl,
-        sym (ticks_from 2 4 y (d.tick (255 - f 77)) (ticks 4 0 (λ o. step (y + o)) board))
-            ∙ ap (λ b. ticks 2 (y + 4) (d.tick (255 - f 77)) b) (absolute 4 y step board),
+        sym (ticks_from 2 4 y (d.cycle (255 - f 77)) (after_cycles 4 0 (λ o. step (y + o)) board))
+            ∙ ap (λ b. after_cycles 2 (y + 4) (d.cycle (255 - f 77)) b) (absolute 4 y step board),
       )
 
   -- the clock is looked at in cycle 16, data in cycle 18
@@ -45,36 +45,36 @@ module _ (d : Board) (bytes : List ℕ) (has : HasKernel bytes) (y : ℕ) (k : C
   abbrev pub data_wire : Bool
   data_wire = (levels_in d y k.p1 k.p2 board 18).t1
 
-  clock_is : (d.pins k.p1 k.p2 (y + 16) (ticks 16 0 (λ o. step (y + o)) board)).t0 ≡ clock
+  clock_is : (d.pins k.p1 k.p2 (y + 16) (after_cycles 16 0 (λ o. step (y + o)) board)).t0 ≡ clock
   clock_is = ap (λ b. (d.pins k.p1 k.p2 (y + 16) b).t0) (absolute 16 y step board)
 
-  data_is : (d.pins k.p1 k.p2 (y + 18) (ticks 18 0 (λ o. step (y + o)) board)).t1 ≡ data_wire
+  data_is : (d.pins k.p1 k.p2 (y + 18) (after_cycles 18 0 (λ o. step (y + o)) board)).t1 ≡ data_wire
   data_is = ap (λ b. (d.pins k.p1 k.p2 (y + 18) b).t1) (absolute 18 y step board)
 
   pub looks_pulled : clock ≡ false
       → Leads d (kernel_in true bytes) y (begin_at d LOOKS f ring k board)
-      (At d k PULLED (put f 24 0) ring 18 (ticks 18 y step board))
+      (At d k PULLED (put f 24 0) ring 18 (after_cycles 18 y step board))
   looks_pulled low =
       straight d (kernel_in true bytes) (has_rows true bytes has) (Until 71 ∷ Go true ∷ []) y k LOOKS PULLED 18 f
       (put f 24 0) ring
-      k board (ticks 18 y step board) free (ap not (clock_is ∙ low), (refl, refl, absolute 18 y step board))
+      k board (after_cycles 18 y step board) free (ap not (clock_is ∙ low), (refl, refl, absolute 18 y step board))
 
   pub looks_got : clock ≡ true → data_wire ≡ false
       → Leads d (kernel_in true bytes) y (begin_at d LOOKS f ring k board)
-      (At d k GOT (put f 24 0) ring 20 (ticks 20 y step board))
+      (At d k GOT (put f 24 0) ring 20 (after_cycles 20 y step board))
   looks_got high low =
       straight d (kernel_in true bytes) (has_rows true bytes has) (Until 71 ∷ Go false ∷ Go true ∷ []) y k LOOKS GOT 20
       f
       (put f 24 0) ring
-      k board (ticks 20 y step board) free
+      k board (after_cycles 20 y step board) free
       (ap not (clock_is ∙ high), (ap not (data_is ∙ low), (refl, refl, absolute 20 y step board)))
 
   pub looks_free : clock ≡ true → data_wire ≡ true
       → Leads d (kernel_in true bytes) y (begin_at d LOOKS f ring k board)
-      (At d k SEND (put f 24 0) ring 20 (ticks 20 y step board))
+      (At d k SEND (put f 24 0) ring 20 (after_cycles 20 y step board))
   looks_free high high' =
       straight d (kernel_in true bytes) (has_rows true bytes has) (Until 71 ∷ Go false ∷ Go false ∷ []) y k LOOKS SEND
       20 f
       (put f 24 0) ring
-      k board (ticks 20 y step board) free
+      k board (after_cycles 20 y step board) free
       (ap not (clock_is ∙ high), (ap not (data_is ∙ high'), (refl, refl, absolute 20 y step board)))

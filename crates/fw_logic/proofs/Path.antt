@@ -14,7 +14,7 @@ use Rattle.mcs48_core.specs.Registers.{past, register, with_register}
 use Rattle.mcs48_core.specs.Flow.{branch}
 use Rattle.mcs48_core.specs.Timer.{after_timer}
 use Rattle.mcs48_core.specs.Step.{effect}
-use Rattle.joint_run.specs.Run.{Board, World, ticks}
+use Rattle.joint_run.specs.Run.{Board, World, after_cycles}
 use Rattle.fw_logic.proofs.Clock.{is_plain, is_closed}
 
 -- a state at an offset from a cycle
@@ -31,7 +31,7 @@ pins_at d x s = d.pins s.cpu.p1 s.cpu.p2 (x + s.off) s.board
 
 -- the stage after an instruction of these cycles that leaves this processor
 abbrev pub moved : (d : Board) → ℕ → ℕ → Cpu → Stage d.State → Stage d.State
-moved d x c m s = record { cpu = m; board = ticks c s.off (λ o. d.tick m.p2 (x + o)) s.board; off = s.off + c }
+moved d x c m s = record { cpu = m; board = after_cycles c s.off (λ o. d.cycle m.p2 (x + o)) s.board; off = s.off + c }
 
 -- the condition of a jump
 abbrev pub condition : FlowOp → Pins → Cpu → Option Bool

@@ -8,7 +8,7 @@ use Rattle.mcs48_core.specs.Cpu.{Cpu}
 use Rattle.mcs48_core.specs.Timer.{after_timer}
 use Rattle.fw_kernel.specs.declared.labels.TheConstants.{TICK, WAIT, DONE}
 use Rattle.fw_kernel.specs.Places.{HasKernel}
-use Rattle.joint_run.specs.Run.{Board, World, ticks, seen, joint_step, after_step}
+use Rattle.joint_run.specs.Run.{Board, World, after_cycles, seen, joint_step, after_step}
 use Rattle.joint_run.specs.Starts.{Comes}
 use Rattle.joint_run.specs.Starts.{Tick}
 use Rattle.fw_logic.proofs.Clock.{IsTiming, clock_of, total}
@@ -28,7 +28,7 @@ work_cpu late tf last f ring m = record (begun late tf last f ring m) { pc = 10;
 
 abbrev pub work_at : (d : Board) → ℕ → ℕ → Bool → Bool → (ℕ → ℕ) → List ℕ → Cpu → d.State → Stage d.State
 work_at d x late tf last f ring m board =
-    record { cpu = work_cpu late tf last f ring m; board = ticks 3 x (d.tick m.p2) board; off = 3 }
+    record { cpu = work_cpu late tf last f ring m; board = after_cycles 3 x (d.cycle m.p2) board; off = 3 }
 
 -- the work has come to the service's end, with the way back on the stack as it was, and in time
 pub record IsOver (d : Board) (last_off : ℕ) (R : (ℕ → ℕ) → List ℕ → Stage d.State → Type 0)
@@ -63,7 +63,7 @@ module _ (d : Board) (bytes : List ℕ) (has : HasKernel bytes) where
   second x late tf last f ring m board =
       record {
         cpu = record (begun late tf last f ring m) { pc = 9; a = 192; pre = late + 4 };
-        board = ticks 2 x (d.tick m.p2) board;
+        board = after_cycles 2 x (d.cycle m.p2) board;
         off = 2;
       }
 
@@ -86,7 +86,7 @@ module _ (d : Board) (bytes : List ℕ) (has : HasKernel bytes) where
   abbrev IsSet : ℕ → ℕ → Bool → (ℕ → ℕ) → List ℕ → Cpu → d.State → Stage d.State → Type 0
   IsSet x late tf f ring m board e =
       (e.cpu ≡ work_cpu late tf e.cpu.last_t1 f ring m) × (e.off ≡ 3)
-      × (e.board ≡ ticks 1 2 (λ o. d.tick m.p2 (x + o)) (ticks 2 x (d.tick m.p2) board))
+      × (e.board ≡ after_cycles 1 2 (λ o. d.cycle m.p2 (x + o)) (after_cycles 2 x (d.cycle m.p2) board))
 
   sets : (x late : ℕ) → late ≤ 1 → (tf last : Bool) (f : ℕ → ℕ) (ring : List ℕ) (m : Cpu) (board : d.State)
       → Path d (kernel_in false bytes) x (Run 1 ∷ []) (second x late tf last f ring m board)
@@ -109,15 +109,15 @@ module _ (d : Board) (bytes : List ℕ) (has : HasKernel bytes) where
       ⊎ ((8192 ≤ 32 * t + pre + 2) × (32 * q.t' + q.pre' + 8192 ≡ 32 * t + pre + 2) × (q.rq' ≡ true))
       → Comes d TICK bytes (record {
         cpu = waiting q.t' q.pre' q.tf' last q.rq' (plain now ring e.cpu);
-        board = ticks 2 (x + e.off) (d.tick e.cpu.p2) e.board;
+        board = after_cycles 2 (x + e.off) (d.cycle e.cpu.p2) e.board;
         cycle = x + e.off + 2;
       }) (Next d x late R)
   rests x late R e now ring does cpu t pre tf last count room q (inr h) =
       absurd (let l : 8192 ≤ 32 * t + pre + 2 = h.0 in omega (arith, l, room))
   rests x late R e now ring does cpu t pre tf last count room q (inl h) =
       let off = e.off in
-      let f : ℕ → d.State → d.State = d.tick e.cpu.p2 in
-      let b : d.State = ticks 2 (x + off) f e.board in
+      let f : ℕ → d.State → d.State = d.cycle e.cpu.p2 in
+      let b : d.State = after_cycles 2 (x + off) f e.board in
       let goes : 32 * q.t' + q.pre' ≡ 32 * t + pre + 2 = h.1 in
       subst (λ r. Comes d TICK bytes
       (record { cpu = waiting q.t' q.pre' q.tf' last r (plain now ring e.cpu); board = b; cycle = x + off + 2 })
@@ -143,7 +143,7 @@ module _ (d : Board) (bytes : List ℕ) (has : HasKernel bytes) where
         is =
             i.is ∙ ap (λ v. record { cpu = c; board = v; cycle = x + off + 2 + n })
             (sym (ticks_add 2 n (x + off) f e.board))
-            ∙ ap (λ v. record { cpu = c; board = ticks (2 + n) (x + off) f e.board; cycle = v }) sum;
+            ∙ ap (λ v. record { cpu = c; board = after_cycles (2 + n) (x + off) f e.board; cycle = v }) sum;
         most = i.most;
         time = omega (arith, time, goes, count);
       })
@@ -175,7 +175,7 @@ module _ (d : Board) (bytes : List ℕ) (has : HasKernel bytes) where
       (comes_by d TICK bytes goal w (record { cpu = after_timer k.run 2 pins given; cycles = 2 }) refl
       (back d bytes has pins over.now over.ring k over.low over.high)
       (subst (λ c. Comes d TICK bytes
-      (record { cpu = c; board = ticks 2 (x + off) (d.tick c.p2) e.board; cycle = x + off + 2 }) goal) (sym gives)
+      (record { cpu = c; board = after_cycles 2 (x + off) (d.cycle c.p2) e.board; cycle = x + off + 2 }) goal) (sym gives)
       (rests x late R e over.now over.ring over.does over.cpu k.t k.pre k.tf pins.t1 left
       (omega (arith, left, few, short, room)) q q.sum)))
 
@@ -188,7 +188,7 @@ module _ (d : Board) (bytes : List ℕ) (has : HasKernel bytes) where
   serves x late few tf last f ring m board last_off room R work =
       let pins = d.pins m.p1 m.p2 x board in
       let two = second x late tf pins.t1 f ring m board in
-      let step = d.tick m.p2 in
+      let step = d.cycle m.p2 in
       let set = sound d (kernel_in false bytes) (has_rows false bytes has) x (Run 1 ∷ [])
       (IsSet x late tf f ring m board) two
       (sets x late few tf pins.t1 f ring m board) (inl refl) in
@@ -207,7 +207,7 @@ module _ (d : Board) (bytes : List ℕ) (has : HasKernel bytes) where
             h.1 ∙ ap (λ c. world_at x (record { cpu = c; board = e.board; off = e.off })) h.2.0
             ∙ ap (λ o. world_at x (record { cpu = at.cpu; board = e.board; off = o })) h.2.1
             ∙ ap (λ b. world_at x (record { cpu = at.cpu; board = b; off = 3 }))
-            (h.2.2 ∙ sym (ticks_from 1 2 x step (ticks 2 x step board)) ∙ sym (ticks_add 2 1 x step board)) in
+            (h.2.2 ∙ sym (ticks_from 1 2 x step (after_cycles 2 x step board)) ∙ sym (ticks_add 2 1 x step board)) in
             let does = work e.cpu.last_t1 in
             let end = does.end in
             let short : end.off ≤ last_off = does.goal.short in

@@ -11,7 +11,7 @@ use Rattle.mcs48_core.specs.Cpu.{Cpu}
 use Rattle.mcs48_core.specs.Timer.{after_timer}
 use Rattle.mcs48_core.specs.Step.{executed, row_at}
 use Rattle.fw_kernel.specs.declared.labels.TheConstants.{TICK, WAIT}
-use Rattle.joint_run.specs.Run.{Board, World, ticks, seen}
+use Rattle.joint_run.specs.Run.{Board, World, after_cycles, seen}
 use Rattle.joint_run.specs.Starts.{Comes}
 use Rattle.fw_logic.proofs.Block.{memory, put}
 use Rattle.fw_logic.proofs.Blocks.{ticks_add}
@@ -127,7 +127,7 @@ asked t pre tf l k = asked_by t pre tf l k (nat_le 32 (pre + 2)) (t == 255) refl
 
 -- in so many cycles from a state on, by the latch of port 2 as it stays
 abbrev pub later : (d : Board) → ℕ → Cpu → d.State → ℕ → ℕ → World d.State
-later d cycle c board n p2 = record { cpu = c; board = ticks n cycle (d.tick p2) board; cycle = cycle + n }
+later d cycle c board n p2 = record { cpu = c; board = after_cycles n cycle (d.cycle p2) board; cycle = cycle + n }
 
 module _ (d : Board) (bytes : List ℕ)
     (row : row_at bytes WAIT ≡ Some (record { op = Flow (Jmp WAIT); len = 2; cycles = 2 }))
@@ -188,10 +188,10 @@ module _ (d : Board) (bytes : List ℕ)
       comes_by d TICK bytes IsDue w (record { cpu = next; cycles = 2 }) refl
       (ap (λ r. executed r bytes pins w.cpu) row ∙ ap (λ c. Some (record { cpu = c; cycles = 2 })) (q.is m last pins))
       (subst (λ c. Comes d TICK bytes
-      (record { cpu = next; board = ticks 2 (cycle + n) (d.tick m.p2) w.board; cycle = c }) IsDue)
+      (record { cpu = next; board = after_cycles 2 (cycle + n) (d.cycle m.p2) w.board; cycle = c }) IsDue)
       (sym sum)
       (subst (λ b. Comes d TICK bytes (record { cpu = next; board = b; cycle = cycle + (n + 2) }) IsDue)
-      (ticks_add n 2 cycle (d.tick m.p2) board)
+      (ticks_add n 2 cycle (d.cycle m.p2) board)
       (turned k ih t pre n tf pins.t1 below enough time q q.sum)))
 
   idles : (k : ℕ) → Idles k

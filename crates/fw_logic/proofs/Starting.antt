@@ -9,7 +9,7 @@ use Rattle.mcs48_core.specs.Reset.{reset_cpu, reset_in}
 use Rattle.mcs48_core.specs.Step.{executed}
 use Rattle.fw_kernel.specs.declared.labels.TheConstants.{TICK}
 use Rattle.fw_kernel.specs.Places.{HasKernel}
-use Rattle.joint_run.specs.Run.{Board, World, ticks, seen}
+use Rattle.joint_run.specs.Run.{Board, World, after_cycles, seen}
 use Rattle.joint_run.specs.Starts.{Comes}
 use Rattle.fw_logic.specs.Boards.{power_on}
 use Rattle.fw_logic.proofs.Path.{Stage, Until, Path, world_at}
@@ -42,7 +42,7 @@ pub record IsFirst (d : Board) (bytes : List ℕ) (board : d.State) (w : World d
   pub last : Bool
   pub is : w ≡ record {
     cpu = begun late tf last (powered bytes) empty_ring (record reset_cpu { a = 142 });
-    board = ticks (4096 + late) 0 (d.tick 255) board;
+    board = after_cycles (4096 + late) 0 (d.cycle 255) board;
     cycle = 4096 + late;
   }
   pub most : late ≤ 1
@@ -62,7 +62,7 @@ module _ (d : Board) (bytes : List ℕ) (has : HasKernel bytes) where
 
   abbrev IsSet : ℕ → d.State → Stage d.State → Type 0
   IsSet pre board e =
-      (e.cpu ≡ set_cpu pre e.cpu.last_t1) × (e.off ≡ 444) × (e.board ≡ ticks 444 0 (d.tick 255) board)
+      (e.cpu ≡ set_cpu pre e.cpu.last_t1) × (e.off ≡ 444) × (e.board ≡ after_cycles 444 0 (d.cycle 255) board)
 
   sets : (m : Cpu) (f : ℕ → ℕ) (board : d.State)
       → Path d (kernel_in false bytes) 0 (Until 250 ∷ []) (reset_at m f board) (IsSet m.pre board)
@@ -72,15 +72,15 @@ module _ (d : Board) (bytes : List ℕ) (has : HasKernel bytes) where
   starts : (pre : ℕ) (board : d.State) (last : Bool) (Q : World d.State → Type 0)
       → ((last' : Bool) → Comes d TICK bytes (record {
         cpu = waiting 142 0 false last' false (plain (powered bytes) empty_ring (record reset_cpu { a = 142 }));
-        board = ticks 446 0 (d.tick 255) board;
+        board = after_cycles 446 0 (d.cycle 255) board;
         cycle = 446;
       }) Q)
-      → Comes d TICK bytes (record { cpu = set_cpu pre last; board = ticks 444 0 (d.tick 255) board; cycle = 444 }) Q
+      → Comes d TICK bytes (record { cpu = set_cpu pre last; board = after_cycles 444 0 (d.cycle 255) board; cycle = 444 }) Q
   starts pre board last Q rest =
-      let at : World d.State = record { cpu = set_cpu pre last; board = ticks 444 0 (d.tick 255) board; cycle = 444 } in
+      let at : World d.State = record { cpu = set_cpu pre last; board = after_cycles 444 0 (d.cycle 255) board; cycle = 444 } in
       let pins = seen d at in
       let on : Cpu = record (set_cpu pre pins.t1) { pc = 251; tim_on = true } in
-      let next : World d.State = record { cpu = on; board = ticks 445 0 (d.tick 255) board; cycle = 445 } in
+      let next : World d.State = record { cpu = on; board = after_cycles 445 0 (d.cycle 255) board; cycle = 445 } in
       let row = (has_rows true bytes has 250 (record { op = Control EnTcnti; len = 1; cycles = 1 }) refl).0 in
       let row' = (has_rows true bytes has 251 (record { op = Control StrtT; len = 1; cycles = 1 }) refl).0 in
       comes_by d TICK bytes Q at (record { cpu = on; cycles = 1 }) refl
@@ -98,10 +98,10 @@ module _ (d : Board) (bytes : List ℕ) (has : HasKernel bytes) where
       sound d (kernel_in false bytes) (has_rows false bytes has) 0 (Until 250 ∷ []) (IsSet m.pre board)
       (reset_at m f board) (sets m f board) (inr (refl, refl)) in
       let k : Cpu = record reset_cpu { a = 142 } in
-      let b : d.State = ticks 446 0 (d.tick 255) board in
+      let b : d.State = after_cycles 446 0 (d.cycle 255) board in
       let e = h.end in
       let same : world_at 0 e
-      ≡ record { cpu = set_cpu m.pre e.cpu.last_t1; board = ticks 444 0 (d.tick 255) board; cycle = 444 } =
+      ≡ record { cpu = set_cpu m.pre e.cpu.last_t1; board = after_cycles 444 0 (d.cycle 255) board; cycle = 444 } =
       ap (λ c. world_at 0 (record { cpu = c; board = e.board; off = e.off })) h.goal.0
       ∙ ap (λ o. world_at 0 (record { cpu = set_cpu m.pre e.cpu.last_t1; board = e.board; off = o })) h.goal.1
       ∙ ap (λ v. world_at 0 (record { cpu = set_cpu m.pre e.cpu.last_t1; board = v; off = 444 })) h.goal.2 in
@@ -123,8 +123,8 @@ module _ (d : Board) (bytes : List ℕ) (has : HasKernel bytes) where
         last = i.last;
         is =
             i.is ∙ ap (λ v. record { cpu = c; board = v; cycle = 446 + i.waited })
-            (sym (ticks_add 446 i.waited 0 (d.tick 255) board))
-            ∙ ap (λ n. record { cpu = c; board = ticks n 0 (d.tick 255) board; cycle = n }) all;
+            (sym (ticks_add 446 i.waited 0 (d.cycle 255) board))
+            ∙ ap (λ n. record { cpu = c; board = after_cycles n 0 (d.cycle 255) board; cycle = n }) all;
         most = i.most;
       })
       (begins d bytes has (powered bytes) empty_ring k b 446 142 0 false last (omega arith) (omega arith)))))

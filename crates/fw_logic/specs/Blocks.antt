@@ -6,7 +6,7 @@ use Rattle.mcs48_core.specs.Cpu.{Cpu}
 use Rattle.mcs48_core.specs.declared.processor.Count.TheVariants.{Timer}
 use Rattle.fw_kernel.specs.declared.labels.TheConstants.{TICK, READ, OFFER, LAMPS, TESTED, LOOKS, SEND, GOT, PULLED}
 use Rattle.fw_kernel.specs.Places.{HasKernel}
-use Rattle.joint_run.specs.Run.{Board, World, ticks}
+use Rattle.joint_run.specs.Run.{Board, World, after_cycles}
 use Rattle.joint_run.specs.Starts.{Comes, Tick}
 use Rattle.fw_logic.specs.Boards.{numbered}
 use Rattle.fw_logic.specs.Scan.{levels_in, downs, in_tick, lights_cell}
@@ -62,7 +62,7 @@ pub record PutsLights (d : Board) (w e : World d.State) : Type 0 where
   pub p1 : e.cpu.p1 ≡ w.cpu.p1
   pub p2 : e.cpu.p2 ≡ 255 - slice_index w.cpu.ram lights_cell
   pub f1 : e.cpu.f1 ≡ w.cpu.f1
-  pub board : e.board ≡ ticks 2 (w.cycle + 4) (d.tick e.cpu.p2) (in_tick d w 4)
+  pub board : e.board ≡ after_cycles 2 (w.cycle + 4) (d.cycle e.cpu.p2) (in_tick d w 4)
   pub others : (i : ℕ) → (i == 25) ≡ false → slice_index e.cpu.ram i ≡ slice_index w.cpu.ram i
 
 -- the clock in cycle 16 of the looks, data in cycle 18

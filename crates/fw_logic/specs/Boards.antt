@@ -11,4 +11,4 @@ power_on d m board = record { cpu = reset_in m; board = board; cycle = 0 }
 
 -- a board whose state is a number; the pins, by both latches, the cycle and the state, may show anything
 abbrev pub numbered : (ℕ → ℕ → ℕ → ℕ → Pins) → (ℕ → ℕ → ℕ → ℕ) → Board
-numbered pins tick = record { State = ℕ; pins = pins; tick = tick }
+numbered pins cycle = record { State = ℕ; pins = pins; cycle = cycle }

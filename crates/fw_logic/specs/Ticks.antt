@@ -6,7 +6,7 @@ use Rattle.mcs48_core.specs.declared.processor.Count.TheVariants.{Timer}
 use Rattle.mcs48_core.specs.Cpu.{Cpu}
 use Rattle.fw_kernel.specs.declared.labels.TheConstants.{TICK, WAIT, OFFER, DONE}
 use Rattle.fw_kernel.specs.Places.{HasKernel}
-use Rattle.joint_run.specs.Run.{Board, World, ticks}
+use Rattle.joint_run.specs.Run.{Board, World, after_cycles}
 use Rattle.joint_run.specs.Starts.{Comes, Tick}
 use Rattle.fw_logic.specs.Blocks.{IsAt, is_read}
 use Rattle.fw_logic.specs.Boards.{numbered}
@@ -83,7 +83,7 @@ pub record IsNext (d : Board) (w e v : World d.State) : Type 0 where
   pub memory : v.cpu.ram ≡ e.cpu.ram
   pub p1 : v.cpu.p1 ≡ e.cpu.p1
   pub p2 : v.cpu.p2 ≡ e.cpu.p2
-  pub board : (n : ℕ) → v.cycle ≡ e.cycle + n → v.board ≡ ticks n e.cycle (d.tick e.cpu.p2) e.board
+  pub board : (n : ℕ) → v.cycle ≡ e.cycle + n → v.board ≡ after_cycles n e.cycle (d.cycle e.cpu.p2) e.board
 
 -- from each tick start the columns are read at their offsets
 abbrev pub ReadingLaw : Type 0

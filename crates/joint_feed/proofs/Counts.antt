@@ -13,7 +13,7 @@ use Rattle.joint_run.specs.declared.due.Due.{Due}
 use Rattle.joint_run.specs.declared.machine.Machine.{Machine}
 use Rattle.joint_run.specs.Due.{due_board, due_step, world_of}
 use Rattle.joint_run.specs.Joint.{Beside, joint_cycle, latch_of, lights_of}
-use Rattle.joint_run.specs.Run.{World, after_step, seen, ticks}
+use Rattle.joint_run.specs.Run.{World, after_step, seen, after_cycles}
 use Rattle.pc_wires.specs.Wires.{Pc, board_cycle, looked, wires}
 use Rattle.joint_run.specs.Due.{made_first}
 
@@ -51,14 +51,14 @@ cycle_done events p2 now s l =
     let b : Pc = looked now (wires (latch_of p2) lit) lit in
     one_more events now s.pc.side.done b.side.port.core l
 
-cycles_done : (events : List HostEvent) (p2 n now : ℕ) (s : Beside) → s.pc.side.done ≤ length events → (ticks n now (joint_cycle events p2) s).pc.side.done ≤ length events
+cycles_done : (events : List HostEvent) (p2 n now : ℕ) (s : Beside) → s.pc.side.done ≤ length events → (after_cycles n now (joint_cycle events p2) s).pc.side.done ≤ length events
 cycles_done events p2 zero now s l = l
 cycles_done events p2 (suc n) now s l = cycles_done events p2 n (now + 1) (joint_cycle events p2 now s) (cycle_done events p2 now s l)
 
 after_done : (due : Due) (m : Machine) (w : World Beside) (n : Option Stepped) → after_step (due_board due m) (world_of m) n ≡ Some w → w.board.pc.side.done ≤ length due.host.items
 after_done due m w None h = absurd cc
 after_done due m w (Some n) h =
-    let e : record { cpu = n.cpu; board = ticks n.cycles m.cycle (joint_cycle due.host.items n.cpu.p2) (world_of m).board; cycle = m.cycle + n.cycles } ≡ w = cc h in
+    let e : record { cpu = n.cpu; board = after_cycles n.cycles m.cycle (joint_cycle due.host.items n.cpu.p2) (world_of m).board; cycle = m.cycle + n.cycles } ≡ w = cc h in
     subst (λ (v : World Beside). v.board.pc.side.done ≤ length due.host.items) e
     (cycles_done due.host.items n.cpu.p2 n.cycles m.cycle (world_of m).board (omega arith))
 

@@ -13,7 +13,7 @@ use Rattle.mcs48_core.specs.Step.{Stepped, stepped}
 use Rattle.joint_run.specs.declared.due.Due.{Due}
 use Rattle.joint_run.specs.declared.due.Seen.{Seen}
 use Rattle.joint_run.specs.declared.machine.Machine.{Machine}
-use Rattle.joint_run.specs.Run.{World, ticks, seen, after_step, step_on, run_at}
+use Rattle.joint_run.specs.Run.{World, after_cycles, seen, after_step, step_on, run_at}
 use Rattle.joint_run.specs.Joint.{Beside, keys_at, pins_by, joint_pins, joint_cycle, joint_board, joint_start}
 use Rattle.joint_run.specs.Due.{beside, outside_of, passed, made_first, keys_in_step, due_board, world_of, due_step, machine_after, told, IsSeen, IsJointStep}
 use Rattle.joint_run.specs.History.{IsInRun, IsDueOf, GoesOn, IsNext, IsStepOfRun}
@@ -62,7 +62,7 @@ module _ (edges : List Edge) (events : List HostEvent) (order : AreInOrder edges
 
   -- the state after so many cycles with this processor, in the run and in the step
   abbrev came : Stepped → World Beside
-  came n = record { cpu = n.cpu; board = ticks n.cycles w.cycle (joint_cycle events n.cpu.p2) w.board; cycle = w.cycle + n.cycles }
+  came n = record { cpu = n.cpu; board = after_cycles n.cycles w.cycle (joint_cycle events n.cpu.p2) w.board; cycle = w.cycle + n.cycles }
 
   abbrev alone : Stepped → Beside
   alone n = passed n.cycles m.cycle n.cpu.p2 due.host.items m.outside
@@ -72,8 +72,8 @@ module _ (edges : List Edge) (events : List HostEvent) (order : AreInOrder edges
 
   board_same : (n : Stepped) → 0 < n.cycles → n.cycles < 3 → (came n).board ≡ behind done w.board.pc.side.log (alone n)
   board_same n some few =
-      ap (λ c. ticks n.cycles c (joint_cycle events n.cpu.p2) w.board) (sym r.cycle)
-      ∙ ap (λ o. ticks n.cycles m.cycle (joint_cycle events n.cpu.p2) (beside o done w.board.pc.side.log)) (sym r.outside)
+      ap (λ c. after_cycles n.cycles c (joint_cycle events n.cpu.p2) w.board) (sym r.cycle)
+      ∙ ap (λ o. after_cycles n.cycles m.cycle (joint_cycle events n.cpu.p2) (beside o done w.board.pc.side.log)) (sym r.outside)
       ∙ same_cycles events due.host.items n.cpu.p2 done w.board.pc.side.log
       (next_one events done ∙ ap (λ (es : List HostEvent). slice_get es 0) (sym d.host))
       (next_two events done ∙ ap (λ (es : List HostEvent). slice_get es 1) (sym d.host)) m.cycle m.outside n.cycles some few

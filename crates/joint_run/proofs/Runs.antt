@@ -5,7 +5,7 @@ use Rattle.std.proofs.lemmas.List.{append-nil}
 use Rattle.board_lines.specs.declared.event.HostEvent.{HostEvent}
 use Rattle.host_turn.specs.declared.stamped.Stamped.{Stamped}
 use Rattle.joint_run.specs.declared.outside.Outside.{Outside}
-use Rattle.joint_run.specs.Run.{ticks}
+use Rattle.joint_run.specs.Run.{after_cycles}
 use Rattle.joint_run.specs.Joint.{Beside, joint_cycle}
 use Rattle.joint_run.specs.Due.{beside, outside_of, passed}
 use Rattle.joint_run.specs.Cycle.{Passed, outside_cycle}
@@ -65,7 +65,7 @@ module _ (events due : List HostEvent) (p2 : ℕ) (done : ℕ) (log : List Stamp
         ∙ same_cycle (now + 1) c.outside k said (nth_same c.done)
         ∙ ap (λ v. behind done log (joint_cycle due p2 (now + 1) v)) (sym t)
 
-    pub same_cycles : (cycles : ℕ) → 0 < cycles → cycles < 3 → ticks cycles now (joint_cycle events p2) (beside o done log) ≡ behind done log (passed cycles now p2 due o)
+    pub same_cycles : (cycles : ℕ) → 0 < cycles → cycles < 3 → after_cycles cycles now (joint_cycle events p2) (beside o done log) ≡ behind done log (passed cycles now p2 due o)
     same_cycles zero some few = absurd (omega (arith, some))
     same_cycles (suc zero) some few = first_cycle
     same_cycles (suc (suc zero)) some few = second_cycle

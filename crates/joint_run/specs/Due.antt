@@ -19,7 +19,7 @@ use Rattle.joint_run.specs.declared.due.Seen.{Seen}
 use Rattle.joint_run.specs.declared.machine.Machine.{Machine}
 use Rattle.joint_run.specs.declared.outside.Outside.{Outside}
 use Rattle.pc_wires.specs.Wires.{wires}
-use Rattle.joint_run.specs.Run.{Board, World, ticks, joint_step}
+use Rattle.joint_run.specs.Run.{Board, World, after_cycles, joint_step}
 use Rattle.joint_run.specs.Joint.{Beside, latch_of, pins_by, joint_cycle}
 
 -- what stands outside the processor at power-on
@@ -61,7 +61,7 @@ outside_of s = record {
 
 -- what stands outside after so many cycles, with what is done and said in them
 abbrev pub passed : ℕ → ℕ → ℕ → List HostEvent → Outside → Beside
-passed cycles now p2 events o = ticks cycles now (joint_cycle events p2) (beside o 0 [])
+passed cycles now p2 events o = after_cycles cycles now (joint_cycle events p2) (beside o 0 [])
 
 -- the cycles of a step have passed: what stands outside then, what was said, and the answer, which is how many of the
 -- host's events were done, and the wires after the first and after the last cycle
@@ -87,7 +87,7 @@ abbrev pub due_board : Due → Machine → Board
 due_board due m = record {
   State = Beside;
   pins = λ p1 p2 cycle s. pins_by (keys_in_step due m) p1 p2 s;
-  tick = joint_cycle due.host.items;
+  cycle = joint_cycle due.host.items;
 }
 
 -- the machine as a state of the run, of whose events and items none are counted yet

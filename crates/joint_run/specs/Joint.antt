@@ -51,7 +51,7 @@ joint_cycle events p2 now s = record {
 
 -- the board under these edges of keys and these events of the host
 abbrev pub joint_board : List Edge → List HostEvent → Board
-joint_board edges events = record { State = Beside; pins = joint_pins edges; tick = joint_cycle events }
+joint_board edges events = record { State = Beside; pins = joint_pins edges; cycle = joint_cycle events }
 
 -- what stands beside the processor at power-on
 abbrev pub beside_at_start : Beside

@@ -10,12 +10,12 @@ use Rattle.mcs48_core.specs.Step.{Stepped, stepped}
 pub record Board : Type 1 where
   pub State : Type 0
   pub pins : ℕ → ℕ → ℕ → State → Pins
-  pub tick : ℕ → ℕ → State → State
+  pub cycle : ℕ → ℕ → State → State
 
 -- the board after so many cycles, the first of them with this number
-abbrev pub ticks : {S : Type 0} → ℕ → ℕ → (ℕ → S → S) → S → S
-ticks zero cycle f s = s
-ticks (suc n) cycle f s = ticks n (cycle + 1) f (f cycle s)
+abbrev pub after_cycles : {S : Type 0} → ℕ → ℕ → (ℕ → S → S) → S → S
+after_cycles zero cycle f s = s
+after_cycles (suc n) cycle f s = after_cycles n (cycle + 1) f (f cycle s)
 
 -- the processor, the board's state, and the number of cycles that are done, which is that of the cycle to come
 pub record World (S : Type 0) : Type 0 where
@@ -32,7 +32,7 @@ abbrev pub after_step : (d : Board) → World d.State → Option Stepped → Opt
 after_step d w None = None
 after_step d w (Some n) = Some (record {
   cpu = n.cpu;
-  board = ticks n.cycles w.cycle (d.tick n.cpu.p2) w.board;
+  board = after_cycles n.cycles w.cycle (d.cycle n.cpu.p2) w.board;
   cycle = w.cycle + n.cycles;
 })
 

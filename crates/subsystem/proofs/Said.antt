@@ -15,7 +15,7 @@ use Rattle.pc_tables.specs.declared.item.Item.{Item}
 use Rattle.mcs48_core.specs.Step.{Stepped, stepped}
 use Rattle.pc_wires.specs.Wires.{Pc, board_cycle, looked, wires}
 use Rattle.joint_run.specs.Joint.{Beside, joint_board, joint_cycle, latch_of, lights_of, log_of}
-use Rattle.joint_run.specs.Run.{World, after_step, joint_step, seen, ticks}
+use Rattle.joint_run.specs.Run.{World, after_step, joint_step, seen, after_cycles}
 use Rattle.subsystem.specs.Progress.{AreIn}
 
 -- what was said in cycles from one on and before another is put behind a log
@@ -70,21 +70,21 @@ cycle_log events p2 now s =
       each = all_in_both now (suc now) (lights_said now s.shown (lights_of p2)) (stamped now c.items) (lights_in now s.shown (lights_of p2)) (stamped_in now c.items);
     }
 
-cycles_log : (events : List HostEvent) (p2 n now : ℕ) (s : Beside) → Said now (now + n) (log_of s) (log_of (ticks n now (joint_cycle events p2) s))
+cycles_log : (events : List HostEvent) (p2 n now : ℕ) (s : Beside) → Said now (now + n) (log_of s) (log_of (after_cycles n now (joint_cycle events p2) s))
 cycles_log events p2 zero now s = record { more = []; behind = sym (append-nil (log_of s)); each = tt }
 cycles_log events p2 (suc n) now s =
     let first = cycle_log events p2 now s in
     let rest = cycles_log events p2 n (now + 1) (joint_cycle events p2 now s) in
     let e : suc now ≡ now + 1 = omega arith in
     let f : now + 1 + n ≡ now + suc n = omega arith in
-    subst (λ (k : ℕ). Said now k (log_of s) (log_of (ticks n (now + 1) (joint_cycle events p2) (joint_cycle events p2 now s)))) f
-    (said_then now (now + 1) (now + 1 + n) (log_of s) (log_of (joint_cycle events p2 now s)) (log_of (ticks n (now + 1) (joint_cycle events p2) (joint_cycle events p2 now s)))
+    subst (λ (k : ℕ). Said now k (log_of s) (log_of (after_cycles n (now + 1) (joint_cycle events p2) (joint_cycle events p2 now s)))) f
+    (said_then now (now + 1) (now + 1 + n) (log_of s) (log_of (joint_cycle events p2 now s)) (log_of (after_cycles n (now + 1) (joint_cycle events p2) (joint_cycle events p2 now s)))
     (omega arith) (omega arith) (subst (λ (k : ℕ). Said now k (log_of s) (log_of (joint_cycle events p2 now s))) e first) rest)
 
 after_log : (edges : List Edge) (events : List HostEvent) (w next : World Beside) (n : Option Stepped) → after_step (joint_board edges events) w n ≡ Some next → Said w.cycle next.cycle (log_of w.board) (log_of next.board)
 after_log edges events w next None h = absurd cc
 after_log edges events w next (Some n) h =
-    let e : record { cpu = n.cpu; board = ticks n.cycles w.cycle (joint_cycle events n.cpu.p2) w.board; cycle = w.cycle + n.cycles } ≡ next = cc h in
+    let e : record { cpu = n.cpu; board = after_cycles n.cycles w.cycle (joint_cycle events n.cpu.p2) w.board; cycle = w.cycle + n.cycles } ≡ next = cc h in
     subst (λ (v : World Beside). Said w.cycle v.cycle (log_of w.board) (log_of v.board)) e (cycles_log events n.cpu.p2 n.cycles w.cycle w.board)
 
 -- what a joint step says
