@@ -13,7 +13,7 @@ ghost use Rattle.agreement.specs.Memory.{MemoryLaw};
 ghost use Rattle.agreement.specs.Wires.{WiresLaw};
 
 /// For every layout and every history that is accepted for it: the joint run of the layout's compiled image is never
-/// stuck, each of its after_cycles starts at most five cycles past its multiple of 2,048, and what was said up to a tick start
+/// stuck, each of its ticks starts at most five cycles past its multiple of 2,048, and what was said up to a tick start
 /// is what the model says up to it, at the run's own tick starts. So it is of the run from cleared memory, which the
 /// program makes, and of the run from whatever a part holds when it is switched on. Nothing is done when it is called;
 /// the law is its contract.
@@ -32,7 +32,7 @@ pub fn wires_are_driven()
 {}
 
 /// For every layout and every history that is accepted for it: at each tick start of the joint run data memory shows the
-/// model's keyboard and its layers, so it goes on by the meetings of the model and the edges of its after_cycles. Nothing is
+/// model's keyboard and its layers, so it goes on by the meetings of the model and the edges of its ticks. Nothing is
 /// done when it is called; the law is its contract.
 pub fn memory_holds_keyboard()
     ensures memory { MemoryLaw }
@@ -45,5 +45,5 @@ pub fn memory_holds_keyboard()
 /// is read at offset 16 + 16 c, the lights are put at 232, the clock is looked at at 256 and data at 258, and in a frame
 /// the looks are at 306 + 32 k. Nothing is done when it is called; the law is its contract.
 pub fn every_tick()
-    ensures after_cycles { TickLaw }
+    ensures ticks { TickLaw }
 {}

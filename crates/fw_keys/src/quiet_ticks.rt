@@ -1,4 +1,4 @@
-//! Laws of power-on and of the after_cycles without a frame.
+//! Laws of power-on and of the ticks without a frame.
 
 ghost use Rattle.fw_keys.specs.Quiet.{KeepsQuiet, PowerOnLaw, PowersOn, QuietLaw};
 
@@ -14,14 +14,14 @@ pub fn power_on()
 /// Every tick without a frame: from a tick start at which data memory shows a keyboard the run comes to the next tick
 /// start, 2,048 cycles later give or take one, at which it shows that keyboard and its layers a tick of the model later,
 /// by the edges that the columns showed, each in its layer. In the image a place has codes in both layers or in neither:
-/// one without is the Fn key's. Without a frame are the after_cycles of the power-on test, those at whose looks the clock is low,
+/// one without is the Fn key's. Without a frame are the ticks of the power-on test, those at whose looks the clock is low,
 /// and those at whose looks both wires are high while nothing is offered. Nothing is done when it is called; the law is
 /// its contract.
 pub fn every_quiet_tick()
     ensures quiet { QuietLaw }
 {}
 
-/// The kernel with empty tables, as an image: it powers on as the model's keyboard, and keeps its quiet after_cycles.
+/// The kernel with empty tables, as an image: it powers on as the model's keyboard, and keeps its quiet ticks.
 pub fn bare_kernel() -> Image
     ensures powers_on { PowersOn result.bytes }
     ensures quiet { KeepsQuiet result.bytes }

@@ -9,9 +9,9 @@
 mod at_start;
 mod parts;
 mod steps;
-mod after_cycles;
+mod ticks;
 
 pub use at_start::at_tick;
 pub use parts::{heading, looking_at_wires, putting_lights, reading_columns};
 pub use steps::{bytes_stay_bytes, every_row};
-pub use after_cycles::{columns_in_a_tick, next_start};
+pub use ticks::{columns_in_a_tick, next_start};

@@ -2,4 +2,4 @@ use Rattle.agreement.proofs.Does.{tick_law}
 use Rattle.agreement.proofs.every_tick.Goals as goal
 
 pub returns : goal.returns
-returns c = record { after_cycles = tick_law }
+returns c = record { ticks = tick_law }
