@@ -8,7 +8,7 @@ use Rattle.ctl_wire.specs.Cycles.{port_looked}
 use Rattle.ctl_wire.specs.Wire.{drive, is_breakable}
 use Rattle.host_turn.specs.declared.stamped.Stamped.{Stamped}
 use Rattle.host_turn.specs.Cycle.{Cycled, cycled}
-use Rattle.host_turn.specs.Rest.{is_at_rest, is_due}
+use Rattle.host_turn.specs.Rest.{is_at_rest, is_due, is_free}
 use Rattle.host_turn.specs.Run.{lights_said, stamped}
 use Rattle.joint_run.specs.declared.outside.Outside.{Outside}
 use Rattle.pc_wires.specs.Wires.{joined}
@@ -17,6 +17,10 @@ use Rattle.joint_run.specs.Joint.{latch_of, lights_of}
 -- the wires, with what port 2 drives
 abbrev pub outside_wires : ℕ → Outside → Lines
 outside_wires p2 o = joined (latch_of p2) (drive o.desk.port.link)
+
+-- nobody pulls a wire: port 2 lets both go, and the link is free
+abbrev pub is_let_go : ℕ → Outside → Bool
+is_let_go p2 o = (latch_of p2).clk && (latch_of p2).dat && is_free o.desk.port.link
 
 -- the controller's look
 abbrev pub looked_outside : ℕ → Lines → Outside → Outside

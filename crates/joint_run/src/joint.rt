@@ -1,8 +1,8 @@
 //! The joint machine as its callers see it.
 
-ghost use Rattle.std.specs.Prelude.{◌≡◌, ◌<◌, ◌^◌, IfOk, OnErr, OnOk};
+ghost use Rattle.std.specs.Prelude.{◌≡◌, ◌<◌, ◌^◌, IfOk, OnErr, OnOk, true};
 ghost use Rattle.int09.specs.Bios.{start};
-ghost use Rattle.joint_run.specs.Cycle.{outside_wires};
+ghost use Rattle.joint_run.specs.Cycle.{is_let_go, outside_wires};
 ghost use Rattle.joint_run.specs.Due.{due_step, powered_on, told, IsJointStep};
 ghost use Rattle.joint_run.specs.History.{IsFirstOfRun, IsStepOfRun};
 
@@ -123,6 +123,17 @@ impl Joint {
     {
         let p2 = self.machine.mcu.p2;
         self.machine.outside.wires(p2)
+    }
+
+    /// Whether nobody pulls a wire after the last cycle that is done: the keyboard lets both go, and the link is free. Then
+    /// both are high. It costs less than to ask for the wires.
+    #[inline(always)]
+    pub fn is_let_go(&self) -> bool
+        ensures let_go { result ≡ is_let_go self.now.mcu.p2 self.now.outside }
+        ensures high { result ≡ true → outside_wires self.now.mcu.p2 self.now.outside ≡ record { clk = true; dat = true } }
+    {
+        let p2 = self.machine.mcu.p2;
+        self.machine.outside.is_let_go(p2)
     }
 
     /// INT 09h.

@@ -1,6 +1,6 @@
 //! What stands outside the processor, and a cycle of it.
 
-ghost use Rattle.std.specs.Prelude.{◌≡◌, ◌+◌, ◌-◌, ◌<◌, ◌≤◌, ◌^◌, [], ◌++◌, length, slice_get};
+ghost use Rattle.std.specs.Prelude.{◌≡◌, ◌+◌, ◌-◌, ◌<◌, ◌≤◌, ◌^◌, [], ◌++◌, length, slice_get, true};
 ghost use Rattle.ctl_link.specs.Empty.{IsEmptyUnlessHeld};
 ghost use Rattle.ctl_wire.specs.Wire.{drive, edge_at, is_breakable};
 ghost use Rattle.int09.specs.Bios.{start};
@@ -9,7 +9,7 @@ ghost use Rattle.host_turn.specs.Run.{lights_said, stamped};
 ghost use Rattle.joint_run.specs.Due.{HasPassed, outside_at_start};
 ghost use Rattle.joint_run.specs.Joint.{lights_of, latch_of};
 ghost use Rattle.pc_wires.specs.Wires.{joined};
-ghost use Rattle.joint_run.specs.Cycle.{is_quiet, looked_outside, outside_cycle, outside_wires};
+ghost use Rattle.joint_run.specs.Cycle.{is_let_go, is_quiet, looked_outside, outside_cycle, outside_wires};
 
 use arrayvec::ArrayVec;
 use board_lines::{HostEvent, Lines};
@@ -44,6 +44,12 @@ pub(crate) fn latch(p2: u8) -> Lines
         dat: p2 >> 1 & 1 == 1,
     }
 }
+
+/// Both wires are high, where nobody pulls them.
+const HIGH: Lines = Lines {
+    clk: true,
+    dat: true,
+};
 
 /// The wires, with what the keyboard and the controller drive. It stands out of line, since the link is free in most
 /// cycles.
@@ -88,6 +94,15 @@ impl Outside {
             Link::Free => latch(p2),
             link => pulled(latch(p2), link),
         }
+    }
+
+    /// Whether nobody pulls a wire: port 2 lets both go, and the link is free.
+    #[inline(always)]
+    pub(crate) fn is_let_go(&self, p2: u8) -> bool
+        ensures { result ≡ is_let_go p2 self.now }
+    {
+        let line = latch(p2);
+        line.clk && line.dat && matches!(self.desk.port.link, Link::Free)
     }
 
     /// The lights that port 2 lights are shown; they are said where they changed.
@@ -215,6 +230,20 @@ impl Outside {
         rests && lights(p2) == self.shown && !(self.clock && !latch(p2).clk)
     }
 
+    /// Whether they are such cycles, and port 2 lets both wires go.
+    #[inline(always)]
+    fn is_idle(&self, last: u64, p2: u8, host: &[HostEvent]) -> bool
+        ensures quiet { result ≡ true → is_quiet last p2 (slice_get host.now 0) self.now ≡ true }
+        ensures high { result ≡ true → latch_of p2 ≡ HIGH }
+    {
+        let line = latch(p2);
+        let rests = match host {
+            [] => self.desk.rests(last, None),
+            [event, ..] => self.desk.rests(last, Some(*event)),
+        };
+        rests && lights(p2) == self.shown && line.clk && line.dat
+    }
+
     /// The cycles of a step, 1 or 2, from this one on, in which port 2 is this and something may happen. Answers how
     /// many of the host's events were done, and the wires after the first and after the last cycle.
     #[inline(never)]
@@ -244,9 +273,9 @@ impl Outside {
         (first_done + last_done, first, last)
     }
 
-    /// The same in any cycles. In most nothing happens: the clock's level is noted, and no cycle is made.
-    #[inline(always)]
-    pub(crate) fn pass(
+    /// The same in any cycles. Where nothing happens the clock's level is noted, and no cycle is made.
+    #[inline(never)]
+    fn pass_in_frame(
         &mut self,
         now: u64,
         cycles: u8,
@@ -270,5 +299,31 @@ impl Outside {
         }
         let (done, first, last) = self.pass_busily(now, cycles, p2, host, items);
         (done, first, last)
+    }
+
+    /// The same in any cycles. In most nothing happens, and port 2 lets both wires go.
+    #[inline(always)]
+    pub(crate) fn pass(
+        &mut self,
+        now: u64,
+        cycles: u8,
+        p2: u8,
+        host: &[HostEvent],
+        items: &mut ArrayVec<Stamped, 16>,
+    ) -> (u8, Lines, Lines)
+        requires near { now < 2 ^ 62 }
+        requires some { 0 < cycles }
+        requires few { cycles < 3 }
+        requires empty { IsEmptyUnlessHeld self.old.desk.port }
+        requires none { items.old.items ≡ [] }
+        ensures passed { HasPassed cycles now p2 host.now self.old self.new items.new.items result }
+        ensures empty { IsEmptyUnlessHeld self.new.desk.port }
+    {
+        let last = now + cycles as u64 - 1;
+        if self.is_idle(last, p2, host) {
+            self.clock = true;
+            return (0, HIGH, HIGH);
+        }
+        self.pass_in_frame(now, cycles, p2, host, items)
     }
 }
