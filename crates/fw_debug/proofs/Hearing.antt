@@ -1,14 +1,13 @@
 -- What is kept of samples is enough to tell each transfer.
-use Rattle.std.proofs.Common.{cond, ◌≡◌, ◌≤◌, ◌<◌, ℕ, zero, suc, ◌+◌, ◌-◌, Bool, true, false, List, [], ◌∷◌, ◌++◌, length, drop, Some, None, refl, ap, sym, ◌∙◌, arith, length-append, length-drop}
+use Rattle.std.proofs.Common.{cond, ◌≡◌, ℕ, ◌+◌, ◌-◌, Bool, true, false, List, [], ◌∷◌, ◌++◌, length, drop, Some, None, refl, ap, sym, ◌∙◌, arith, length-append, length-drop}
 use Rattle.std.specs.Prelude.{if◌then◌else◌}
 use Rattle.std.specs.declared.option.Option.{Option}
 use Rattle.std.proofs.lemmas.List.{append-nil, append_assoc, drop-append-le}
 use Rattle.std.proofs.Common.{drop-drop}
 use Rattle.fw_debug.specs.declared.heard.Fall.{Fall}
 use Rattle.fw_debug.specs.declared.heard.Sample.{Sample}
-use Rattle.fw_debug.specs.declared.heard.Transfer.{Transfer}
 use Rattle.fw_debug.specs.Samples.{CompletesByFalls, KeepsElevenFalls, falls_among, falls_behind, heard_all, last_eleven, last_of}
-use Rattle.fw_debug.specs.Transfers.{Ear, completed, fall_at, heard, is_fall, silence, transfer_by, wires_at, with_fall}
+use Rattle.fw_debug.specs.Transfers.{Ear, completed, fall_at, is_fall, transfer_by, wires_at, with_fall}
 
 abbrev ear_with : Option Sample → List Fall → Ear
 ear_with last falls = record { last = last; falls = falls }

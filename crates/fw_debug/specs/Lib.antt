@@ -3,6 +3,7 @@ pub mod Commands
 pub mod CountLaw
 pub mod Counts
 pub mod Faults
+pub mod Kept
 pub mod Lines
 pub mod Looks
 pub mod Making

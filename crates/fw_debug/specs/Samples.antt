@@ -1,10 +1,9 @@
 -- The same of a list of samples: its falls, and the transfer that its last sample completes.
-use Rattle.std.specs.Prelude.{◌≡◌, ◌≤◌, ℕ, ◌-◌, List, [], ◌∷◌, ◌++◌, length, drop, Some, None, if◌then◌else◌}
+use Rattle.std.specs.Prelude.{◌≡◌, ◌-◌, List, [], ◌∷◌, ◌++◌, length, drop, Some, None, if◌then◌else◌}
 use Rattle.std.specs.declared.option.Option.{Option}
 use Rattle.board_lines.specs.declared.lines.Lines.{Lines}
 use Rattle.fw_debug.specs.declared.heard.Sample.{Sample}
 use Rattle.fw_debug.specs.declared.heard.Fall.{Fall}
-use Rattle.fw_debug.specs.declared.heard.Transfer.{Transfer}
 use Rattle.fw_debug.specs.Transfers.{Ear, completed, fall_at, heard, is_fall, silence, transfer_by, wires_at}
 
 -- the falls among samples, the first of which stands behind these wires

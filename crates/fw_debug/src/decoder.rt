@@ -1,12 +1,19 @@
 //! What listens to the two wires.
 
-ghost use Rattle.std.specs.Prelude.{◌≡◌, true};
+ghost use Rattle.std.specs.Prelude.{◌≡◌, true, false};
+ghost use Rattle.fw_debug.specs.Kept.{both_high};
 ghost use Rattle.fw_debug.specs.Transfers.{completed, heard, is_behind, sample, silence, wires_at};
 
-use crate::heard::{Fall, Sample, Transfer, push_fall, transfer_by};
+use crate::heard::{Fall, Kept, Transfer, push_fall, transfer_by};
 use arrayvec::ArrayVec;
 use board_lines::Lines;
 use std::marker::Model;
+
+/// Both wires are high.
+const HIGH: Lines = Lines {
+    clk: true,
+    dat: true,
+};
 
 /// Reads the bytes that pass from samples of the two wires. It keeps the last sample and the last eleven falls of the
 /// clock, which is what a clause sees.
@@ -17,16 +24,17 @@ use std::marker::Model;
 /// low, f9 high, and f0 to f8 have an odd number of ones, the host sent f0 to f7. Nothing else is a transfer.
 #[derive(Drop)]
 pub struct LineDecoder {
-    last: Option<Sample>,
+    last: Kept,
     falls: ArrayVec<Fall, 11>,
 }
 
 impl Model for LineDecoder {
+    ghost use Rattle.fw_debug.specs.Kept.{sample_kept};
     ghost use Rattle.fw_debug.specs.Transfers.{Ear};
 
     ghost Value = { Ear };
 
-    ghost view = { λ d. record { last = d.last; falls = d.falls.items } };
+    ghost view = { λ d. record { last = sample_kept d.last; falls = d.falls.items } };
 }
 
 impl LineDecoder {
@@ -35,7 +43,7 @@ impl LineDecoder {
         ensures silence { result ≡ silence }
     {
         LineDecoder {
-            last: None,
+            last: Kept::Silence,
             falls: ArrayVec::new(),
         }
     }
@@ -45,11 +53,9 @@ impl LineDecoder {
         ensures lines { result ≡ wires_at self.now.last }
     {
         match self.last {
-            None => Lines {
-                clk: true,
-                dat: true,
-            },
-            Some(sample) => sample.lines,
+            Kept::Whole(sample) => sample.lines,
+            Kept::Silence => HIGH,
+            Kept::High(_cycle) => HIGH,
         }
     }
 
@@ -58,8 +64,29 @@ impl LineDecoder {
         ensures behind { result ≡ is_behind cycle self.now.last }
     {
         match self.last {
-            None => true,
-            Some(sample) => sample.cycle < cycle,
+            Kept::Silence => true,
+            Kept::High(last) => last < cycle,
+            Kept::Whole(sample) => sample.cycle < cycle,
+        }
+    }
+
+    /// Hears that both wires are high after so many cycles, where they were high at the last sample, and this one is behind
+    /// it. Answers whether that was so; else nothing was heard. It stands in line, since most samples are such.
+    #[inline(always)]
+    pub(crate) fn hear_high(&mut self, cycle: u64) -> bool
+        ensures rises { result ≡ true → is_behind cycle self.old.last ≡ true }
+        ensures heard { result ≡ true → self.new ≡ heard (sample cycle both_high) self.old }
+        ensures nothing { result ≡ false → self.new ≡ self.old }
+    {
+        match &mut self.last {
+            Kept::High(last) => {
+                if *last >= cycle {
+                    return false;
+                }
+                *last = cycle;
+                true
+            }
+            _ => false,
         }
     }
 
@@ -71,7 +98,7 @@ impl LineDecoder {
         ensures heard { self.new ≡ heard (sample cycle line) self.old }
     {
         let before = self.lines();
-        self.last = Some(Sample { cycle, lines: line });
+        self.last = Kept::of(cycle, line);
         if line.clk || !before.clk {
             return None;
         }

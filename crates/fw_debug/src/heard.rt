@@ -1,7 +1,8 @@
 //! What is heard on the two wires: falls of the clock, and the bytes that eleven of them are.
 
-ghost use Rattle.std.specs.Prelude.{◌≡◌};
-ghost use Rattle.fw_debug.specs.Transfers.{are_spaced, are_spaced_behind, transfer_by, with_fall};
+ghost use Rattle.std.specs.Prelude.{◌≡◌, Some};
+ghost use Rattle.fw_debug.specs.Kept.{sample_kept};
+ghost use Rattle.fw_debug.specs.Transfers.{are_spaced, are_spaced_behind, sample, transfer_by, with_fall};
 
 use arrayvec::ArrayVec;
 use board_lines::{Frame, Lines, byte_of};
@@ -18,6 +19,30 @@ pub struct Transfer {
 pub struct Sample {
     pub cycle: u64,
     pub lines: Lines,
+}
+
+/// What is kept of the last sample: of one with both wires high, as most are, its cycle alone.
+#[derive(Clone, Copy, Drop)]
+pub(crate) enum Kept {
+    /// There was none.
+    Silence,
+    /// Both wires were high, after so many cycles.
+    High(u64),
+    /// Any sample.
+    Whole(Sample),
+}
+
+impl Kept {
+    /// Of the wires as they are after so many cycles.
+    pub(crate) fn of(cycle: u64, lines: Lines) -> Kept
+        ensures { sample_kept result ≡ Some (sample cycle lines) }
+    {
+        if lines.clk && lines.dat {
+            Kept::High(cycle)
+        } else {
+            Kept::Whole(Sample { cycle, lines })
+        }
+    }
 }
 
 /// A fall of the clock: how many cycles are done then, and the level of the data wire.

@@ -1,7 +1,7 @@
 //! The probe that listens to the wires.
 
 ghost use Rattle.std.specs.Prelude.{◌≡◌};
-ghost use Rattle.fw_debug.specs.Probes.{awaited_if, ear_after, heard_as, line_kind, sight_of, transfer_heard, unarmed};
+ghost use Rattle.fw_debug.specs.Probes.{awaited_if, ear_after, heard_as, line_kind, looked, meets, sight_of, transfer_heard, unarmed};
 
 use crate::decoder::LineDecoder;
 use crate::heard::Transfer;
@@ -53,6 +53,19 @@ impl LineProbe {
             decoder: LineDecoder::new(),
         }
     }
+
+    /// Looks, whatever the wires are. It stands out of line, since they are high in most looks.
+    #[inline(never)]
+    fn listen(&mut self, step: u64, joint: &Joint) -> bool
+        ensures looked { let watch = ⟦<LineProbe as Probe>⟧.watch in
+            watch self.new ≡ looked step (sight_of joint.now) (watch self.old) }
+        ensures hit { result ≡ meets (sight_of joint.now) (⟦<LineProbe as Probe>⟧.watch self.old) }
+    {
+        let transfer = hear(&mut self.decoder, joint);
+        let met = is_awaited(self.counter.arms(), transfer);
+        self.counter.note(step, met);
+        met
+    }
 }
 
 impl Probe for LineProbe {
@@ -63,10 +76,10 @@ impl Probe for LineProbe {
     }
 
     fn look(&mut self, step: u64, joint: &Joint) -> bool {
-        let transfer = hear(&mut self.decoder, joint);
-        let met = is_awaited(self.counter.arms(), transfer);
-        self.counter.note(step, met);
-        met
+        if joint.is_let_go() && self.decoder.hear_high(joint.cycle()) {
+            return false;
+        }
+        self.listen(step, joint)
     }
 
     fn tell(&self) -> Tally {

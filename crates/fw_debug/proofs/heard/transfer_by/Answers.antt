@@ -1,4 +1,4 @@
-use Rattle.std.proofs.Common.{◌≡◌, length, true, None, sym, ◌∙◌, arith}
+use Rattle.std.proofs.Common.{◌≡◌, true, None, sym, ◌∙◌, arith}
 use Rattle.fw_debug.specs.Transfers.{are_spaced}
 use Rattle.fw_debug.proofs.Reading.{hosts, keyboards}
 use Rattle.fw_debug.proofs.heard.transfer_by.Goals as goal
