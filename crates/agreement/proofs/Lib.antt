@@ -20,6 +20,7 @@ pub mod Placed
 pub mod Going
 pub mod Frames
 pub mod Cutting
+pub mod Together
 pub mod Deciding
 pub mod Columns
 pub mod Holding

@@ -47,6 +47,7 @@ use Rattle.agreement.proofs.Offering.{offers_byte, lit_released, lit_shows}
 use Rattle.agreement.proofs.Sides.{model_looks}
 use Rattle.agreement.proofs.Placed.{IsOfLayout, down_placed, shown_placed}
 use Rattle.agreement.proofs.Ties.{Ties}
+use Rattle.agreement.proofs.Together.{together, goes_with}
 use Rattle.agreement.proofs.Whole.{keeps_time, at_starts, agrees, drives}
 
 module _ (layout : KeyLayout) (history : KeyHistory) (fine : IsKeyLayout layout)
@@ -192,9 +193,13 @@ module _ (layout : KeyLayout) (history : KeyHistory) (fine : IsKeyLayout layout)
         record {
           frame = frame;
           of_meeting = t.rest.goal.2;
-          before = (tie.released.clock, tie.released.data_wire);
+          before = (tie.released.byte, tie.released.clock, tie.released.data_wire);
           lit = lit;
-          behind = (released.clock, released.data_wire);
+          behind = (released.byte, released.clock, released.data_wire);
+          idle = tie.idle;
+          goes_with = goes_with edges events w tie.lit released frame
+              (together events lit w.cycle released (at_look edges events w) (offer m.keys.keyboard) asked
+              (λ byte is. offers_byte w.cpu tie.started byte (ap offer tie.keyboard ∙ is)) (m.keys.keyboard.test == 0));
           cut = is_cut_by edges events w tie.lit released frame
               (cut_since events lit w.cycle released (at_look edges events w) (m.keys.keyboard.test == 0)
               (offer m.keys.keyboard));

@@ -1,13 +1,16 @@
 -- What the keyboard drives on the two wires in each tick of the joint run.
-use Rattle.std.specs.Prelude.{◌≡◌, ◌≤◌, ◌<◌, ℕ, zero, suc, ◌+◌, ◌-◌, ◌*◌, true, List, Some}
+use Rattle.std.specs.Prelude.{◌≡◌, ◌≤◌, ◌<◌, ℕ, zero, suc, ◌+◌, ◌-◌, ◌*◌, true, false, List, Some}
 use Rattle.std.specs.declared.option.Option.{Option}
 use Rattle.bits.specs.Bits.{bit}
 use Rattle.board_lines.specs.declared.event.Edge.{Edge}
 use Rattle.board_lines.specs.declared.event.HostEvent.{HostEvent}
 use Rattle.byte_time.specs.declared.meeting.Meeting.{Meeting}
 use Rattle.byte_time.specs.declared.meeting.Meeting.TheVariants.{Got, Inhibited, Idle, Sent, Cut}
+use Rattle.ctl_link.specs.Link.{is_busy}
 use Rattle.ctl_link.specs.Pulls.{pulled}
 use Rattle.ctl_link.specs.declared.link.Link.{Link}
+use Rattle.ctl_link.specs.declared.link.Link.TheVariants.{Free, Request}
+use Rattle.ctl_wire.specs.Wire.{drive}
 use Rattle.ctl_wire.specs.declared.wire.Wire.{Wire}
 use Rattle.fw_compile.specs.Image.{image_of}
 use Rattle.fw_kernel.specs.declared.labels.TheConstants.{TICK}
@@ -23,6 +26,7 @@ use Rattle.link_model.specs.Expected.{meeting_from, whole_at}
 use Rattle.link_model.specs.Machine.{Machine, keyboard}
 use Rattle.mcs48_core.specs.Cpu.{Cpu}
 use Rattle.mcs48_ranges.specs.Sizes.{IsFine}
+use Rattle.pc_wires.specs.Wires.{Pc}
 use Rattle.agreement.specs.Agreement.{switched_on}
 
 -- the frame of a tick with this meeting, where the keyboard offers this byte: the byte that is sent; the byte offered,
@@ -55,13 +59,26 @@ IsCutBy link start (CutFrame byte cell) =
     (since : ℕ) × (pulled (link (306 + 32 * cell)) ≡ Some since) × (start + look_before cell ≤ since)
 IsCutBy link start ReceivedFrame = Unit {0}
 
+-- what the controller does in a tick with this frame, by the PC's side at each offset. At the first edge it has seen
+-- the clock high. Where a byte is sent its link is free there, and at the look of each cell it leaves the clock alone;
+-- where one is received it requests to send it
+abbrev pub GoesWith : (ℕ → Pc) → Frame → Type 0
+GoesWith pc NoFrame = Unit {0}
+GoesWith pc (SentFrame byte) =
+    (byte < 256) × ((pc 288).side.port.link ≡ Free) × ((pc 288).clock ≡ true)
+    × ((k : ℕ) → k < 10 → (drive (pc (306 + 32 * k)).side.port.link).clk ≡ true)
+GoesWith pc (CutFrame byte cell) = Unit {0}
+GoesWith pc ReceivedFrame =
+    (byte : ℕ) × (byte < 256) × ((pc 288).side.port.link ≡ Request byte) × ((pc 288).clock ≡ true)
+
 -- a latch of port 2 that pulls neither wire: bit 0 drives the clock, bit 1 data
 abbrev pub IsLetGo : ℕ → Type 0
-IsLetGo v = (bit 0 v ≡ true) × (bit 1 v ≡ true)
+IsLetGo v = (v < 256) × (bit 0 v ≡ true) × (bit 1 v ≡ true)
 
 -- a tick of the joint run from its start: the run comes to the next start, and in each cycle on the way the latch of
 -- port 2 is that of a tick with the meeting's frame; outside the frame it pulls neither wire. A frame that is cut is cut
--- in the cell whose look is the first that can see it
+-- in the cell whose look is the first that can see it; the controller goes with one that isn't. No byte is under way at
+-- its start
 pub record DrivesFrame (edges : List Edge) (events : List HostEvent) (bytes : List ℕ) (offered : Option ℕ)
     (meeting : Meeting) (w : World Beside) : Type 0 where
   pub frame : Frame
@@ -69,6 +86,8 @@ pub record DrivesFrame (edges : List Edge) (events : List HostEvent) (bytes : Li
   pub before : IsLetGo w.cpu.p2
   pub lit : ℕ
   pub behind : IsLetGo lit
+  pub idle : is_busy w.board.pc.side.port.link ≡ false
+  pub goes_with : GoesWith (λ o. (beside_in edges events (tick_latch w.cpu.p2 lit frame) w o).pc) frame
   pub cut : IsCutBy (λ o. (beside_in edges events (tick_latch w.cpu.p2 lit frame) w o).pc.side.port.link) w.cycle frame
   pub drives : DrivesTick (joint_board edges events) TICK bytes w
       (λ c. tick_latch w.cpu.p2 lit frame (c - w.cycle))

@@ -25,7 +25,9 @@ pub fn run_and_model_agree()
 /// For every layout and every history that is accepted for it: in each tick of the joint run, in each of its cycles, what
 /// the keyboard drives on the two wires. Outside a frame it pulls neither wire. The frame is that of the model's meeting:
 /// the byte that is sent, whole or cut in one of its cells; the one in which the controller's byte is received; or none.
-/// It is cut in the cell whose look is the first behind the cycle in which the controller began to pull the clock.
+/// It is cut in the cell whose look is the first behind the cycle in which the controller began to pull the clock; where
+/// it isn't cut, the controller's link is free at its first edge and leaves the clock alone at each look, or it requests
+/// to send the byte that is received.
 /// Nothing is done when it is called; the law is its contract.
 pub fn wires_are_driven()
     ensures wires { WiresLaw }

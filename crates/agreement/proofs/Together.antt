@@ -1,0 +1,127 @@
+-- What the controller does in a frame that isn't cut: it is free where a byte is sent, and leaves the clock alone at each
+-- look; it requests to send one where one is received.
+use Rattle.std.proofs.Common.{◌≡◌, ◌<◌, ◌⊎◌, inl, inr, ℕ, ◌+◌, List, Bool, true, false, Some, None}
+use Rattle.std.proofs.Common.{refl, ap, ◌∙◌, arith}
+use Rattle.std.specs.declared.option.Option.{Option}
+use Rattle.board_lines.specs.declared.event.Edge.{Edge}
+use Rattle.board_lines.specs.declared.event.HostEvent.{HostEvent}
+use Rattle.board_lines.specs.declared.lines.Lines.{Lines}
+use Rattle.ctl_link.specs.declared.link.Link.{Link}
+use Rattle.ctl_link.specs.declared.link.Link.TheVariants.{Free, Hold, Ask, Request, Busy}
+use Rattle.ctl_wire.specs.Wire.{drive}
+use Rattle.ctl_wire.specs.declared.wire.Wire.{Wire}
+use Rattle.fw_keys.specs.Quiet.{latch_now}
+use Rattle.fw_link.proofs.Outside.{sent_lines, received_lines}
+use Rattle.fw_link.proofs.Over.{itself}
+use Rattle.fw_link.proofs.TickLatch.{lines_by}
+use Rattle.fw_link.proofs.Wired.{IsReleased}
+use Rattle.fw_link.specs.Latch.{Frame, NoFrame, SentFrame, CutFrame, ReceivedFrame, tick_latch}
+use Rattle.joint_run.specs.Joint.{Beside, joint_board, lights_of}
+use Rattle.joint_run.specs.Run.{World}
+use Rattle.pc_wires.specs.Wires.{Pc}
+use Rattle.wires_agree.proofs.Meetings.{free_at, request_at}
+use Rattle.wires_agree.proofs.Spans.{IsAt}
+use Rattle.wires_agree.specs.Ticks.{at_meeting, leaves_clock}
+use Rattle.agreement.proofs.Frames.{FailsFirst, free_or_not, first_fails, ten, frame_offered, frame_free, frame_ended}
+use Rattle.agreement.proofs.Frames.{frame_in}
+use Rattle.agreement.proofs.Happened.{at_look}
+use Rattle.agreement.proofs.OnWires.{at_cell, behind_clock}
+use Rattle.agreement.specs.Wires.{GoesWith, beside_in}
+
+module _ (events : List HostEvent) (v start : ℕ) (released : IsReleased v) (look : Pc) where
+  abbrev lines : Frame → ℕ → Lines
+  lines frame = lines_by frame v start released
+
+  -- a frame that isn't cut, by the PC's side at its first edge
+  abbrev pub With : Frame → Type 0
+  With NoFrame = Unit {0}
+  With (SentFrame byte) =
+      (byte < 256) × IsAt (at_meeting events (lines (SentFrame byte)) start look) Free true
+      × ((k : ℕ) → k < 10 → leaves_clock events (lines (SentFrame byte)) start look k ≡ true)
+  With (CutFrame byte cell) = Unit {0}
+  With ReceivedFrame =
+      (byte : ℕ) × (byte < 256) × IsAt (at_meeting events (lines ReceivedFrame) start look) (Request byte) true
+
+  offered : (byte : ℕ) → byte < 256 → look.side.port.link ≡ Free
+      → With (frame_offered byte (free_or_not (at_meeting events (lines (SentFrame byte)) start look).side.port.link)
+      (first_fails (leaves_clock events (lines (SentFrame byte)) start look) 10 ten))
+  offered byte small free =
+      by (free_or_not (at_meeting events (lines (SentFrame byte)) start look).side.port.link)
+      (first_fails (leaves_clock events (lines (SentFrame byte)) start look) 10 ten)
+    where
+      by : (there : ((at_meeting events (lines (SentFrame byte)) start look).side.port.link ≡ Free)
+          ⊎ ((at_meeting events (lines (SentFrame byte)) start look).side.port.link ≡ Free → ⊥))
+          (looks : ((k : ℕ) → k < 10 → leaves_clock events (lines (SentFrame byte)) start look k ≡ true)
+          ⊎ (FailsFirst (leaves_clock events (lines (SentFrame byte)) start look))) → With (frame_offered byte there looks)
+      by (inl there) (inl leaves) = (
+        small,
+        free_at events (lines (SentFrame byte)) (256 + start) look
+            (λ o a u. (sent_lines v start released byte 0).0 o a (omega (arith, u))) free there,
+        leaves,
+      )
+      by (inl there) (inr first) = tt
+      by (inr gone) looks = tt
+
+  abbrev each : ℕ → Frame
+  each byte =
+      frame_offered byte (free_or_not (at_meeting events (lines (SentFrame byte)) start look).side.port.link)
+      (first_fails (leaves_clock events (lines (SentFrame byte)) start look) 10 ten)
+
+  by_offer : (o : Option ℕ) → ((byte : ℕ) → o ≡ Some byte → byte < 256) → look.side.port.link ≡ Free
+      → With (frame_free each o)
+  by_offer None small free = tt
+  by_offer (Some byte) small free = offered byte (small byte refl) free
+
+  -- what the controller asks to be taken and what is offered are bytes
+  module _ (o : Option ℕ) (asked : (byte : ℕ) → look.side.port.link ≡ Request byte → byte < 256)
+      (small : (byte : ℕ) → o ≡ Some byte → byte < 256) where
+    by_link : (l : Link Wire) → look.side.port.link ≡ l → With (frame_ended (frame_free each o) l)
+    by_link Free e = by_offer o small e
+    by_link (Hold since) e = tt
+    by_link (Ask byte since) e = tt
+    by_link (Request byte) e = (
+      byte,
+      asked byte e,
+      request_at events (lines ReceivedFrame) (256 + start) look byte
+          (λ o a u. (received_lines v start released 0).0 o a (omega (arith, u))) e,
+    )
+    by_link (Busy x) e = tt
+
+    pub together : (tests : Bool) → With (frame_in events lines start look tests o)
+    together false = tt
+    together true = by_link look.side.port.link refl
+
+-- in the words of the joint run
+module _ (edges : List Edge) (events : List HostEvent) (w : World Beside)
+    (lit : lights_of w.cpu.p2 ≡ w.board.shown) (released : IsReleased (latch_now (joint_board edges events) w)) where
+  abbrev v : ℕ
+  v = latch_now (joint_board edges events) w
+
+  abbrev pc : Frame → ℕ → Pc
+  pc frame o = (beside_in edges events (tick_latch w.cpu.p2 v frame) w o).pc
+
+  -- at the first edge
+  at_first : (frame : Frame)
+      → pc frame 288 ≡ at_meeting events (lines_by frame v w.cycle released) w.cycle (at_look edges events w)
+  at_first frame =
+      ap (λ (b : Beside). b.pc)
+      (behind_clock edges events (joint_board edges events) (λ b. b) (itself edges events) w lit released frame 32)
+
+  pub goes_with : (frame : Frame) → With events v w.cycle released (at_look edges events w) frame
+      → GoesWith (pc frame) frame
+  goes_with NoFrame h = tt
+  goes_with (SentFrame byte) h = (
+    h.0,
+    ap (λ (c : Pc). c.side.port.link) (at_first (SentFrame byte)) ∙ h.1.link_is,
+    ap (λ (c : Pc). c.clock) (at_first (SentFrame byte)) ∙ h.1.clock_is,
+    λ k l. ap (λ (c : Pc). (drive c.side.port.link).clk)
+        (at_cell edges events (joint_board edges events) (λ b. b) (itself edges events) w lit released (SentFrame byte) k)
+        ∙ h.2 k l,
+  )
+  goes_with (CutFrame byte cell) h = tt
+  goes_with ReceivedFrame h = (
+    h.0,
+    h.1,
+    ap (λ (c : Pc). c.side.port.link) (at_first ReceivedFrame) ∙ h.2.link_is,
+    ap (λ (c : Pc). c.clock) (at_first ReceivedFrame) ∙ h.2.clock_is,
+  )
