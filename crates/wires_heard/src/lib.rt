@@ -1,0 +1,19 @@
+//! What is heard on the two wires is what the controller takes and sends.
+//!
+//! This layer knows both ears on the wires: the controller's, which takes and gives bits at the falling edges of the
+//! clock, cycle by cycle, and that of a decoder, which samples the wires after each step of the processor. It proves that
+//! in each step of the joint run the one hears what the other does. It must not know how a run is made, nor what a trace
+//! of it looks like. Our own.
+#![tactic(auto)]
+
+ghost use Rattle.wires_heard.specs.Hearing.{HeardLaw};
+
+/// For every layout and every history that is accepted for it: in each step of the joint run of the layout's compiled
+/// image, the sample of the wires behind the step completes a transfer where the controller's eleventh edge of a frame lies
+/// in one of the step's cycles, and nowhere else: the keyboard's byte, as its bits stood on the wires, where the controller
+/// takes one; the controller's own, where it has sent one. A frame that is broken off is none. So the transfers heard in
+/// the first steps of the run are, in order, the bytes that the controller takes and sends in them. Nothing is done when it
+/// is called; the law is its contract.
+pub fn wires_are_heard()
+    ensures heard { HeardLaw }
+{}
