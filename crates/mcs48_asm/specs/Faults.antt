@@ -1,5 +1,6 @@
 -- The faults of a line.
-use Rattle.std.specs.Prelude.{ℕ, ◌+◌, ◌/◌, Bool, true, false, not, ◌==◌, ◌&&◌, ◌||◌, List, [], ◌∷◌, map, Some, None, nat_lt, is_some, is_none, if◌then◌else◌}
+use Rattle.std.specs.Prelude.{ℕ, ◌+◌, ◌/◌, Bool, true, false, not, ◌==◌, ◌&&◌, ◌||◌, List, [], ◌∷◌, map, Some, None}
+use Rattle.std.specs.Prelude.{nat_lt, is_some, is_none, if◌then◌else◌}
 use Rattle.std.specs.List.{list_any}
 use Rattle.std.specs.Option.{option_map_or, option_or}
 use Rattle.std.specs.declared.option.Option.{Option}

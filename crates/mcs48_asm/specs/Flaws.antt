@@ -1,7 +1,8 @@
 -- What may be wrong with a line, and the number by which a message names it.
 use Rattle.std.specs.Prelude.{ℕ}
 use Rattle.mcs48_asm.specs.declared.flaw.Flaw.{Flaw}
-use Rattle.mcs48_asm.specs.declared.flaw.Flaw.TheVariants.{Syntax, NoStatement, Misfit, UnknownName, NameTaken, OffPage, PastEnd, PlaceTaken}
+use Rattle.mcs48_asm.specs.declared.flaw.Flaw.TheVariants.{Syntax, NoStatement, Misfit, UnknownName, NameTaken}
+use Rattle.mcs48_asm.specs.declared.flaw.Flaw.TheVariants.{OffPage, PastEnd, PlaceTaken}
 
 abbrev pub number_of : Flaw → ℕ
 number_of Syntax = 1

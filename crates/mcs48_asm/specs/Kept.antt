@@ -25,7 +25,8 @@ use Rattle.mcs48_isa.specs.Instructions.{Operand, Is, Register, Pointer, Expande
 use Rattle.mcs48_asm.specs.Capped.{value_capped, statement_capped, line_capped}
 use Rattle.mcs48_asm.specs.Characters.{is_blank, is_comma}
 use Rattle.mcs48_asm.specs.Rows.{Argument, Reading, Form}
-use Rattle.mcs48_asm.specs.Statements.{Statement, Nothing, Instruction, Origin, Data, Equate, instruction_in, Line, line_of}
+use Rattle.mcs48_asm.specs.Statements.{Statement, Nothing, Instruction, Origin, Data, Equate, instruction_in, Line}
+use Rattle.mcs48_asm.specs.Statements.{line_of}
 
 abbrev pub value_seen : KeptValue → Value
 value_seen (written.Number n) = Number n

@@ -1,13 +1,16 @@
 -- Which operands an instruction may have, and what they say.
-use Rattle.std.specs.Prelude.{ℕ, ◌+◌, ◌-◌, Bool, true, List, [], ◌∷◌, ◌==◌, ◌&&◌, ◌||◌, nat_le, Some, None, if◌then◌else◌, codes}
+use Rattle.std.specs.Prelude.{ℕ, ◌+◌, ◌-◌, Bool, true, List, [], ◌∷◌, ◌==◌, ◌&&◌, ◌||◌, nat_le, Some, None}
+use Rattle.std.specs.Prelude.{if◌then◌else◌, codes}
 use Rattle.std.specs.List.{list_any, list_all, filter_map, range_with_len}
 use Rattle.std.specs.Option.{option_map, option_and_then, option_or}
 use Rattle.std.specs.Str.{bytes_eq}
 use Rattle.std.specs.declared.option.Option.{Option}
-use Rattle.mcs48_isa.specs.Instructions.{Operand, Is, Register, Pointer, Expander, Immediate, Address, Target, Entry, entry_of}
+use Rattle.mcs48_isa.specs.Instructions.{Operand, Is, Register, Pointer, Expander, Immediate, Address, Target, Entry}
+use Rattle.mcs48_isa.specs.Instructions.{entry_of}
 use Rattle.mcs48_isa.specs.Table.{row_of}
 use Rattle.mcs48_asm.specs.declared.argument.Role.{Role}
 use Rattle.mcs48_asm.specs.declared.argument.Role.TheVariants as role
+use Rattle.mcs48_asm.specs.Characters.{digit, letter_p, letter_r, pointer_mark, value_mark}
 use Rattle.mcs48_asm.specs.Tokens.{parts_of, alone}
 use Rattle.mcs48_asm.specs.Values.{Value, value_of}
 
@@ -76,26 +79,27 @@ given role value = record { offset = 0; argument = Some (record { role = role; v
 
 -- the number of a digit from one to another
 abbrev pub numbered : ℕ → ℕ → ℕ → Option ℕ
-numbered first last digit = if nat_le first digit && nat_le digit last then Some (digit - 48) else None
+numbered first last c = if nat_le first c && nat_le c last then Some (c - digit 0) else None
 
 -- R0 to R7
 abbrev pub register : List ℕ → Option ℕ
-register (letter ∷ digit ∷ []) = if letter == 82 then numbered 48 55 digit else None
+register (letter ∷ c ∷ []) = if letter == letter_r then numbered (digit 0) (digit 7) c else None
 register _ = None
 
 -- @R0 or @R1
 abbrev pub pointer : List ℕ → Option ℕ
-pointer (mark ∷ letter ∷ digit ∷ []) = if mark == 64 && letter == 82 then numbered 48 49 digit else None
+pointer (mark ∷ letter ∷ c ∷ []) =
+    if mark == pointer_mark && letter == letter_r then numbered (digit 0) (digit 1) c else None
 pointer _ = None
 
 -- P4 to P7
 abbrev pub expander : List ℕ → Option ℕ
-expander (letter ∷ digit ∷ []) = if letter == 80 then numbered 52 55 digit else None
+expander (letter ∷ c ∷ []) = if letter == letter_p then numbered (digit 4) (digit 7) c else None
 expander _ = None
 
 -- # and a value
 abbrev pub immediate : List (List ℕ) → Option Value
-immediate ((mark ∷ word) ∷ tokens) = if mark == 35 then value_of (word ∷ tokens) else None
+immediate ((mark ∷ word) ∷ tokens) = if mark == value_mark then value_of (word ∷ tokens) else None
 immediate _ = None
 
 -- a word of the table

@@ -28,7 +28,8 @@ const PLACES: usize = 2048;
 /// The image of lines, or their first fault, where names mean this.
 fn outcome_of<'a>(alloc: Global, names: &Names<'a>, text: &'a [u8]) -> Result<Image, AsmFault>
     requires { length text.now ≤ 262144 }
-    ensures { IsOutcome result (outcome_of (kept_value names.now.entries) (kept_places 0 (map kept_line (lines text.now)))) }
+    ensures { IsOutcome result (outcome_of (kept_value names.now.entries)
+        (kept_places 0 (map kept_line (lines text.now)))) }
 {
     let mut seen = IndexMap::with_hasher(alloc, TextHash::of(text));
     let mut bytes = [0; PLACES];
@@ -64,14 +65,15 @@ fn upper_case(alloc: Global, text: &[u8]) -> Result<Vec<u8>, AllocError>
 }
 
 /// The program memory that an assembler text fills, a place that no line fills being 00; or the first line that has a
-/// fault, with the lowest number of its faults. The text has at most 262,144 bytes. The listing of a program memory gives
-/// that memory. `AsmFault::Memory` where memory runs out.
+/// fault, with the lowest number of its faults. The text has at most 262,144 bytes. The listing of a program memory
+/// gives that memory. `AsmFault::Memory` where memory runs out.
 ///
 /// Source: the texts of the MCS-48 Family User's Manual, instruction set; the form of lines is our own.
 pub fn assemble(alloc: Global, text: &[u8]) -> Result<Image, AsmFault>
     requires size { length text.now ≤ 262144 }
     ensures outcome { IsOutcome result (assembly_of text.now) }
-    ensures listing { (memory : List ℕ) → IsMemory memory → text.now ≡ listing_of memory → IsOutcome result (Ok memory) }
+    ensures listing { (memory : List ℕ) → IsMemory memory → text.now ≡ listing_of memory
+        → IsOutcome result (Ok memory) }
 {
     let upper = upper_case(alloc, text)?;
     let names = names_in(alloc, upper.as_slice())?;

@@ -3,7 +3,9 @@
 ghost use Rattle.std.specs.Prelude.{◌≡◌, ◌&&◌, false, length, not, is_none, is_some, slice_index_or};
 ghost use Rattle.std.specs.List.{list_any, slice_split};
 ghost use Rattle.mcs48_asm.specs.Characters.{is_comma};
-ghost use Rattle.mcs48_asm.specs.Faults.{is_above, is_past, is_too_large, arguments, is_outside, has_wrong_number, is_equate, has_labelled_equate, has_unknown_name, is_refused, is_defined_again, is_off_page, is_past_end, is_filled_again, fault_of};
+ghost use Rattle.mcs48_asm.specs.Faults.{is_above, is_past, is_too_large, arguments, is_outside, has_wrong_number};
+ghost use Rattle.mcs48_asm.specs.Faults.{is_equate, has_labelled_equate, has_unknown_name, is_refused};
+ghost use Rattle.mcs48_asm.specs.Faults.{is_defined_again, is_off_page, is_past_end, is_filled_again, fault_of};
 ghost use Rattle.mcs48_asm.specs.Names.{meaning, labelled, equated};
 ghost use Rattle.mcs48_asm.specs.Rows.{is_reserved};
 ghost use Rattle.mcs48_asm.specs.Kept.{kept_value, kept_part, value_seen, argument_seen, statement_seen, line_seen};
@@ -50,7 +52,8 @@ fn is_unknown(names: &Names<'_>, value: Value<'_>) -> bool
 
 /// Whether a value is a target outside the page of the place behind this one.
 fn is_outside(names: &Names<'_>, start: u32, argument: Argument<'_>) -> bool
-    ensures { result ≡ is_outside (kept_value names.now.entries) start argument.entry.role (value_seen argument.entry.value) }
+    ensures { result ≡ is_outside (kept_value names.now.entries) start argument.entry.role
+        (value_seen argument.entry.value) }
 {
     match (argument.role, meaning(names, argument.value)) {
         (Role::Target, Some(number)) => number as usize / 256 != (start as usize + 1) / 256,
@@ -60,7 +63,8 @@ fn is_outside(names: &Names<'_>, start: u32, argument: Argument<'_>) -> bool
 
 /// Whether a part of DB's text is no byte.
 fn has_large_part(names: &Names<'_>, text: &[u8]) -> bool
-    ensures { result ≡ list_any (λ part. is_above (kept_value names.now.entries) 255 (kept_part part)) (slice_split is_comma text.now) }
+    ensures { result ≡ list_any (λ part. is_above (kept_value names.now.entries) 255 (kept_part part))
+        (slice_split is_comma text.now) }
 {
     let mut rest = text;
     while let Some((part, more)) = split_once(b',', rest) {
@@ -74,7 +78,8 @@ fn has_large_part(names: &Names<'_>, text: &[u8]) -> bool
 
 /// Whether a part of DB's text is a name without a meaning.
 fn has_unknown_part(names: &Names<'_>, text: &[u8]) -> bool
-    ensures { result ≡ list_any (λ part. is_none (meaning (kept_value names.now.entries) (kept_part part))) (slice_split is_comma text.now) }
+    ensures { result ≡ list_any (λ part. is_none (meaning (kept_value names.now.entries) (kept_part part)))
+        (slice_split is_comma text.now) }
 {
     let mut rest = text;
     while let Some((part, more)) = split_once(b',', rest) {
@@ -88,7 +93,8 @@ fn has_unknown_part(names: &Names<'_>, text: &[u8]) -> bool
 
 /// Whether a value of a statement is too large for its place.
 fn has_large_value(names: &Names<'_>, statement: Statement<'_>) -> bool
-    ensures { result ≡ list_any (is_too_large (kept_value names.now.entries)) (arguments (statement_seen statement.entry)) }
+    ensures { result ≡ list_any (is_too_large (kept_value names.now.entries))
+        (arguments (statement_seen statement.entry)) }
 {
     match statement {
         Statement::Instruction(_, Some(argument)) => is_too_large(names, argument),
@@ -99,7 +105,8 @@ fn has_large_value(names: &Names<'_>, statement: Statement<'_>) -> bool
 
 /// Whether a value of a statement is a name without a meaning.
 pub(crate) fn has_unknown_name(names: &Names<'_>, statement: Statement<'_>) -> bool
-    ensures { result ≡ list_any (λ argument. is_none (meaning (kept_value names.now.entries) argument.value)) (arguments (statement_seen statement.entry)) }
+    ensures { result ≡ list_any (λ argument. is_none (meaning (kept_value names.now.entries) argument.value))
+        (arguments (statement_seen statement.entry)) }
 {
     match statement {
         Statement::Instruction(_, Some(argument)) => is_unknown(names, argument.value),
@@ -110,7 +117,9 @@ pub(crate) fn has_unknown_name(names: &Names<'_>, statement: Statement<'_>) -> b
 
 /// Whether a statement jumps out of the page of its second byte.
 pub(crate) fn is_off_page(names: &Names<'_>, start: u32, statement: Statement<'_>) -> bool
-    ensures { result ≡ list_any (λ argument. is_outside (kept_value names.now.entries) start argument.role argument.value) (arguments (statement_seen statement.entry)) }
+    ensures { result ≡ list_any
+        (λ argument. is_outside (kept_value names.now.entries) start argument.role argument.value)
+        (arguments (statement_seen statement.entry)) }
 {
     match statement {
         Statement::Instruction(_, Some(argument)) => is_outside(names, start, argument),
@@ -142,7 +151,8 @@ fn has_labelled_equate(line: Line<'_>) -> bool
 
 /// Whether a line's label may not be defined.
 fn has_reserved_label(line: Line<'_>, start: u32) -> bool
-    ensures { result ≡ list_any (λ definition. is_reserved definition.name) (labelled (record { start = start; line = line_seen line.entry })) }
+    ensures { result ≡ list_any (λ definition. is_reserved definition.name) (labelled
+        (record { start = start; line = line_seen line.entry })) }
 {
     match line.label {
         Some(label) => is_reserved(label),
@@ -160,9 +170,11 @@ fn has_reserved_equate(statement: Statement<'_>) -> bool
     }
 }
 
-/// Whether a line has fault 3: a value or a number is too large, a reserved name is defined, or a label stands before EQU.
+/// Whether a line has fault 3: a value or a number is too large, a reserved name is defined, or a label stands before
+/// EQU.
 fn is_refused(names: &Names<'_>, line: Line<'_>, start: u32) -> bool
-    ensures { result ≡ is_refused (kept_value names.now.entries) (record { start = start; line = line_seen line.entry }) }
+    ensures { result ≡ is_refused (kept_value names.now.entries)
+        (record { start = start; line = line_seen line.entry }) }
 {
     has_large_value(names, line.statement)
         || has_wrong_number(line.statement)
@@ -180,7 +192,8 @@ fn is_taken(seen: &Names<'_>, name: &[u8]) -> bool
 
 /// Whether a line defines a name that an earlier line defines.
 fn is_defined_again(seen: &Names<'_>, line: Line<'_>, start: u32) -> bool
-    ensures { result ≡ is_defined_again (kept_value seen.now.entries) (record { start = start; line = line_seen line.entry }) }
+    ensures { result ≡ is_defined_again (kept_value seen.now.entries)
+        (record { start = start; line = line_seen line.entry }) }
 {
     if let Some(label) = line.label
         && is_taken(seen, label)
@@ -204,7 +217,8 @@ pub(crate) fn is_past_end(line: Line<'_>, start: u32) -> bool
 /// Whether a line has a byte at a place that an earlier line has filled.
 fn is_filled_again(filled: &[bool], line: Line<'_>, start: u32) -> bool
     requires { length filled.now ≡ 2048 }
-    ensures { result ≡ is_filled_again (λ place. slice_index_or filled.now place false) (record { start = start; line = line_seen line.entry }) }
+    ensures { result ≡ is_filled_again (λ place. slice_index_or filled.now place false)
+        (record { start = start; line = line_seen line.entry }) }
 {
     let count = count_of(line.statement);
     count > 0 && is_any_filled(filled, start as usize, start as usize + count)
@@ -219,7 +233,8 @@ pub(crate) fn fault_of(
     start: u32,
 ) -> Option<Flaw>
     requires { length filled.now ≡ 2048 }
-    ensures { result ≡ fault_of (kept_value names.now.entries) (kept_value seen.now.entries) (λ place. slice_index_or filled.now place false)
+    ensures { result ≡ fault_of (kept_value names.now.entries) (kept_value seen.now.entries)
+        (λ place. slice_index_or filled.now place false)
         (record { start = start; line = line_seen line.entry }) }
 {
     if line.flaw.is_some() {

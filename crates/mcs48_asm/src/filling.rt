@@ -24,10 +24,13 @@ pub(crate) fn fill(
     requires memory { length bytes.old ≡ 2048 }
     requires marks { length filled.old ≡ 2048 }
     requires within { is_past_end (record { start = start; line = line_seen line }) ≡ false }
-    ensures bytes { OnOk result ((place : ℕ) → slice_index bytes.new place ≡ (if covers (record { start = start; line = line_seen line.entry }) place
-        then slice_index (bytes_of (kept_value names.now.entries) (line_seen line.entry).statement) (place - start) else slice_index bytes.old place)) }
+    ensures bytes { OnOk result ((place : ℕ) → slice_index bytes.new place
+        ≡ (if covers (record { start = start; line = line_seen line.entry }) place
+        then slice_index (bytes_of (kept_value names.now.entries) (line_seen line.entry).statement)
+        (place - start) else slice_index bytes.old place)) }
     ensures marks { OnOk result ((place : ℕ) → slice_index_or filled.new place false
-        ≡ (covers (record { start = start; line = line_seen line.entry }) place || slice_index_or filled.old place false)) }
+        ≡ (covers (record { start = start; line = line_seen line.entry }) place
+        || slice_index_or filled.old place false)) }
 {
     let own = bytes_of(alloc, names, line.statement)?;
     if !own.is_empty() {

@@ -70,7 +70,8 @@ fn is_spelled(text: &[u8]) -> bool
 
 /// A line with this label, where it has one, and with what a statement gave.
 fn line_with<'a>(label: Option<&'a [u8]>, text: &'a [u8]) -> Line<'a>
-    ensures { line_seen result ≡ line_capped (line_with (option_map (λ name. name.now) label.entry) (statement_of text.now)) }
+    ensures { line_seen result ≡ line_capped (line_with (option_map (λ name. name.now) label.entry)
+        (statement_of text.now)) }
 {
     match statement_of(text) {
         Ok(statement) => Line {

@@ -44,7 +44,8 @@ pub(crate) fn with_value(opcode: u8, role: Role, number: u32) -> [u8; 2]
 
 /// The bytes of a DB line.
 fn data_bytes(alloc: Global, names: &Names<'_>, text: &[u8]) -> Result<Vec<u8>, AllocError>
-    ensures { IfOk result (λ bytes. bytes.items ≡ map (λ part. taken (kept_value names.now.entries) (kept_part part) % 256) (slice_split is_comma text.now)) }
+    ensures { IfOk result (λ bytes. bytes.items ≡ map (λ part. taken (kept_value names.now.entries)
+        (kept_part part) % 256) (slice_split is_comma text.now)) }
 {
     let mut bytes = Vec::new(alloc);
     let mut rest = text;
@@ -62,7 +63,8 @@ pub(crate) fn bytes_of(
     names: &Names<'_>,
     statement: Statement<'_>,
 ) -> Result<Vec<u8>, AllocError>
-    ensures { IfOk result (λ bytes. bytes.items ≡ bytes_of (kept_value names.now.entries) (statement_seen statement.entry)) }
+    ensures { IfOk result (λ bytes. bytes.items ≡ bytes_of (kept_value names.now.entries)
+        (statement_seen statement.entry)) }
 {
     match statement {
         Statement::Instruction(opcode, None) => Vec::from_slice(alloc, &[opcode]),

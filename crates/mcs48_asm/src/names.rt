@@ -47,7 +47,8 @@ pub(crate) fn define<'a>(
 fn define_free<'a>(names: &mut Names<'a>, name: &'a [u8], value: u32) -> Result<(), AllocError>
     ensures { OnOk result ((other : List ℕ) → kept_value names.new.entries other
         ≡ option_or (kept_value names.old.entries other)
-        (value_named (filter (λ definition. not (is_reserved definition.name)) (record { name = name.now; value = value } ∷ [])) other)) }
+        (value_named (filter (λ definition. not (is_reserved definition.name))
+        (record { name = name.now; value = value } ∷ [])) other)) }
 {
     if is_reserved(name) {
         return Ok(());
@@ -62,7 +63,8 @@ pub(crate) fn define_names<'a>(
     start: u32,
 ) -> Result<(), AllocError>
     ensures { OnOk result ((other : List ℕ) → kept_value names.new.entries other
-        ≡ option_or (kept_value names.old.entries other) (value_named (defined (record { start = start; line = line_seen line.entry })) other)) }
+        ≡ option_or (kept_value names.old.entries other) (value_named (defined
+        (record { start = start; line = line_seen line.entry })) other)) }
 {
     if let Some(label) = line.label {
         define_free(names, label, start)?;

@@ -196,7 +196,8 @@ fn given_by(role: Role, value: Option<Value<'_>>) -> Option<Reading<'_>>
 
 /// What a text says as an operand, where it is one.
 fn read(operand: Operand, text: &[u8]) -> Option<Reading<'_>>
-    ensures reading { option_map reading_seen result ≡ option_map reading_capped (read (operand_seen operand) (tokens_of text.now)) }
+    ensures reading { option_map reading_seen result ≡ option_map reading_capped
+        (read (operand_seen operand) (tokens_of text.now)) }
     ensures small { IfSome result (λ reading. reading.offset < 8) }
 {
     match operand {
@@ -222,7 +223,8 @@ fn read_none(text: &[u8]) -> Option<Reading<'_>>
 
 /// What a text says as the only operand.
 fn read_one(operand: Operand, text: &[u8]) -> Option<Reading<'_>>
-    ensures { option_map reading_seen result ≡ option_map reading_capped (read_all (operand_seen operand ∷ []) (tokens_of text.now)) }
+    ensures { option_map reading_seen result ≡ option_map reading_capped
+        (read_all (operand_seen operand ∷ []) (tokens_of text.now)) }
 {
     match split_once(b',', text) {
         None => read(operand, text),
@@ -246,7 +248,8 @@ fn joined<'a>(first: Reading<'a>, second: Reading<'a>) -> Reading<'a>
 fn both<'a>(first: Option<Reading<'a>>, second: Option<Reading<'a>>) -> Option<Reading<'a>>
     requires first_small { ForSome first (λ reading. reading.offset < 8) }
     requires second_small { ForSome second (λ reading. reading.offset < 8) }
-    ensures { option_map reading_seen result ≡ both (option_map reading_seen first.entry) (option_map reading_seen second.entry) }
+    ensures { option_map reading_seen result ≡ both (option_map reading_seen first.entry)
+        (option_map reading_seen second.entry) }
 {
     Some(joined(first?, second?))
 }
@@ -258,14 +261,16 @@ fn read_both<'a>(
     text: &'a [u8],
     other: &'a [u8],
 ) -> Option<Reading<'a>>
-    ensures { option_map reading_seen result ≡ option_map reading_capped (both (read (operand_seen first) (tokens_of text.now)) (read (operand_seen second) (tokens_of other.now))) }
+    ensures { option_map reading_seen result ≡ option_map reading_capped
+        (both (read (operand_seen first) (tokens_of text.now)) (read (operand_seen second) (tokens_of other.now))) }
 {
     both(read(first, text), read(second, other))
 }
 
 /// What a text says as two operands.
 fn read_two(first: Operand, second: Operand, text: &[u8]) -> Option<Reading<'_>>
-    ensures { option_map reading_seen result ≡ option_map reading_capped (read_all (operand_seen first ∷ operand_seen second ∷ []) (tokens_of text.now)) }
+    ensures { option_map reading_seen result ≡ option_map reading_capped
+        (read_all (operand_seen first ∷ operand_seen second ∷ []) (tokens_of text.now)) }
 {
     let Some((front, back)) = split_once(b',', text) else {
         return None;
@@ -278,7 +283,8 @@ fn read_two(first: Operand, second: Operand, text: &[u8]) -> Option<Reading<'_>>
 
 /// What a text says as the operands of an instruction, where it is that.
 pub(crate) fn read_all(shape: Shape, text: &[u8]) -> Option<Reading<'_>>
-    ensures { option_map reading_seen result ≡ option_map reading_capped (read_all (operands_seen shape) (tokens_of text.now)) }
+    ensures { option_map reading_seen result ≡ option_map reading_capped
+        (read_all (operands_seen shape) (tokens_of text.now)) }
 {
     match shape {
         Shape::Without => read_none(text),

@@ -6,7 +6,8 @@ ghost use Rattle.mcs48_asm.specs.declared.flaw.Flaw.TheVariants.{Misfit};
 ghost use Rattle.mcs48_asm.specs.Rows.{instructions};
 ghost use Rattle.mcs48_asm.specs.Tokens.{tokens_of, parts_of};
 ghost use Rattle.mcs48_asm.specs.Values.{value_of};
-ghost use Rattle.mcs48_asm.specs.Statements.{Data, values_of, equate_of, origin_of, data_of, instruction_with, instruction_in, first_fit, statement_of};
+ghost use Rattle.mcs48_asm.specs.Statements.{Data, values_of, equate_of, origin_of, data_of, instruction_with};
+ghost use Rattle.mcs48_asm.specs.Statements.{instruction_in, first_fit, statement_of};
 ghost use Rattle.mcs48_asm.specs.Capped.{statement_capped, found_capped};
 ghost use Rattle.mcs48_asm.specs.Kept.{reading_seen, statement_seen, found_seen, form_seen, kept_fit};
 
@@ -91,7 +92,8 @@ fn origin_of<'a>(word: &[u8], rest: &[u8]) -> Result<Statement<'a>, Flaw>
 
 /// The values of a DB line.
 fn data_in(values: &[u8]) -> Result<Statement<'_>, Flaw>
-    ensures { found_seen result ≡ found_capped (ok_or (option_map Data (values_of (parts_of (tokens_of values.now)))) Misfit) }
+    ensures { found_seen result ≡ found_capped (ok_or (option_map Data
+        (values_of (parts_of (tokens_of values.now)))) Misfit) }
 {
     if are_values(values) {
         Ok(Statement::Data(values))
@@ -112,7 +114,8 @@ fn data_of<'a>(word: &[u8], values: &'a [u8]) -> Result<Statement<'a>, Flaw>
 
 /// The instruction with this first byte whose operands say this.
 fn instruction_with<'a>(first: u8, said: Option<Reading<'a>>) -> Option<Statement<'a>>
-    ensures { option_map statement_seen result ≡ option_map (instruction_with first) (option_map reading_seen said.entry) }
+    ensures { option_map statement_seen result ≡ option_map (instruction_with first)
+        (option_map reading_seen said.entry) }
 {
     let said = said?;
     Some(Statement::Instruction(first.wrapping_add(said.offset), said.argument))
@@ -120,7 +123,8 @@ fn instruction_with<'a>(first: u8, said: Option<Reading<'a>>) -> Option<Statemen
 
 /// The instruction of a row whose first word and operands these are.
 fn instruction_in<'a>(row: &Row, word: &[u8], operands: &'a [u8]) -> Option<Statement<'a>>
-    ensures { option_map statement_seen result ≡ option_map statement_capped (instruction_in (form_seen row.now) (word.now ∷ tokens_of operands.now)) }
+    ensures { option_map statement_seen result ≡ option_map statement_capped
+        (instruction_in (form_seen row.now) (word.now ∷ tokens_of operands.now)) }
 {
     if !is_spelled(&row.0, word) {
         return None;
@@ -142,7 +146,8 @@ fn first_fit<'a>(rows: &[Row], word: &[u8], operands: &'a [u8]) -> Option<Statem
 
 /// An instruction, from the first token and the text behind it.
 fn instruction_of<'a>(word: &[u8], operands: &'a [u8]) -> Result<Statement<'a>, Flaw>
-    ensures { found_seen result ≡ found_capped (ok_or (first_fit instructions (word.now ∷ tokens_of operands.now)) Misfit) }
+    ensures { found_seen result ≡ found_capped (ok_or (first_fit instructions
+        (word.now ∷ tokens_of operands.now)) Misfit) }
 {
     match first_fit(instructions(), word, operands) {
         Some(statement) => Ok(statement),

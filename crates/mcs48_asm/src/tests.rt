@@ -24,19 +24,20 @@ fn bytes_of_two_lines(rt: HostRuntime) -> Result<(), Fail> {
     let image = assemble(rt.alloc(), b"MOV A,#7FH\nADD A,#1")
         .ok()
         .expect(&rt, "image");
-    assert!(rt; image.bytes[..5] == [0x23, 0x7F, 0x03, 0x01, 0x00]);
+    assert!(rt; image.bytes[..5] == [0x23, 0x7f, 0x03, 0x01, 0x00]);
     Ok(())
 }
 
 #[test]
 fn bytes_of_a_delay(rt: HostRuntime) -> Result<(), Fail> {
     let text =
-        b"wait equ 0fh ; turns\r\n org 7feh\r\nlast: jmp start\r\n org 100h\r\nstart: mov r7 , #wait\r\nturn:\tdjnz r7,turn\r\n retr\r\n db 101b, low last, 9";
+        b"wait equ 0fh ; turns\r\n org 7feh\r\nlast: jmp start\r\n org 100h\r\nstart: mov r7 , #wait\r\n\
+          turn:\tdjnz r7,turn\r\n retr\r\n db 101b, low last, 9";
     let image = assemble(rt.alloc(), text).ok().expect(&rt, "image");
     assert!(rt;
-        image.bytes[0x100..0x109] == [0xBF, 0x0F, 0xEF, 0x02, 0x93, 0x05, 0xFE, 0x09, 0x00]
+        image.bytes[0x100..0x109] == [0xbf, 0x0f, 0xef, 0x02, 0x93, 0x05, 0xfe, 0x09, 0x00]
     );
-    assert!(rt; image.bytes[0x7FE..] == [0x24, 0x00]);
+    assert!(rt; image.bytes[0x7fe..] == [0x24, 0x00]);
     Ok(())
 }
 

@@ -1,5 +1,5 @@
-//! How names are spread over the table that keeps them: by a hash that depends on the whole text, so that no text can be
-//! written whose own names fall together.
+//! How names are spread over the table that keeps them: by a hash that depends on the whole text, so that no text can
+//! be written whose own names fall together.
 
 use std::hash::{BuildHasher, DefaultHasher, Hasher};
 

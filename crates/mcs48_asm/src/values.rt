@@ -4,7 +4,8 @@ ghost use Rattle.std.specs.Prelude.{◌≡◌, ◌≤◌, ◌∷◌, nat_lt};
 ghost use Rattle.std.specs.List.{list_all};
 ghost use Rattle.std.specs.Option.{option_map};
 ghost use Rattle.mcs48_asm.specs.Tokens.{tokens_of, alone};
-ghost use Rattle.mcs48_asm.specs.Values.{digit_value, are_digits, written, number_in, number_of, number_or_name, low_of, value_of};
+ghost use Rattle.mcs48_asm.specs.Values.{digit_value, are_digits, written, number_in, number_of, number_or_name};
+ghost use Rattle.mcs48_asm.specs.Values.{low_of, value_of};
 ghost use Rattle.mcs48_asm.specs.Capped.{capped, value_capped};
 ghost use Rattle.mcs48_asm.specs.Kept.{kept_part, value_seen};
 

@@ -4,7 +4,8 @@ ghost use Rattle.std.specs.Prelude.{◌≡◌, ◌≤◌, ◌∷◌, [], true, f
 ghost use Rattle.std.specs.List.{list_all};
 ghost use Rattle.std.specs.Option.{option_map};
 ghost use Rattle.mcs48_asm.specs.Characters.{is_word_character, is_blank};
-ghost use Rattle.mcs48_asm.specs.Tokens.{words_of, first_of, second_of, goes_on, tokens_of, only_of, alone, is_name, name_of};
+ghost use Rattle.mcs48_asm.specs.Tokens.{words_of, first_of, second_of, goes_on, tokens_of, only_of, alone, is_name};
+ghost use Rattle.mcs48_asm.specs.Tokens.{name_of};
 
 use crate::characters::{is_blank, is_initial, is_word_character};
 
@@ -42,14 +43,16 @@ fn run_length(text: &[u8]) -> usize
 fn token_length(first: u8, behind: &[u8]) -> usize
     requires { is_blank first ≡ false }
     ensures within { result ≤ length behind.now }
-    ensures token { tokens_of (first ∷ behind.now) ≡ (first ∷ take result behind.now) ∷ tokens_of (drop result behind.now) }
+    ensures token { tokens_of (first ∷ behind.now) ≡ (first ∷ take result behind.now) ∷ tokens_of
+        (drop result behind.now) }
 {
     if first == b',' { 0 } else { run_length(behind) }
 }
 
 /// The first token of a text and what stands behind it; None where it has no token.
 pub(crate) fn next_token(text: &[u8]) -> Option<(&[u8], &[u8])>
-    ensures { MatchOption result (tokens_of text.now ≡ []) (λ parts. tokens_of text.now ≡ parts.0.now ∷ tokens_of parts.1.now) }
+    ensures { MatchOption result (tokens_of text.now ≡ []) (λ parts. tokens_of text.now
+        ≡ parts.0.now ∷ tokens_of parts.1.now) }
 {
     let tokens = unindented(text);
     let [first, behind @ ..] = tokens else {
