@@ -1,5 +1,5 @@
 -- What a run says, against what the model expects.
-use Rattle.std.specs.Prelude.{◌≡◌, ◌-◌, length}
+use Rattle.std.specs.Prelude.{◌≡◌, ◌<◌, ◌-◌, length}
 use Rattle.board_lines.specs.Cadence.{KeepsCadenceTo, listed}
 use Rattle.fw_compile.specs.Image.{image_of}
 use Rattle.joint_feed.specs.Stories.{Story, story}
@@ -12,11 +12,12 @@ use Rattle.subsystem.specs.declared.outcome.Run.{Run}
 use Rattle.subsystem.specs.Running.{Outcome, outcome, IsOutcome}
 
 -- a run's log is the one that the model expects where its ticks start when the run's do, and these starts keep the
--- cadence; for a quiet history it is a function of layout and history alone
+-- cadence; for a quiet history it is a function of layout and history alone. It has fewer than 800,000 items
 pub record IsAsExpected (layout : KeyLayout) (history : KeyHistory) (run : Outcome) : Type 0 where
   pub log : run.log ≡ expected_log layout history run.starts
   pub cadence : KeepsCadenceTo (listed run.starts) (length run.starts - 1)
   pub quiet : IsQuiet history → run.log ≡ quiet_log layout history
+  pub few : length run.log < 800000
 
 -- the same of a run whose log is kept as a list
 abbrev pub IsExpected : KeyLayout → KeyHistory → Run → Type 0

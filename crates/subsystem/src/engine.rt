@@ -6,7 +6,7 @@ ghost use Rattle.fw_compile.specs.Image.{image_of};
 ghost use Rattle.fw_debug.specs.Looks.{looks};
 ghost use Rattle.io_edge.specs.Said.{IsSaid, shown};
 ghost use Rattle.joint_feed.specs.Stories.{story};
-ghost use Rattle.key_file.specs.Accepted.{IsAcceptedFor};
+ghost use Rattle.key_file.specs.Accepted.{IsAccepted, IsAcceptedFor};
 ghost use Rattle.key_file.specs.Feeds.{Fed};
 ghost use Rattle.layout_reader.specs.Layouts.{IsKeyLayout, KeyLayout};
 ghost use Rattle.subsystem.specs.Agreement.{IsAsExpected};
@@ -123,6 +123,7 @@ impl<F: Feed> Engine<F> {
         requires accepted { IsAcceptedFor layout.now (F.told feed).history }
         ensures layout { IsKeyLayout layout.now }
         ensures engine { IfOk result (λ engine. engine ≡ story (image_of layout.now) (F.told feed).history) }
+        ensures accepted { IfOk result (λ engine. IsAccepted (history_of engine)) }
     {
         keeps_time(layout);
         let image = compile(layout);
@@ -156,6 +157,7 @@ impl<F: Feed> Engine<F> {
         out: &mut K,
         probes: &mut Vec<Box<dyn Probe>>,
     ) -> Result<Ended, SinkFault>
+        requires accepted { IsAccepted (history_of self) }
         ensures run { IfOk result (λ ended. IsOutcome self (ending self ended)) }
         ensures said { IfOk result (λ ended. IsSaid (shown (K.taken out.old) (K.told out.old) (K.faults out.old))
             (shown (K.taken out.new) (K.told out.new) (K.faults out.new))

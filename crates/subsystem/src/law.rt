@@ -9,16 +9,17 @@ ghost use Rattle.subsystem.specs.Agreement.{RunsAreAlike, RunsAsExpected};
 
 use agreement::run_and_model_agree;
 use layout_reader::Layout;
-use quiet_log::quiet_histories;
+use quiet_log::{logs_are_limited, quiet_histories};
 
 /// Every run of a layout's compiled image under a history that is accepted for it gives the log that the model expects where its ticks
 /// start when the run's do, and these starts keep the cadence; for a quiet history it is a function of layout and history
-/// alone. Nothing is done when it is called; the law is its contract.
+/// alone. The log has fewer than 800,000 items. Nothing is done when it is called; the law is its contract.
 pub fn runs_are_expected()
     ensures expected { RunsAsExpected }
 {
     run_and_model_agree();
     quiet_histories();
+    logs_are_limited();
 }
 
 /// A program, edges of keys, events of the host and an end stamp have one run: two runs of them tell the same. Nothing is

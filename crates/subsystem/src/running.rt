@@ -1,6 +1,6 @@
 //! The run.
 
-ghost use Rattle.std.specs.Prelude.{◌≡◌, ◌-◌, [], true, length, map, IfOk, OnErr, OnOk};
+ghost use Rattle.std.specs.Prelude.{◌≡◌, ◌<◌, ◌-◌, [], true, length, map, IfOk, OnErr, OnOk};
 ghost use Rattle.board_lines.specs.Cadence.{KeepsCadenceTo, listed};
 ghost use Rattle.fw_compile.specs.Image.{image_of};
 ghost use Rattle.fw_debug.specs.Looks.{looks};
@@ -83,10 +83,10 @@ fn outcome_of(pace: Pace, log: Vec<LogLine>) -> Run
 /// stamp, before the step that begins there. After each step each probe looks at the state that it led to.
 ///
 /// It always comes to its end: the image keeps its time, and meets no byte without an instruction. Its log is the one that
-/// the model expects at the run's own tick starts; for a quiet history it is a function of layout and history alone. Each
-/// start is at its multiple of 2,048 or at most five cycles past it, and at the last one the processor serves the timer's
-/// interrupt, in register bank 1. Only memory may be wanting: then the probes have looked at the states of some first
-/// steps.
+/// the model expects at the run's own tick starts; for a quiet history it is a function of layout and history alone. It has
+/// fewer than 800,000 items. Each start is at its multiple of 2,048 or at most five cycles past it, and at the last one the
+/// processor serves the timer's interrupt, in register bank 1. Only memory may be wanting: then the probes have looked at
+/// the states of some first steps.
 pub fn run(
     alloc: Global,
     layout: &Layout,
@@ -98,6 +98,7 @@ pub fn run(
     ensures agrees { IfOk result (λ run. run.log.items ≡ expected_log layout.now history.now run.starts.items) }
     ensures quiet { IfOk result (λ run. IsQuiet history.now → run.log.items ≡ quiet_log layout.now history.now) }
     ensures cadence { IfOk result (λ run. KeepsCadenceTo (listed run.starts.items) (length run.starts.items - 1)) }
+    ensures few { IfOk result (λ run. length run.log.items < 800000) }
     ensures serves { IfOk result (λ run. run.end.svc ≡ true) }
     ensures bank { IfOk result (λ run. run.end.rb ≡ true) }
     ensures looked { let s = story (image_of layout.now) history.now in

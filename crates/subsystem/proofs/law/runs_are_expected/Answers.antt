@@ -1,4 +1,4 @@
-use Rattle.std.proofs.Common.{◌∙◌}
+use Rattle.std.proofs.Common.{◌<◌, length, subst, sym, ◌∙◌}
 use Rattle.fw_compile.specs.Image.{image_of}
 use Rattle.joint_feed.specs.Stories.{story}
 use Rattle.link_model.specs.Machine.{keyboard}
@@ -18,5 +18,6 @@ returns c = record {
         log = log;
         cadence = cadence;
         quiet = λ quiet. log ∙ c.quiet_histories.ensures.listed layout history run.starts quiet cadence is.last;
+        few = subst (λ items. length items < 800000) (sym log) (c.logs_are_limited.ensures.limit layout history run.starts accepted.accepted cadence is.last);
       };
 }

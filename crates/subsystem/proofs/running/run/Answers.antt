@@ -49,6 +49,9 @@ returns-clause-quiet g c = (expected g c).quiet
 pub returns-clause-cadence : goal.returns-clause-cadence
 returns-clause-cadence g c = (expected g c).cadence
 
+pub returns-clause-few : goal.returns-clause-few
+returns-clause-few g c = (expected g c).few
+
 abbrev serving : (g : given.Over) (c : goal.After-outcome_of g) → (c.outcome_of.result.end.svc ≡ Rattle.std.proofs.Common.true) × (c.outcome_of.result.end.rb ≡ Rattle.std.proofs.Common.true)
 serving g c =
     serves_at_end (story (image_of c.args.layout.now) c.args.history.now) (c.keeps_time.ensures.time c.args.history.now c.requires) (outcome c.outcome_of.result) (ran g c)

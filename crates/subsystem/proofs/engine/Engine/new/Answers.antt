@@ -31,4 +31,5 @@ returns g c = record {
   engine =
       ap (λ b. story b (g.F.Feed.told c.begin-pace.new.feed).history) c.compile-image.ensures.image
       ∙ ap (story (image_of c.args.layout.now)) c.begin-pace.ensures.history;
+  accepted = subst IsAccepted (sym c.begin-pace.ensures.history) c.requires.accepted.accepted;
 }
