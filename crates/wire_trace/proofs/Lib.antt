@@ -1,3 +1,4 @@
+pub mod OfLines
 pub mod Sampled
 pub mod Traced
 pub mod Whole

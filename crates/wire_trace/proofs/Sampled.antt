@@ -1,5 +1,5 @@
 -- A sample of the machine is one of the state that its last step led to.
-use Rattle.std.proofs.Common.{◌≡◌, ◌≤◌, ◌<◌, ℕ, suc, true, List, ◌++◌, Some, None, refl, ap, sym, subst, ◌∙◌, arith}
+use Rattle.std.proofs.Common.{◌≡◌, ◌≤◌, ◌<◌, ℕ, suc, true, List, Some, None, refl, ap, sym, subst, ◌∙◌, arith}
 use Rattle.std.specs.declared.option.Option.{Option}
 use Rattle.std.proofs.lemmas.Bool.Decides.{nat_tests}
 use Rattle.board_lines.specs.declared.lines.Lines.{Lines}
@@ -7,7 +7,7 @@ use Rattle.fw_debug.proofs.Sights.{same_sight}
 use Rattle.fw_debug.specs.Probes.{Sight}
 use Rattle.fw_debug.specs.Transfers.{Ear, heard, is_behind, sample}
 use Rattle.fw_debug.specs.declared.heard.Sample.{Sample}
-use Rattle.io_edge.specs.Said.{TakesAll, TakesPart}
+use Rattle.io_edge.specs.Said.{IsBrokenOff, IsSaid, Shown}
 use Rattle.joint_feed.proofs.Going.{here}
 use Rattle.joint_feed.specs.Course.{IsOnCourse}
 use Rattle.joint_feed.specs.Stories.{Story, state_at}
@@ -15,12 +15,15 @@ use Rattle.joint_feed.specs.declared.course.Course.{Course}
 use Rattle.joint_run.specs.Cycle.{outside_wires}
 use Rattle.joint_run.specs.Joint.{Beside}
 use Rattle.joint_run.specs.Run.{World}
-use Rattle.io_edge.proofs.Takes.{all_then_all, all_then_part}
-use Rattle.subsystem.specs.Progress.{IsJudged}
+use Rattle.io_edge.proofs.Pieces.{said_then_broken, said_then_said}
+use Rattle.subsystem.proofs.Ends.{ends}
+use Rattle.subsystem.specs.Progress.{IsJudged, lines_to}
+use Rattle.subsystem.specs.Running.{IsOutcome, Outcome}
 use Rattle.subsystem.specs.declared.pace.Pace.{Pace}
-use Rattle.wire_trace.specs.Ending.{IsWhole}
+use Rattle.wire_trace.proofs.OfLines.{changes_are_lines}
 use Rattle.wire_trace.specs.Text.{sample_text}
-use Rattle.wire_trace.specs.Trace.{changes_to, heard_in, heard_to, sample_in, text_in}
+use Rattle.wire_trace.specs.Trace.{changes_to, text_in}
+use Rattle.wires_heard.specs.Hearing.{heard_in, heard_to, sample_in}
 
 -- the last sample is none of a later cycle
 abbrev pub IsHeardBy : Option Sample → ℕ → Type 0
@@ -58,15 +61,29 @@ module _ (s : Story) (it : Course) (on : IsOnCourse s it) (k cycle : ℕ) (lines
       ap (λ (x : Sample). sample_text x old) same ∙ ap (sample_text (sample_in on.world)) so_far
       ∙ sym (ap (λ (o : Option (World Beside)). text_in o (heard_to s k)) there)
 
-  pub all_more : (from before after : Option (List ℕ)) → TakesAll from before (changes_to s k) → TakesAll before after (sample_text (sample cycle lines) old) → TakesAll from after (changes_to s it.joint.steps)
-  all_more from before after first second =
-      subst (λ v. TakesAll from after v) (sym (ap (changes_to s) steps))
-      (all_then_all from before after (changes_to s k) (text_in (state_at s (suc k)) (heard_to s k)) first (subst (λ v. TakesAll before after v) text_more second))
+  pub said_more : (from before after : Shown) → IsSaid from before (changes_to s k) → IsSaid before after (sample_text (sample cycle lines) old) → IsSaid from after (changes_to s it.joint.steps)
+  said_more from before after first second =
+      subst (λ v. IsSaid from after v) (sym (ap (changes_to s) steps))
+      (said_then_said from before after (changes_to s k) (text_in (state_at s (suc k)) (heard_to s k)) (changes_are_lines s k) first (subst (λ v. IsSaid before after v) text_more second))
 
-  pub part_more : (from before after : Option (List ℕ)) → TakesAll from before (changes_to s k) → TakesPart before after (sample_text (sample cycle lines) old) → TakesPart from after (changes_to s (suc k))
-  part_more from before after first second =
-      all_then_part from before after (changes_to s k) (text_in (state_at s (suc k)) (heard_to s k)) first (subst (λ v. TakesPart before after v) text_more second)
+  pub broken_more : (from before after : Shown) → IsSaid from before (changes_to s k) → IsBrokenOff before after (sample_text (sample cycle lines) old) → IsBrokenOff from after (changes_to s (suc k))
+  broken_more from before after first second =
+      said_then_broken from before after (changes_to s k) (text_in (state_at s (suc k)) (heard_to s k)) (changes_are_lines s k) first (subst (λ v. IsBrokenOff before after v) text_more second)
 
--- a run that is judged to be over is whole
-pub whole_of : (s : Story) (p : Pace) → IsJudged s true p → IsWhole s p.course.joint.steps
-whole_of s p h = record { goes_on = h.stands.on; world = h.stands.course.world; reached = here s p.course h.stands.course; over = h.over_so }
+-- what a run that is judged to be over comes to
+pub outcome_at : Story → Pace → Outcome
+outcome_at s p = record {
+  log = lines_to s p.starts.items p.course.joint.steps;
+  starts = p.starts.items;
+  end = p.course.joint.mcu;
+  steps = p.course.joint.steps;
+  cycles = p.course.joint.cycle;
+}
+
+pub steps_at : (s : Story) (p : Pace) → (outcome_at s p).steps ≡ p.course.joint.steps
+unfolding outcome_at
+steps_at s p = refl
+
+pub is_outcome : (s : Story) (p : Pace) → IsJudged s true p → IsOutcome s (outcome_at s p)
+unfolding outcome_at
+is_outcome s p h = ends s p (outcome_at s p) h refl refl refl refl refl

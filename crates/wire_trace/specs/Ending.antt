@@ -1,34 +1,24 @@
 -- What a sink has of the trace of a whole run.
-use Rattle.std.specs.Prelude.{◌≡◌, ℕ, List, true, Some}
-use Rattle.std.specs.declared.option.Option.{Option}
-use Rattle.io_edge.specs.Said.{TakesAll, TakesPart}
-use Rattle.joint_feed.specs.Stories.{Story, state_at}
-use Rattle.joint_run.specs.Joint.{Beside}
-use Rattle.joint_run.specs.Run.{World}
-use Rattle.subsystem.specs.Running.{GoesOnTo, is_over}
+use Rattle.std.specs.Prelude.{ℕ}
+use Rattle.io_edge.specs.Said.{IsBrokenOff, IsSaid, Shown}
+use Rattle.joint_feed.specs.Stories.{Story}
+use Rattle.subsystem.specs.Running.{GoesOnTo, IsOutcome, Outcome}
 use Rattle.wire_trace.specs.Trace.{changes_to, trace_to}
 
--- the steps of the whole run: it goes on at each state before the last, and is over there
-pub record IsWhole (s : Story) (steps : ℕ) : Type 0 where
-  pub goes_on : GoesOnTo s steps
-  pub world : World Beside
-  pub reached : state_at s steps ≡ Some world
-  pub over : is_over s world ≡ true
+-- the trace of a run is said
+pub record IsTraceSaid (s : Story) (before after : Shown) : Type 0 where
+  pub run : Outcome
+  pub is : IsOutcome s run
+  pub said : IsSaid before after (trace_to s run.steps)
 
--- the whole text
-pub record TakesTrace (s : Story) (before after : Option (List ℕ)) : Type 0 where
-  pub steps : ℕ
-  pub whole : IsWhole s steps
-  pub all : TakesAll before after (trace_to s steps)
+-- its saying is broken off
+pub record IsTraceBrokenOff (s : Story) (before after : Shown) : Type 0 where
+  pub run : Outcome
+  pub is : IsOutcome s run
+  pub broken : IsBrokenOff before after (trace_to s run.steps)
 
--- a prefix of the whole text
-pub record TakesPrefix (s : Story) (before after : Option (List ℕ)) : Type 0 where
-  pub steps : ℕ
-  pub whole : IsWhole s steps
-  pub part : TakesPart before after (trace_to s steps)
-
--- a prefix of what some first steps of the run add
-pub record TakesSomeChanges (s : Story) (before after : Option (List ℕ)) : Type 0 where
+-- the saying of what some first steps of a run add is broken off
+pub record AreChangesBrokenOff (s : Story) (before after : Shown) : Type 0 where
   pub steps : ℕ
   pub goes_on : GoesOnTo s steps
-  pub part : TakesPart before after (changes_to s steps)
+  pub broken : IsBrokenOff before after (changes_to s steps)

@@ -2,26 +2,11 @@
 use Rattle.std.specs.Prelude.{ℕ, zero, suc, List, [], ◌++◌, Some, None}
 use Rattle.std.specs.declared.option.Option.{Option}
 use Rattle.joint_feed.specs.Stories.{Story, state_at}
-use Rattle.joint_run.specs.Joint.{Beside, latch_of}
+use Rattle.joint_run.specs.Joint.{Beside}
 use Rattle.joint_run.specs.Run.{World}
-use Rattle.pc_wires.specs.Wires.{wires}
-use Rattle.fw_debug.specs.declared.heard.Sample.{Sample}
-use Rattle.fw_debug.specs.Transfers.{Ear, heard, sample, silence}
+use Rattle.fw_debug.specs.Transfers.{Ear}
+use Rattle.wires_heard.specs.Hearing.{heard_to, sample_in}
 use Rattle.wire_trace.specs.Text.{header, sample_text}
-
--- the sample that a state is: the cycles that are done, and the wires after the last of them
-abbrev pub sample_in : World Beside → Sample
-sample_in w = sample w.cycle (wires (latch_of w.cpu.p2) w.board.pc)
-
--- what is kept after the sample of a state, if there is one
-abbrev pub heard_in : Option (World Beside) → Ear → Ear
-heard_in None ear = ear
-heard_in (Some w) ear = heard (sample_in w) ear
-
--- after the samples of the first k steps
-abbrev pub heard_to : Story → ℕ → Ear
-heard_to s zero = silence
-heard_to s (suc k) = heard_in (state_at s (suc k)) (heard_to s k)
 
 -- what the sample of a state adds, if there is one
 abbrev pub text_in : Option (World Beside) → Ear → List ℕ

@@ -2,8 +2,7 @@
 
 ghost use Rattle.std.specs.Prelude.{◌≡◌, true, OnErr, OnOk};
 ghost use Rattle.fw_debug.specs.Transfers.{heard, is_behind, sample};
-ghost use Rattle.io_edge.specs.Faults.{Rose};
-ghost use Rattle.io_edge.specs.Said.{TakesAll, TakesPart};
+ghost use Rattle.io_edge.specs.Said.{IsBrokenOff, IsSaid, shown};
 ghost use Rattle.wire_trace.specs.Text.{sample_text};
 
 use crate::change::{change, differ};
@@ -21,10 +20,10 @@ pub(crate) fn put_sample<K: Sink>(
 ) -> Result<(), SinkFault>
     requires rises { is_behind cycle decoder.old.last ≡ true }
     ensures heard { decoder.new ≡ heard (sample cycle lines) decoder.old }
-    ensures all { OnOk result (TakesAll (K.taken out.old) (K.taken out.new) (sample_text (sample cycle lines) decoder.old)) }
-    ensures steady { OnOk result (K.faults out.new ≡ K.faults out.old) }
-    ensures part { OnErr result (TakesPart (K.taken out.old) (K.taken out.new) (sample_text (sample cycle lines) decoder.old)) }
-    ensures failed { OnErr result (Rose (K.faults out.old) (K.faults out.new)) }
+    ensures said { OnOk result (IsSaid (shown (K.taken out.old) (K.told out.old) (K.faults out.old))
+        (shown (K.taken out.new) (K.told out.new) (K.faults out.new)) (sample_text (sample cycle lines) decoder.old)) }
+    ensures broken { OnErr result (IsBrokenOff (shown (K.taken out.old) (K.told out.old) (K.faults out.old))
+        (shown (K.taken out.new) (K.told out.new) (K.faults out.new)) (sample_text (sample cycle lines) decoder.old)) }
 {
     let before = decoder.lines();
     let transfer = decoder.sample(cycle, lines);

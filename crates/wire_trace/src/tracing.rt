@@ -2,16 +2,17 @@
 
 ghost use Rattle.std.specs.Prelude.{◌≡◌, true, Err, OnErr, OnOk};
 ghost use Rattle.fw_compile.specs.Image.{image_of};
-ghost use Rattle.io_edge.specs.Faults.{Rose};
-ghost use Rattle.io_edge.specs.Said.{TakesAll, TakesPart};
+ghost use Rattle.io_edge.specs.Said.{IsBrokenOff, IsSaid, shown};
 ghost use Rattle.joint_feed.specs.Stories.{story};
 ghost use Rattle.key_file.specs.Accepted.{IsAcceptedFor};
 ghost use Rattle.key_file.specs.Feeds.{Fed};
+ghost use Rattle.layout_reader.specs.Layouts.{IsKeyLayout, KeyLayout};
 ghost use Rattle.subsystem.specs.Progress.{IsJudged, IsReady};
 ghost use Rattle.wire_trace.specs.declared.fault.TraceFault.TheVariants.{Memory, Write};
-ghost use Rattle.wire_trace.specs.Ending.{TakesPrefix, TakesSomeChanges, TakesTrace};
+ghost use Rattle.wire_trace.specs.Ending.{AreChangesBrokenOff, IsTraceBrokenOff, IsTraceSaid};
 ghost use Rattle.wire_trace.specs.Text.{header};
 ghost use Rattle.wire_trace.specs.Trace.{changes_to};
+ghost use Rattle.wires_heard.specs.Hearing.{HearsAll};
 
 use crate::fault::TraceFault;
 use crate::sampling::put_sample;
@@ -22,6 +23,7 @@ use layout_reader::Layout;
 use mcs48_isa::Image;
 use std::alloc::Global;
 use subsystem::{Engine, Pace};
+use wires_heard::wires_are_heard;
 
 /// What stands before the first sample.
 const HEADER: &[u8] =
@@ -29,10 +31,10 @@ const HEADER: &[u8] =
 
 /// Puts what stands before the first sample.
 fn put_header<K: Sink>(out: &mut K) -> Result<(), SinkFault>
-    ensures all { OnOk result (TakesAll (K.taken out.old) (K.taken out.new) header) }
-    ensures steady { OnOk result (K.faults out.new ≡ K.faults out.old) }
-    ensures part { OnErr result (TakesPart (K.taken out.old) (K.taken out.new) header) }
-    ensures failed { OnErr result (Rose (K.faults out.old) (K.faults out.new)) }
+    ensures said { OnOk result (IsSaid (shown (K.taken out.old) (K.told out.old) (K.faults out.old))
+        (shown (K.taken out.new) (K.told out.new) (K.faults out.new)) header) }
+    ensures broken { OnErr result (IsBrokenOff (shown (K.taken out.old) (K.told out.old) (K.faults out.old))
+        (shown (K.taken out.new) (K.told out.new) (K.faults out.new)) header) }
 {
     say(out, HEADER)
 }
@@ -46,12 +48,12 @@ fn put_changes<F: Feed, K: Sink>(
 ) -> Result<(), SinkFault>
     requires ready { IsReady image.now.bytes (F.told feed.old) pace.old }
     ensures judged { OnOk result (IsJudged (story image.now.bytes (F.told feed.old).history) true pace.new) }
-    ensures all { let run = story image.now.bytes (F.told feed.old).history in
-        OnOk result (TakesAll (K.taken out.old) (K.taken out.new) (changes_to run pace.new.course.joint.steps)) }
-    ensures steady { OnOk result (K.faults out.new ≡ K.faults out.old) }
-    ensures part { let run = story image.now.bytes (F.told feed.old).history in
-        OnErr result (TakesSomeChanges run (K.taken out.old) (K.taken out.new)) }
-    ensures failed { OnErr result (Rose (K.faults out.old) (K.faults out.new)) }
+    ensures said { let run = story image.now.bytes (F.told feed.old).history in
+        OnOk result (IsSaid (shown (K.taken out.old) (K.told out.old) (K.faults out.old))
+        (shown (K.taken out.new) (K.told out.new) (K.faults out.new)) (changes_to run pace.new.course.joint.steps)) }
+    ensures broken { let run = story image.now.bytes (F.told feed.old).history in
+        OnErr result (AreChangesBrokenOff run (shown (K.taken out.old) (K.told out.old) (K.faults out.old))
+        (shown (K.taken out.new) (K.told out.new) (K.faults out.new))) }
 {
     let mut decoder = LineDecoder::new();
     'steps: while !pace.judge_within(image, feed) {
@@ -65,10 +67,10 @@ fn put_changes<F: Feed, K: Sink>(
 
 /// Puts the text of a run that is ready.
 fn put_trace<F: Feed, K: Sink>(engine: Engine<F>, out: &mut K) -> Result<(), SinkFault>
-    ensures whole { OnOk result (TakesTrace engine (K.taken out.old) (K.taken out.new)) }
-    ensures steady { OnOk result (K.faults out.new ≡ K.faults out.old) }
-    ensures part { OnErr result (TakesPrefix engine (K.taken out.old) (K.taken out.new)) }
-    ensures failed { OnErr result (Rose (K.faults out.old) (K.faults out.new)) }
+    ensures said { OnOk result (IsTraceSaid engine (shown (K.taken out.old) (K.told out.old) (K.faults out.old))
+        (shown (K.taken out.new) (K.told out.new) (K.faults out.new))) }
+    ensures broken { OnErr result (IsTraceBrokenOff engine (shown (K.taken out.old) (K.told out.old) (K.faults out.old))
+        (shown (K.taken out.new) (K.told out.new) (K.faults out.new))) }
 {
     let (image, feed, pace) = engine.into_parts();
     let mut feed = feed;
@@ -82,9 +84,12 @@ fn put_trace<F: Feed, K: Sink>(engine: Engine<F>, out: &mut K) -> Result<(), Sin
 /// the run, from power-on to the first tick start at or after the end stamp; each change has its time, in units of 100 ns,
 /// of which a cycle has 25; and a byte that passes over the wires is a comment behind the change that completes it.
 ///
-/// On Ok the sink has taken the whole text, and its count of faults is as it was. Write comes only where that count rose:
-/// then the sink has a prefix of the text. After Memory the sink has taken nothing, and its count is as it was; the feed is
-/// given up. All memory is taken before the first step.
+/// On Ok the whole text was said, and the sink's count of faults is as it was. Write comes only where that count rose: then
+/// the saying was broken off, and the sink has a prefix of the text. After Memory the sink is as it was, and the feed is given
+/// up. All memory is taken before the first step.
+///
+/// The bytes in the comments are, in order, those that the controller takes and sends: each is in the sample behind the
+/// step in one of whose cycles its frame's eleventh edge ends it, and no frame that is broken off is among them.
 pub fn trace<F: Feed, K: Sink>(
     alloc: Global,
     layout: &Layout,
@@ -94,15 +99,18 @@ pub fn trace<F: Feed, K: Sink>(
     requires no_edge { (F.told feed).edges ≡ 0 }
     requires no_host { (F.told feed).host ≡ 0 }
     requires accepted { IsAcceptedFor layout.now (F.told feed).history }
-    ensures whole { let run = story (image_of layout.now) (F.told feed).history in
-        OnOk result (TakesTrace run (K.taken out.old) (K.taken out.new)) }
-    ensures steady { OnOk result (K.faults out.new ≡ K.faults out.old) }
-    ensures part { let run = story (image_of layout.now) (F.told feed).history in
-        result ≡ Err Write → TakesPrefix run (K.taken out.old) (K.taken out.new) }
-    ensures failed { result ≡ Err Write → Rose (K.faults out.old) (K.faults out.new) }
-    ensures nothing { result ≡ Err Memory → K.taken out.new ≡ K.taken out.old }
-    ensures unharmed { result ≡ Err Memory → K.faults out.new ≡ K.faults out.old }
+    ensures layout { IsKeyLayout layout.now }
+    ensures said { let run = story (image_of layout.now) (F.told feed).history in
+        OnOk result (IsTraceSaid run (shown (K.taken out.old) (K.told out.old) (K.faults out.old))
+        (shown (K.taken out.new) (K.told out.new) (K.faults out.new))) }
+    ensures heard { HearsAll (story (image_of layout.now) (F.told feed).history) }
+    ensures broken { let run = story (image_of layout.now) (F.told feed).history in
+        result ≡ Err Write → IsTraceBrokenOff run (shown (K.taken out.old) (K.told out.old) (K.faults out.old))
+        (shown (K.taken out.new) (K.told out.new) (K.faults out.new)) }
+    ensures nothing { result ≡ Err Memory → shown (K.taken out.new) (K.told out.new) (K.faults out.new)
+        ≡ shown (K.taken out.old) (K.told out.old) (K.faults out.old) }
 {
+    wires_are_heard();
     match Engine::new(alloc, layout, feed) {
         Err(_error) => Err(TraceFault::Memory),
         Ok(engine) => match put_trace(engine, out) {

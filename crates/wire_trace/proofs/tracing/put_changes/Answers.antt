@@ -1,12 +1,12 @@
 use Rattle.std.proofs.Common.{◌≡◌, ◌≤◌, suc, length, vec_capacity, false, ap, sym, subst, ◌∙◌, arith}
-use Rattle.io_edge.specs.Said.{TakesPart}
+use Rattle.io_edge.specs.Said.{IsBrokenOff, shown}
 use Rattle.joint_feed.specs.Stories.{story}
 use Rattle.subsystem.proofs.Advancing.{goes_on_here}
 use Rattle.subsystem.proofs.Looking.{on_err}
 use Rattle.subsystem.proofs.Room.{few_before}
 use Rattle.subsystem.specs.Progress.{IsJudged, IsSoFar}
-use Rattle.wire_trace.proofs.Sampled.{all_more, heard_more, part_more, rises, still_early}
-use Rattle.wire_trace.specs.Trace.{changes_to, heard_to}
+use Rattle.wire_trace.proofs.Sampled.{broken_more, heard_more, rises, said_more, still_early}
+use Rattle.wire_trace.specs.Trace.{changes_to}
 use Rattle.wire_trace.proofs.tracing.put_changes.Goals as goal
 
 pub judge_within-requires-clause-room : goal.judge_within-requires-clause-room
@@ -45,13 +45,12 @@ steps-preserved g c =
       heard = heard_more s n.course so_far.stands.course a.course.joint.steps c.cycle-cycle.result c.lines-lines.result c.steps.decoder steps c.cycle-cycle.ensures.cycle c.lines-lines.ensures.wires inv.heard
           c.put_sample.new.decoder put.heard;
       early = still_early c.put_sample.new.decoder.last c.steps.decoder c.cycle-cycle.result n.course.joint.cycle c.lines-lines.result (ap (λ d. d.last) put.heard) c.cycle-cycle.ensures.cycle;
-      all = all_more s n.course so_far.stands.course a.course.joint.steps c.cycle-cycle.result c.lines-lines.result c.steps.decoder steps c.cycle-cycle.ensures.cycle c.lines-lines.ensures.wires inv.heard
-          (g.K.Sink.taken c.args.out.now) (g.K.Sink.taken c.steps.out) (g.K.Sink.taken c.put_sample.new.out) inv.all put.all;
-      steady = put.steady ∙ inv.steady;
+      said = said_more s n.course so_far.stands.course a.course.joint.steps c.cycle-cycle.result c.lines-lines.result c.steps.decoder steps c.cycle-cycle.ensures.cycle c.lines-lines.ensures.wires inv.heard
+          (shown (g.K.Sink.taken c.args.out.now) (g.K.Sink.told c.args.out.now) (g.K.Sink.faults c.args.out.now)) (shown (g.K.Sink.taken c.steps.out) (g.K.Sink.told c.steps.out) (g.K.Sink.faults c.steps.out)) (shown (g.K.Sink.taken c.put_sample.new.out) (g.K.Sink.told c.put_sample.new.out) (g.K.Sink.faults c.put_sample.new.out)) inv.said put.said;
     }
 
-pub returns-in_err-put_sample-clause-part : goal.returns-in_err-put_sample-clause-part
-returns-in_err-put_sample-clause-part g c =
+pub returns-in_err-put_sample-clause-broken : goal.returns-in_err-put_sample-clause-broken
+returns-in_err-put_sample-clause-broken g c =
     let inv = c.steps.invariant in
     let image = c.args.image.now.bytes in
     let s = story image (g.F.Feed.told c.args.feed.now).history in
@@ -67,7 +66,7 @@ returns-in_err-put_sample-clause-part g c =
     on_err c.from_residual.result (record {
       steps = suc j.course.joint.steps;
       goes_on = goes_on_here s j judged;
-      part = subst (λ k. TakesPart (g.K.Sink.taken c.args.out.now) (g.K.Sink.taken c.put_sample.new.out) (changes_to s k)) same
-          (part_more s n.course so_far.stands.course a.course.joint.steps c.cycle-cycle.result c.lines-lines.result c.steps.decoder steps c.cycle-cycle.ensures.cycle c.lines-lines.ensures.wires inv.heard
-          (g.K.Sink.taken c.args.out.now) (g.K.Sink.taken c.steps.out) (g.K.Sink.taken c.put_sample.new.out) inv.all c.in_err-put_sample.ensures.part);
+      broken = subst (λ k. IsBrokenOff (shown (g.K.Sink.taken c.args.out.now) (g.K.Sink.told c.args.out.now) (g.K.Sink.faults c.args.out.now)) (shown (g.K.Sink.taken c.put_sample.new.out) (g.K.Sink.told c.put_sample.new.out) (g.K.Sink.faults c.put_sample.new.out)) (changes_to s k)) same
+          (broken_more s n.course so_far.stands.course a.course.joint.steps c.cycle-cycle.result c.lines-lines.result c.steps.decoder steps c.cycle-cycle.ensures.cycle c.lines-lines.ensures.wires inv.heard
+          (shown (g.K.Sink.taken c.args.out.now) (g.K.Sink.told c.args.out.now) (g.K.Sink.faults c.args.out.now)) (shown (g.K.Sink.taken c.steps.out) (g.K.Sink.told c.steps.out) (g.K.Sink.faults c.steps.out)) (shown (g.K.Sink.taken c.put_sample.new.out) (g.K.Sink.told c.put_sample.new.out) (g.K.Sink.faults c.put_sample.new.out)) inv.said c.in_err-put_sample.ensures.broken);
     })
