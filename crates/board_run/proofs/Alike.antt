@@ -1,0 +1,74 @@
+-- What is run has one run on the board.
+use Rattle.std.proofs.Common.{◌≡◌, ◌<◌, ℕ, zero, suc, true, false, List, ltb, Some, refl, ap, sym, subst, ◌∙◌, arith}
+use Rattle.std.proofs.lemmas.Bool.Decides.{nat_tests}
+use Rattle.board_run.specs.declared.ended.End.{End}
+use Rattle.board_run.specs.declared.ended.End.TheVariants.{Over, Stuck}
+use Rattle.board_run.specs.Running.{EndsAt, GoesOnTo, IsOutcome, Outcome, is_over}
+use Rattle.host_turn.specs.declared.stamped.Stamped.{Stamped}
+use Rattle.joint_feed.proofs.Going.{same_state}
+use Rattle.joint_feed.specs.Stories.{Story, state_at}
+use Rattle.joint_run.specs.Joint.{Beside, log_of}
+use Rattle.joint_run.specs.Run.{World}
+use Rattle.mcs48_core.specs.Cpu.{Cpu}
+use Rattle.board_run.proofs.Steps.{before, on_at}
+
+module _ (s : Story) where
+  -- a run doesn't go on where it ends
+  ends_not_on : (k : ℕ) (w v : World Beside) (end : End) → EndsAt s k w end → is_over s w ≡ false → state_at s (suc k) ≡ Some v → ⊥
+  ends_not_on k w v Over h on next = absurd (cc (h, on))
+  ends_not_on k w v (Stuck place) h on next = let none = h.none in absurd (cc (none, next))
+
+  -- the state behind one that is before another
+  reached_by : (m j : ℕ) (v : World Beside) → state_at s m ≡ Some v → j < m → (w : World Beside) × (state_at s (suc j) ≡ Some w)
+  reached_by zero j v h l = absurd (omega (arith, l))
+  reached_by (suc m) j v h l =
+      elim (ltb j m) as (λ b. ltb j m ≡ b → (w : World Beside) × (state_at s (suc j) ≡ Some w)) [
+        | true ↦ λ f. let u = before s m v h in reached_by m j u.0 u.1 (grind (arith, nat_tests, f))
+        | false ↦ λ f. let e : suc m ≡ suc j = grind (arith, nat_tests, f, l) in (v, ap (state_at s) (sym e) ∙ h)
+      ] refl
+
+  -- no run ends before a state up to which it goes on
+  pub not_before : (a : Outcome) (m : ℕ) (v : World Beside) → IsOutcome s a → GoesOnTo s m → state_at s m ≡ Some v → a.steps < m → ⊥
+  not_before a m v p on there l =
+      let here = on_at s m a.steps on l in
+      let same : p.world ≡ here.0 = same_state (sym p.reached ∙ here.1) in
+      let after = reached_by m a.steps v there l in
+      ends_not_on a.steps p.world after.0 a.end p.ends (ap (is_over s) same ∙ here.2) after.1
+
+  same_steps : (a b : Outcome) → IsOutcome s a → IsOutcome s b → a.steps ≡ b.steps
+  same_steps a b p q =
+      elim (ltb a.steps b.steps) as (λ c. ltb a.steps b.steps ≡ c → a.steps ≡ b.steps) [
+        | true ↦ λ e. absurd (not_before a b.steps q.world p q.goes_on q.reached (grind (arith, nat_tests, e)))
+        | false ↦ λ e. elim (ltb b.steps a.steps) as (λ c. ltb b.steps a.steps ≡ c → a.steps ≡ b.steps) [
+          | true ↦ λ f. absurd (not_before b a.steps p.world q p.goes_on p.reached (grind (arith, nat_tests, f)))
+          | false ↦ λ f. grind (arith, nat_tests, e, f)
+        ] refl
+      ] refl
+
+  same_end : (k : ℕ) (w : World Beside) (d e : End) → EndsAt s k w d → EndsAt s k w e → d ≡ e
+  same_end k w Over Over h g = refl
+  same_end k w Over (Stuck place) h g = let on = g.before_end in absurd (cc (h, on))
+  same_end k w (Stuck place) Over h g = let on = h.before_end in absurd (cc (g, on))
+  same_end k w (Stuck place) (Stuck other) h g = ap (λ p. Stuck p) (h.at ∙ sym g.at)
+
+same_parts : (a b : Outcome) → a.log ≡ b.log → a.end ≡ b.end → a.mcu ≡ b.mcu → a.steps ≡ b.steps → a.cycles ≡ b.cycles → a ≡ b
+same_parts a b log end mcu steps cycles =
+    let whole : List Stamped → End → Cpu → ℕ → ℕ → Outcome = λ l e m n c. record { log = l; end = e; mcu = m; steps = n; cycles = c } in
+    ap (λ (v : List Stamped). whole v a.end a.mcu a.steps a.cycles) log
+    ∙ ap (λ (v : End). whole b.log v a.mcu a.steps a.cycles) end
+    ∙ ap (λ (v : Cpu). whole b.log b.end v a.steps a.cycles) mcu
+    ∙ ap (λ (v : ℕ). whole b.log b.end b.mcu v a.cycles) steps
+    ∙ ap (λ (v : ℕ). whole b.log b.end b.mcu b.steps v) cycles
+
+pub boards_alike : (s : Story) (a b : Outcome) → IsOutcome s a → IsOutcome s b → a ≡ b
+boards_alike s a b p q =
+    let steps = same_steps s a b p q in
+    let world : p.world ≡ q.world = same_state (sym p.reached ∙ ap (state_at s) steps ∙ q.reached) in
+    let there : EndsAt s b.steps q.world a.end =
+    subst (λ (v : World Beside). EndsAt s b.steps v a.end) world (subst (λ (k : ℕ). EndsAt s k p.world a.end) steps p.ends) in
+    same_parts a b
+    (p.log ∙ ap (λ (w : World Beside). log_of w.board) world ∙ sym q.log)
+    (same_end s b.steps q.world a.end b.end there q.ends)
+    (p.processor ∙ ap (λ (w : World Beside). w.cpu) world ∙ sym q.processor)
+    steps
+    (p.cycles ∙ ap (λ (w : World Beside). w.cycle) world ∙ sym q.cycles)

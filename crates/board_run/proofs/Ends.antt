@@ -1,0 +1,23 @@
+-- A run that has come to its end.
+use Rattle.std.proofs.Common.{ap}
+use Rattle.board_run.specs.Ending.{IsEnding, ending}
+use Rattle.board_run.specs.Running.{IsOutcome}
+use Rattle.board_run.specs.declared.ended.End.{End}
+use Rattle.joint_feed.proofs.Going.{here}
+use Rattle.joint_feed.specs.Stories.{Story}
+use Rattle.joint_feed.specs.declared.course.Course.{Course}
+use Rattle.subsystem.specs.Running.{logged}
+
+-- the machine is what the run comes to
+pub ends : (s : Story) (c : Course) (end : End) → IsEnding s c end → IsOutcome s (ending s (record { end = end; joint = c.joint }))
+ends s c end h =
+    let there = here s c h.standing.on in
+    record {
+      world = h.standing.on.world;
+      goes_on = h.standing.goes_on;
+      reached = there;
+      ends = h.ends;
+      processor = h.standing.on.in_run.mcu;
+      cycles = h.standing.on.in_run.cycle;
+      log = ap logged there;
+    }

@@ -1,0 +1,9 @@
+pub mod Steps
+pub mod Stuck
+pub mod Alike
+pub mod Going
+pub mod Lines
+pub mod Whole
+pub mod Loop
+pub mod Ends
+pub mod Telling

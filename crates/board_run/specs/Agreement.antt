@@ -1,0 +1,36 @@
+-- The laws of runs on the board.
+use Rattle.std.specs.Prelude.{◌≡◌, ◌≤◌, ◌<◌, ◌+◌, List, ◌++◌}
+use Rattle.board_run.specs.declared.ended.End.TheVariants.{Over}
+use Rattle.board_run.specs.Running.{IsOutcome, Outcome}
+use Rattle.fw_compile.specs.Image.{image_of}
+use Rattle.host_turn.specs.declared.stamped.Stamped.{Stamped}
+use Rattle.joint_feed.specs.Stories.{Story, story}
+use Rattle.key_file.specs.Accepted.{IsAcceptedFor}
+use Rattle.key_file.specs.Histories.{KeyHistory}
+use Rattle.layout_reader.specs.Layouts.{IsKeyLayout, KeyLayout}
+use Rattle.subsystem.specs.Progress.{AreIn}
+use Rattle.subsystem.specs.Running.{lines_of}
+use Rattle.subsystem.specs.Running as layout
+
+-- what is run has one run on the board
+abbrev pub BoardsAreAlike : Type 0
+BoardsAreAlike = (s : Story) (a b : Outcome) → IsOutcome s a → IsOutcome s b → a ≡ b
+
+-- a run on the board tells the beginning of a layout's run: it ends at the end stamp or a cycle later; what it said
+-- was said before it ended, and the layout's run said the same, with the ticks in place of the cycles, and then what
+-- it said from there on
+pub record TellsRun (s : Story) (board : Outcome) (run : layout.Outcome) : Type 0 where
+  pub over : board.end ≡ Over
+  pub reaches : 4096 + s.stop ≤ board.cycles
+  pub soon : board.cycles < 4096 + s.stop + 2
+  pub steps : board.steps ≤ run.steps
+  pub before : AreIn 0 board.cycles board.log
+  pub rest : List Stamped
+  pub after : AreIn board.cycles run.cycles rest
+  pub log : run.log ≡ lines_of run.starts (board.log ++ rest)
+
+-- so it is with each layout's compiled image under a history that is accepted for it
+abbrev pub BoardsTellRuns : Type 0
+BoardsTellRuns = (of : KeyLayout) (history : KeyHistory) (board : Outcome) (run : layout.Outcome) → IsKeyLayout of
+    → IsAcceptedFor of history → IsOutcome (story (image_of of) history) board
+    → layout.IsOutcome (story (image_of of) history) run → TellsRun (story (image_of of) history) board run

@@ -1,0 +1,6 @@
+pub mod Running
+pub mod Texts
+pub mod Ending
+pub mod Advance
+pub mod Putting
+pub mod Agreement

@@ -1,0 +1,18 @@
+//! The run of any program on the keyboard's board, joined to the controller and INT 09h, under a key history.
+//!
+//! This layer makes the one joint run with the image as it is, from power-on to the end stamp or to a byte that begins
+//! no instruction. It keeps no list of what is said: each line goes into a sink as it arises, with its cycle as a
+//! stamp, since a program of which nothing is known has no ticks. No model stands behind such a run: what is said of
+//! it is said of the machine alone. It knows no instruction, no wire and no rule of the keyboard. Source: our own.
+#![tactic(auto)]
+
+mod board;
+mod ended;
+mod law;
+mod line;
+#[cfg(test)]
+mod tests;
+
+pub use board::Board;
+pub use ended::{End, Ended};
+pub use law::{boards_are_alike, boards_tell_runs};
