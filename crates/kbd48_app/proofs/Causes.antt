@@ -7,14 +7,14 @@ use Rattle.kbd48_app.specs.declared.exit.Exit.TheVariants as exits
 use Rattle.kbd48_app.specs.declared.kind.Kind.{Kind}
 use Rattle.kbd48_app.specs.declared.kind.Kind.TheVariants as kinds
 use Rattle.kbd48_app.specs.declared.words.Command.{Command}
-use Rattle.kbd48_app.specs.declared.words.Command.TheVariants.{OverFile, OverPair, Debug, Feed}
-use Rattle.kbd48_app.specs.declared.words.PairCommand.TheVariants.{Certify, Spell, OverRun}
+use Rattle.kbd48_app.specs.declared.words.Command.TheVariants.{OverFile, OverPair, Debug, Feed, Sample}
+use Rattle.kbd48_app.specs.declared.words.PairCommand.TheVariants.{Certify, OverRun, Spell}
 use Rattle.kbd48_app.specs.declared.words.FileCommand.{FileCommand}
 use Rattle.kbd48_app.specs.declared.words.FileCommand.TheVariants.{Step, Listing, Assemble, Compile}
 use Rattle.kbd48_app.specs.Answers.{OnFetched}
 use Rattle.kbd48_app.specs.Causes.{IsStuck}
 use Rattle.kbd48_app.specs.Kinds.{kind_of, limit_of}
-use Rattle.kbd48_app.specs.Plans.{Plan, Gives, Certifies, Spells, Runs, Debugs, Fetches, plan_of, file_said, script_next}
+use Rattle.kbd48_app.specs.Plans.{Plan, Gives, Certifies, Runs, Samples, Debugs, Fetches, plan_of, file_said, script_next, Spells}
 use Rattle.kbd48_app.specs.Reached.{on_fetched, IsUnserved, IsTooLong, Reads}
 use Rattle.kbd48_app.specs.Says.{exit_said}
 use Rattle.kbd48_app.specs.Words.{name_in, second_in, third_in}
@@ -67,6 +67,7 @@ module _ (n : ℕ) where
   unserved (Certifies image text) shelf h = absurd h
   unserved (Spells layout text) shelf h = absurd h
   unserved (Runs command layout history) shelf h = absurd h
+  unserved (Samples count) shelf h = absurd h
   unserved (Debugs layout history script) shelf h = absurd h
   unserved (Fetches kind name next) shelf h =
       fetch_led (Unit {0}) ⊥ (λ bytes. IsUnserved (next bytes) (after_fetch shelf))
@@ -78,6 +79,7 @@ module _ (n : ℕ) where
   too_long long (Certifies image text) shelf h = absurd h
   too_long long (Spells layout text) shelf h = absurd h
   too_long long (Runs command layout history) shelf h = absurd h
+  too_long long (Samples count) shelf h = absurd h
   too_long long (Debugs layout history script) shelf h = absurd h
   too_long long (Fetches kind name next) shelf h =
       fetch_led ⊥ (kind ≡ long) (λ bytes. IsTooLong long (next bytes) (after_fetch shelf))
@@ -133,6 +135,8 @@ module _ (n : ℕ) where
   fault_led fault None words shelf h = absurd (faulty_file n fault (plan_of None words) shelf h).1
   fault_led fault (Some (Feed bytes)) words shelf h =
       absurd (faulty_file n fault (plan_of (Some (Feed bytes)) words) shelf h).1
+  fault_led fault (Some (Sample count)) words shelf h =
+      absurd (faulty_file n fault (plan_of (Some (Sample count)) words) shelf h).1
   fault_led fault (Some (OverFile command)) words shelf h = file_led fault command words shelf h
   fault_led fault (Some (OverPair Certify)) words shelf h =
       fault_led_by_cert n (name_in words) (second_in words) shelf fault h

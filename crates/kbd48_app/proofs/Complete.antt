@@ -1,5 +1,5 @@
 -- Where nothing stands in the way.
-use Rattle.std.proofs.Common.{◌≡◌, ℕ, ◌-◌, ◌^◌, ◌<◌, Bool, true, false, List, length, Some, None, Ok, IfSome, ap, sym, ◌∙◌, subst, inl, inr, refl, arith}
+use Rattle.std.proofs.Common.{◌≡◌, ℕ, ◌-◌, ◌^◌, ◌<◌, Bool, true, false, List, length, Some, None, Ok, IfSome, ap, sym, ◌∙◌, subst, inl, inr, refl, arith, ◌⊎◌}
 use Rattle.layout_reader.specs.Faults.{Refusal as LayoutRefusal}
 use Rattle.layout_reader.specs.Layouts.{KeyLayout}
 use Rattle.std.specs.declared.option.Option.{Option}
@@ -9,28 +9,30 @@ use Rattle.fw_debug.specs.Probes.{Watch}
 use Rattle.io_edge.specs.Faults.{Rose}
 use Rattle.io_edge.specs.MemorySink.{HeldBytes}
 use Rattle.io_edge.specs.Said.{said}
+use Rattle.io_edge.specs.Said.{Shown}
 use Rattle.io_edge.specs.Shelf.{Told, Fetched, Found, after_fetch, fetched}
 use Rattle.mcs48_isa.specs.Listing.{listing_of}
 use Rattle.kbd48_app.specs.declared.exit.Exit.{Exit}
 use Rattle.kbd48_app.specs.declared.exit.Exit.TheVariants as exits
 use Rattle.kbd48_app.specs.declared.words.Command.{Command}
-use Rattle.kbd48_app.specs.declared.words.Command.TheVariants.{OverFile, OverPair, Debug, Feed}
-use Rattle.kbd48_app.specs.declared.words.PairCommand.TheVariants.{Certify, Spell, OverRun}
+use Rattle.kbd48_app.specs.declared.words.Command.TheVariants.{OverFile, OverPair, Debug, Feed, Sample}
+use Rattle.kbd48_app.specs.declared.words.PairCommand.TheVariants.{Certify, OverRun, Spell}
 use Rattle.kbd48_app.specs.declared.words.FileCommand.{FileCommand}
 use Rattle.kbd48_app.specs.declared.words.FileCommand.TheVariants.{Step, Listing, Assemble, Compile}
-use Rattle.kbd48_app.specs.Answers.{MayAnswerOf, MayAnswer, MayEndAs}
+use Rattle.kbd48_app.specs.Answers.{MayAnswerOf, MayAnswer, MayEndAs, Left}
 use Rattle.kbd48_app.specs.Complete.{IsSound, IsFaultless, IsFaultlessAs, IsLeft}
 use Rattle.kbd48_app.specs.declared.kind.Kind.TheVariants as kinds
 use Rattle.kbd48_app.specs.Debugging.{script_fault}
 use Rattle.kbd48_app.specs.Kinds.{kind_of, limit_of}
 use Rattle.kbd48_app.specs.Plans.{Answer, Runs, assembled, compiled, file_said, of_image, plan_of, run_said, script_next}
 use Rattle.kbd48_app.specs.Reached.{on_fetched, may_lack}
-use Rattle.kbd48_app.specs.Says.{ByLines, Says, exit_said}
+use Rattle.kbd48_app.specs.Says.{Says, exit_said, text_said}
 use Rattle.kbd48_app.specs.Stepping.{Progress, Stands, Stopped, after_steps}
 use Rattle.kbd48_app.specs.Words.{command_of, name_in, second_in, third_in}
 use Rattle.kbd48_app.proofs.Certs.{cert_done}
 use Rattle.kbd48_app.proofs.Ends.{leads, ends_so, exit_by, IsLed}
 use Rattle.kbd48_app.proofs.Runs.{history_exit, leads_both}
+use Rattle.kbd48_app.proofs.Concluded.{never_write}
 use Rattle.kbd48_app.proofs.Texts.{text_done}
 
 -- the exit of a run
@@ -50,6 +52,7 @@ sound_left Compile bytes sound = inl (ap (λ (o : Result KeyLayout LayoutRefusal
 -- want of memory is always left
 memory_left : (command : Command) → IsLeft (Some command) exits.Memory
 memory_left (Feed bytes) = inr refl
+memory_left (Sample count) = inr refl
 memory_left (OverFile (Step count)) = inr (inl refl)
 memory_left (OverFile Listing) = inr refl
 memory_left (OverFile Assemble) = inr refl
@@ -79,9 +82,11 @@ script_done : (n : ℕ) (script : List ℕ) (outcome : Fetched) → outcome ≡ 
 script_done n script outcome is has =
     ap (on_fetched exits.Read exits.Input (λ s. exit_by (script_fault n s))) is ∙ ap exit_by has
 
-answers_left : (words : List (List ℕ)) (command : Option Command) (shelf after : Option Told) (answer : Answer) (probes left : List Watch) → IsFaultlessAs (length probes) command words shelf → MayEndAs command words shelf answer after probes left → IsLeft command (exit_said answer)
+answers_left : (words : List (List ℕ)) (command : Option Command) (shelf after : Option Told) (answer : Answer) (probes : List Watch) (left : Left) → IsFaultlessAs (length probes) command words shelf → MayEndAs command words shelf answer after probes left → IsLeft command (exit_said answer)
 answers_left words None shelf after answer probes left faultless may = absurd faultless
 answers_left words (Some (Feed bytes)) shelf after answer probes left faultless may = fed_left bytes _ answer may.0
+answers_left words (Some (Sample count)) shelf after answer probes left faultless may =
+    elim may.0 [ inl memory ↦ inr (ap exit_said memory.0) | inr said ↦ inl (ap exit_said said.3) ]
 answers_left words (Some (OverFile command)) None after answer probes left faultless may = absurd faultless
 answers_left words (Some (OverFile command)) (Some shelf) after answer probes left faultless may =
     let p = plan_of (Some (OverFile command)) words in
@@ -124,14 +129,14 @@ not_risen : (before after : ℕ) → after ≡ before → before < 2 ^ 64 - 1 �
 not_risen before after same below rose = omega (arith, same, below, rose)
 
 -- where the call doesn't end with Write
-left_unwritten : (n : ℕ) (words : List (List ℕ)) (shelf end : Option Told) (probes kept : List Watch) (taken taken' : Option (List ℕ)) (exit : Exit) → length probes ≡ n → IsFaultless n words shelf → (exit ≡ exits.Write → ⊥) → (answer : Answer) × MayAnswer words shelf answer end probes kept × Says answer taken taken' exit → IsLeft (command_of words) exit
+left_unwritten : (n : ℕ) (words : List (List ℕ)) (shelf end : Option Told) (probes : List Watch) (kept : Left) (taken taken' : Shown) (exit : Exit) → length probes ≡ n → IsFaultless n words shelf → (exit ≡ exits.Write → ⊥) → (answer : Answer) × MayAnswer words shelf answer end probes kept × Says answer taken taken' exit → IsLeft (command_of words) exit
 left_unwritten n words shelf end probes kept taken taken' exit many faultless unwritten says =
     elim says.2 [
       | inl whole ↦ subst (λ (e : Exit). IsLeft (command_of words) e) (sym whole.0) (answers_left words (command_of words) shelf end says.0 probes kept (subst (λ (k : ℕ). IsFaultless k words shelf) (sym many) faultless) says.1)
       | inr part ↦ absurd (unwritten part.0)
     ]
 
-pub left : (n : ℕ) (words : List (List ℕ)) (shelf end : Option Told) (probes kept : List Watch) (taken taken' : Option (List ℕ)) (exit : Exit) (before after : ℕ) → length probes ≡ n → IsFaultless n words shelf → after ≡ before → before < 2 ^ 64 - 1 → (exit ≡ exits.Write → Rose before after) → (answer : Answer) × MayAnswer words shelf answer end probes kept × Says answer taken taken' exit → IsLeft (command_of words) exit
+pub left : (n : ℕ) (words : List (List ℕ)) (shelf end : Option Told) (probes : List Watch) (kept : Left) (taken taken' : Shown) (exit : Exit) (before after : ℕ) → length probes ≡ n → IsFaultless n words shelf → after ≡ before → before < 2 ^ 64 - 1 → (exit ≡ exits.Write → Rose before after) → (answer : Answer) × MayAnswer words shelf answer end probes kept × Says answer taken taken' exit → IsLeft (command_of words) exit
 left n words shelf end probes kept taken taken' exit before after many faultless same below write says =
     left_unwritten n words shelf end probes kept taken taken' exit many faultless (λ wrote. not_risen before after same below (write wrote)) says
 
@@ -143,7 +148,23 @@ IsLeftUnfailed n words shelf before after exit =
 true_false : (b : Bool) → b ≡ true → b ≡ false → ⊥
 true_false b is not_so = cc
 
-pub left_told : (n : ℕ) (words : List (List ℕ)) (shelf end : Option Told) (probes kept : List Watch) (taken taken' : Option (List ℕ)) (exit : Exit) (before after : Option HeldBytes) → length probes ≡ n → (answer : Answer) × MayAnswer words shelf answer end probes kept × Says answer taken taken' exit → (text : List ℕ) → ByLines before after text exit → IsLeftUnfailed n words shelf before after exit
-left_told n words shelf end probes kept taken taken' exit None after many says text lines = tt
-left_told n words shelf end probes kept taken taken' exit (Some sink) after many says text lines =
-    λ faultless. (text, lines.0, λ stood. left_unwritten n words shelf end probes kept taken taken' exit many faultless (λ wrote. true_false (said text sink).failed (lines.1.0 wrote) stood) says)
+-- how the sink stands after what was said
+stood : (answer : Answer) (x y : Shown) (exit : Exit) → Says answer x y exit
+    → IfSome x.told (λ sink. (y.told ≡ Some (said (text_said answer) sink).sink) × (exit ≡ exits.Write → (said (text_said answer) sink).failed ≡ true))
+stood answer x y exit says =
+    elim x.told as (λ o. ((exit ≡ exit_said answer) × IfSome o (λ sink. (y.told ≡ Some (said (text_said answer) sink).sink) × ((said (text_said answer) sink).failed ≡ false)))
+    ⊎ ((exit ≡ exits.Write) × IfSome o (λ sink. (y.told ≡ Some (said (text_said answer) sink).sink) × ((said (text_said answer) sink).failed ≡ true)))
+    → IfSome o (λ sink. (y.told ≡ Some (said (text_said answer) sink).sink) × (exit ≡ exits.Write → (said (text_said answer) sink).failed ≡ true))) [
+      | None ↦ λ h. tt
+      | Some sink ↦ λ h. elim h [
+        | inl whole ↦ (whole.1.0, λ wrote. absurd (never_write answer (sym whole.0 ∙ wrote)))
+        | inr part ↦ (part.1.0, λ wrote. part.1.1)
+      ]
+    ] (elim says [ inl whole ↦ inl (whole.0, whole.1.lines) | inr part ↦ inr (part.0, part.1.lines) ])
+
+pub left_told : (n : ℕ) (words : List (List ℕ)) (shelf end : Option Told) (probes : List Watch) (kept : Left) (taken taken' : Shown) (exit : Exit) → length probes ≡ n → (answer : Answer) × MayAnswer words shelf answer end probes kept × Says answer taken taken' exit → IsLeftUnfailed n words shelf taken.told taken'.told exit
+left_told n words shelf end probes kept taken taken' exit many says =
+    elim taken.told as (λ o. IfSome o (λ sink. (taken'.told ≡ Some (said (text_said says.0) sink).sink) × (exit ≡ exits.Write → (said (text_said says.0) sink).failed ≡ true)) → IsLeftUnfailed n words shelf o taken'.told exit) [
+      | None ↦ λ h. tt
+      | Some sink ↦ λ h. λ faultless. (text_said says.0, h.0, λ fine. left_unwritten n words shelf end probes kept taken taken' exit many faultless (λ wrote. true_false (said (text_said says.0) sink).failed (h.1 wrote) fine) says)
+    ] (stood says.0 taken taken' exit says.2)

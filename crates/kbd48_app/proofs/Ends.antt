@@ -4,6 +4,7 @@ use Rattle.std.specs.declared.option.Option.{Option}
 use Rattle.fw_compile.specs.Image.{image_of}
 use Rattle.fw_debug.specs.Probes.{Watch}
 use Rattle.joint_feed.specs.Stories.{Story, story}
+use Rattle.io_edge.specs.Said.{Shown}
 use Rattle.layout_reader.specs.Layouts.{KeyLayout}
 use Rattle.typed_log.specs.Typing.{first_without}
 use Rattle.io_edge.specs.Shelf.{Told, Fetched, Fails, Long, Found, after_fetch, fetched}
@@ -12,11 +13,11 @@ use Rattle.kbd48_app.specs.declared.exit.Exit.TheVariants as exits
 use Rattle.kbd48_app.specs.declared.kind.Kind.{Kind}
 use Rattle.kbd48_app.specs.declared.refusal.Refusal.TheVariants.{Read, TooLong, Memory}
 use Rattle.kbd48_app.specs.declared.words.Command.{Command}
-use Rattle.kbd48_app.specs.Answers.{OnFetched, MayAnswerOf, MayAnswerSession, MayAnswerText, MayEnd, MayEndAs, MayAnswer}
+use Rattle.kbd48_app.specs.Answers.{OnFetched, MayAnswerOf, MayAnswerSession, MayEnd, MayEndAs, MayAnswer, Left, MayAnswerText}
 use Rattle.kbd48_app.specs.CertTexts.{cert_said}
 use Rattle.kbd48_app.specs.Debugging.{script_fault}
 use Rattle.kbd48_app.specs.Kinds.{limit_of}
-use Rattle.kbd48_app.specs.Plans.{Answer, Plan, Gives, Certifies, Spells, Runs, Debugs, Fetches, plan, plan_of}
+use Rattle.kbd48_app.specs.Plans.{Answer, Plan, Gives, Certifies, Runs, Samples, Debugs, Fetches, plan, plan_of, Spells}
 use Rattle.kbd48_app.specs.Reached.{on_fetched, may_lack}
 use Rattle.kbd48_app.specs.Says.{Says, exit_said}
 use Rattle.kbd48_app.specs.Words.{command_of}
@@ -32,6 +33,7 @@ leads n (Gives said) shelf = exit_said said
 leads n (Certifies image text) shelf = exit_said (cert_said image text)
 leads n (Spells layout text) shelf = exit_by (first_without layout text)
 leads n (Runs command layout history) shelf = exits.Done
+leads n (Samples count) shelf = exits.Done
 leads n (Debugs layout history script) shelf = exit_by (script_fault n script)
 leads n (Fetches kind name next) shelf =
     on_fetched exits.Read exits.Input (λ bytes. leads n (next bytes) (after_fetch shelf)) (fetched shelf name (limit_of kind))
@@ -48,7 +50,7 @@ after_fetched kind on exit end answer goes (Found bytes) h = elim h [ inl memory
 weaker : (exit : Exit) (lack : Bool) (answer : Answer) → IsLed exit lack answer → IsLed exit true answer
 weaker exit lack answer h = elim h [ inl same ↦ inl same | inr memory ↦ inr (memory.0, refl) ]
 
-session_led : (first : Option (ℕ × ℕ)) (s : Story) (script : List ℕ) (answer : Answer) (probes left : List Watch) → MayAnswerSession first s script answer probes left → IsLed (exit_by first) true answer
+session_led : (first : Option (ℕ × ℕ)) (s : Story) (script : List ℕ) (answer : Answer) (probes : List Watch) (left : Left) → MayAnswerSession first s script answer probes left → IsLed (exit_by first) true answer
 session_led None s script answer probes left h = elim h [ inl memory ↦ inr (memory.0, refl) | inr said ↦ inl (ap exit_said said.2) ]
 session_led (Some fault) s script answer probes left h = inl (ap exit_said h.0)
 
@@ -65,24 +67,26 @@ text_led layout text answer h =
       ]
     ]
 
-pub ends_so : (p : Plan) (shelf : Told) (answer : Answer) (after : Option Told) (probes left : List Watch) → MayEnd p (Some shelf) answer after probes left → IsLed (leads (length probes) p shelf) (may_lack p shelf) answer
+pub ends_so : (p : Plan) (shelf : Told) (answer : Answer) (after : Option Told) (probes : List Watch) (left : Left) → MayEnd p (Some shelf) answer after probes left → IsLed (leads (length probes) p shelf) (may_lack p shelf) answer
 ends_so (Gives said) shelf answer after probes left h = said_led said answer h.0
 ends_so (Certifies image text) shelf answer after probes left h = said_led (cert_said image text) answer h.0.0
 ends_so (Spells layout text) shelf answer after probes left h = text_led layout text answer h.0
 ends_so (Runs command layout history) shelf answer after probes left h =
-    elim h.0 [ inl memory ↦ inr (memory.0, refl) | inr said ↦ inl (ap exit_said said.2) ]
+    elim h.0 [ inl memory ↦ inr (memory.0, refl) | inr said ↦ inl (ap exit_said said.3) ]
+ends_so (Samples count) shelf answer after probes left h =
+    elim h.0 [ inl memory ↦ inr (memory.0, refl) | inr said ↦ inl (ap exit_said said.3) ]
 ends_so (Debugs layout history script) shelf answer after probes left h =
     session_led (script_fault (length probes) script) (story (image_of layout) history) script answer probes left h.0
 ends_so (Fetches kind name next) shelf answer after probes left h =
     let on : List ℕ → Type 0 = λ bytes. MayEnd (next bytes) (Some (after_fetch shelf)) answer after probes left in
     let exit : List ℕ → Exit = λ bytes. leads (length probes) (next bytes) (after_fetch shelf) in
-    let end : Type 0 = (after ≡ Some (after_fetch shelf)) × (left ≡ probes) in
+    let end : Type 0 = (after ≡ Some (after_fetch shelf)) × (left.probes ≡ probes) in
     after_fetched kind on exit end answer
     (λ bytes more. weaker (exit bytes) (may_lack (next bytes) (after_fetch shelf)) answer (ends_so (next bytes) (after_fetch shelf) answer after probes left more))
     (fetched shelf name (limit_of kind))
     (subst (λ (o : Fetched). OnFetched ((answer ≡ Err Read) × end) ((answer ≡ Err (TooLong kind)) × end) (λ bytes. ((answer ≡ Err Memory) × end) ⊎ on bytes) o) h.1 h.2)
 
-ends_as : (command : Option Command) (words : List (List ℕ)) (shelf : Told) (answer : Answer) (after : Option Told) (probes left : List Watch) → MayEndAs command words (Some shelf) answer after probes left → IsLed (leads (length probes) (plan_of command words) shelf) (may_lack (plan_of command words) shelf) answer
+ends_as : (command : Option Command) (words : List (List ℕ)) (shelf : Told) (answer : Answer) (after : Option Told) (probes : List Watch) (left : Left) → MayEndAs command words (Some shelf) answer after probes left → IsLed (leads (length probes) (plan_of command words) shelf) (may_lack (plan_of command words) shelf) answer
 ends_as None words shelf answer after probes left h = inl (ap exit_said h.0)
 ends_as (Some command) words shelf answer after probes left h = ends_so (plan_of (Some command) words) shelf answer after probes left h
 
@@ -90,7 +94,7 @@ ends_as (Some command) words shelf answer after probes left h = ends_so (plan_of
 abbrev pub IsExit : Exit → Bool → Exit → Type 0
 IsExit led lack exit = (exit ≡ led) ⊎ ((exit ≡ exits.Memory) × (lack ≡ true)) ⊎ (exit ≡ exits.Write)
 
-pub exits_so : (words : List (List ℕ)) (shelf : Told) (taken taken' : Option (List ℕ)) (exit : Exit) (after : Option Told) (probes left : List Watch) → (answer : Answer) × MayAnswer words (Some shelf) answer after probes left × Says answer taken taken' exit → IsExit (leads (length probes) (plan words) shelf) (may_lack (plan words) shelf) exit
+pub exits_so : (words : List (List ℕ)) (shelf : Told) (taken taken' : Shown) (exit : Exit) (after : Option Told) (probes : List Watch) (left : Left) → (answer : Answer) × MayAnswer words (Some shelf) answer after probes left × Says answer taken taken' exit → IsExit (leads (length probes) (plan words) shelf) (may_lack (plan words) shelf) exit
 exits_so words shelf taken taken' exit after probes left h =
     elim h.2 [
       | inl whole ↦

@@ -7,8 +7,8 @@ use Rattle.kbd48_app.specs.declared.exit.Exit.TheVariants as exits
 use Rattle.kbd48_app.specs.declared.kind.Kind.{Kind}
 use Rattle.kbd48_app.specs.declared.kind.Kind.TheVariants as kinds
 use Rattle.kbd48_app.specs.declared.words.Command.{Command}
-use Rattle.kbd48_app.specs.declared.words.Command.TheVariants.{OverFile, OverPair, Debug, Feed}
-use Rattle.kbd48_app.specs.declared.words.PairCommand.TheVariants.{Certify, Spell, OverRun}
+use Rattle.kbd48_app.specs.declared.words.Command.TheVariants.{OverFile, OverPair, Debug, Feed, Sample}
+use Rattle.kbd48_app.specs.declared.words.PairCommand.TheVariants.{Certify, OverRun, Spell}
 use Rattle.kbd48_app.specs.declared.words.FileCommand.{FileCommand}
 use Rattle.kbd48_app.specs.Causes.{HasFileFault, IsStuck, IsUntimely, MayExit}
 use Rattle.kbd48_app.specs.Kinds.{kind_of}
@@ -69,6 +69,7 @@ module _ (n : ℕ) where
       → IsCaused n command (plan_of command words) shelf (leads n (plan_of command words) shelf)
   caused None words shelf = refl
   caused (Some (Feed bytes)) words shelf = tt
+  caused (Some (Sample count)) words shelf = tt
   caused (Some (OverFile command)) words shelf = over_file command words shelf
   caused (Some (OverPair Certify)) words shelf =
       cert_caused n (Some (OverPair Certify)) (name_in words) (second_in words) shelf

@@ -11,13 +11,13 @@ use Rattle.layout_reader.specs.Documents.{layout_of_document}
 use Rattle.layout_reader.specs.Layouts.{KeyLayout}
 use Rattle.kbd48_app.specs.declared.kind.Kind.{Kind}
 use Rattle.kbd48_app.specs.declared.kind.Kind.TheVariants as kinds
-use Rattle.kbd48_app.specs.Answers.{MayAnswerDebug, MayEnd, MayFetch}
+use Rattle.kbd48_app.specs.Answers.{MayAnswerDebug, MayEnd, MayFetch, Left}
 use Rattle.kbd48_app.specs.Fetching.{IsGiven, MayGive}
 use Rattle.kbd48_app.specs.Kinds.{limit_of}
 use Rattle.kbd48_app.specs.Plans.{Answer, Plan, Debugs, Fetches, history_plan, keys_next, with_history, with_layout}
 use Rattle.kbd48_app.proofs.Runs.{Following, HistoryOutcome, LayoutOutcome, plan_from}
 
-found_by : (kind : Kind) (name : List ℕ) (next : List ℕ → Plan) (shelf on after : Option Told) (answer : Answer) (probes left : List Watch) (file : Vec ℕ Global) (outcome : Fetched) → MayFetch shelf name (limit_of kind) outcome → IsGiven kind outcome (Ok file) → on ≡ option_map after_fetch shelf → MayEnd (next file.items) on answer after probes left → MayEnd (Fetches kind name next) shelf answer after probes left
+found_by : (kind : Kind) (name : List ℕ) (next : List ℕ → Plan) (shelf on after : Option Told) (answer : Answer) (probes : List Watch) (left : Left) (file : Vec ℕ Global) (outcome : Fetched) → MayFetch shelf name (limit_of kind) outcome → IsGiven kind outcome (Ok file) → on ≡ option_map after_fetch shelf → MayEnd (next file.items) on answer after probes left → MayEnd (Fetches kind name next) shelf answer after probes left
 found_by kind name next shelf on after answer probes left file Fails may given fetched h = absurd given
 found_by kind name next shelf on after answer probes left file Long may given fetched h = absurd given
 found_by kind name next shelf on after answer probes left file (Found bytes) may given fetched h = (
@@ -28,12 +28,12 @@ found_by kind name next shelf on after answer probes left file (Found bytes) may
 )
 
 -- behind one file
-pub found_so : (kind : Kind) (name : List ℕ) (next : List ℕ → Plan) (shelf on after : Option Told) (answer : Answer) (probes left : List Watch) (file : Vec ℕ Global) → MayGive kind name shelf (Ok file) → on ≡ option_map after_fetch shelf → MayEnd (next file.items) on answer after probes left → MayEnd (Fetches kind name next) shelf answer after probes left
+pub found_so : (kind : Kind) (name : List ℕ) (next : List ℕ → Plan) (shelf on after : Option Told) (answer : Answer) (probes : List Watch) (left : Left) (file : Vec ℕ Global) → MayGive kind name shelf (Ok file) → on ≡ option_map after_fetch shelf → MayEnd (next file.items) on answer after probes left → MayEnd (Fetches kind name next) shelf answer after probes left
 found_so kind name next shelf on after answer probes left file gives fetched h =
     found_by kind name next shelf on after answer probes left file gives.0 gives.1 gives.2 fetched h
 
 -- behind a layout and a key file without a fault
-pub both_found : (first second : List ℕ) (next : Following) (shelf on on' after : Option Told) (answer : Answer) (probes left : List Watch) (file text : Vec ℕ Global) (layout : KeyLayout) (history : KeyHistory) → MayGive kinds.Layout first shelf (Ok file) → on ≡ option_map after_fetch shelf → layout_of_document file.items ≡ Ok layout → MayGive kinds.Keys second on (Ok text) → on' ≡ option_map after_fetch on → history_of layout text.items ≡ Ok history → MayEnd (next layout history) on' answer after probes left → MayEnd (history_plan next first second) shelf answer after probes left
+pub both_found : (first second : List ℕ) (next : Following) (shelf on on' after : Option Told) (answer : Answer) (probes : List Watch) (left : Left) (file text : Vec ℕ Global) (layout : KeyLayout) (history : KeyHistory) → MayGive kinds.Layout first shelf (Ok file) → on ≡ option_map after_fetch shelf → layout_of_document file.items ≡ Ok layout → MayGive kinds.Keys second on (Ok text) → on' ≡ option_map after_fetch on → history_of layout text.items ≡ Ok history → MayEnd (next layout history) on' answer after probes left → MayEnd (history_plan next first second) shelf answer after probes left
 both_found first second next shelf on on' after answer probes left file text layout history gives fetched is gives' fetched' has h =
     found_so kinds.Layout first (plan_from next second) shelf on after answer probes left file gives fetched
     (subst (λ (o : LayoutOutcome). MayEnd (with_layout (keys_next next second) o) on answer after probes left) (sym is)
@@ -41,5 +41,5 @@ both_found first second next shelf on on' after answer probes left file text lay
     (subst (λ (o : HistoryOutcome). MayEnd (with_history (next layout) o) on' answer after probes left) (sym has) h)))
 
 -- a script is obeyed, and no file is fetched behind it
-pub debugged : (layout : KeyLayout) (history : KeyHistory) (text script : List ℕ) (answer : Answer) (probes left : List Watch) (shelf : Option Told) → text ≡ script → MayAnswerDebug layout history text answer probes left → MayEnd (Debugs layout history script) shelf answer shelf probes left
+pub debugged : (layout : KeyLayout) (history : KeyHistory) (text script : List ℕ) (answer : Answer) (probes : List Watch) (left : Left) (shelf : Option Told) → text ≡ script → MayAnswerDebug layout history text answer probes left → MayEnd (Debugs layout history script) shelf answer shelf probes left
 debugged layout history text script answer probes left shelf is h = (subst (λ (t : List ℕ). MayAnswerDebug layout history t answer probes left) is h, refl)

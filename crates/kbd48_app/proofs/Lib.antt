@@ -14,6 +14,7 @@ pub mod Exits
 pub mod Made
 pub mod Refused
 pub mod Complete
+pub mod Concluded
 pub mod Told
 pub mod Certs
 pub mod Runs
@@ -29,3 +30,8 @@ pub mod CertExits
 pub mod Texts
 pub mod TextExits
 pub mod Received
+pub mod First
+pub mod Sampled
+pub mod Starts
+pub mod Streamed
+pub mod Speaking

@@ -2,14 +2,15 @@
 use Rattle.std.proofs.Common.{◌≡◌, ℕ, suc, ◌<◌, ◌≤◌, List, [], ◌∷◌, length, Some, None, Err, inl, inr, refl, ap, subst, ◌∙◌, ◌⊎◌, arith}
 use Rattle.std.specs.declared.option.Option.{Option}
 use Rattle.fw_debug.specs.Probes.{Watch}
+use Rattle.io_edge.specs.Said.{Shown}
 use Rattle.io_edge.specs.Shelf.{Told, Fetched, Fails, Long, Found, after_fetch, fetched}
 use Rattle.kbd48_app.specs.declared.exit.Exit.{Exit}
 use Rattle.kbd48_app.specs.declared.kind.Kind.{Kind}
 use Rattle.kbd48_app.specs.declared.refusal.Refusal.TheVariants.{Read, TooLong, Memory}
 use Rattle.kbd48_app.specs.declared.words.Command.{Command}
-use Rattle.kbd48_app.specs.Answers.{OnFetched, MayEnd, MayEndAs, MayAnswer}
+use Rattle.kbd48_app.specs.Answers.{OnFetched, MayEnd, MayEndAs, MayAnswer, Left}
 use Rattle.kbd48_app.specs.Kinds.{limit_of}
-use Rattle.kbd48_app.specs.Plans.{Answer, Plan, Gives, Certifies, Spells, Runs, Debugs, Fetches, plan, plan_of}
+use Rattle.kbd48_app.specs.Plans.{Answer, Plan, Gives, Certifies, Runs, Samples, Debugs, Fetches, plan, plan_of, Spells}
 use Rattle.kbd48_app.specs.Reached.{on_fetched, fetches_of, after_fetches, Makes}
 use Rattle.kbd48_app.specs.Says.{Says, exit_said}
 use Rattle.kbd48_app.specs.Words.{command_of}
@@ -37,25 +38,26 @@ made_by first kind shelf on rest after kept answer goes Long h = only_one first 
 made_by first kind shelf on rest after kept answer goes (Found bytes) h =
     elim h [ inl memory ↦ cut_off first (rest bytes) shelf after answer memory.1.0 memory.0 | inr more ↦ one_more first (rest bytes) shelf after answer (goes bytes more) ]
 
-made : (p : Plan) (shelf : Told) (answer : Answer) (after : Option Told) (probes left : List Watch) → MayEnd p (Some shelf) answer after probes left → MakesSo (fetches_of p shelf) shelf after answer
+made : (p : Plan) (shelf : Told) (answer : Answer) (after : Option Told) (probes : List Watch) (left : Left) → MayEnd p (Some shelf) answer after probes left → MakesSo (fetches_of p shelf) shelf after answer
 made (Gives said) shelf answer after probes left h = (0, omega arith, h.1.0, inl refl)
 made (Certifies image text) shelf answer after probes left h = (0, omega arith, h.1.0, inl refl)
 made (Spells layout text) shelf answer after probes left h = (0, omega arith, h.1.0, inl refl)
 made (Runs command layout history) shelf answer after probes left h = (0, omega arith, h.1, inl refl)
+made (Samples count) shelf answer after probes left h = (0, omega arith, h.1, inl refl)
 made (Debugs layout history script) shelf answer after probes left h = (0, omega arith, h.1, inl refl)
 made (Fetches kind name next) shelf answer after probes left h =
     let on : List ℕ → Type 0 = λ bytes. MayEnd (next bytes) (Some (after_fetch shelf)) answer after probes left in
-    let end : Type 0 = (after ≡ Some (after_fetch shelf)) × (left ≡ probes) in
-    made_by (name, limit_of kind) kind shelf on (λ bytes. fetches_of (next bytes) (after_fetch shelf)) after (left ≡ probes) answer
+    let end : Type 0 = (after ≡ Some (after_fetch shelf)) × (left.probes ≡ probes) in
+    made_by (name, limit_of kind) kind shelf on (λ bytes. fetches_of (next bytes) (after_fetch shelf)) after (left.probes ≡ probes) answer
     (λ bytes more. made (next bytes) (after_fetch shelf) answer after probes left more)
     (fetched shelf name (limit_of kind))
     (subst (λ (o : Fetched). OnFetched ((answer ≡ Err Read) × end) ((answer ≡ Err (TooLong kind)) × end) (λ bytes. ((answer ≡ Err Memory) × end) ⊎ on bytes) o) h.1 h.2)
 
-made_as : (command : Option Command) (words : List (List ℕ)) (shelf : Told) (answer : Answer) (after : Option Told) (probes left : List Watch) → MayEndAs command words (Some shelf) answer after probes left → MakesSo (fetches_of (plan_of command words) shelf) shelf after answer
+made_as : (command : Option Command) (words : List (List ℕ)) (shelf : Told) (answer : Answer) (after : Option Told) (probes : List Watch) (left : Left) → MayEndAs command words (Some shelf) answer after probes left → MakesSo (fetches_of (plan_of command words) shelf) shelf after answer
 made_as None words shelf answer after probes left h = (0, omega arith, h.1.0, inl refl)
 made_as (Some command) words shelf answer after probes left h = made (plan_of (Some command) words) shelf answer after probes left h
 
-by_exit : (fetches : List (List ℕ × ℕ)) (shelf : Told) (after : Option Told) (answer : Answer) (taken taken' : Option (List ℕ)) (exit : Exit) → Says answer taken taken' exit → MakesSo fetches shelf after answer → Makes fetches shelf after exit
+by_exit : (fetches : List (List ℕ × ℕ)) (shelf : Told) (after : Option Told) (answer : Answer) (taken taken' : Shown) (exit : Exit) → Says answer taken taken' exit → MakesSo fetches shelf after answer → Makes fetches shelf after exit
 by_exit fetches shelf after answer taken taken' exit says h = (
   h.0,
   h.1,
@@ -66,6 +68,6 @@ by_exit fetches shelf after answer taken taken' exit says h = (
   ],
 )
 
-pub makes : (words : List (List ℕ)) (shelf : Told) (taken taken' : Option (List ℕ)) (exit : Exit) (after : Option Told) (probes left : List Watch) → (answer : Answer) × MayAnswer words (Some shelf) answer after probes left × Says answer taken taken' exit → Makes (fetches_of (plan words) shelf) shelf after exit
+pub makes : (words : List (List ℕ)) (shelf : Told) (taken taken' : Shown) (exit : Exit) (after : Option Told) (probes : List Watch) (left : Left) → (answer : Answer) × MayAnswer words (Some shelf) answer after probes left × Says answer taken taken' exit → Makes (fetches_of (plan words) shelf) shelf after exit
 makes words shelf taken taken' exit after probes left h =
     by_exit (fetches_of (plan words) shelf) shelf after h.0 taken taken' exit h.2 (made_as (command_of words) words shelf h.0 after probes left h.1)

@@ -7,7 +7,7 @@ use Rattle.kbd48_app.specs.declared.words.Command.{Command}
 use Rattle.kbd48_app.specs.declared.words.Command.TheVariants.{OverFile, OverPair, Debug}
 use Rattle.kbd48_app.specs.declared.words.PairCommand.{PairCommand}
 use Rattle.kbd48_app.specs.declared.words.FileCommand.{FileCommand}
-use Rattle.kbd48_app.specs.Answers.{MayAnswer, MayEnd, MayEndAs}
+use Rattle.kbd48_app.specs.Answers.{MayAnswer, MayEnd, MayEndAs, Left}
 use Rattle.kbd48_app.specs.Kinds.{kind_of}
 use Rattle.kbd48_app.specs.Plans.{Answer, Gives, Fetches, debug_plan, file_said, pair_plan}
 use Rattle.kbd48_app.specs.Words.{command_of, name_in, second_in, third_in}
@@ -19,7 +19,7 @@ name_is (first ∷ []) word more at = absurd (omega arith)
 name_is (first ∷ second ∷ others) word more at = ap string_bytes at
 
 -- a command over one file, whose name is the second word
-pub ends_over_file : (words : List (String Global)) (command : FileCommand) (word : String Global) (name : List ℕ) (shelf after : Option Told) (answer : Answer) (probes left : List Watch) → command_of (map string_bytes words) ≡ Some (OverFile command) → 1 < length words → word ≡ slice_index_or words 1 word → name ≡ string_bytes word → MayEnd (Fetches (kind_of command) name (λ bytes. Gives (file_said command bytes))) shelf answer after probes left → MayAnswer (map string_bytes words) shelf answer after probes left
+pub ends_over_file : (words : List (String Global)) (command : FileCommand) (word : String Global) (name : List ℕ) (shelf after : Option Told) (answer : Answer) (probes : List Watch) (left : Left) → command_of (map string_bytes words) ≡ Some (OverFile command) → 1 < length words → word ≡ slice_index_or words 1 word → name ≡ string_bytes word → MayEnd (Fetches (kind_of command) name (λ bytes. Gives (file_said command bytes))) shelf answer after probes left → MayAnswer (map string_bytes words) shelf answer after probes left
 ends_over_file words command word name shelf after answer probes left is more at same h =
     let said = λ (bytes : List ℕ). Gives (file_said command bytes) in
     let first : name ≡ name_in (map string_bytes words) = same ∙ name_is words word more at in
@@ -38,7 +38,7 @@ second_name (first ∷ second ∷ []) word more at = absurd (omega arith)
 second_name (first ∷ second ∷ third ∷ others) word more at = ap string_bytes at
 
 -- a command over two files, whose names are the second and the third word
-pub ends_over_pair : (words : List (String Global)) (command : PairCommand) (word word' : String Global) (name name' : List ℕ) (shelf after : Option Told) (answer : Answer) (probes left : List Watch) → command_of (map string_bytes words) ≡ Some (OverPair command) → 2 < length words → word ≡ slice_index_or words 1 word → word' ≡ slice_index_or words 2 word' → name ≡ string_bytes word → name' ≡ string_bytes word' → MayEnd (pair_plan command name name') shelf answer after probes left → MayAnswer (map string_bytes words) shelf answer after probes left
+pub ends_over_pair : (words : List (String Global)) (command : PairCommand) (word word' : String Global) (name name' : List ℕ) (shelf after : Option Told) (answer : Answer) (probes : List Watch) (left : Left) → command_of (map string_bytes words) ≡ Some (OverPair command) → 2 < length words → word ≡ slice_index_or words 1 word → word' ≡ slice_index_or words 2 word' → name ≡ string_bytes word → name' ≡ string_bytes word' → MayEnd (pair_plan command name name') shelf answer after probes left → MayAnswer (map string_bytes words) shelf answer after probes left
 ends_over_pair words command word word' name name' shelf after answer probes left is more at at' same same' h =
     let first : name ≡ name_in (map string_bytes words) = same ∙ first_name words word more at in
     let second : name' ≡ second_in (map string_bytes words) = same' ∙ second_name words word' more at' in
@@ -56,7 +56,7 @@ third_name (first ∷ second ∷ third ∷ []) word more at = absurd (omega arit
 third_name (first ∷ second ∷ third ∷ fourth ∷ others) word more at = ap string_bytes at
 
 -- `debug`, whose names are the words behind its own
-pub ends_over_debug : (words : List (String Global)) (word word' word'' : String Global) (name name' name'' : List ℕ) (shelf after : Option Told) (answer : Answer) (probes left : List Watch) → command_of (map string_bytes words) ≡ Some Debug → 3 < length words → word ≡ slice_index_or words 1 word → word' ≡ slice_index_or words 2 word' → word'' ≡ slice_index_or words 3 word'' → name ≡ string_bytes word → name' ≡ string_bytes word' → name'' ≡ string_bytes word'' → MayEnd (debug_plan name name' name'') shelf answer after probes left → MayAnswer (map string_bytes words) shelf answer after probes left
+pub ends_over_debug : (words : List (String Global)) (word word' word'' : String Global) (name name' name'' : List ℕ) (shelf after : Option Told) (answer : Answer) (probes : List Watch) (left : Left) → command_of (map string_bytes words) ≡ Some Debug → 3 < length words → word ≡ slice_index_or words 1 word → word' ≡ slice_index_or words 2 word' → word'' ≡ slice_index_or words 3 word'' → name ≡ string_bytes word → name' ≡ string_bytes word' → name'' ≡ string_bytes word'' → MayEnd (debug_plan name name' name'') shelf answer after probes left → MayAnswer (map string_bytes words) shelf answer after probes left
 ends_over_debug words word word' word'' name name' name'' shelf after answer probes left is more at at' at'' same same' same'' h =
     let texts = map string_bytes words in
     let first : name ≡ name_in texts = same ∙ name_is words word (omega (arith, more)) at in

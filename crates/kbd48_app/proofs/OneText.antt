@@ -14,7 +14,7 @@ use Rattle.kbd48_app.specs.declared.refusal.Refusal.{Refusal}
 use Rattle.kbd48_app.specs.declared.refusal.Refusal.TheVariants.{Layout, Read, TooLong, Memory}
 use Rattle.kbd48_app.specs.declared.words.PairCommand.TheVariants.{OverRun}
 use Rattle.kbd48_app.specs.declared.words.RunCommand.{RunCommand}
-use Rattle.kbd48_app.specs.Answers.{MayAnswerOf, MayAnswerRun, MayEnd, OnFetched}
+use Rattle.kbd48_app.specs.Answers.{MayAnswerOf, MayAnswerRun, MayEnd, OnFetched, Left}
 use Rattle.kbd48_app.specs.Kinds.{limit_of}
 use Rattle.kbd48_app.specs.Plans.{Plan, Fetches, Runs, keys_next, keys_refusal, pair_plan, with_history, with_layout}
 use Rattle.kbd48_app.proofs.Runs.{HistoryOutcome, LayoutOutcome, plan_from}
@@ -30,7 +30,7 @@ no_text a b text refusal (inr said) = absurd (no_refusal text refusal said)
 
 -- what two plans print over one shelf that tells its files is one text
 abbrev pub PrintsOne : Plan → Plan → Type 0
-PrintsOne p q = (shelf : Told) (a b : List ℕ) (after later : Option Told) (probes left others : List Watch)
+PrintsOne p q = (shelf : Told) (a b : List ℕ) (after later : Option Told) (probes : List Watch) (left others : Left)
     → MayEnd p (Some shelf) (Ok a) after probes left → MayEnd q (Some shelf) (Ok b) later probes others → a ≡ b
 
 -- what was found, of two fetches that come to the same
@@ -45,8 +45,8 @@ fetch_one : (kind : Kind) (name : List ℕ) (next other : List ℕ → Plan) →
     → PrintsOne (Fetches kind name next) (Fetches kind name other)
 fetch_one kind name next other h shelf a b after later probes left others e k =
     let on : Option Told = Some (after_fetch shelf) in
-    let end : Type 0 = (after ≡ on) × (left ≡ probes) in
-    let end' : Type 0 = (later ≡ on) × (others ≡ probes) in
+    let end : Type 0 = (after ≡ on) × (left.probes ≡ probes) in
+    let end' : Type 0 = (later ≡ on) × (others.probes ≡ probes) in
     let f : List ℕ → Type 0 = λ bytes. ((Ok a ≡ Err Memory) × end) ⊎ MayEnd (next bytes) on (Ok a) after probes left in
     let g : List ℕ → Type 0 = λ bytes. ((Ok b ≡ Err Memory) × end') ⊎ MayEnd (other bytes) on (Ok b) later probes others in
     found_one a b f g
@@ -64,7 +64,7 @@ fetch_one kind name next other h shelf a b after later probes left others e k =
     (subst (λ (o : Fetched). OnFetched ((Ok a ≡ Err Read) × end) ((Ok a ≡ Err (TooLong kind)) × end) f o) e.1 e.2)
     (subst (λ (o : Fetched). OnFetched ((Ok b ≡ Err Read) × end') ((Ok b ≡ Err (TooLong kind)) × end') g o) k.1 k.2)
 
-module _ (c d : RunCommand) (h : (layout : KeyLayout) (history : KeyHistory) (a b : List ℕ) (probes left others : List Watch) → MayAnswerRun c layout history (Ok a) probes left → MayAnswerRun d layout history (Ok b) probes others → a ≡ b) where
+module _ (c d : RunCommand) (h : (layout : KeyLayout) (history : KeyHistory) (a b : List ℕ) (probes : List Watch) (left others : Left) → MayAnswerRun c layout history (Ok a) probes left → MayAnswerRun d layout history (Ok b) probes others → a ≡ b) where
   -- behind the key file
   history_one : (layout : KeyLayout) (outcome : HistoryOutcome) → PrintsOne (with_history (Runs c layout) outcome) (with_history (Runs d layout) outcome)
   history_one layout (Ok history) shelf a b after later probes left others e k = h layout history a b probes left others e.0 k.0

@@ -13,27 +13,28 @@ use Rattle.layout_reader.specs.Layouts.{KeyLayout}
 use Rattle.fw_debug.specs.Probes.{Watch}
 use Rattle.fw_compile.specs.Image.{image_of}
 use Rattle.joint_feed.specs.Stories.{Story, story}
+use Rattle.io_edge.specs.Said.{Shown}
 use Rattle.io_edge.specs.Shelf.{Told, Fetched, Fails, Long, Found, after_fetch}
 use Rattle.kbd48_app.specs.declared.exit.Exit.{Exit}
 use Rattle.kbd48_app.specs.declared.exit.Exit.TheVariants as exits
 use Rattle.kbd48_app.specs.declared.refusal.Refusal.TheVariants.{Words, Read, TooLong, Memory}
 use Rattle.kbd48_app.specs.declared.words.Command.{Command}
-use Rattle.kbd48_app.specs.declared.words.Command.TheVariants.{OverFile, OverPair, Debug, Feed}
-use Rattle.kbd48_app.specs.declared.words.PairCommand.TheVariants.{Certify, Spell, OverRun}
+use Rattle.kbd48_app.specs.declared.words.Command.TheVariants.{OverFile, OverPair, Debug, Feed, Sample}
+use Rattle.kbd48_app.specs.declared.words.PairCommand.TheVariants.{Certify, OverRun, Spell}
 use Rattle.kbd48_app.specs.declared.words.FileCommand.{FileCommand}
 use Rattle.std.specs.Option.{option_map}
-use Rattle.kbd48_app.specs.Answers.{OnFetched, MayAnswerOf, MayAnswerSession, MayAnswer, MayEnd, MayEndAs}
+use Rattle.kbd48_app.specs.Answers.{OnFetched, MayAnswerOf, MayAnswerSession, MayAnswer, MayEnd, MayEndAs, Left}
 use Rattle.kbd48_app.specs.Debugging.{script_fault}
 use Rattle.kbd48_app.specs.declared.kind.Kind.{Kind}
 use Rattle.kbd48_app.specs.CertTexts.{cert_said}
-use Rattle.kbd48_app.specs.Plans.{Answer, Plan, Gives, Certifies, Spells, Runs, Debugs, Fetches, cert_next, file_said, keys_next, plan_of, script_next, text_next, with_history, with_image, with_layout}
+use Rattle.kbd48_app.specs.Plans.{Answer, Plan, Gives, Certifies, Runs, Samples, Debugs, Fetches, cert_next, file_said, keys_next, plan_of, script_next, with_history, with_image, with_layout, Spells, text_next}
 use Rattle.kbd48_app.specs.Says.{Says, exit_said}
 use Rattle.kbd48_app.specs.Words.{command_of, second_in, third_in}
 use Rattle.kbd48_app.proofs.Certs.{cert_exits}
 use Rattle.kbd48_app.proofs.FileExits.{Exits, file_exits}
 
 -- the exit is that of the answer, or the sink failed
-pub said_exit : (answer : Answer) (taken taken' : Option (List ℕ)) (exit : Exit) → Says answer taken taken' exit → (exit ≡ exit_said answer) ⊎ (exit ≡ exits.Write)
+pub said_exit : (answer : Answer) (taken taken' : Shown) (exit : Exit) → Says answer taken taken' exit → (exit ≡ exit_said answer) ⊎ (exit ≡ exits.Write)
 said_exit answer taken taken' exit h = elim h [ inl whole ↦ inl whole.0 | inr part ↦ inr part.0 ]
 
 never_file : (command : FileCommand) (bytes : List ℕ) (said : Answer) → Exits command bytes said → exit_said said ≡ exits.Words → ⊥
@@ -57,6 +58,7 @@ Never (Gives said) = exit_said said ≡ exits.Words → ⊥
 Never (Certifies image text) = Unit {0}
 Never (Spells layout text) = Unit {0}
 Never (Runs command layout history) = Unit {0}
+Never (Samples count) = Unit {0}
 Never (Debugs layout history script) = Unit {0}
 Never (Fetches kind name next) = (bytes : List ℕ) → Never (next bytes)
 
@@ -69,7 +71,7 @@ never_by kind answer end on goes (Found bytes) h is =
       | inr more ↦ goes bytes more is
     ]
 
-never_session : (first : Option (ℕ × ℕ)) (s : Story) (script : List ℕ) (answer : Answer) (probes left : List Watch) → MayAnswerSession first s script answer probes left → exit_said answer ≡ exits.Words → ⊥
+never_session : (first : Option (ℕ × ℕ)) (s : Story) (script : List ℕ) (answer : Answer) (probes : List Watch) (left : Left) → MayAnswerSession first s script answer probes left → exit_said answer ≡ exits.Words → ⊥
 never_session (Some fault) s script answer probes left h is = let e : exits.Input ≡ exits.Words = sym (ap exit_said h.0) ∙ is in cc
 never_session None s script answer probes left h is =
     elim h [
@@ -77,7 +79,7 @@ never_session None s script answer probes left h is =
       | inr said ↦ let e : exits.Done ≡ exits.Words = sym (ap exit_said said.2) ∙ is in cc
     ]
 
-never_ends : (p : Plan) → Never p → (shelf after : Option Told) (answer : Answer) (probes left : List Watch) → MayEnd p shelf answer after probes left → exit_said answer ≡ exits.Words → ⊥
+never_ends : (p : Plan) → Never p → (shelf after : Option Told) (answer : Answer) (probes : List Watch) (left : Left) → MayEnd p shelf answer after probes left → exit_said answer ≡ exits.Words → ⊥
 never_ends (Gives said) never shelf after answer probes left h is = never_said said answer never h.0 is
 never_ends (Certifies image text) never shelf after answer probes left h is =
     never_said (cert_said image text) answer (never_certified image text) h.0.0 is
@@ -92,12 +94,17 @@ never_ends (Spells layout text) never shelf after answer probes left h is =
 never_ends (Runs command layout history) never shelf after answer probes left h is =
     elim h.0 [
       | inl memory ↦ let e : exits.Memory ≡ exits.Words = sym (ap exit_said memory.0) ∙ is in cc
-      | inr said ↦ let e : exits.Done ≡ exits.Words = sym (ap exit_said said.2) ∙ is in cc
+      | inr said ↦ let e : exits.Done ≡ exits.Words = sym (ap exit_said said.3) ∙ is in cc
+    ]
+never_ends (Samples count) never shelf after answer probes left h is =
+    elim h.0 [
+      | inl memory ↦ let e : exits.Memory ≡ exits.Words = sym (ap exit_said memory.0) ∙ is in cc
+      | inr said ↦ let e : exits.Done ≡ exits.Words = sym (ap exit_said said.3) ∙ is in cc
     ]
 never_ends (Debugs layout history script) never shelf after answer probes left h is =
     never_session (script_fault (length probes) script) (story (image_of layout) history) script answer probes left h.0 is
 never_ends (Fetches kind name next) never shelf after answer probes left h is =
-    never_by kind answer ((after ≡ option_map after_fetch shelf) × (left ≡ probes)) (λ bytes. MayEnd (next bytes) (option_map after_fetch shelf) answer after probes left)
+    never_by kind answer ((after ≡ option_map after_fetch shelf) × (left.probes ≡ probes)) (λ bytes. MayEnd (next bytes) (option_map after_fetch shelf) answer after probes left)
     (λ bytes more. never_ends (next bytes) (never bytes) (option_map after_fetch shelf) after answer probes left more) h.0 h.2 is
 
 never_image : (second : List ℕ) (outcome : HexOutcome) → Never (with_image (cert_next second) outcome)
@@ -120,31 +127,32 @@ never_layout next never second (Err fault) = λ is. cc
 
 never_command : (command : Command) (words : List (List ℕ)) → Never (plan_of (Some command) words)
 never_command (Feed bytes) words = λ is. cc
+never_command (Sample count) words = tt
 never_command (OverFile command) words = λ bytes. never_file command bytes (file_said command bytes) (file_exits command bytes)
 never_command (OverPair Certify) words = λ bytes. never_image (second_in words) (hex_of bytes)
 never_command (OverPair Spell) words = λ bytes. never_text (second_in words) (layout_of_document bytes)
 never_command (OverPair (OverRun command)) words = λ bytes. never_layout (Runs command) (λ layout history. tt) (second_in words) (layout_of_document bytes)
 never_command Debug words = λ bytes. never_layout (script_next (third_in words)) (λ layout history script. tt) (second_in words) (layout_of_document bytes)
 
-only_none : (command : Option Command) (words : List (List ℕ)) (shelf after : Option Told) (answer : Answer) (probes left : List Watch) → MayEndAs command words shelf answer after probes left → exit_said answer ≡ exits.Words → command ≡ None
+only_none : (command : Option Command) (words : List (List ℕ)) (shelf after : Option Told) (answer : Answer) (probes : List Watch) (left : Left) → MayEndAs command words shelf answer after probes left → exit_said answer ≡ exits.Words → command ≡ None
 only_none None words shelf after answer probes left h is = refl
 only_none (Some command) words shelf after answer probes left h is =
     absurd (never_ends (plan_of (Some command) words) (never_command command words) shelf after answer probes left h is)
 
 -- the words are refused only where they have no form
-pub words_only : (words : List (List ℕ)) (shelf after : Option Told) (probes left : List Watch) (taken taken' : Option (List ℕ)) (exit : Exit) → (answer : Answer) × MayAnswer words shelf answer after probes left × Says answer taken taken' exit → exit ≡ exits.Words → command_of words ≡ None
+pub words_only : (words : List (List ℕ)) (shelf after : Option Told) (probes : List Watch) (left : Left) (taken taken' : Shown) (exit : Exit) → (answer : Answer) × MayAnswer words shelf answer after probes left × Says answer taken taken' exit → exit ≡ exits.Words → command_of words ≡ None
 words_only words shelf after probes left taken taken' exit h is =
     elim (said_exit h.0 taken taken' exit h.2) [
       | inl same ↦ only_none (command_of words) words shelf after h.0 probes left h.1 (sym same ∙ is)
       | inr write ↦ absurd (cc)
     ]
 
-none_refused : (command : Option Command) (words : List (List ℕ)) (shelf after : Option Told) (answer : Answer) (probes left : List Watch) → MayEndAs command words shelf answer after probes left → command ≡ None → answer ≡ Err Words
+none_refused : (command : Option Command) (words : List (List ℕ)) (shelf after : Option Told) (answer : Answer) (probes : List Watch) (left : Left) → MayEndAs command words shelf answer after probes left → command ≡ None → answer ≡ Err Words
 none_refused None words shelf after answer probes left h is = h.0
 none_refused (Some command) words shelf after answer probes left h is = absurd cc
 
 -- and wherever they have none
-pub words_refused : (words : List (List ℕ)) (shelf after : Option Told) (probes left : List Watch) (taken taken' : Option (List ℕ)) (exit : Exit) → (answer : Answer) × MayAnswer words shelf answer after probes left × Says answer taken taken' exit → command_of words ≡ None → (exit ≡ exits.Words) ⊎ (exit ≡ exits.Write)
+pub words_refused : (words : List (List ℕ)) (shelf after : Option Told) (probes : List Watch) (left : Left) (taken taken' : Shown) (exit : Exit) → (answer : Answer) × MayAnswer words shelf answer after probes left × Says answer taken taken' exit → command_of words ≡ None → (exit ≡ exits.Words) ⊎ (exit ≡ exits.Write)
 words_refused words shelf after probes left taken taken' exit h is =
     elim (said_exit h.0 taken taken' exit h.2) [
       | inl same ↦ inl (same ∙ ap exit_said (none_refused (command_of words) words shelf after h.0 probes left h.1 is))

@@ -1,5 +1,5 @@
 -- How a plan ends over a shelf: with which answer, after which fetches, and how it leaves the probes that are handed in.
-use Rattle.std.specs.Prelude.{◌≡◌, ◌⊎◌, ℕ, ◌≤◌, List, length, None, Some, Ok, Err, IfOk}
+use Rattle.std.specs.Prelude.{◌≡◌, ◌⊎◌, ℕ, ◌≤◌, Bool, List, length, None, Some, Ok, Err, IfOk}
 use Rattle.std.specs.Option.{option_map}
 use Rattle.std.specs.declared.alloc.Global.{Global}
 use Rattle.std.specs.declared.option.Option.{Option}
@@ -8,6 +8,7 @@ use Rattle.std.specs.declared.vec.Vec.{Vec}
 use Rattle.fw_compile.specs.Image.{image_of}
 use Rattle.fw_debug.specs.Probes.{Watch}
 use Rattle.joint_feed.specs.Stories.{Story, story}
+use Rattle.subsystem.specs.Running.{Outcome}
 use Rattle.io_edge.specs.Shelf.{Told, Fetched, Fails, Long, Found, after_fetch, fetched}
 use Rattle.kbd48_app.specs.declared.refusal.Refusal.{Refusal}
 use Rattle.kbd48_app.specs.declared.refusal.Refusal.TheVariants.{Words, Read, TooLong, Script, Text, Memory}
@@ -20,8 +21,9 @@ use Rattle.fw_debug.specs.Obeyed.{IsObeyed, IsObeyedInPart}
 use Rattle.kbd48_app.specs.CertTexts.{cert_said, IsCertText}
 use Rattle.kbd48_app.specs.Debugging.{script_fault}
 use Rattle.kbd48_app.specs.Kinds.{limit_of}
-use Rattle.kbd48_app.specs.Plans.{Answer, Plan, Gives, Certifies, Spells, Runs, Debugs, Fetches, plan_of}
-use Rattle.kbd48_app.specs.RunTexts.{IsRunText, HaveLooked}
+use Rattle.kbd48_app.specs.Plans.{Answer, Plan, Gives, Certifies, Runs, Samples, Debugs, Fetches, plan_of, Spells}
+use Rattle.kbd48_app.specs.RunTexts.{AreLeft, AreLeftWanting, HaveLookedAtAll, IsRunText}
+use Rattle.kbd48_app.specs.Sampling.{IsSampleText, sample_story}
 use Rattle.kbd48_app.specs.TextPlans.{IsPlanText}
 use Rattle.kbd48_app.specs.Words.{command_of}
 
@@ -44,6 +46,11 @@ MayAnswerOf said answer = (answer ≡ Err Memory) ⊎ (answer ≡ said)
 abbrev pub MayAnswerCert : List ℕ → List ℕ → Answer → Type 0
 MayAnswerCert image text answer = MayAnswerOf (cert_said image text) answer × IfOk answer (IsCertText image text)
 
+-- what a call leaves behind: the probes, and whether the sink has taken all that it had to say
+pub record Left : Type 0 where
+  pub probes : List Watch
+  pub whole : Bool
+
 -- the same of a text for a layout: its plan, or the number of its first byte without a key, from 1
 abbrev pub MayAnswerText : KeyLayout → List ℕ → Answer → Type 0
 MayAnswerText layout text answer =
@@ -52,22 +59,30 @@ MayAnswerText layout text answer =
     ⊎ ((said : List ℕ) × IsPlanText layout text said × (answer ≡ Ok said))
 
 -- the same of the run of a layout under a history, at which the probes look
-abbrev pub MayAnswerRun : RunCommand → KeyLayout → KeyHistory → Answer → List Watch → List Watch → Type 0
+abbrev pub MayAnswerRun : RunCommand → KeyLayout → KeyHistory → Answer → List Watch → Left → Type 0
 MayAnswerRun command layout history answer probes left =
-    ((answer ≡ Err Memory) × HaveLooked layout history probes left)
-    ⊎ ((text : List ℕ) × IsRunText command layout history text probes left × (answer ≡ Ok text))
+    ((answer ≡ Err Memory) × AreLeftWanting command layout history probes left.probes)
+    ⊎ ((text : List ℕ) × (run : Outcome) × IsRunText command layout history text run × (answer ≡ Ok text)
+    × AreLeft command layout history run.steps left.whole probes left.probes)
+
+-- the same of the run of so many strokes; no memory is wanting once it has begun
+abbrev pub MayAnswerSample : ℕ → Answer → List Watch → List Watch → Type 0
+MayAnswerSample count answer probes left =
+    ((answer ≡ Err Memory) × (left ≡ probes))
+    ⊎ ((text : List ℕ) × (run : Outcome) × IsSampleText count text run × (answer ≡ Ok text)
+    × HaveLookedAtAll (sample_story count) run.steps probes left)
 
 -- the same of a script over a run: one with a fault is refused before a line of it is obeyed; of any other the lines
 -- are obeyed, or, where memory was wanting, the first ones, however many
-abbrev pub MayAnswerSession : Option (ℕ × ℕ) → Story → List ℕ → Answer → List Watch → List Watch → Type 0
+abbrev pub MayAnswerSession : Option (ℕ × ℕ) → Story → List ℕ → Answer → List Watch → Left → Type 0
 MayAnswerSession (Some fault) s script answer probes left =
-    (answer ≡ Err (Script fault.0 fault.1)) × (left ≡ probes)
+    (answer ≡ Err (Script fault.0 fault.1)) × (left.probes ≡ probes)
 MayAnswerSession None s script answer probes left =
-    ((answer ≡ Err Memory) × IsObeyedInPart s script probes left)
-    ⊎ ((text : List ℕ) × IsObeyed s script probes text left × (answer ≡ Ok text))
+    ((answer ≡ Err Memory) × IsObeyedInPart s script probes left.probes)
+    ⊎ ((text : List ℕ) × IsObeyed s script probes text left.probes × (answer ≡ Ok text))
 
 -- the same of a script over the run of a layout under a history
-abbrev pub MayAnswerDebug : KeyLayout → KeyHistory → List ℕ → Answer → List Watch → List Watch → Type 0
+abbrev pub MayAnswerDebug : KeyLayout → KeyHistory → List ℕ → Answer → List Watch → Left → Type 0
 MayAnswerDebug layout history script answer probes left =
     MayAnswerSession (script_fault (length probes) script) (story (image_of layout) history) script answer probes left
 
@@ -78,13 +93,13 @@ OnFetched fails long found Long = long
 OnFetched fails long found (Found bytes) = found bytes
 
 -- the shelf has come so far, and the probes are as they were
-abbrev pub IsKept : Option Told → Option Told → List Watch → List Watch → Type 0
-IsKept on after probes left = (after ≡ on) × (left ≡ probes)
+abbrev pub IsKept : Option Told → Option Told → List Watch → Left → Type 0
+IsKept on after probes left = (after ≡ on) × (left.probes ≡ probes)
 
 -- how a plan may end over a shelf, which tells `after` when it has ended, and with probes, which are `left` then: a
 -- fetch that fails, or finds too many bytes, ends it; where one finds a file, memory may be wanting for it, and else the
 -- plan goes on. The probes are left as they are, but by a run and a session
-abbrev pub MayEnd : Plan → Option Told → Answer → Option Told → List Watch → List Watch → Type 0
+abbrev pub MayEnd : Plan → Option Told → Answer → Option Told → List Watch → Left → Type 0
 MayEnd (Gives said) shelf answer after probes left = MayAnswerOf said answer × IsKept shelf after probes left
 MayEnd (Certifies image text) shelf answer after probes left =
     MayAnswerCert image text answer × IsKept shelf after probes left
@@ -92,6 +107,8 @@ MayEnd (Spells layout text) shelf answer after probes left =
     MayAnswerText layout text answer × IsKept shelf after probes left
 MayEnd (Runs command layout history) shelf answer after probes left =
     MayAnswerRun command layout history answer probes left × (after ≡ shelf)
+MayEnd (Samples count) shelf answer after probes left =
+    MayAnswerSample count answer probes left.probes × (after ≡ shelf)
 MayEnd (Debugs layout history script) shelf answer after probes left =
     MayAnswerDebug layout history script answer probes left × (after ≡ shelf)
 MayEnd (Fetches kind name next) shelf answer after probes left =
@@ -104,12 +121,12 @@ MayEnd (Fetches kind name next) shelf answer after probes left =
     outcome
 
 -- the same of words, which are refused where they have no form
-abbrev pub MayEndAs : Option Command → List (List ℕ) → Option Told → Answer → Option Told → List Watch → List Watch → Type 0
+abbrev pub MayEndAs : Option Command → List (List ℕ) → Option Told → Answer → Option Told → List Watch → Left → Type 0
 MayEndAs None words shelf answer after probes left = (answer ≡ Err Words) × IsKept shelf after probes left
 MayEndAs (Some command) words shelf answer after probes left =
     MayEnd (plan_of (Some command) words) shelf answer after probes left
 
-abbrev pub MayAnswer : List (List ℕ) → Option Told → Answer → Option Told → List Watch → List Watch → Type 0
+abbrev pub MayAnswer : List (List ℕ) → Option Told → Answer → Option Told → List Watch → Left → Type 0
 MayAnswer words shelf answer after probes left = MayEndAs (command_of words) words shelf answer after probes left
 
 -- an answer of the code, whose text is a vector

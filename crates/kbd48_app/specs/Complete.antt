@@ -14,7 +14,7 @@ use Rattle.key_file.specs.KeyFile.{history_of}
 use Rattle.kbd48_app.specs.declared.exit.Exit.{Exit}
 use Rattle.kbd48_app.specs.declared.exit.Exit.TheVariants.{Done, Memory, Stuck}
 use Rattle.kbd48_app.specs.declared.words.Command.{Command}
-use Rattle.kbd48_app.specs.declared.words.Command.TheVariants.{OverFile, OverPair, Debug, Feed}
+use Rattle.kbd48_app.specs.declared.words.Command.TheVariants.{OverFile, OverPair, Debug, Feed, Sample}
 use Rattle.kbd48_app.specs.declared.words.FileCommand.{FileCommand}
 use Rattle.kbd48_app.specs.declared.words.FileCommand.TheVariants.{Step, Listing, Assemble, Compile}
 use Rattle.kbd48_app.specs.declared.words.PairCommand.{PairCommand}
@@ -72,6 +72,7 @@ AllServed probes first second third (Some shelf) =
 abbrev pub IsFaultlessAs : ℕ → Option Command → List (List ℕ) → Option Told → Type 0
 IsFaultlessAs probes None words shelf = ⊥
 IsFaultlessAs probes (Some (Feed bytes)) words shelf = Unit {0}
+IsFaultlessAs probes (Some (Sample count)) words shelf = Unit {0}
 IsFaultlessAs probes (Some (OverFile command)) words shelf = IsServed command (name_in words) shelf
 IsFaultlessAs probes (Some (OverPair command)) words shelf = AreServed command (name_in words) (second_in words) shelf
 IsFaultlessAs probes (Some Debug) words shelf =

@@ -6,11 +6,14 @@ pub mod Stepping
 pub mod Feeding
 pub mod TranslationLaw
 pub mod RunTexts
+pub mod Sampling
 pub mod Debugging
 pub mod Plans
 pub mod CertTexts
 pub mod TextPlans
 pub mod Answers
+pub mod Spoken
+pub mod Telling
 pub mod PrintAlike
 pub mod Fetching
 pub mod Says

@@ -21,7 +21,7 @@ use Rattle.kbd48_app.specs.declared.refusal.Refusal.{Refusal}
 use Rattle.kbd48_app.specs.declared.refusal.Refusal.TheVariants.{Words, Hex, Asm, Layout, Keys, Timing}
 use Rattle.kbd48_app.specs.declared.refusal.Refusal.TheVariants.{Stuck, Memory}
 use Rattle.kbd48_app.specs.declared.words.Command.{Command}
-use Rattle.kbd48_app.specs.declared.words.Command.TheVariants.{OverFile, OverPair, Debug, Feed}
+use Rattle.kbd48_app.specs.declared.words.Command.TheVariants.{OverFile, OverPair, Debug, Feed, Sample}
 use Rattle.kbd48_app.specs.declared.words.FileCommand.{FileCommand}
 use Rattle.kbd48_app.specs.declared.words.FileCommand.TheVariants.{Step, Listing, Assemble, Compile}
 use Rattle.kbd48_app.specs.declared.words.PairCommand.{PairCommand}
@@ -37,13 +37,15 @@ abbrev pub Answer : Type 0
 Answer = Result (List ℕ) Refusal
 
 -- a plan says something, or what is found of a certificate for an image, or with which keys of a layout a text is
--- typed, or what a command says of the run of a layout under a history, or what a script says in a session over such a
--- run, or it fetches the file of this kind and name, and goes on with the file's bytes
+-- typed, or what a command says of the run of a layout under a history, or what is counted in the run of so many
+-- strokes, or what a script says in a session over a run, or it fetches the file of this kind and name, and goes on with
+-- the file's bytes
 pub data Plan : Type 0 where
   Gives : Answer → Plan
   Certifies : List ℕ → List ℕ → Plan
   Spells : KeyLayout → List ℕ → Plan
   Runs : RunCommand → KeyLayout → KeyHistory → Plan
+  Samples : ℕ → Plan
   Debugs : KeyLayout → KeyHistory → List ℕ → Plan
   Fetches : Kind → List ℕ → (List ℕ → Plan) → Plan
 
@@ -129,6 +131,7 @@ pair_plan (OverRun command) first second = history_plan (Runs command) first sec
 abbrev pub plan_of : Option Command → List (List ℕ) → Plan
 plan_of None words = Gives (Err Words)
 plan_of (Some (Feed bytes)) words = Gives (Ok (fed_text bytes))
+plan_of (Some (Sample count)) words = Samples count
 plan_of (Some (OverFile command)) words =
     Fetches (kind_of command) (name_in words) (λ bytes. Gives (file_said command bytes))
 plan_of (Some (OverPair command)) words = pair_plan command (name_in words) (second_in words)

@@ -1,20 +1,22 @@
--- `run` and `expect`: what is printed of the run of a layout's compiled image under a key history.
-use Rattle.std.specs.Prelude.{◌≡◌, ℕ, suc, Bool, List, [], ◌∷◌, ◌++◌, codes, decimal, if◌then◌else◌}
+-- `run`, `expect` and `trace`: what is printed of the run of a layout's compiled image under a key history, and how it
+-- leaves the probes that ride on it.
+use Rattle.std.specs.Prelude.{◌≡◌, ℕ, suc, Bool, true, false, List, [], ◌∷◌, ◌++◌, codes, decimal, if◌then◌else◌}
 use Rattle.fw_compile.specs.Image.{image_of}
 use Rattle.fw_debug.specs.Looks.{looks}
 use Rattle.fw_debug.specs.Probes.{Watch}
-use Rattle.joint_feed.specs.Stories.{story}
+use Rattle.joint_feed.specs.Stories.{Story, story}
 use Rattle.key_file.specs.Histories.{KeyHistory}
 use Rattle.layout_reader.specs.Layouts.{KeyLayout}
 use Rattle.link_model.specs.Expected.{expected_log}
 use Rattle.mcs48_core.specs.StateText.{state_text_of}
-use Rattle.subsystem.specs.Agreement.{IsExpected}
+use Rattle.subsystem.specs.Agreement.{IsAsExpected}
 use Rattle.subsystem.specs.Looking.{HaveLookedAtSome}
-use Rattle.subsystem.specs.Running.{IsRun}
+use Rattle.subsystem.specs.Running.{IsOutcome, Outcome}
 use Rattle.subsystem.specs.Texts.{log_text}
-use Rattle.subsystem.specs.declared.outcome.Run.{Run}
+use Rattle.wire_trace.specs.Trace.{trace_to}
+use Rattle.wires_heard.specs.Hearing.{HearsAll}
 use Rattle.kbd48_app.specs.declared.words.RunCommand.{RunCommand}
-use Rattle.kbd48_app.specs.declared.words.RunCommand.TheVariants.{Log, Expect}
+use Rattle.kbd48_app.specs.declared.words.RunCommand.TheVariants.{Log, Expect, Trace}
 
 -- a tick start: its number, counted from 0, and its stamp
 abbrev pub start_line : ℕ → ℕ → List ℕ
@@ -26,27 +28,56 @@ start_lines number [] = []
 start_lines number (stamp ∷ stamps) = start_line number stamp ++ start_lines (suc number) stamps
 
 -- the run's log, then with `--ticks` its tick starts, and then with `--steps` the state at its end
-abbrev pub run_text : Bool → Bool → Run → List ℕ
+abbrev pub run_text : Bool → Bool → Outcome → List ℕ
 run_text ticks steps run =
-    (log_text run.log.items ++ (if ticks then start_lines 0 run.starts.items else []))
+    (log_text run.log ++ (if ticks then start_lines 0 run.starts else []))
     ++ (if steps then state_text_of run.end run.steps run.cycles else [])
 
 -- the model's log at the run's tick starts
-abbrev pub expected_text : KeyLayout → KeyHistory → Run → List ℕ
-expected_text layout history run = log_text (expected_log layout history run.starts.items)
+abbrev pub expected_text : KeyLayout → KeyHistory → Outcome → List ℕ
+expected_text layout history run = log_text (expected_log layout history run.starts)
 
-abbrev pub text_of_run : RunCommand → KeyLayout → KeyHistory → Run → List ℕ
+-- the two wires in the run, as they change, with the bytes that pass over them
+abbrev pub trace_text : KeyLayout → KeyHistory → Outcome → List ℕ
+trace_text layout history run = trace_to (story (image_of layout) history) run.steps
+
+abbrev pub text_of_run : RunCommand → KeyLayout → KeyHistory → Outcome → List ℕ
 text_of_run (Log ticks steps) layout history run = run_text ticks steps run
 text_of_run Expect layout history run = expected_text layout history run
+text_of_run Trace layout history run = trace_text layout history run
+
+-- the bytes in a trace's comments are those that the controller takes and sends, in order
+abbrev pub IsHeard : RunCommand → KeyLayout → KeyHistory → Type 0
+IsHeard (Log ticks steps) layout history = Unit {0}
+IsHeard Expect layout history = Unit {0}
+IsHeard Trace layout history = HearsAll (story (image_of layout) history)
 
 -- the text is the one of the run of the layout's compiled image under this history, whose log is the one that the model
--- expects at the run's own tick starts; and each probe has looked at the state after each of the run's steps
-abbrev pub IsRunText : RunCommand → KeyLayout → KeyHistory → List ℕ → List Watch → List Watch → Type 0
-IsRunText command layout history text probes left =
-    (run : Run) × IsRun (story (image_of layout) history) run × IsExpected layout history run
-    × (text ≡ text_of_run command layout history run)
-    × (left ≡ looks (story (image_of layout) history) run.steps probes)
+-- expects at the run's own tick starts
+abbrev pub IsRunText : RunCommand → KeyLayout → KeyHistory → List ℕ → Outcome → Type 0
+IsRunText command layout history text run =
+    IsOutcome (story (image_of layout) history) run × IsAsExpected layout history run
+    × (text ≡ text_of_run command layout history run) × IsHeard command layout history
 
--- each probe has looked at the states after the run's first steps, however many
+-- each probe has looked at the state after each of so many steps, in their order
+abbrev pub HaveLookedAtAll : Story → ℕ → List Watch → List Watch → Type 0
+HaveLookedAtAll s steps probes left = left ≡ looks s steps probes
+
+-- each has looked at the states after the run's first steps, however many
 abbrev pub HaveLooked : KeyLayout → KeyHistory → List Watch → List Watch → Type 0
 HaveLooked layout history probes left = HaveLookedAtSome (story (image_of layout) history) probes left
+
+-- how the probes are left where the text is said, whole or up to a put that failed: `run` says its lines as they arise,
+-- and ends at such a put; `expect` has made the run before it says anything; and at the run of `trace` none looks
+abbrev pub AreLeft : RunCommand → KeyLayout → KeyHistory → ℕ → Bool → List Watch → List Watch → Type 0
+AreLeft (Log ticks steps) layout history n false probes left = HaveLooked layout history probes left
+AreLeft (Log ticks steps) layout history n true probes left =
+    HaveLookedAtAll (story (image_of layout) history) n probes left
+AreLeft Expect layout history n whole probes left = HaveLookedAtAll (story (image_of layout) history) n probes left
+AreLeft Trace layout history n whole probes left = left ≡ probes
+
+-- how they are left where memory is wanting: `run` and `trace` take all of it before the first step
+abbrev pub AreLeftWanting : RunCommand → KeyLayout → KeyHistory → List Watch → List Watch → Type 0
+AreLeftWanting (Log ticks steps) layout history probes left = left ≡ probes
+AreLeftWanting Expect layout history probes left = HaveLooked layout history probes left
+AreLeftWanting Trace layout history probes left = left ≡ probes

@@ -1,10 +1,8 @@
 -- What an answer prints, and how it ends the call.
-use Rattle.std.specs.Prelude.{◌≡◌, ◌↔◌, ◌⊎◌, ℕ, true, List, Some, Ok, Err, IfSome}
-use Rattle.std.specs.declared.option.Option.{Option}
-use Rattle.io_edge.specs.MemorySink.{HeldBytes}
-use Rattle.io_edge.specs.Said.{TakesAll, TakesPart, said}
+use Rattle.std.specs.Prelude.{◌≡◌, ◌⊎◌, ℕ, Bool, true, false, List, Ok, Err}
+use Rattle.io_edge.specs.Said.{IsBrokenOff, IsSaid, Shown}
 use Rattle.kbd48_app.specs.declared.exit.Exit.{Exit}
-use Rattle.kbd48_app.specs.declared.exit.Exit.TheVariants.{Done, Write}
+use Rattle.kbd48_app.specs.declared.exit.Exit.TheVariants.{Done, Words, Input, Timing, Read, Write, Memory, Stuck}
 use Rattle.kbd48_app.specs.Plans.{Answer}
 use Rattle.kbd48_app.specs.Refusals.{exit_of, line_of}
 
@@ -17,14 +15,19 @@ abbrev pub text_said : Answer → List ℕ
 text_said (Ok text) = text
 text_said (Err refusal) = line_of refusal
 
--- the sink takes the whole text of the answer, or a put fails, and then what it took is a prefix
-abbrev pub Says : Answer → Option (List ℕ) → Option (List ℕ) → Exit → Type 0
+-- the sink takes the whole text of the answer, line by line, or a put fails, and then what it took is a prefix
+abbrev pub Says : Answer → Shown → Shown → Exit → Type 0
 Says answer before after exit =
-    ((exit ≡ exit_said answer) × TakesAll before after (text_said answer))
-    ⊎ ((exit ≡ Write) × TakesPart before after (text_said answer))
+    ((exit ≡ exit_said answer) × IsSaid before after (text_said answer))
+    ⊎ ((exit ≡ Write) × IsBrokenOff before after (text_said answer))
 
--- a sink that tells itself stands as the text, said to it line by line, leaves it, and the call ends with Write exactly
--- where a put failed
-abbrev pub ByLines : Option HeldBytes → Option HeldBytes → List ℕ → Exit → Type 0
-ByLines before after text exit =
-    IfSome before (λ sink. (after ≡ Some (said text sink).sink) × ((exit ≡ Write) ↔ ((said text sink).failed ≡ true)))
+-- all of it was said where the call doesn't end with Write
+abbrev pub is_whole : Exit → Bool
+is_whole Done = true
+is_whole Words = true
+is_whole Input = true
+is_whole Timing = true
+is_whole Read = true
+is_whole Write = false
+is_whole Memory = true
+is_whole Stuck = true

@@ -10,13 +10,13 @@ use Rattle.std.specs.Str.Parse.{digits_value}
 use Rattle.std.specs.declared.option.Option.{Option}
 use Rattle.hex_text.specs.Digits.{digit_value}
 use Rattle.kbd48_app.specs.declared.words.Command.{Command}
-use Rattle.kbd48_app.specs.declared.words.Command.TheVariants.{OverFile, OverPair, Debug, Feed}
+use Rattle.kbd48_app.specs.declared.words.Command.TheVariants.{OverFile, OverPair, Debug, Feed, Sample}
 use Rattle.kbd48_app.specs.declared.words.FileCommand.{FileCommand}
 use Rattle.kbd48_app.specs.declared.words.FileCommand.TheVariants.{Step, Listing, Assemble, Compile}
 use Rattle.kbd48_app.specs.declared.words.PairCommand.{PairCommand}
 use Rattle.kbd48_app.specs.declared.words.PairCommand.TheVariants.{Certify, Spell, OverRun}
 use Rattle.kbd48_app.specs.declared.words.RunCommand.{RunCommand}
-use Rattle.kbd48_app.specs.declared.words.RunCommand.TheVariants.{Log, Expect}
+use Rattle.kbd48_app.specs.declared.words.RunCommand.TheVariants.{Log, Expect, Trace}
 
 -- a NAME isn't empty and doesn't begin with `-`
 abbrev pub is_name : List ℕ → Bool
@@ -50,7 +50,7 @@ abbrev pub named_of : FileCommand → List (List ℕ) → Option Command
 named_of command (name ∷ []) = if is_name name then Some (OverFile command) else None
 named_of command words = None
 
--- a command with two NAMEs alone: `cert` NAME NAME, `type` NAME NAME, `expect` NAME NAME
+-- a command with two NAMEs alone: `cert` NAME NAME, `type` NAME NAME, `expect` NAME NAME, `trace` NAME NAME
 abbrev pub pair_of : PairCommand → List (List ℕ) → Option Command
 pair_of command (first ∷ second ∷ []) = if is_name first && is_name second then Some (OverPair command) else None
 pair_of command words = None
@@ -92,6 +92,13 @@ abbrev pub feed_of : List (List ℕ) → Option Command
 feed_of words =
     if nat_lt 0 (length words) && nat_le (length words) 4096 then option_map Feed (bytes_of words) else None
 
+-- `sample` COUNT: 1 to 10,000 strokes
+abbrev pub sample_of : List (List ℕ) → Option Command
+sample_of (count ∷ []) =
+    option_and_then (λ strokes. if nat_lt 0 strokes && nat_le strokes 10000 then Some (Sample strokes) else None)
+    (count_of count)
+sample_of words = None
+
 -- the command of the words, or none
 abbrev pub command_of : List (List ℕ) → Option Command
 command_of [] = None
@@ -104,18 +111,34 @@ command_of (command ∷ words) =
     else (if bytes_eq command (codes "type") then pair_of Spell words
     else (if bytes_eq command (codes "run") then run_of words
     else (if bytes_eq command (codes "expect") then pair_of (OverRun Expect) words
+    else (if bytes_eq command (codes "trace") then pair_of (OverRun Trace) words
     else (if bytes_eq command (codes "debug") then debug_of words
-    else (if bytes_eq command (codes "words") then feed_of words else None)))))))))
+    else (if bytes_eq command (codes "words") then feed_of words
+    else (if bytes_eq command (codes "sample") then sample_of words else None)))))))))))
 
 -- the words have an accepted form
 abbrev pub is_form : List (List ℕ) → Bool
 is_form words = is_some (command_of words)
 
--- words that no run is made for: those without a form, and the commands but `run`, `expect` and `debug`
-abbrev pub is_without_run : Option Command → Bool
-is_without_run (Some (OverPair (OverRun command))) = false
-is_without_run (Some Debug) = false
-is_without_run command = true
+-- `trace` makes a run at which no probe looks
+abbrev pub is_trace : RunCommand → Bool
+is_trace (Log ticks steps) = false
+is_trace Expect = false
+is_trace Trace = true
+
+-- words that leave the probes as they are: those without a form, and the commands but `run`, `expect`, `sample` and `debug`
+abbrev pub leaves_probes : Option Command → Bool
+leaves_probes (Some (OverPair (OverRun command))) = is_trace command
+leaves_probes (Some Debug) = false
+leaves_probes (Some (Sample count)) = false
+leaves_probes command = true
+
+-- commands that take all their memory before the first step of their run
+abbrev pub takes_memory_first : Option Command → Bool
+takes_memory_first (Some (OverPair (OverRun (Log ticks steps)))) = true
+takes_memory_first (Some (OverPair (OverRun Trace))) = true
+takes_memory_first (Some (Sample count)) = true
+takes_memory_first command = false
 
 -- the first file that a command names
 abbrev pub name_in : List (List ℕ) → List ℕ
@@ -138,3 +161,4 @@ files_in (OverFile command) = 1
 files_in (OverPair command) = 2
 files_in Debug = 3
 files_in (Feed bytes) = 0
+files_in (Sample count) = 0

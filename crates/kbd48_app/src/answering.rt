@@ -1,12 +1,15 @@
 //! From the words and the files to the answer: a text, or the refusal that stands in its place.
 
-ghost use Rattle.std.specs.Prelude.{◌≡◌, ◌⊎◌, ◌≤◌, List, map, string_bytes, length, true, Some, Ok, Err, IfOk, MatchResult};
+ghost use Rattle.std.specs.Prelude.{◌≡◌, ◌⊎◌, ◌≤◌, Bool, List, map, string_bytes, length, true, Ok, Err, IfOk, MatchResult, Some};
 ghost use Rattle.io_edge.specs.Faults.{Rose};
+ghost use Rattle.io_edge.specs.Said.{shown};
 ghost use Rattle.kbd48_app.specs.Answers.{answer_of, MayAnswer, MayAnswerOf, MayEnd};
 ghost use Rattle.kbd48_app.specs.Kinds.{limit_of, kind_of};
 ghost use Rattle.kbd48_app.specs.Plans.{Gives, Fetches, assembled, compiled, debug_plan, file_said, keys_refusal};
 ghost use Rattle.kbd48_app.specs.Plans.{pair_plan, script_next};
-ghost use Rattle.kbd48_app.specs.Words.{command_of, is_without_run};
+ghost use Rattle.kbd48_app.specs.Spoken.{IsSpoken};
+ghost use Rattle.kbd48_app.specs.Telling.{MayTell};
+ghost use Rattle.kbd48_app.specs.Words.{command_of, leaves_probes};
 ghost use Rattle.fw_debug.specs.Probes.{Watch};
 ghost use Rattle.hexfile.specs.Hex.{hex_of};
 ghost use Rattle.hexfile.specs.declared.fault.HexFault.{HexFault};
@@ -24,14 +27,18 @@ use crate::feeding::feed;
 use crate::fetching::fetch_file;
 use crate::kind::Kind;
 use crate::refusal::Refusal;
+use crate::sampling::sample;
 use crate::spelling::spell;
+use crate::spoken::{Spoken, to_say};
 use crate::stepping::step;
+use crate::streaming::stream;
 use crate::telling::tell;
+use crate::tracing::trace_wires;
 use crate::words::{Command, FileCommand, PairCommand, RunCommand, read_command};
 use fw_compile::compile;
 use fw_debug::{Probe, check_script};
 use hexfile::{read_hex, write_hex};
-use io_edge::Shelf;
+use io_edge::{Shelf, Sink};
 use key_file::{History, KeyFault, read_history};
 use layout_reader::{Layout, LayoutFault, read_layout};
 use mcs48_asm::{AsmFault, assemble};
@@ -128,8 +135,9 @@ fn over_file<F: Shelf>(
     name: &str,
     shelf: &mut F,
 ) -> Result<Vec<u8>, Refusal>
-    ensures ends { (probes : List Watch) → MayEnd (Fetches (kind_of command) name.now (λ bytes. Gives (file_said command bytes)))
-        (F.told shelf.old) (answer_of result) (F.told shelf.new) probes probes }
+    ensures ends { (probes : List Watch) (whole : Bool) →
+        MayEnd (Fetches (kind_of command) name.now (λ bytes. Gives (file_said command bytes)))
+        (F.told shelf.old) (answer_of result) (F.told shelf.new) probes (record { probes = probes; whole = whole }) }
     ensures read { result ≡ Err Refusal.Read → Rose (F.faults shelf.old) (F.faults shelf.new) }
     ensures steady { (result ≡ Err Refusal.Read) ⊎ (F.faults shelf.new ≡ F.faults shelf.old) }
 {
@@ -144,8 +152,8 @@ fn over_cert<F: Shelf>(
     certificate: &str,
     shelf: &mut F,
 ) -> Result<Vec<u8>, Refusal>
-    ensures ends { (probes : List Watch) → MayEnd (pair_plan PairCommand.Certify image.now certificate.now)
-        (F.told shelf.old) (answer_of result) (F.told shelf.new) probes probes }
+    ensures ends { (probes : List Watch) (whole : Bool) → MayEnd (pair_plan PairCommand.Certify image.now certificate.now)
+        (F.told shelf.old) (answer_of result) (F.told shelf.new) probes (record { probes = probes; whole = whole }) }
     ensures read { result ≡ Err Refusal.Read → Rose (F.faults shelf.old) (F.faults shelf.new) }
     ensures steady { (result ≡ Err Refusal.Read) ⊎ (F.faults shelf.new ≡ F.faults shelf.old) }
 {
@@ -162,8 +170,8 @@ fn over_text<F: Shelf>(
     text: &str,
     shelf: &mut F,
 ) -> Result<Vec<u8>, Refusal>
-    ensures ends { (probes : List Watch) → MayEnd (pair_plan PairCommand.Spell layout.now text.now)
-        (F.told shelf.old) (answer_of result) (F.told shelf.new) probes probes }
+    ensures ends { (probes : List Watch) (whole : Bool) → MayEnd (pair_plan PairCommand.Spell layout.now text.now)
+        (F.told shelf.old) (answer_of result) (F.told shelf.new) probes (record { probes = probes; whole = whole }) }
     ensures read { result ≡ Err Refusal.Read → Rose (F.faults shelf.old) (F.faults shelf.new) }
     ensures steady { (result ≡ Err Refusal.Read) ⊎ (F.faults shelf.new ≡ F.faults shelf.old) }
 {
@@ -173,26 +181,77 @@ fn over_text<F: Shelf>(
     spell(alloc, &layout, &text)
 }
 
-/// `run` and `expect`: fetches the layout and judges it, then fetches the key file and judges it for the layout, and
-/// then makes the run.
-fn over_run<F: Shelf>(
+/// `expect`, of a layout and the text of a key file. The text is judged and its history is kept, and then the run is made.
+fn expected(
+    alloc: Global,
+    layout: &Layout,
+    text: &[u8],
+    probes: &mut Vec<Box<dyn Probe>>,
+) -> Result<Vec<u8>, Refusal>
+    requires within { length text.now ≤ 4194304 }
+    ensures says { let before = map (λ b. watch b) probes.old.items in let after = map (λ b. watch b) probes.new.items in
+        (whole : Bool) → MayTell RunCommand.Expect layout.now text.now (answer_of result) before
+        (record { probes = after; whole = whole }) }
+    ensures unread { result ≡ Err Refusal.Read → ⊥ }
+{
+    let history = history_in(alloc, text, layout)?;
+    match tell(alloc, layout, &history, probes) {
+        Ok(text) => Ok(text),
+        Err(_) => Err(Refusal::Memory),
+    }
+}
+
+/// What a command says of a layout and the text of a key file.
+fn told<K: Sink>(
+    alloc: Global,
+    command: RunCommand,
+    layout: &Layout,
+    text: &[u8],
+    out: &mut K,
+    probes: &mut Vec<Box<dyn Probe>>,
+) -> Result<Spoken, Refusal>
+    requires within { length text.now ≤ 4194304 }
+    ensures says { let before = map (λ b. watch b) probes.old.items in let after = map (λ b. watch b) probes.new.items in
+        IsSpoken (λ answer whole. MayTell command layout.now text.now answer before
+        (record { probes = after; whole = whole }))
+        result (shown (K.taken out.old) (K.told out.old) (K.faults out.old))
+        (shown (K.taken out.new) (K.told out.new) (K.faults out.new)) }
+    ensures untouched { leaves_probes (Some (Command.OverPair (PairCommand.OverRun command))) ≡ true
+        → map (λ b. watch b) probes.new.items ≡ map (λ b. watch b) probes.old.items }
+    ensures unread { result ≡ Err Refusal.Read → ⊥ }
+{
+    match command {
+        RunCommand::Log { ticks, steps } => stream(alloc, layout, text, ticks, steps, out, probes),
+        RunCommand::Expect => to_say(expected(alloc, layout, text, probes)),
+        RunCommand::Trace => trace_wires(alloc, layout, text, out),
+    }
+}
+
+/// `run`, `expect` and `trace`: fetches the layout and judges it, then fetches the key file, and then judges it for the
+/// layout and makes the run.
+fn over_run<F: Shelf, K: Sink>(
     alloc: Global,
     command: RunCommand,
     layout: &str,
     keys: &str,
     shelf: &mut F,
+    out: &mut K,
     probes: &mut Vec<Box<dyn Probe>>,
-) -> Result<Vec<u8>, Refusal>
-    ensures ends { MayEnd (pair_plan (PairCommand.OverRun command) layout.now keys.now) (F.told shelf.old)
-        (answer_of result) (F.told shelf.new) (map (λ b. watch b) probes.old.items) (map (λ b. watch b) probes.new.items) }
+) -> Result<Spoken, Refusal>
+    ensures ends { let before = map (λ b. watch b) probes.old.items in let after = map (λ b. watch b) probes.new.items in
+        IsSpoken (λ answer whole. MayEnd (pair_plan (PairCommand.OverRun command) layout.now keys.now) (F.told shelf.old)
+        answer (F.told shelf.new) before (record { probes = after; whole = whole }))
+        result (shown (K.taken out.old) (K.told out.old) (K.faults out.old))
+        (shown (K.taken out.new) (K.told out.new) (K.faults out.new)) }
+    ensures untouched { leaves_probes (Some (Command.OverPair (PairCommand.OverRun command))) ≡ true
+        → map (λ b. watch b) probes.new.items ≡ map (λ b. watch b) probes.old.items }
     ensures read { result ≡ Err Refusal.Read → Rose (F.faults shelf.old) (F.faults shelf.new) }
     ensures steady { (result ≡ Err Refusal.Read) ⊎ (F.faults shelf.new ≡ F.faults shelf.old) }
 {
     let document = fetch_file(alloc, shelf, layout, Kind::Layout)?;
     let layout = layout_in(alloc, &document)?;
     let text = fetch_file(alloc, shelf, keys, Kind::Keys)?;
-    let history = history_in(alloc, &text, &layout)?;
-    tell(alloc, command, &layout, &history, probes)
+    told(alloc, command, &layout, &text, out, probes)
 }
 
 /// `debug`, once the layout and the key file are judged: fetches the script, judges it, and obeys its lines.
@@ -204,8 +263,9 @@ fn over_script<F: Shelf>(
     shelf: &mut F,
     probes: &mut Vec<Box<dyn Probe>>,
 ) -> Result<Vec<u8>, Refusal>
-    ensures ends { MayEnd (script_next script.now layout.now history) (F.told shelf.old) (answer_of result)
-        (F.told shelf.new) (map (λ b. watch b) probes.old.items) (map (λ b. watch b) probes.new.items) }
+    ensures ends { (whole : Bool) → MayEnd (script_next script.now layout.now history) (F.told shelf.old)
+        (answer_of result) (F.told shelf.new) (map (λ b. watch b) probes.old.items)
+        (record { probes = map (λ b. watch b) probes.new.items; whole = whole }) }
     ensures read { result ≡ Err Refusal.Read → Rose (F.faults shelf.old) (F.faults shelf.new) }
     ensures steady { (result ≡ Err Refusal.Read) ⊎ (F.faults shelf.new ≡ F.faults shelf.old) }
 {
@@ -224,8 +284,9 @@ fn over_debug<F: Shelf>(
     shelf: &mut F,
     probes: &mut Vec<Box<dyn Probe>>,
 ) -> Result<Vec<u8>, Refusal>
-    ensures ends { MayEnd (debug_plan layout.now keys.now script.now) (F.told shelf.old) (answer_of result)
-        (F.told shelf.new) (map (λ b. watch b) probes.old.items) (map (λ b. watch b) probes.new.items) }
+    ensures ends { (whole : Bool) → MayEnd (debug_plan layout.now keys.now script.now) (F.told shelf.old)
+        (answer_of result) (F.told shelf.new) (map (λ b. watch b) probes.old.items)
+        (record { probes = map (λ b. watch b) probes.new.items; whole = whole }) }
     ensures read { result ≡ Err Refusal.Read → Rose (F.faults shelf.old) (F.faults shelf.new) }
     ensures steady { (result ≡ Err Refusal.Read) ⊎ (F.faults shelf.new ≡ F.faults shelf.old) }
 {
@@ -237,49 +298,62 @@ fn over_debug<F: Shelf>(
 }
 
 /// A command over two files.
-fn over_pair<F: Shelf>(
+fn over_pair<F: Shelf, K: Sink>(
     alloc: Global,
     command: PairCommand,
     first: &str,
     second: &str,
     shelf: &mut F,
+    out: &mut K,
     probes: &mut Vec<Box<dyn Probe>>,
-) -> Result<Vec<u8>, Refusal>
-    ensures ends { MayEnd (pair_plan command first.now second.now) (F.told shelf.old) (answer_of result)
-        (F.told shelf.new) (map (λ b. watch b) probes.old.items) (map (λ b. watch b) probes.new.items) }
-    ensures untouched { is_without_run (Some (Command.OverPair command)) ≡ true
+) -> Result<Spoken, Refusal>
+    ensures ends { let before = map (λ b. watch b) probes.old.items in let after = map (λ b. watch b) probes.new.items in
+        IsSpoken (λ answer whole. MayEnd (pair_plan command first.now second.now) (F.told shelf.old)
+        answer (F.told shelf.new) before (record { probes = after; whole = whole }))
+        result (shown (K.taken out.old) (K.told out.old) (K.faults out.old))
+        (shown (K.taken out.new) (K.told out.new) (K.faults out.new)) }
+    ensures untouched { leaves_probes (Some (Command.OverPair command)) ≡ true
         → map (λ b. watch b) probes.new.items ≡ map (λ b. watch b) probes.old.items }
     ensures read { result ≡ Err Refusal.Read → Rose (F.faults shelf.old) (F.faults shelf.new) }
     ensures steady { (result ≡ Err Refusal.Read) ⊎ (F.faults shelf.new ≡ F.faults shelf.old) }
 {
     match command {
-        PairCommand::Certify => over_cert(alloc, first, second, shelf),
-        PairCommand::Spell => over_text(alloc, first, second, shelf),
-        PairCommand::OverRun(command) => over_run(alloc, command, first, second, shelf, probes),
+        PairCommand::Certify => to_say(over_cert(alloc, first, second, shelf)),
+        PairCommand::Spell => to_say(over_text(alloc, first, second, shelf)),
+        PairCommand::OverRun(command) => over_run(
+            alloc, command, first, second, shelf, out, probes,
+        ),
     }
 }
 
-/// The answer to the words.
-pub fn answer<F: Shelf>(
+/// The answer to the words. A run's text is said as it arises; of any other answer nothing is said yet.
+pub fn answer<F: Shelf, K: Sink>(
     alloc: Global,
     words: &[String],
     shelf: &mut F,
+    out: &mut K,
     probes: &mut Vec<Box<dyn Probe>>,
-) -> Result<Vec<u8>, Refusal>
-    ensures ends { MayAnswer (map string_bytes words.now) (F.told shelf.old) (answer_of result) (F.told shelf.new)
-        (map (λ b. watch b) probes.old.items) (map (λ b. watch b) probes.new.items) }
-    ensures untouched { is_without_run (command_of (map string_bytes words.now)) ≡ true
+) -> Result<Spoken, Refusal>
+    ensures ends { let before = map (λ b. watch b) probes.old.items in let after = map (λ b. watch b) probes.new.items in
+        IsSpoken (λ answer whole. MayAnswer (map string_bytes words.now) (F.told shelf.old)
+        answer (F.told shelf.new) before (record { probes = after; whole = whole }))
+        result (shown (K.taken out.old) (K.told out.old) (K.faults out.old))
+        (shown (K.taken out.new) (K.told out.new) (K.faults out.new)) }
+    ensures untouched { leaves_probes (command_of (map string_bytes words.now)) ≡ true
         → map (λ b. watch b) probes.new.items ≡ map (λ b. watch b) probes.old.items }
     ensures read { result ≡ Err Refusal.Read → Rose (F.faults shelf.old) (F.faults shelf.new) }
     ensures steady { (result ≡ Err Refusal.Read) ⊎ (F.faults shelf.new ≡ F.faults shelf.old) }
 {
     match read_command(words) {
         None => Err(Refusal::Words),
-        Some(Command::Feed(bytes)) => feed(alloc, bytes.as_slice()),
-        Some(Command::OverFile(command)) => over_file(alloc, command, &words[1], shelf),
+        Some(Command::Feed(bytes)) => to_say(feed(alloc, bytes.as_slice())),
+        Some(Command::OverFile(command)) => to_say(over_file(alloc, command, &words[1], shelf)),
         Some(Command::OverPair(command)) => over_pair(
-            alloc, command, &words[1], &words[2], shelf, probes,
+            alloc, command, &words[1], &words[2], shelf, out, probes,
         ),
-        Some(Command::Debug) => over_debug(alloc, &words[1], &words[2], &words[3], shelf, probes),
+        Some(Command::Debug) => {
+            to_say(over_debug(alloc, &words[1], &words[2], &words[3], shelf, probes))
+        }
+        Some(Command::Sample(strokes)) => sample(alloc, strokes.count(), out, probes),
     }
 }

@@ -1,6 +1,6 @@
 //! `debug`: what the lines of a script say in a session over the run of a layout under a key history.
 
-ghost use Rattle.std.specs.Prelude.{◌≡◌, Err, length, map, MatchResult};
+ghost use Rattle.std.specs.Prelude.{◌≡◌, Bool, Err, length, map, MatchResult};
 ghost use Rattle.fw_compile.specs.Image.{image_of};
 ghost use Rattle.fw_debug.specs.Faults.{IsRight, IsVerdict};
 ghost use Rattle.fw_debug.specs.Obeyed.{IsObeyed, IsObeyedInPart};
@@ -59,8 +59,9 @@ pub fn debug(
     probes: &mut Vec<Box<dyn Probe>>,
 ) -> Result<Vec<u8>, Refusal>
     requires judged { IsVerdict (script_of (length probes.old.items) script.now) verdict }
-    ensures says { let before = map (λ b. watch b) probes.old.items in
-        MayAnswerDebug layout.now history script.now (answer_of result) before (map (λ b. watch b) probes.new.items) }
+    ensures says { let before = map (λ b. watch b) probes.old.items in (whole : Bool) →
+        MayAnswerDebug layout.now history script.now (answer_of result) before
+        (record { probes = map (λ b. watch b) probes.new.items; whole = whole }) }
     ensures unread { result ≡ Err Refusal.Read → ⊥ }
 {
     match verdict {

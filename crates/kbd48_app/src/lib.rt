@@ -16,10 +16,15 @@ mod fetching;
 mod kind;
 mod law;
 mod refusal;
+mod sampling;
 mod spelling;
+mod spoken;
 mod stepping;
+mod streaming;
+mod strokes;
 mod telling;
 mod top;
+mod tracing;
 mod words;
 
 pub use exit::Exit;

@@ -1,38 +1,35 @@
 //! The top call.
 
-ghost use Rattle.std.specs.Prelude.{◌≡◌, ℕ, ◌-◌, ◌^◌, ◌<◌, ◌⊎◌, List, length, map, string_bytes, true, false, None, Some, Err, IfSome};
+ghost use Rattle.std.specs.Prelude.{◌≡◌, ℕ, ◌-◌, ◌^◌, ◌<◌, ◌⊎◌, List, length, map, string_bytes, true, false, None, Some, IfSome};
 ghost use Rattle.hexfile.specs.declared.fault.HexFault.{HexFault};
 ghost use Rattle.io_edge.specs.Faults.{Rose};
-ghost use Rattle.io_edge.specs.Said.{TakesAll, TakesPart, said};
+ghost use Rattle.io_edge.specs.Said.{TakesAll, said, shown};
 ghost use Rattle.layout_reader.specs.Faults.{Refusal as LayoutRefusal};
 ghost use Rattle.kbd48_app.specs.declared.kind.Kind.{Kind};
-ghost use Rattle.kbd48_app.specs.Answers.{answer_of, MayAnswer};
+ghost use Rattle.kbd48_app.specs.Answers.{MayAnswer};
 ghost use Rattle.kbd48_app.specs.Causes.{HasAsmFault, HasCertFault, HasFileFault, HasHexFault, HasKeysFault};
 ghost use Rattle.kbd48_app.specs.Causes.{HasLayoutFault, HasScriptFault, HasTextFault, HasTimingFault, IsStuck, IsUntimely};
 ghost use Rattle.kbd48_app.specs.Causes.{MayExit};
 ghost use Rattle.kbd48_app.specs.Complete.{IsFaultless, IsLeft};
 ghost use Rattle.kbd48_app.specs.Plans.{Answer, plan};
 ghost use Rattle.kbd48_app.specs.Reached.{IsTooLong, IsUnserved, fetches_of, Makes, may_lack};
-ghost use Rattle.kbd48_app.specs.Says.{ByLines, Says, text_said};
-ghost use Rattle.kbd48_app.specs.Words.{command_of, is_without_run};
+ghost use Rattle.kbd48_app.specs.Refusals.{line_of};
+ghost use Rattle.kbd48_app.specs.Says.{Says, is_whole};
+ghost use Rattle.kbd48_app.specs.Spoken.{Concludes, Prints};
+ghost use Rattle.kbd48_app.specs.Words.{command_of, leaves_probes, takes_memory_first};
 
 use crate::answering::answer;
 use crate::exit::Exit;
 use crate::refusal::Refusal;
+use crate::spoken::Spoken;
 use fw_debug::Probe;
 use io_edge::{Shelf, Sink, say};
 use std::alloc::Global;
 
 /// Prints a text, and ends with this exit, or with `Write` where the sink fails.
 fn print<K: Sink>(out: &mut K, text: &[u8], exit: Exit) -> Exit
-    ensures says { ((result ≡ exit) × TakesAll (K.taken out.old) (K.taken out.new) text.now)
-        ⊎ ((result ≡ Exit.Write) × TakesPart (K.taken out.old) (K.taken out.new) text.now) }
-    ensures write { (result ≡ exit) ⊎ Rose (K.faults out.old) (K.faults out.new) }
-    ensures exits { (result ≡ exit) ⊎ (result ≡ Exit.Write) }
-    ensures put_failed { K.faults out.old < K.faults out.new → result ≡ Exit.Write }
-    ensures after { IfSome (K.told out.old) (λ sink. K.told out.new ≡ Some (said text.now sink).sink) }
-    ensures one_failed { IfSome (K.told out.old) (λ sink. (said text.now sink).failed ≡ true → result ≡ Exit.Write) }
-    ensures none_failed { IfSome (K.told out.old) (λ sink. (result ≡ exit) ⊎ ((said text.now sink).failed ≡ true)) }
+    ensures says { Prints text.now exit (shown (K.taken out.old) (K.told out.old) (K.faults out.old))
+        (shown (K.taken out.new) (K.told out.new) (K.faults out.new)) result }
 {
     match say(out, text) {
         Ok(()) => exit,
@@ -40,16 +37,16 @@ fn print<K: Sink>(out: &mut K, text: &[u8], exit: Exit) -> Exit
     }
 }
 
-/// Prints an answer, and ends with its exit, or with `Write` where the sink fails.
-fn conclude<K: Sink>(out: &mut K, answer: &Result<Vec<u8>, Refusal>) -> Exit
-    ensures says { Says (answer_of answer.now) (K.taken out.old) (K.taken out.new) result }
-    ensures read { result ≡ Exit.Read → answer.now ≡ Err Refusal.Read }
-    ensures write { result ≡ Exit.Write → Rose (K.faults out.old) (K.faults out.new) }
-    ensures put_failed { K.faults out.old < K.faults out.new → result ≡ Exit.Write }
-    ensures lines { ByLines (K.told out.old) (K.told out.new) (text_said (answer_of answer.now)) result }
+/// Prints what is left of an answer to be said, and ends with its exit, or with `Write` where the sink fails or has
+/// failed.
+fn conclude<K: Sink>(out: &mut K, answer: &Result<Spoken, Refusal>) -> Exit
+    ensures concludes { Concludes answer.now (shown (K.taken out.old) (K.told out.old) (K.faults out.old))
+        (shown (K.taken out.new) (K.told out.new) (K.faults out.new)) result }
 {
     match answer {
-        Ok(text) => print(out, text, Exit::Done),
+        Ok(Spoken::Text(text)) => print(out, text, Exit::Done),
+        Ok(Spoken::Said(Ok(()))) => Exit::Done,
+        Ok(Spoken::Said(Err(_))) => Exit::Write,
         Err(refusal) => print(out, &refusal.line(), refusal.exit()),
     }
 }
@@ -58,11 +55,12 @@ fn conclude<K: Sink>(out: &mut K, answer: &Result<Vec<u8>, Refusal>) -> Exit
 ///
 /// Words outside the accepted forms are refused first. Then the files that the words name are fetched and judged, in
 /// the order of the words, each before the next is fetched; the first refusal ends the call. All that is said goes to
-/// the sink line by line: each line is offered whole in one `put`, and what that didn't take of it again. A sink that
-/// fails ends the call with `Write`; want of memory with `Memory`, which never comes for words outside the forms.
+/// the sink line by line: each line is offered whole in one `put`, and what that didn't take of it again. `run` and
+/// `trace` put each line as it arises. A sink that fails ends the call with `Write`; want of memory with `Memory`, which
+/// never comes for words outside the forms, and in `run`, `trace` and `sample` only before the run's first step.
 ///
-/// At each step of the run of `run` and `expect` each probe looks once. `debug` obeys a script with them. Nothing else
-/// is done with them.
+/// At each step of the run of `run`, `expect` and `sample` each probe looks once. `debug` obeys a script with them. Nothing
+/// else is done with them.
 pub fn kbd48<F: Shelf, K: Sink>(
     alloc: Global,
     words: &[String],
@@ -71,13 +69,15 @@ pub fn kbd48<F: Shelf, K: Sink>(
     probes: &mut Vec<Box<dyn Probe>>,
 ) -> Exit
     // What is printed, and how the probes are left: the text of an answer that the words, the shelf and the probes may
-    // give, put line by line.
+    // give, put line by line; where all of it is taken, a run's probes have looked at each of its states.
     ensures says { let before = map (λ b. watch b) probes.old.items in let after = map (λ b. watch b) probes.new.items in
-        (answer : Answer) × MayAnswer (map string_bytes words.now) (F.told shelf.old) answer (F.told shelf.new) before after
-        × Says answer (K.taken out.old) (K.taken out.new) result
-        × ByLines (K.told out.old) (K.told out.new) (text_said answer) result }
+        (answer : Answer)
+        × MayAnswer (map string_bytes words.now) (F.told shelf.old) answer (F.told shelf.new) before
+        (record { probes = after; whole = is_whole result })
+        × Says answer (shown (K.taken out.old) (K.told out.old) (K.faults out.old))
+        (shown (K.taken out.new) (K.told out.new) (K.faults out.new)) result }
     // The probes: words without a run leave them as they are.
-    ensures untouched { is_without_run (command_of (map string_bytes words.now)) ≡ true
+    ensures untouched { leaves_probes (command_of (map string_bytes words.now)) ≡ true
         → map (λ b. watch b) probes.new.items ≡ map (λ b. watch b) probes.old.items }
     // Words: exactly where the words have no form.
     ensures words { command_of (map string_bytes words.now) ≡ None → (result ≡ Exit.Words) ⊎ (result ≡ Exit.Write) }
@@ -123,6 +123,11 @@ pub fn kbd48<F: Shelf, K: Sink>(
     // Memory: never where the first fetch fails, or finds a file that is too long.
     ensures memory { IfSome (F.told shelf.old) (λ told.
         result ≡ Exit.Memory → may_lack (plan (map string_bytes words.now)) told ≡ true) }
+    // Memory, in `run`, `trace` and `sample`: only before the run's first step. No probe has looked, and one line is all
+    // that is said.
+    ensures memory_first { takes_memory_first (command_of (map string_bytes words.now)) ≡ true → result ≡ Exit.Memory
+        → (map (λ b. watch b) probes.new.items ≡ map (λ b. watch b) probes.old.items)
+        × TakesAll (K.taken out.old) (K.taken out.new) (line_of Refusal.Memory) }
     // Write: only where the sink's count of faults rose, and where it did, nothing else comes.
     ensures write { result ≡ Exit.Write → Rose (K.faults out.old) (K.faults out.new) }
     ensures put_failed { K.faults out.old < K.faults out.new → result ≡ Exit.Write }
@@ -140,6 +145,6 @@ pub fn kbd48<F: Shelf, K: Sink>(
     ensures fetches { IfSome (F.told shelf.old) (λ told.
         Makes (fetches_of (plan (map string_bytes words.now)) told) told (F.told shelf.new) result) }
 {
-    let answer = answer(alloc, words, shelf, probes);
+    let answer = answer(alloc, words, shelf, out, probes);
     conclude(out, &answer)
 }

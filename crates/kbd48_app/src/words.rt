@@ -5,12 +5,13 @@ ghost use Rattle.std.specs.Str.{bytes_eq};
 ghost use Rattle.std.specs.Char.{is_ascii_digit};
 ghost use Rattle.std.specs.List.{list_all};
 ghost use Rattle.kbd48_app.specs.Words.{is_name, is_short_number, count_of, step_of, named_of, pair_of, debug_of};
-ghost use Rattle.kbd48_app.specs.Words.{are_both, log_of, run_of, feed_of, command_of, files_in, is_form};
+ghost use Rattle.kbd48_app.specs.Words.{are_both, log_of, run_of, feed_of, sample_of, command_of, files_in, is_form};
 
 use crate::bytes::KeyboardBytes;
 use crate::kind::Kind;
+use crate::strokes::Strokes;
 
-/// The greatest COUNT.
+/// The greatest COUNT of steps.
 const MOST_STEPS: u32 = 1_000_000;
 
 /// A command over one file, with its numbers. The file's name is the word behind the command.
@@ -33,6 +34,8 @@ pub enum RunCommand {
     Log { ticks: bool, steps: bool },
     /// `expect`: the model's log at its tick starts.
     Expect,
+    /// `trace`: the two wires, as they change.
+    Trace,
 }
 
 /// A command over two files. Their names are the two words behind the command.
@@ -42,7 +45,7 @@ pub enum PairCommand {
     Certify,
     /// `type` NAME NAME: a layout, and a text to be typed on it.
     Spell,
-    /// `run` NAME NAME and its options, `expect` NAME NAME: a layout, and a key file for it.
+    /// `run` NAME NAME and its options, `expect` NAME NAME, `trace` NAME NAME: a layout, and a key file for it.
     OverRun(RunCommand),
 }
 
@@ -57,6 +60,8 @@ pub enum Command {
     Debug,
     /// `words` BYTE ..
     Feed(KeyboardBytes),
+    /// `sample` COUNT
+    Sample(Strokes),
 }
 
 impl FileCommand {
@@ -229,6 +234,17 @@ fn read_feed(words: &[String]) -> Option<Command>
     KeyboardBytes::read(words).map(Command::Feed)
 }
 
+/// `sample` COUNT
+fn read_sample(words: &[String]) -> Option<Command>
+    ensures command { result ≡ sample_of (map string_bytes words.now) }
+    ensures named { IfSome result (λ command. files_in command ≤ length words.now) }
+{
+    match words {
+        [strokes] => Strokes::new(count(strokes)?).map(Command::Sample),
+        _ => None,
+    }
+}
+
 /// The command of the words, or none where the words are outside the accepted forms.
 pub fn read_command(words: &[String]) -> Option<Command>
     ensures command { result ≡ command_of (map string_bytes words.now) }
@@ -244,8 +260,10 @@ pub fn read_command(words: &[String]) -> Option<Command>
         "type" => read_pair(PairCommand::Spell, words),
         "run" => read_run(words),
         "expect" => read_pair(PairCommand::OverRun(RunCommand::Expect), words),
+        "trace" => read_pair(PairCommand::OverRun(RunCommand::Trace), words),
         "debug" => read_debug(words),
         "words" => read_feed(words),
+        "sample" => read_sample(words),
         _ => None,
     }
 }

@@ -35,9 +35,13 @@ mod rows;
 #[cfg(test)]
 mod runs;
 #[cfg(test)]
+mod sampling;
+#[cfg(test)]
 mod step;
 #[cfg(test)]
 mod ticks;
+#[cfg(test)]
+mod tracing;
 #[cfg(test)]
 mod typing;
 #[cfg(test)]

@@ -1,18 +1,28 @@
 use Rattle.std.proofs.Common.{sym, ◌∙◌, ap, Some}
-use Rattle.kbd48_app.proofs.Named.{ends_over_debug, ends_over_file, ends_over_pair}
+use Rattle.io_edge.specs.Said.{shown}
+use Rattle.kbd48_app.proofs.Speaking.{debug_spoken, file_spoken, pair_spoken, sample_spoken}
 use Rattle.kbd48_app.proofs.answering.answer.Goals as goal
 
 pub returns-in-Some-OverFile-clause-ends : goal.returns-in-Some-OverFile-clause-ends
 returns-in-Some-OverFile-clause-ends g c =
-    ends_over_file c.args.words.now c.in-Some-OverFile.command c.index-words-1.result _ (g.F.Shelf.told c.args.shelf.now) _ _ _ _
-    (sym c.read_command.ensures.command ∙ (c.in-Some-OverFile.is ∙ ap (λ f. Some f) c.in-Some-OverFile.field-0-is)) (rw c.in-Some-OverFile.field-0-is at c.in-Some-OverFile.ensures.named) c.index-words-1.is c.deref.ensures (c.over_file.ensures.ends _)
+    file_spoken c.args.words.now (g.F.Shelf.told c.args.shelf.now) _ c.in-Some-OverFile.command c.index-words-1.result _ _ c.over_file.result c.to_say-in-Some-OverFile.result
+    (shown (g.K.Sink.taken c.args.out.now) (g.K.Sink.told c.args.out.now) (g.K.Sink.faults c.args.out.now))
+    (sym c.read_command.ensures.command ∙ (c.in-Some-OverFile.is ∙ ap (λ f. Some f) c.in-Some-OverFile.field-0-is)) (rw c.in-Some-OverFile.field-0-is at c.in-Some-OverFile.ensures.named) c.index-words-1.is c.deref.ensures c.to_say-in-Some-OverFile.ensures c.over_file.ensures.ends
 
 pub returns-in-Some-OverPair-clause-ends : goal.returns-in-Some-OverPair-clause-ends
 returns-in-Some-OverPair-clause-ends g c =
-    ends_over_pair c.args.words.now c.in-Some-OverPair.command c.index-words-1-in-Some-OverPair.result c.index-words-2.result _ _ (g.F.Shelf.told c.args.shelf.now) _ _ _ _
+    pair_spoken c.args.words.now (g.F.Shelf.told c.args.shelf.now) _ c.in-Some-OverPair.command c.index-words-1-in-Some-OverPair.result c.index-words-2.result _ _ _ _ c.over_pair.result
+    (shown (g.K.Sink.taken c.args.out.now) (g.K.Sink.told c.args.out.now) (g.K.Sink.faults c.args.out.now)) (shown (g.K.Sink.taken c.over_pair.new.out) (g.K.Sink.told c.over_pair.new.out) (g.K.Sink.faults c.over_pair.new.out))
     (sym c.read_command.ensures.command ∙ (c.in-Some-OverPair.is ∙ ap (λ f. Some f) c.in-Some-OverPair.field-0-is)) (rw c.in-Some-OverPair.field-0-is at c.in-Some-OverPair.ensures.named) c.index-words-1-in-Some-OverPair.is c.index-words-2.is c.deref-in-Some-OverPair.ensures c.deref-in-Some-OverPair-2.ensures c.over_pair.ensures.ends
 
 pub returns-in-Some-Debug-clause-ends : goal.returns-in-Some-Debug-clause-ends
 returns-in-Some-Debug-clause-ends g c =
-    ends_over_debug c.args.words.now c.index-words-1-in-Some-Debug.result c.index-words-2-in-Some-Debug.result c.index-words-3.result _ _ _ (g.F.Shelf.told c.args.shelf.now) _ _ _ _
-    (sym c.read_command.ensures.command ∙ (c.in-Some-Debug.is ∙ ap (λ f. Some f) c.in-Some-Debug.field-0-is)) (rw c.in-Some-Debug.field-0-is at c.in-Some-Debug.ensures.named) c.index-words-1-in-Some-Debug.is c.index-words-2-in-Some-Debug.is c.index-words-3.is c.deref-in-Some-Debug.ensures c.deref-in-Some-Debug-2.ensures c.deref-in-Some-Debug-3.ensures c.over_debug.ensures.ends
+    debug_spoken c.args.words.now (g.F.Shelf.told c.args.shelf.now) _ c.index-words-1-in-Some-Debug.result c.index-words-2-in-Some-Debug.result c.index-words-3.result _ _ _ _ _ c.over_debug.result c.to_say-in-Some-Debug.result
+    (shown (g.K.Sink.taken c.args.out.now) (g.K.Sink.told c.args.out.now) (g.K.Sink.faults c.args.out.now))
+    (sym c.read_command.ensures.command ∙ (c.in-Some-Debug.is ∙ ap (λ f. Some f) c.in-Some-Debug.field-0-is)) (rw c.in-Some-Debug.field-0-is at c.in-Some-Debug.ensures.named) c.index-words-1-in-Some-Debug.is c.index-words-2-in-Some-Debug.is c.index-words-3.is c.deref-in-Some-Debug.ensures c.deref-in-Some-Debug-2.ensures c.deref-in-Some-Debug-3.ensures c.to_say-in-Some-Debug.ensures c.over_debug.ensures.ends
+
+pub returns-in-Some-Sample-clause-ends : goal.returns-in-Some-Sample-clause-ends
+returns-in-Some-Sample-clause-ends g c =
+    sample_spoken c.args.words.now (g.F.Shelf.told c.args.shelf.now) c.in-Some-Sample.strokes _ _ _ c.sample.result
+    (shown (g.K.Sink.taken c.args.out.now) (g.K.Sink.told c.args.out.now) (g.K.Sink.faults c.args.out.now)) (shown (g.K.Sink.taken c.sample.new.out) (g.K.Sink.told c.sample.new.out) (g.K.Sink.faults c.sample.new.out))
+    (sym c.read_command.ensures.command ∙ (c.in-Some-Sample.is ∙ ap (λ f. Some f) c.in-Some-Sample.field-0-is)) c.count.ensures.count c.sample.ensures.says

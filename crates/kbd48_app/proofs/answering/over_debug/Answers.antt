@@ -6,7 +6,7 @@ use Rattle.kbd48_app.proofs.Found.{both_found}
 use Rattle.kbd48_app.proofs.answering.over_debug.Goals as goal
 
 pub returns-clause-ends : goal.returns-clause-ends
-returns-clause-ends g c =
+returns-clause-ends g c = λ whole.
     both_found c.args.layout.now c.args.keys.now (script_next c.args.script.now) (g.F.Shelf.told c.args.shelf.now) _ _ _ _ _ _ c.in_ok-document.document c.in_ok-text.text c.in_ok-layout.layout c.in_ok-history.history
     c.in_ok-document.ensures.gives c.in_ok-document.ensures.fetched (ap layout_of_document (sym c.deref.ensures.value) ∙ c.in_ok-layout.ensures)
-    c.in_ok-text.ensures.gives c.in_ok-text.ensures.fetched (ap (history_of c.in_ok-layout.layout) (sym c.deref-2.ensures.value) ∙ c.in_ok-history.ensures.history) c.over_script.ensures.ends
+    c.in_ok-text.ensures.gives c.in_ok-text.ensures.fetched (ap (history_of c.in_ok-layout.layout) (sym c.deref-2.ensures.value) ∙ c.in_ok-history.ensures.history) (c.over_script.ensures.ends whole)

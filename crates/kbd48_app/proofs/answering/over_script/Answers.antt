@@ -4,7 +4,7 @@ use Rattle.kbd48_app.proofs.Found.{debugged, found_so}
 use Rattle.kbd48_app.proofs.answering.over_script.Goals as goal
 
 pub returns-clause-ends : goal.returns-clause-ends
-returns-clause-ends g c =
+returns-clause-ends g c = λ whole.
     found_so kinds.Script c.args.script.now (Debugs c.args.layout.now c.args.history) (g.F.Shelf.told c.args.shelf.now) (g.F.Shelf.told c.fetch_file.new.shelf) _ _ _ _ c.in_ok-script.script
     c.in_ok-script.ensures.gives c.in_ok-script.ensures.fetched
-    (debugged c.args.layout.now c.args.history c.deref-2.result.now c.in_ok-script.script.items _ _ _ (g.F.Shelf.told c.fetch_file.new.shelf) c.deref-2.ensures.value c.debug.ensures.says)
+    (debugged c.args.layout.now c.args.history c.deref-2.result.now c.in_ok-script.script.items _ _ _ (g.F.Shelf.told c.fetch_file.new.shelf) c.deref-2.ensures.value (c.debug.ensures.says whole))

@@ -9,11 +9,11 @@ pub over_session-requires : goal.over_session-requires
 over_session-requires g c = record { right = right_by _ c.args.script.now c.args.verdict c.in-Ok.is c.requires.judged }
 
 pub returns-in-Err-clause-says : goal.returns-in-Err-clause-says
-returns-in-Err-clause-says g c =
-    refused_so _ (story (image_of c.args.layout.now) c.args.history) c.args.script.now _ c.args.verdict c.in-Err.fault c.refusal_of.result
+returns-in-Err-clause-says g c = λ whole.
+    refused_so whole _ (story (image_of c.args.layout.now) c.args.history) c.args.script.now _ c.args.verdict c.in-Err.fault c.refusal_of.result
     (sym (length-map c.args.probes.now.items _)) c.in-Err.is c.refusal_of.ensures c.requires.judged
 
 pub returns-in-Ok-clause-says : goal.returns-in-Ok-clause-says
-returns-in-Ok-clause-says g c =
-    said_so _ (story (image_of c.args.layout.now) c.args.history) c.args.script.now _ _ _
+returns-in-Ok-clause-says g c = λ whole.
+    said_so whole _ (story (image_of c.args.layout.now) c.args.history) c.args.script.now _ _ _
     (sym (length-map c.args.probes.now.items _)) (right_by _ c.args.script.now c.args.verdict c.in-Ok.is c.requires.judged) c.over_session.ensures.says c.over_session.ensures.obeyed_so_far

@@ -1,0 +1,58 @@
+-- `sample`: a load of so many strokes of keys on the sample layout, and the line that is printed of its run.
+use Rattle.std.specs.Prelude.{◌≡◌, ℕ, ◌+◌, ◌-◌, ◌*◌, ◌%◌, true, false, List, [], ◌∷◌, ◌++◌, length, map, codes, decimal}
+use Rattle.std.specs.List.{flat_map, range_with_len}
+use Rattle.board_lines.specs.declared.event.Edge.{Edge}
+use Rattle.board_lines.specs.declared.event.HostAct.TheVariants.{Take}
+use Rattle.board_lines.specs.declared.event.HostEvent.{HostEvent}
+use Rattle.fw_compile.specs.Image.{image_of}
+use Rattle.joint_feed.specs.Stories.{Story, story}
+use Rattle.key_file.specs.Histories.{KeyHistory}
+use Rattle.layout_reader.specs.Layouts.{us84}
+use Rattle.subsystem.specs.Agreement.{IsAsExpected}
+use Rattle.subsystem.specs.Counts.{none_counted, with_lines}
+use Rattle.subsystem.specs.Running.{IsOutcome, Outcome}
+use Rattle.subsystem.specs.declared.counts.Counts.{Counts}
+
+-- the stamp at which a stroke begins; strokes are counted from 0
+abbrev pub stroke_stamp : ℕ → ℕ
+stroke_stamp k = 162816 + 20480 * k
+
+-- the number of its key, which is also the key's place on the sample layout
+abbrev pub stroke_key : ℕ → ℕ
+stroke_key k = (29 + 25 * k) % 84
+
+-- the key goes down, and up 10,240 cycles later
+abbrev pub stroke_edges : ℕ → List Edge
+stroke_edges k =
+    record { stamp = stroke_stamp k; place = stroke_key k; down = true }
+    ∷ record { stamp = stroke_stamp k + 10240; place = stroke_key k; down = false } ∷ []
+
+-- 14,336 cycles after the press the host takes a word from the buffer
+abbrev pub stroke_take : ℕ → HostEvent
+stroke_take k = record { stamp = stroke_stamp k + 14336; act = Take }
+
+-- so many strokes; the end stands where the next one would begin
+abbrev pub sample_history : ℕ → KeyHistory
+sample_history count = record {
+  edges = flat_map stroke_edges (range_with_len 0 count);
+  host = map stroke_take (range_with_len 0 count);
+  end = stroke_stamp count;
+}
+
+abbrev pub sample_story : ℕ → Story
+sample_story count = story (image_of us84) (sample_history count)
+
+-- how many events the history has, how many bytes, words and beeps the run's log, and the number of its last tick start
+abbrev pub counts_line : ℕ → Counts → ℕ → List ℕ
+counts_line count counts tick =
+    codes "events " ++ decimal (3 * count) ++ codes " ports " ++ decimal counts.ports ++ codes " words "
+    ++ decimal counts.words ++ codes " beeps " ++ decimal counts.beeps ++ codes " ticks " ++ decimal tick ++ codes "\n"
+
+abbrev pub sample_text : ℕ → Outcome → List ℕ
+sample_text count run = counts_line count (with_lines none_counted run.log) (length run.starts - 1)
+
+-- the text is that of the run of the sample layout's image under these strokes, whose log is the one that the model
+-- expects
+abbrev pub IsSampleText : ℕ → List ℕ → Outcome → Type 0
+IsSampleText count text run =
+    IsOutcome (sample_story count) run × IsAsExpected us84 (sample_history count) run × (text ≡ sample_text count run)

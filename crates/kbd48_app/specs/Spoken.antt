@@ -1,0 +1,41 @@
+-- An answer as the code has it: still to be said, or said as it arose.
+use Rattle.std.specs.Prelude.{◌≡◌, ◌⊎◌, ℕ, Bool, true, false, List, Ok, Err}
+use Rattle.std.specs.declared.alloc.Global.{Global}
+use Rattle.std.specs.declared.result.Result.{Result}
+use Rattle.std.specs.declared.vec.Vec.{Vec}
+use Rattle.io_edge.specs.Said.{IsBrokenOff, IsSaid, Shown}
+use Rattle.kbd48_app.specs.declared.refusal.Refusal.{Refusal}
+use Rattle.kbd48_app.specs.declared.spoken.Spoken.{Spoken}
+use Rattle.kbd48_app.specs.declared.spoken.Spoken.TheVariants.{Text, Said}
+use Rattle.kbd48_app.specs.declared.exit.Exit.{Exit}
+use Rattle.kbd48_app.specs.declared.exit.Exit.TheVariants.{Done, Write}
+use Rattle.kbd48_app.specs.Plans.{Answer}
+use Rattle.kbd48_app.specs.Refusals.{exit_of, line_of}
+
+-- an answer of the code, nothing of which is said yet
+abbrev pub still_to_say : Result (Vec ℕ Global) Refusal → Result Spoken Refusal
+still_to_say (Ok text) = Ok (Text text)
+still_to_say (Err refusal) = Err refusal
+
+-- nothing of the answer is said, and it may be given whether or not all of it will be taken
+abbrev pub IsUnsaid : (Answer → Bool → Type 0) → Answer → Shown → Shown → Type 0
+IsUnsaid may answer before after = ((whole : Bool) → may answer whole) × (after ≡ before)
+
+-- a refusal and a text are still to be said; any other text was said, whole or up to a put that failed
+abbrev pub IsSpoken : (Answer → Bool → Type 0) → Result Spoken Refusal → Shown → Shown → Type 0
+IsSpoken may (Err refusal) before after = IsUnsaid may (Err refusal) before after
+IsSpoken may (Ok (Text text)) before after = IsUnsaid may (Ok text.items) before after
+IsSpoken may (Ok (Said (Ok done))) before after = (text : List ℕ) × may (Ok text) true × IsSaid before after text
+IsSpoken may (Ok (Said (Err fault))) before after = (text : List ℕ) × may (Ok text) false × IsBrokenOff before after text
+
+-- a text is printed, and ends the call so; or a put failed
+abbrev pub Prints : List ℕ → Exit → Shown → Shown → Exit → Type 0
+Prints text whole before after exit =
+    ((exit ≡ whole) × IsSaid before after text) ⊎ ((exit ≡ Write) × IsBrokenOff before after text)
+
+-- what is left to be said is printed
+abbrev pub Concludes : Result Spoken Refusal → Shown → Shown → Exit → Type 0
+Concludes (Err refusal) before after exit = Prints (line_of refusal) (exit_of refusal) before after exit
+Concludes (Ok (Text text)) before after exit = Prints text.items Done before after exit
+Concludes (Ok (Said (Ok done))) before after exit = (exit ≡ Done) × (after ≡ before)
+Concludes (Ok (Said (Err fault))) before after exit = (exit ≡ Write) × (after ≡ before)

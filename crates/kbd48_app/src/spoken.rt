@@ -1,0 +1,26 @@
+//! What was come to, and what of it is still to be said.
+
+ghost use Rattle.std.specs.Prelude.{◌≡◌};
+ghost use Rattle.kbd48_app.specs.Spoken.{still_to_say};
+
+use crate::refusal::Refusal;
+use io_edge::SinkFault;
+
+/// What a command answers that isn't refused.
+#[derive(Debug, Drop)]
+pub enum Spoken {
+    /// This text, nothing of which is said yet.
+    Text(Vec<u8>),
+    /// A text that was said line by line as it arose, all of it or up to a put that failed.
+    Said(Result<(), SinkFault>),
+}
+
+/// A text or a refusal, nothing of which is said yet.
+pub fn to_say(answer: Result<Vec<u8>, Refusal>) -> Result<Spoken, Refusal>
+    ensures { result ≡ still_to_say answer }
+{
+    match answer {
+        Ok(text) => Ok(Spoken::Text(text)),
+        Err(refusal) => Err(refusal),
+    }
+}

@@ -1,0 +1,180 @@
+//! `run`: the log of the run of a layout under a key file, said line by line as it arises, without a list of events or of
+//! lines.
+
+ghost use Rattle.std.specs.Prelude.{◌≡◌, ◌≤◌, [], if◌then◌else◌, Err, length, map, OnErr, OnOk};
+ghost use Rattle.io_edge.specs.Said.{IsBrokenOff, IsSaid, shown};
+ghost use Rattle.mcs48_core.specs.StateText.{state_text_of};
+ghost use Rattle.subsystem.specs.Ending.{history_of};
+ghost use Rattle.subsystem.specs.Looking.{HaveLookedAtSome};
+ghost use Rattle.subsystem.specs.Running.{IsOutcome, Outcome};
+ghost use Rattle.key_file.specs.Accepted.{IsAccepted};
+ghost use Rattle.key_file.specs.KeyFile.{key_fault};
+ghost use Rattle.kbd48_app.specs.Plans.{keys_refusal};
+ghost use Rattle.kbd48_app.specs.declared.words.RunCommand.{RunCommand};
+ghost use Rattle.kbd48_app.specs.RunTexts.{HaveLookedAtAll, run_text, start_line, start_lines};
+ghost use Rattle.kbd48_app.specs.Spoken.{IsSpoken};
+ghost use Rattle.kbd48_app.specs.Telling.{MayTell};
+
+use crate::refusal::Refusal;
+use crate::spoken::Spoken;
+use arrayvec::ArrayVec;
+use fw_debug::Probe;
+use io_edge::{Sink, SinkFault, say};
+use key_file::{Feed, FileFault, check_history};
+use layout_reader::Layout;
+use mcs48_core::state_line;
+use short_text::{append, begun};
+use std::alloc::Global;
+use subsystem::{Ended, Engine, runs_are_expected};
+
+/// The line of a tick start: its number, counted from 0, and its stamp, in cycles.
+fn start_line(number: usize, stamp: u64) -> ArrayVec<u8, 64>
+    ensures { result.items ≡ start_line number stamp }
+{
+    let mut line = begun(b"start ");
+    append(&mut line, itoa::Buffer::new().format(number).as_bytes());
+    append(&mut line, b" ");
+    append(&mut line, itoa::Buffer::new().format(stamp).as_bytes());
+    append(&mut line, b"\n");
+    line
+}
+
+/// Puts a line a tick start.
+fn put_starts<K: Sink>(out: &mut K, starts: &[u64]) -> Result<(), SinkFault>
+    ensures said { OnOk result (IsSaid (shown (K.taken out.old) (K.told out.old) (K.faults out.old))
+        (shown (K.taken out.new) (K.told out.new) (K.faults out.new)) (start_lines 0 starts.now)) }
+    ensures broken { OnErr result (IsBrokenOff (shown (K.taken out.old) (K.told out.old) (K.faults out.old))
+        (shown (K.taken out.new) (K.told out.new) (K.faults out.new)) (start_lines 0 starts.now)) }
+{
+    for number in 0..starts.len() {
+        say(out, &start_line(number, starts[number]))?;
+    }
+    Ok(())
+}
+
+/// Puts a run's tick starts, where they are wanted.
+fn put_ticks<K: Sink>(out: &mut K, starts: &[u64], wanted: bool) -> Result<(), SinkFault>
+    ensures said { OnOk result (IsSaid (shown (K.taken out.old) (K.told out.old) (K.faults out.old))
+        (shown (K.taken out.new) (K.told out.new) (K.faults out.new))
+        (if wanted then start_lines 0 starts.now else [])) }
+    ensures broken { OnErr result (IsBrokenOff (shown (K.taken out.old) (K.told out.old) (K.faults out.old))
+        (shown (K.taken out.new) (K.told out.new) (K.faults out.new))
+        (if wanted then start_lines 0 starts.now else [])) }
+{
+    if !wanted {
+        return Ok(());
+    }
+    put_starts(out, starts)
+}
+
+/// The five lines of the state at a run's end.
+fn end_lines(ended: &Ended) -> ArrayVec<u8, 320>
+    ensures { result.items ≡ state_text_of ended.now.end ended.now.steps ended.now.cycles }
+{
+    let mut text = ArrayVec::new();
+    append(
+        &mut text,
+        &state_line(ended.end(), ended.steps(), ended.cycles(), 0),
+    );
+    append(
+        &mut text,
+        &state_line(ended.end(), ended.steps(), ended.cycles(), 1),
+    );
+    append(
+        &mut text,
+        &state_line(ended.end(), ended.steps(), ended.cycles(), 2),
+    );
+    append(
+        &mut text,
+        &state_line(ended.end(), ended.steps(), ended.cycles(), 3),
+    );
+    append(
+        &mut text,
+        &state_line(ended.end(), ended.steps(), ended.cycles(), 4),
+    );
+    text
+}
+
+/// Puts the state at a run's end, where it is wanted.
+fn put_end<K: Sink>(out: &mut K, ended: &Ended, wanted: bool) -> Result<(), SinkFault>
+    ensures said { OnOk result (IsSaid (shown (K.taken out.old) (K.told out.old) (K.faults out.old))
+        (shown (K.taken out.new) (K.told out.new) (K.faults out.new))
+        (if wanted then state_text_of ended.now.end ended.now.steps ended.now.cycles else [])) }
+    ensures broken { OnErr result (IsBrokenOff (shown (K.taken out.old) (K.told out.old) (K.faults out.old))
+        (shown (K.taken out.new) (K.told out.new) (K.faults out.new))
+        (if wanted then state_text_of ended.now.end ended.now.steps ended.now.cycles else [])) }
+{
+    if !wanted {
+        return Ok(());
+    }
+    say(out, &end_lines(ended))
+}
+
+/// Makes a run and puts its log as it arises, then its tick starts where they are wanted, and then the state at its end
+/// where that is. It takes no memory.
+fn put_run<F: Feed, K: Sink>(
+    engine: Engine<F>,
+    ticks: bool,
+    steps: bool,
+    out: &mut K,
+    probes: &mut Vec<Box<dyn Probe>>,
+) -> Result<(), SinkFault>
+    requires accepted { IsAccepted (history_of engine) }
+    ensures said { OnOk result ((run : Outcome) × IsOutcome engine run
+        × IsSaid (shown (K.taken out.old) (K.told out.old) (K.faults out.old))
+        (shown (K.taken out.new) (K.told out.new) (K.faults out.new)) (run_text ticks steps run)
+        × HaveLookedAtAll engine run.steps (map (λ b. watch b) probes.old.items) (map (λ b. watch b) probes.new.items)) }
+    ensures broken { OnErr result ((run : Outcome) × IsOutcome engine run
+        × IsBrokenOff (shown (K.taken out.old) (K.told out.old) (K.faults out.old))
+        (shown (K.taken out.new) (K.told out.new) (K.faults out.new)) (run_text ticks steps run)) }
+    ensures looked_so_far { HaveLookedAtSome engine (map (λ b. watch b) probes.old.items)
+        (map (λ b. watch b) probes.new.items) }
+{
+    let ended = engine.run_to(out, probes)?;
+    put_ticks(out, ended.starts(), ticks)?;
+    put_end(out, &ended, steps)
+}
+
+/// The refusal of a key file, by its first fault.
+pub(crate) fn refusal_of(fault: FileFault) -> Refusal
+    ensures { result ≡ keys_refusal (key_fault fault) }
+{
+    match fault {
+        FileFault::Input { line, number } => Refusal::Keys { line, number },
+        FileFault::Timing { line, number, a, b } => Refusal::Timing {
+            line,
+            number,
+            first: a,
+            second: b,
+        },
+    }
+}
+
+/// `run`, of a layout and the text of a key file. The text is judged in one pass, all memory is taken, and then each line
+/// is put as it arises in the run.
+pub fn stream<K: Sink>(
+    alloc: Global,
+    layout: &Layout,
+    text: &[u8],
+    ticks: bool,
+    steps: bool,
+    out: &mut K,
+    probes: &mut Vec<Box<dyn Probe>>,
+) -> Result<Spoken, Refusal>
+    requires within { length text.now ≤ 4194304 }
+    ensures says { let before = map (λ b. watch b) probes.old.items in let after = map (λ b. watch b) probes.new.items in
+        IsSpoken (λ answer whole. MayTell (RunCommand.Log ticks steps) layout.now text.now answer before
+        (record { probes = after; whole = whole }))
+        result (shown (K.taken out.old) (K.told out.old) (K.faults out.old))
+        (shown (K.taken out.new) (K.told out.new) (K.faults out.new)) }
+    ensures unread { result ≡ Err Refusal.Read → ⊥ }
+{
+    runs_are_expected();
+    match check_history(text, layout) {
+        Err(fault) => Err(refusal_of(fault)),
+        Ok(feed) => match Engine::new(alloc, layout, feed) {
+            Err(_) => Err(Refusal::Memory),
+            Ok(engine) => Ok(Spoken::Said(put_run(engine, ticks, steps, out, probes))),
+        },
+    }
+}

@@ -1,0 +1,45 @@
+//! `trace`: the two wires in the run of a layout under a key file, said as they change.
+
+ghost use Rattle.std.specs.Prelude.{◌≡◌, ◌≤◌, List, Err, length};
+ghost use Rattle.fw_debug.specs.Probes.{Watch};
+ghost use Rattle.io_edge.specs.Said.{shown};
+ghost use Rattle.kbd48_app.specs.declared.words.RunCommand.{RunCommand};
+ghost use Rattle.kbd48_app.specs.Spoken.{IsSpoken};
+ghost use Rattle.kbd48_app.specs.Telling.{MayTell};
+
+use crate::refusal::Refusal;
+use crate::spoken::Spoken;
+use crate::streaming::refusal_of;
+use io_edge::{Sink, SinkFault};
+use key_file::check_history;
+use layout_reader::Layout;
+use std::alloc::Global;
+use subsystem::runs_are_expected;
+use wire_trace::{TraceFault, trace};
+
+/// `trace`, of a layout and the text of a key file. The text is judged in one pass, all memory is taken, and then each
+/// change of the wires is put as it arises in the run.
+pub fn trace_wires<K: Sink>(
+    alloc: Global,
+    layout: &Layout,
+    text: &[u8],
+    out: &mut K,
+) -> Result<Spoken, Refusal>
+    requires within { length text.now ≤ 4194304 }
+    ensures says { (probes : List Watch) →
+        IsSpoken (λ answer whole. MayTell RunCommand.Trace layout.now text.now answer probes
+        (record { probes = probes; whole = whole }))
+        result (shown (K.taken out.old) (K.told out.old) (K.faults out.old))
+        (shown (K.taken out.new) (K.told out.new) (K.faults out.new)) }
+    ensures unread { result ≡ Err Refusal.Read → ⊥ }
+{
+    runs_are_expected();
+    match check_history(text, layout) {
+        Err(fault) => Err(refusal_of(fault)),
+        Ok(feed) => match trace(alloc, layout, feed, out) {
+            Err(TraceFault::Memory) => Err(Refusal::Memory),
+            Err(TraceFault::Write) => Ok(Spoken::Said(Err(SinkFault::Failed))),
+            Ok(()) => Ok(Spoken::Said(Ok(()))),
+        },
+    }
+}
