@@ -41,11 +41,11 @@ chosen false x y held p q = q
 -- a command says nothing of the held keys
 command_holds : (keys : Keys) (byte : ℕ) (k : Keyboard) → (commanded keys byte k).held ≡ k.held
 command_holds keys byte k =
-    by (byte == 0xFF) (byte == 0xFE) (byte == 0xF6) (byte == 0xF5) (byte == 0xF4) (byte == 0xF3) (byte == 0xED)
-    (byte == 0xEE) (nat_le 0xEF byte)
+    by (byte == 0xff) (byte == 0xfe) (byte == 0xf6) (byte == 0xf5) (byte == 0xf4) (byte == 0xf3) (byte == 0xed)
+    (byte == 0xee) (nat_le 0xef byte)
   where
     by : (b0 b1 b2 b3 b4 b5 b6 b7 b8 : Bool) → (
-        if b0 then record k { reply = Some (record { byte = 0xFA; resets = true }) }
+        if b0 then record k { reply = Some (record { byte = 0xfa; resets = true }) }
         else if b1 then replies k.last k
         else if b2 then record (acknowledges k) { queue = clear k.queue; rate = keys.rate; repeats = None }
         else if b3 then
@@ -53,9 +53,9 @@ command_holds keys byte k =
         else if b4 then record (acknowledges k) { queue = clear k.queue; repeats = None; enabled = true }
         else if b5 then record (acknowledges k) { mode = WantRate }
         else if b6 then record (acknowledges k) { mode = WantLights }
-        else if b7 then replies 0xEE k
+        else if b7 then replies 0xee k
         else if b8 then acknowledges k
-        else replies 0xFE k).held ≡ k.held
+        else replies 0xfe k).held ≡ k.held
     by true b1 b2 b3 b4 b5 b6 b7 b8 = refl
     by false true b2 b3 b4 b5 b6 b7 b8 = refl
     by false false true b3 b4 b5 b6 b7 b8 = refl
@@ -72,9 +72,9 @@ parameter_holds : (keys : Keys) (byte : ℕ) (with_it k : Keyboard) → with_it.
     → (parameter keys byte with_it k).held ≡ k.held
 parameter_holds keys byte with_it k same =
     let ready : Keyboard = record k { mode = Ready } in
-    let other : Keyboard = if nat_lt byte 0xED then replies 0xFE k else commanded keys byte ready in
+    let other : Keyboard = if nat_lt byte 0xed then replies 0xfe k else commanded keys byte ready in
     chosen (nat_lt byte 0x80) (record (acknowledges with_it) { mode = Ready }) other k.held same
-    (chosen (nat_lt byte 0xED) (replies 0xFE k) (commanded keys byte ready) k.held refl (command_holds keys byte ready))
+    (chosen (nat_lt byte 0xed) (replies 0xfe k) (commanded keys byte ready) k.held refl (command_holds keys byte ready))
 
 -- so no byte from the system does
 obeyed_holds : (keys : Keys) (mode : Mode) (byte : ℕ) (k : Keyboard) → (obeyed_in mode keys byte k).held ≡ k.held
@@ -90,13 +90,13 @@ without_holds keys (Some reply) k = chosen reply.resets (reset keys k) (record k
 -- nor the byte that is sent
 sent_holds : (keys : Keys) (byte : Option ℕ) (k : Keyboard) → (sent_byte byte keys k).held ≡ k.held
 sent_holds keys None k = refl
-sent_holds keys (Some byte) k = without_holds keys k.reply (record k { last = if byte == 0xFE then k.last else byte })
+sent_holds keys (Some byte) k = without_holds keys k.reply (record k { last = if byte == 0xfe then k.last else byte })
 
 -- so a meeting leaves them
 met_holds : (keys : Keys) (meeting : KeyboardMeeting) (k : Keyboard) → (met meeting keys k).held ≡ k.held
 met_holds keys Sent k = sent_holds keys (offer k) k
 met_holds keys (Got byte good) k =
-    chosen good (obeyed_in k.mode keys byte k) (replies 0xFE k) k.held (obeyed_holds keys k.mode byte k) refl
+    chosen good (obeyed_in k.mode keys byte k) (replies 0xfe k) k.held (obeyed_holds keys k.mode byte k) refl
 met_holds keys Inhibited k = refl
 met_holds keys Idle k = refl
 met_holds keys Cut k = refl

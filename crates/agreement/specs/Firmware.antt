@@ -79,7 +79,7 @@ KeepsTicks bytes = (pins : ℕ → ℕ → ℕ → ℕ → Pins) (tick : ℕ →
 
 -- no code of an image is the prefix of a break
 abbrev pub HasNoPrefix : List ℕ → Type 0
-HasNoPrefix bytes = (on_fn : Bool) (place : ℕ) → place < 96 → (image_code bytes on_fn place == 0xF0) ≡ false
+HasNoPrefix bytes = (on_fn : Bool) (place : ℕ) → place < 96 → (image_code bytes on_fn place == 0xf0) ≡ false
 
 -- every image that has the kernel's bytes outside the layout's tables is one
 abbrev pub TickLaw : Type 0

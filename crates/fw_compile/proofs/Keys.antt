@@ -51,7 +51,7 @@ small_with at table bytes t b =
 one_byte : (byte : ℕ) → byte < 256 → All IsSmall (byte ∷ [])
 one_byte byte l = All-cons IsSmall byte [] l (All-nil IsSmall)
 
-fn_small : (o : Option ℕ) → IfSome o (λ p. p < 96) → unwrap_or o 0xFF < 256
+fn_small : (o : Option ℕ) → IfSome o (λ p. p < 96) → unwrap_or o 0xff < 256
 fn_small (Some p) l = omega (arith, l)
 fn_small None l = omega arith
 

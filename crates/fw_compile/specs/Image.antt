@@ -35,7 +35,7 @@ make_only_of layout = map (make_only_byte layout) (range_with_len 0 12)
 
 -- the place of the Fn key, or FF where there is none
 abbrev pub fn_byte : KeyLayout → ℕ
-fn_byte layout = unwrap_or (fn_place layout) 0xFF
+fn_byte layout = unwrap_or (fn_place layout) 0xff
 
 -- bytes that hold a table at a place, and are else as they were
 abbrev pub with_table : ℕ → List ℕ → List ℕ → List ℕ

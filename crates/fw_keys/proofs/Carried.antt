@@ -55,7 +55,7 @@ module _ (a b : Keys) (same : SameKeys a b) where
 
   sends : (o : Option ℕ) (k : Keyboard) → sent_byte o a k ≡ sent_byte o b k
   sends None k = refl
-  sends (Some byte) k = goes k.reply (record k { last = if byte == 0xFE then k.last else byte })
+  sends (Some byte) k = goes k.reply (record k { last = if byte == 0xfe then k.last else byte })
 
   commands : (byte : ℕ) (k : Keyboard) → commanded a byte k ≡ commanded b byte k
   commands byte k = ap (λ v. commanded (with_rate a v) byte k) same.rate

@@ -50,7 +50,7 @@ module _ (keys : Keys) (codes : NoPrefix keys) where
               mode = Ready;
               reply = None;
               aa_due = false;
-              last = 0xAA;
+              last = 0xaa;
               queue = clear k.queue;
               repeats = None;
               rate = keys.rate;
@@ -62,42 +62,42 @@ module _ (keys : Keys) (codes : NoPrefix keys) where
 
     sends : (o : Option ℕ) (k : Keyboard) → Sound keys l k → Sound keys l (sent_byte o keys k)
     sends None k s = s
-    sends (Some byte) k s = goes k.reply (record k { last = if byte == 0xFE then k.last else byte })
+    sends (Some byte) k s = goes k.reply (record k { last = if byte == 0xfe then k.last else byte })
         (record { codes = s.codes; place = s.place })
 
     commands : (byte : ℕ) (k : Keyboard) → Sound keys l k → Sound keys l (commanded keys byte k)
     commands byte k s =
         let c : IsWhole (clear k.queue) = cleared_whole k.queue s.codes in
-        by (byte == 0xFF) (byte == 0xFE) (byte == 0xF6) (byte == 0xF5) (byte == 0xF4) (byte == 0xF3) (byte == 0xED)
-        (byte == 0xEE) (nat_le 0xEF byte) c
+        by (byte == 0xff) (byte == 0xfe) (byte == 0xf6) (byte == 0xf5) (byte == 0xf4) (byte == 0xf3) (byte == 0xed)
+        (byte == 0xee) (nat_le 0xef byte) c
       where
         by : (b0 b1 b2 b3 b4 b5 b6 b7 b8 : Bool) → IsWhole (clear k.queue) → Sound keys l (
-            if b0 then record k { reply = Some (record { byte = 0xFA; resets = true }) }
+            if b0 then record k { reply = Some (record { byte = 0xfa; resets = true }) }
             else if b1 then record k { reply = Some (record { byte = k.last; resets = false }) }
             else if b2 then record k {
-              reply = Some (record { byte = 0xFA; resets = false });
+              reply = Some (record { byte = 0xfa; resets = false });
               queue = clear k.queue;
               rate = keys.rate;
               repeats = None;
             }
             else if b3 then record k {
-              reply = Some (record { byte = 0xFA; resets = false });
+              reply = Some (record { byte = 0xfa; resets = false });
               queue = clear k.queue;
               rate = keys.rate;
               repeats = None;
               enabled = false;
             }
             else if b4 then record k {
-              reply = Some (record { byte = 0xFA; resets = false });
+              reply = Some (record { byte = 0xfa; resets = false });
               queue = clear k.queue;
               repeats = None;
               enabled = true;
             }
-            else if b5 then record k { reply = Some (record { byte = 0xFA; resets = false }); mode = WantRate }
-            else if b6 then record k { reply = Some (record { byte = 0xFA; resets = false }); mode = WantLights }
-            else if b7 then record k { reply = Some (record { byte = 0xEE; resets = false }) }
-            else if b8 then record k { reply = Some (record { byte = 0xFA; resets = false }) }
-            else record k { reply = Some (record { byte = 0xFE; resets = false }) })
+            else if b5 then record k { reply = Some (record { byte = 0xfa; resets = false }); mode = WantRate }
+            else if b6 then record k { reply = Some (record { byte = 0xfa; resets = false }); mode = WantLights }
+            else if b7 then record k { reply = Some (record { byte = 0xee; resets = false }) }
+            else if b8 then record k { reply = Some (record { byte = 0xfa; resets = false }) }
+            else record k { reply = Some (record { byte = 0xfe; resets = false }) })
         by true b1 b2 b3 b4 b5 b6 b7 b8 c = record { codes = s.codes; place = s.place }
         by false true b2 b3 b4 b5 b6 b7 b8 c = record { codes = s.codes; place = s.place }
         by false false true b3 b4 b5 b6 b7 b8 c = record { codes = c; place = tt }
@@ -112,12 +112,12 @@ module _ (keys : Keys) (codes : NoPrefix keys) where
     parameters : (byte : ℕ) (with_it k : Keyboard) → Sound keys l with_it → Sound keys l k → Sound keys l
         (parameter keys byte with_it k)
     parameters byte with_it k w s =
-        by (nat_lt byte 0x80) (nat_lt byte 0xED)
+        by (nat_lt byte 0x80) (nat_lt byte 0xed)
         (commands byte (record k { mode = Ready }) (record { codes = s.codes; place = s.place }))
       where
         by : (b0 b1 : Bool) → Sound keys l (commanded keys byte (record k { mode = Ready })) → Sound keys l (
-            if b0 then record with_it { reply = Some (record { byte = 0xFA; resets = false }); mode = Ready }
-            else if b1 then record k { reply = Some (record { byte = 0xFE; resets = false }) }
+            if b0 then record with_it { reply = Some (record { byte = 0xfa; resets = false }); mode = Ready }
+            else if b1 then record k { reply = Some (record { byte = 0xfe; resets = false }) }
             else commanded keys byte (record k { mode = Ready }))
         by true b1 c = record { codes = w.codes; place = w.place }
         by false true c = record { codes = s.codes; place = s.place }

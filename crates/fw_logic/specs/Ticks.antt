@@ -67,7 +67,7 @@ pub record IsDone {S : Type 0} (w e : World S) : Type 0 where
   pub clear : e.cpu.rq ≡ false
   pub t : e.cpu.t < 256
   pub pre : e.cpu.pre < 32
-  pub counted : 32 * e.cpu.t + e.cpu.pre + w.cycle ≡ 32 * 0xC0 + w.cpu.pre + e.cycle
+  pub counted : 32 * e.cpu.t + e.cpu.pre + w.cycle ≡ 32 * 0xc0 + w.cpu.pre + e.cycle
   pub back : slice_index e.cpu.ram 8 ≡ WAIT
   pub status : slice_index e.cpu.ram 9 ≡ 16
   pub memory : length e.cpu.ram ≡ 128

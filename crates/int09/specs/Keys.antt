@@ -10,8 +10,8 @@ use Rattle.int09.specs.Bios.{State}
 abbrev pub shift_bit : ℕ → Option ℕ
 shift_bit code =
     if code == 0x36 then Some right_shift
-    else if code == 0x2A then Some left_shift
-    else if code == 0x1D then Some ctrl
+    else if code == 0x2a then Some left_shift
+    else if code == 0x1d then Some ctrl
     else if code == 0x38 then Some alt
     else None
 
@@ -20,7 +20,7 @@ abbrev pub lock_bit : ℕ → Option ℕ
 lock_bit code =
     if code == 0x46 then Some scroll
     else if code == 0x45 then Some num
-    else if code == 0x3A then Some caps
+    else if code == 0x3a then Some caps
     else if code == 0x52 then Some insert
     else None
 
@@ -28,12 +28,12 @@ lock_bit code =
 abbrev pub keypad_digit : ℕ → Option ℕ
 keypad_digit code =
     if code == 0x52 then Some 0
-    else if code == 0x4F then Some 1
+    else if code == 0x4f then Some 1
     else if code == 0x50 then Some 2
     else if code == 0x51 then Some 3
-    else if code == 0x4B then Some 4
-    else if code == 0x4C then Some 5
-    else if code == 0x4D then Some 6
+    else if code == 0x4b then Some 4
+    else if code == 0x4c then Some 5
+    else if code == 0x4d then Some 6
     else if code == 0x47 then Some 7
     else if code == 0x48 then Some 8
     else if code == 0x49 then Some 9

@@ -22,15 +22,15 @@ code_of byte = if is_make byte then byte else byte - 0x80
 -- rule 1: FA and FE set their marks, and FF is an overrun
 unfoldable pub marks : ℕ → State → Option Outcome
 marks byte s =
-    if byte == 0xFA then Some (quiet (record s { ack = true }))
-    else if byte == 0xFE then Some (quiet (record s { resend = true }))
-    else if byte == 0xFF then Some (record { after = s; items = Overrun ∷ Beep ∷ [] })
+    if byte == 0xfa then Some (quiet (record s { ack = true }))
+    else if byte == 0xfe then Some (quiet (record s { resend = true }))
+    else if byte == 0xff then Some (record { after = s; items = Overrun ∷ Beep ∷ [] })
     else None
 
 -- rule 2: SysReq, 54, is told as it goes down and up; a make while it is down is silent
 unfoldable pub on_sysreq : ℕ → State → Option Outcome
 on_sysreq byte s =
-    if byte == 0xD4 then Some (says SysBreak (record s { downs = without_bit sysreq s.downs }))
+    if byte == 0xd4 then Some (says SysBreak (record s { downs = without_bit sysreq s.downs }))
     else if byte == 0x54 && has_bit sysreq s.downs then Some (quiet s)
     else if byte == 0x54 then Some (says SysMake (record s { downs = with_bit sysreq s.downs }))
     else None
@@ -47,7 +47,7 @@ on_shift_key byte s =
     option_map
     (λ bit.
     if is_make byte then quiet (record s { shifts = with_bit bit s.shifts })
-    else if byte == 0xB8 then alt_broken s
+    else if byte == 0xb8 then alt_broken s
     else quiet (record s { shifts = without_bit bit s.shifts }))
     (shift_bit (code_of byte))
 

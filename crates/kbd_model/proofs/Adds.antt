@@ -159,12 +159,12 @@ rest_adds keys meeting edges k =
 in_line : (a b : Keyboard) → Adds a b → IsBehind (waiting a) (waiting b)
 in_line a b h =
     let r : List ℕ = reply_bytes a.reply in
-    let d : List ℕ = byte_if a.aa_due 0xAA in
+    let d : List ℕ = byte_if a.aa_due 0xaa in
     let q : List ℕ = queued a.queue in
     record {
       more = h.queue.more;
-      is = ap (λ v. reply_bytes v ++ (byte_if b.aa_due 0xAA ++ queued b.queue)) h.reply
-          ∙ ap (λ v. r ++ (byte_if v 0xAA ++ queued b.queue)) h.aa_due
+      is = ap (λ v. reply_bytes v ++ (byte_if b.aa_due 0xaa ++ queued b.queue)) h.reply
+          ∙ ap (λ v. r ++ (byte_if v 0xaa ++ queued b.queue)) h.aa_due
           ∙ ap (λ v. r ++ (d ++ v)) h.queue.is
           ∙ ap (λ v. r ++ v) (sym (append_assoc d q h.queue.more)) ∙ sym (append_assoc r (d ++ q) h.queue.more);
     }

@@ -51,7 +51,7 @@ module _ (a : Keys) (g : ℕ → Bool) where
   off_same None k = refl
 
   sent_same : (o : Option ℕ) (k : Keyboard) → sent_byte o a k ≡ sent_byte o (with_fn a g) k
-  sent_same (Some b) k = off_same k.reply (record k { last = if b == 0xFE then k.last else b })
+  sent_same (Some b) k = off_same k.reply (record k { last = if b == 0xfe then k.last else b })
   sent_same None k = refl
 
   obeyed_same : (m : Mode) (byte : ℕ) (k : Keyboard) → obeyed_in m a byte k ≡ obeyed_in m (with_fn a g) byte k

@@ -33,26 +33,26 @@ module _ (keys : Keys) where
   off None k = same k.repeats
 
   sends : (o : Option ℕ) (k : Keyboard) → Keeping k (sent_byte o keys k)
-  sends (Some b) k = off k.reply (record k { last = if b == 0xFE then k.last else b })
+  sends (Some b) k = off k.reply (record k { last = if b == 0xfe then k.last else b })
   sends None k = same k.repeats
 
   module _ (byte : ℕ) where
     command : (k : Keyboard) → Keeping k (commanded keys byte k)
     command k =
-        either (Keeping k) (byte == 0xFF) _ _ (λ _. same k.repeats) (λ _.
-        either (Keeping k) (byte == 0xFE) _ _ (λ _. same k.repeats) (λ _.
-        either (Keeping k) (byte == 0xF6) _ _ (λ _. gone k.repeats) (λ _.
-        either (Keeping k) (byte == 0xF5) _ _ (λ _. gone k.repeats) (λ _.
-        either (Keeping k) (byte == 0xF4) _ _ (λ _. gone k.repeats) (λ _.
-        either (Keeping k) (byte == 0xF3) _ _ (λ _. same k.repeats) (λ _.
-        either (Keeping k) (byte == 0xED) _ _ (λ _. same k.repeats) (λ _.
-        either (Keeping k) (byte == 0xEE) _ _ (λ _. same k.repeats) (λ _.
-        either (Keeping k) (nat_le 0xEF byte) _ _ (λ _. same k.repeats) (λ _. same k.repeats)))))))))
+        either (Keeping k) (byte == 0xff) _ _ (λ _. same k.repeats) (λ _.
+        either (Keeping k) (byte == 0xfe) _ _ (λ _. same k.repeats) (λ _.
+        either (Keeping k) (byte == 0xf6) _ _ (λ _. gone k.repeats) (λ _.
+        either (Keeping k) (byte == 0xf5) _ _ (λ _. gone k.repeats) (λ _.
+        either (Keeping k) (byte == 0xf4) _ _ (λ _. gone k.repeats) (λ _.
+        either (Keeping k) (byte == 0xf3) _ _ (λ _. same k.repeats) (λ _.
+        either (Keeping k) (byte == 0xed) _ _ (λ _. same k.repeats) (λ _.
+        either (Keeping k) (byte == 0xee) _ _ (λ _. same k.repeats) (λ _.
+        either (Keeping k) (nat_le 0xef byte) _ _ (λ _. same k.repeats) (λ _. same k.repeats)))))))))
 
     param : (k with_it : Keyboard) → Keeping k with_it → Keeping k (parameter keys byte with_it k)
     param k with_it e =
         either (Keeping k) (nat_lt byte 0x80) _ _ (λ _. e) (λ _.
-        either (Keeping k) (nat_lt byte 0xED) _ _ (λ _. same k.repeats) (λ _. command (record k { mode = Ready })))
+        either (Keeping k) (nat_lt byte 0xed) _ _ (λ _. same k.repeats) (λ _. command (record k { mode = Ready })))
 
     obeys : (m : Mode) (k : Keyboard) → Keeping k (obeyed_in m keys byte k)
     obeys Ready k = command k

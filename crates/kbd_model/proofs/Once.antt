@@ -21,7 +21,7 @@ first_is [] true = refl
 first_is [] false = refl
 first_is (b ∷ rest) overrun = refl
 
-offered_is : (r : Option Reply) (aa : Bool) (q : KeyQueue) → offered r aa q ≡ slice_get (reply_bytes r ++ (byte_if aa 0xAA ++ queued q)) 0
+offered_is : (r : Option Reply) (aa : Bool) (q : KeyQueue) → offered r aa q ≡ slice_get (reply_bytes r ++ (byte_if aa 0xaa ++ queued q)) 0
 offered_is (Some r) aa q = refl
 offered_is None true q = refl
 offered_is None false q = first_is q.bytes q.overrun
@@ -38,15 +38,15 @@ dropped_is (b ∷ rest) overrun q byte eb eo h = let e : b ≡ byte = cc in rw (
 
 -- whatever is done to the last byte sent
 went_by : (keys : Keys) (k : Keyboard) (r : Option Reply) (aa : Bool) (byte : ℕ) → k.reply ≡ r → k.aa_due ≡ aa → offered r aa k.queue ≡ Some byte
-    → is_reset_due r ≡ false → reply_bytes r ++ (byte_if aa 0xAA ++ queued k.queue) ≡ byte ∷ waiting (without_offered r keys k)
+    → is_reset_due r ≡ false → reply_bytes r ++ (byte_if aa 0xaa ++ queued k.queue) ≡ byte ∷ waiting (without_offered r keys k)
 went_by keys k (Some r) aa byte er ea h n = let e : r.byte ≡ byte = cc in rw (n, ea, e) refl
-went_by keys k None true byte er ea h n = let e : 0xAA ≡ byte = cc in rw (ea, er, e) refl
+went_by keys k None true byte er ea h n = let e : 0xaa ≡ byte = cc in rw (ea, er, e) refl
 went_by keys k None false byte er ea h n = rw (ea, er) (dropped_is k.queue.bytes k.queue.overrun k.queue byte refl refl h)
 
 pub sent_leaves : (keys : Keys) (k : Keyboard) (byte : ℕ) → offer k ≡ Some byte → is_reset_due k.reply ≡ false
     → waiting k ≡ byte ∷ waiting (met Sent keys k)
 sent_leaves keys k byte h n =
-    went_by keys (record k { last = if byte == 0xFE then k.last else byte }) k.reply k.aa_due byte refl refl h n
+    went_by keys (record k { last = if byte == 0xfe then k.last else byte }) k.reply k.aa_due byte refl refl h n
     ∙ sym (ap (λ o. byte ∷ waiting (sent_byte o keys k)) h)
 
 -- a reset leaves the cleared queue alone
@@ -54,7 +54,7 @@ reset_by : (keys : Keys) (k : Keyboard) (r : Option Reply) → k.reply ≡ r →
     → waiting (met Sent keys k) ≡ queued (clear k.queue)
 reset_by keys k None e h = absurd cc
 reset_by keys k (Some r) e h =
-    let k' : Keyboard = record k { last = if r.byte == 0xFE then k.last else r.byte } in
+    let k' : Keyboard = record k { last = if r.byte == 0xfe then k.last else r.byte } in
     ap (λ v. waiting (sent_byte (offered v k.aa_due k.queue) keys k)) e
     ∙ ap (λ v. waiting (without_offered v keys k')) e
     ∙ ap (λ c. waiting (if c then reset keys k' else record k' { reply = None })) h
@@ -87,33 +87,33 @@ module _ (keys : Keys) (byte : ℕ) where
   is : (n : ℕ) (c : Bool) → clears_queue n ≡ c → (byte == n) ≡ true → clears_queue byte ≡ c
   is n c h e = ap clears_queue (eqb-true byte n e) ∙ h
 
-  none : (byte == 0xF6) ≡ false → (byte == 0xF5) ≡ false → (byte == 0xF4) ≡ false → clears_queue byte ≡ false
+  none : (byte == 0xf6) ≡ false → (byte == 0xf5) ≡ false → (byte == 0xf4) ≡ false → clears_queue byte ≡ false
   none a b c = rw (a, b, c) refl
 
-  low : nat_lt byte 0xED ≡ true → clears_queue byte ≡ false
+  low : nat_lt byte 0xed ≡ true → clears_queue byte ≡ false
   low h =
-      let a : (byte == 0xF6) ≡ false = grind (arith, nat_tests, h) in
-      let b : (byte == 0xF5) ≡ false = grind (arith, nat_tests, h) in
-      let c : (byte == 0xF4) ≡ false = grind (arith, nat_tests, h) in
+      let a : (byte == 0xf6) ≡ false = grind (arith, nat_tests, h) in
+      let b : (byte == 0xf5) ≡ false = grind (arith, nat_tests, h) in
+      let c : (byte == 0xf4) ≡ false = grind (arith, nat_tests, h) in
       none a b c
 
   command_keeps : (k : Keyboard) → Keeps byte k (commanded keys byte k)
   command_keeps k =
-      either (Keeps byte k) (byte == 0xFF) _ _ (λ e. off k _ (is 0xFF false refl e) refl refl refl) (λ _.
-      either (Keeps byte k) (byte == 0xFE) _ _ (λ e. off k _ (is 0xFE false refl e) refl refl refl) (λ _.
-      either (Keeps byte k) (byte == 0xF6) _ _ (λ e. on k _ (is 0xF6 true refl e) refl refl refl) (λ a.
-      either (Keeps byte k) (byte == 0xF5) _ _ (λ e. on k _ (is 0xF5 true refl e) refl refl refl) (λ b.
-      either (Keeps byte k) (byte == 0xF4) _ _ (λ e. on k _ (is 0xF4 true refl e) refl refl refl) (λ c.
-      either (Keeps byte k) (byte == 0xF3) _ _ (λ e. off k _ (none a b c) refl refl refl) (λ _.
-      either (Keeps byte k) (byte == 0xED) _ _ (λ e. off k _ (none a b c) refl refl refl) (λ _.
-      either (Keeps byte k) (byte == 0xEE) _ _ (λ e. off k _ (none a b c) refl refl refl) (λ _.
-      either (Keeps byte k) (nat_le 0xEF byte) _ _ (λ e. off k _ (none a b c) refl refl refl) (λ _.
+      either (Keeps byte k) (byte == 0xff) _ _ (λ e. off k _ (is 0xff false refl e) refl refl refl) (λ _.
+      either (Keeps byte k) (byte == 0xfe) _ _ (λ e. off k _ (is 0xfe false refl e) refl refl refl) (λ _.
+      either (Keeps byte k) (byte == 0xf6) _ _ (λ e. on k _ (is 0xf6 true refl e) refl refl refl) (λ a.
+      either (Keeps byte k) (byte == 0xf5) _ _ (λ e. on k _ (is 0xf5 true refl e) refl refl refl) (λ b.
+      either (Keeps byte k) (byte == 0xf4) _ _ (λ e. on k _ (is 0xf4 true refl e) refl refl refl) (λ c.
+      either (Keeps byte k) (byte == 0xf3) _ _ (λ e. off k _ (none a b c) refl refl refl) (λ _.
+      either (Keeps byte k) (byte == 0xed) _ _ (λ e. off k _ (none a b c) refl refl refl) (λ _.
+      either (Keeps byte k) (byte == 0xee) _ _ (λ e. off k _ (none a b c) refl refl refl) (λ _.
+      either (Keeps byte k) (nat_le 0xef byte) _ _ (λ e. off k _ (none a b c) refl refl refl) (λ _.
       off k _ (none a b c) refl refl refl)))))))))
 
   parameter_keeps : (k with_it : Keyboard) → with_it.queue ≡ k.queue → with_it.aa_due ≡ k.aa_due → Keeps byte k (parameter keys byte with_it k)
   parameter_keeps k with_it q a =
       either (Keeps byte k) (nat_lt byte 0x80) _ _ (λ h. off k _ (low (grind (arith, nat_tests, h))) q a refl) (λ _.
-      either (Keeps byte k) (nat_lt byte 0xED) _ _ (λ h. off k _ (low h) refl refl refl) (λ _.
+      either (Keeps byte k) (nat_lt byte 0xed) _ _ (λ h. off k _ (low h) refl refl refl) (λ _.
       let c = command_keeps (record k { mode = Ready }) in
       record { queue = c.queue; aa_due = c.aa_due; reply = c.reply }))
 

@@ -7,12 +7,12 @@ abbrev pub make : ℕ → List ℕ
 make code = code ∷ []
 
 abbrev pub release : ℕ → List ℕ
-release code = 0xF0 ∷ code ∷ []
+release code = 0xf0 ∷ code ∷ []
 
 -- one byte, or two of which the first is F0
 abbrev pub IsCode : List ℕ → Type 0
 IsCode (code ∷ []) = Unit {0}
-IsCode (first ∷ code ∷ []) = first ≡ 0xF0
+IsCode (first ∷ code ∷ []) = first ≡ 0xf0
 IsCode bytes = ⊥
 
 -- the code of each place by layer, where true is the second layer, that under Fn; whether the key there sends no break;

@@ -11,39 +11,39 @@ abbrev pub replies : ℕ → Keyboard → Keyboard
 replies byte k = record k { reply = Some (record { byte = byte; resets = false }) }
 
 abbrev pub acknowledges : Keyboard → Keyboard
-acknowledges k = replies 0xFA k
+acknowledges k = replies 0xfa k
 
 -- the commands
 abbrev pub commanded : Keys → ℕ → Keyboard → Keyboard
 commanded keys byte k =
     -- reset: it is made once FA is sent
-    if byte == 0xFF then record k { reply = Some (record { byte = 0xFA; resets = true }) }
+    if byte == 0xff then record k { reply = Some (record { byte = 0xfa; resets = true }) }
     -- resend
-    else if byte == 0xFE then replies k.last k
+    else if byte == 0xfe then replies k.last k
     -- set default
-    else if byte == 0xF6 then record (acknowledges k) { queue = clear k.queue; rate = keys.rate; repeats = None }
+    else if byte == 0xf6 then record (acknowledges k) { queue = clear k.queue; rate = keys.rate; repeats = None }
     -- default disable
-    else if byte == 0xF5 then
+    else if byte == 0xf5 then
     record (acknowledges k) { queue = clear k.queue; rate = keys.rate; repeats = None; enabled = false }
     -- enable
-    else if byte == 0xF4 then record (acknowledges k) { queue = clear k.queue; repeats = None; enabled = true }
+    else if byte == 0xf4 then record (acknowledges k) { queue = clear k.queue; repeats = None; enabled = true }
     -- set typematic rate and delay
-    else if byte == 0xF3 then record (acknowledges k) { mode = WantRate }
+    else if byte == 0xf3 then record (acknowledges k) { mode = WantRate }
     -- set or reset the lights
-    else if byte == 0xED then record (acknowledges k) { mode = WantLights }
+    else if byte == 0xed then record (acknowledges k) { mode = WantLights }
     -- echo
-    else if byte == 0xEE then replies 0xEE k
+    else if byte == 0xee then replies 0xee k
     -- EF to F2 and F7 to FD have no effect
-    else if nat_le 0xEF byte then acknowledges k
+    else if nat_le 0xef byte then acknowledges k
     -- no command
-    else replies 0xFE k
+    else replies 0xfe k
 
 -- where a parameter is awaited: the state with a byte below 80 as the parameter; a command ends the wait; any other
 -- byte is refused, and the wait goes on
 abbrev pub parameter : Keys → ℕ → Keyboard → Keyboard → Keyboard
 parameter keys byte with_it k =
     if nat_lt byte 0x80 then record (acknowledges with_it) { mode = Ready }
-    else if nat_lt byte 0xED then replies 0xFE k
+    else if nat_lt byte 0xed then replies 0xfe k
     else commanded keys byte (record k { mode = Ready })
 
 -- a byte by the mode: the rate is the byte, the lights are its low three bits
@@ -54,4 +54,4 @@ obeyed_in WantLights keys byte k = parameter keys byte (record k { lights = byte
 
 -- a byte with wrong parity is refused, and has no effect of its own
 abbrev pub obeyed : Keys → ℕ → Bool → Keyboard → Keyboard
-obeyed keys byte good k = if good then obeyed_in k.mode keys byte k else replies 0xFE k
+obeyed keys byte good k = if good then obeyed_in k.mode keys byte k else replies 0xfe k

@@ -33,7 +33,7 @@ at_power_on rate = record {
   mode = Ready;
   reply = None;
   aa_due = false;
-  last = 0xAA;
+  last = 0xaa;
   queue = empty;
   repeats = None;
   rate = rate;
@@ -44,7 +44,7 @@ at_power_on rate = record {
 -- what is offered: the reply, else AA where it is due, else the queue's first byte
 abbrev pub offered : Option Reply → Bool → KeyQueue → Option ℕ
 offered (Some reply) aa_due q = Some reply.byte
-offered None aa_due q = if aa_due then Some 0xAA else first q
+offered None aa_due q = if aa_due then Some 0xaa else first q
 
 abbrev pub offer : Keyboard → Option ℕ
 offer k = offered k.reply k.aa_due k.queue

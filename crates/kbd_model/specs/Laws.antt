@@ -67,8 +67,8 @@ AtMostSixteen = (steps : List QueueStep) → length (after steps empty).bytes �
 abbrev pub whole : Bool → List ℕ → Bool
 whole false [] = true
 whole true [] = false
-whole true (byte ∷ rest) = not (byte == 0xF0) && whole false rest
-whole false (byte ∷ rest) = whole (byte == 0xF0) rest
+whole true (byte ∷ rest) = not (byte == 0xf0) && whole false rest
+whole false (byte ∷ rest) = whole (byte == 0xf0) rest
 
 abbrev pub enters_codes : List QueueStep → Bool
 enters_codes [] = true

@@ -23,7 +23,7 @@ abbrev pub queued : KeyQueue → List ℕ
 queued q = q.bytes ++ byte_if q.overrun 0x00
 
 abbrev pub waiting : Keyboard → List ℕ
-waiting k = reply_bytes k.reply ++ (byte_if k.aa_due 0xAA ++ queued k.queue)
+waiting k = reply_bytes k.reply ++ (byte_if k.aa_due 0xaa ++ queued k.queue)
 
 -- whether a reset is due once the reply is sent
 abbrev pub is_reset_due : Option Reply → Bool
@@ -52,7 +52,7 @@ pub record NothingElseLeaves : Type 0 where
 
 -- the commands that clear the queue
 abbrev pub clears_queue : ℕ → Bool
-clears_queue byte = (byte == 0xF6) || (byte == 0xF5) || (byte == 0xF4)
+clears_queue byte = (byte == 0xf6) || (byte == 0xf5) || (byte == 0xf4)
 
 -- a byte from the system leaves the queue as it is, but for these commands with right parity, and a due AA; it has a
 -- reply, which takes the place of the one that waited

@@ -30,7 +30,7 @@ first q = first_of q.bytes q.overrun
 -- the queue once that byte is sent. F0 starts a break, and the byte behind it ends it
 abbrev pub without_first : List ℕ → KeyQueue → KeyQueue
 without_first [] q = record q { overrun = false }
-without_first (byte ∷ rest) q = record q { bytes = rest; break_started = (byte == 0xF0) && not q.break_started }
+without_first (byte ∷ rest) q = record q { bytes = rest; break_started = (byte == 0xf0) && not q.break_started }
 
 abbrev pub drop_first : KeyQueue → KeyQueue
 drop_first q = without_first q.bytes q

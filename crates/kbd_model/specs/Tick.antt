@@ -24,7 +24,7 @@ reset keys k = record {
   mode = Ready;
   reply = None;
   aa_due = false;
-  last = 0xAA;
+  last = 0xaa;
   queue = clear k.queue;
   repeats = None;
   rate = keys.rate;
@@ -39,7 +39,7 @@ without_offered None keys k = record k { aa_due = false; queue = if k.aa_due the
 
 -- the byte is the last one sent, but for FE
 abbrev pub sent_byte : Option ℕ → Keys → Keyboard → Keyboard
-sent_byte (Some byte) keys k = without_offered k.reply keys (record k { last = if byte == 0xFE then k.last else byte })
+sent_byte (Some byte) keys k = without_offered k.reply keys (record k { last = if byte == 0xfe then k.last else byte })
 sent_byte None keys k = k
 
 -- steps 1 and 2: the meeting

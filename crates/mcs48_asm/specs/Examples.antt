@@ -30,8 +30,8 @@ four a b c d = Ok (a ∷ b ∷ c ∷ d ∷ 0 ∷ 0 ∷ 0 ∷ 0 ∷ [])
 -- the sources, by what they show
 unfoldable pub examples : List Example
 examples =
-    lines (codes "MOV A,#7FH") (codes "ADD A,#1") (four 0x23 0x7F 0x03 0x01) ∷
-    lines (codes "call 7ffh") (codes "djnz r7,0") (four 0xF4 0xFF 0xEF 0x00) ∷
+    lines (codes "MOV A,#7FH") (codes "ADD A,#1") (four 0x23 0x7f 0x03 0x01) ∷
+    lines (codes "call 7ffh") (codes "djnz r7,0") (four 0xf4 0xff 0xef 0x00) ∷
     -- a number that ends with B and has only 0 and 1 before it is binary
     line (codes "DB 10B, 0BH") (two 2 11) ∷
     line (codes "DB 12B") (Err (1, 1)) ∷
@@ -39,7 +39,7 @@ examples =
     -- no blank stands behind # or @, and none is wanted before it
     line (codes "MOV A,# 5") (Err (1, 3)) ∷
     line (codes "JMPP @ A") (Err (1, 3)) ∷
-    line (codes "jmpp@a ; ü") (two 0xB3 0) ∷
+    line (codes "jmpp@a ; ü") (two 0xb3 0) ∷
     -- a label, EQU, LOW and blanks
     lines (codes "a_1 EQU 5") (codes " x : DB a_1 , LOW x, 255 ;") (four 5 0 255 0) ∷
     -- a line is of no kind

@@ -234,7 +234,7 @@ sound_9 = (
   λ n h. ((lit≤ tt, lit< tt), few_2, few_1, refl, refl),
 )
 
-sound_A : Sixteen (λ k. SoundAt (0xA0 + k))
+sound_A : Sixteen (λ k. SoundAt (0xa0 + k))
 sound_A = (
   λ n h. (lit< tt, few_1, few_1, refl, refl),
   λ n h. (lit< tt, few_1, few_1, refl, refl),
@@ -254,7 +254,7 @@ sound_A = (
   λ n h. (lit< tt, few_1, few_1, refl, refl),
 )
 
-sound_B : Sixteen (λ k. SoundAt (0xB0 + k))
+sound_B : Sixteen (λ k. SoundAt (0xb0 + k))
 sound_B = (
   λ n h. (lit< tt, few_2, few_2, refl, refl),
   λ n h. (lit< tt, few_2, few_2, refl, refl),
@@ -274,7 +274,7 @@ sound_B = (
   λ n h. (lit< tt, few_2, few_2, refl, refl),
 )
 
-sound_C : Sixteen (λ k. SoundAt (0xC0 + k))
+sound_C : Sixteen (λ k. SoundAt (0xc0 + k))
 sound_C = (
   λ n h. tt,
   λ n h. tt,
@@ -294,7 +294,7 @@ sound_C = (
   λ n h. (lit< tt, few_1, few_1, refl, refl),
 )
 
-sound_D : Sixteen (λ k. SoundAt (0xD0 + k))
+sound_D : Sixteen (λ k. SoundAt (0xd0 + k))
 sound_D = (
   λ n h. (lit< tt, few_1, few_1, refl, refl),
   λ n h. (lit< tt, few_1, few_1, refl, refl),
@@ -314,7 +314,7 @@ sound_D = (
   λ n h. (lit< tt, few_1, few_1, refl, refl),
 )
 
-sound_E : Sixteen (λ k. SoundAt (0xE0 + k))
+sound_E : Sixteen (λ k. SoundAt (0xe0 + k))
 sound_E = (
   λ n h. tt,
   λ n h. tt,
@@ -334,7 +334,7 @@ sound_E = (
   λ n h. (lit< tt, few_2, few_2, refl, refl),
 )
 
-sound_F : Sixteen (λ k. SoundAt (0xF0 + k))
+sound_F : Sixteen (λ k. SoundAt (0xf0 + k))
 sound_F = (
   λ n h. (lit< tt, few_1, few_1, refl, refl),
   λ n h. (lit< tt, few_1, few_1, refl, refl),

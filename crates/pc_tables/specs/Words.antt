@@ -15,49 +15,49 @@ row scan base shift ctrl alt =
 -- the keys that go by no rule, by rising scan code
 unfoldable pub words : List ScanRow
 words =
-    row 0x01 (Some 0x011B) (Some 0x011B) (Some 0x011B) None ∷
+    row 0x01 (Some 0x011b) (Some 0x011b) (Some 0x011b) None ∷
     row 0x02 (Some 0x0231) (Some 0x0221) None (Some 0x7800) ∷
     row 0x03 (Some 0x0332) (Some 0x0340) (Some 0x0300) (Some 0x7900) ∷
-    row 0x04 (Some 0x0433) (Some 0x0423) None (Some 0x7A00) ∷
-    row 0x05 (Some 0x0534) (Some 0x0524) None (Some 0x7B00) ∷
-    row 0x06 (Some 0x0635) (Some 0x0625) None (Some 0x7C00) ∷
-    row 0x07 (Some 0x0736) (Some 0x075E) (Some 0x071E) (Some 0x7D00) ∷
-    row 0x08 (Some 0x0837) (Some 0x0826) None (Some 0x7E00) ∷
-    row 0x09 (Some 0x0938) (Some 0x092A) None (Some 0x7F00) ∷
-    row 0x0A (Some 0x0A39) (Some 0x0A28) None (Some 0x8000) ∷
-    row 0x0B (Some 0x0B30) (Some 0x0B29) None (Some 0x8100) ∷
-    row 0x0C (Some 0x0C2D) (Some 0x0C5F) (Some 0x0C1F) (Some 0x8200) ∷
-    row 0x0D (Some 0x0D3D) (Some 0x0D2B) None (Some 0x8300) ∷
-    row 0x0E (Some 0x0E08) (Some 0x0E08) (Some 0x0E7F) None ∷
-    row 0x0F (Some 0x0F09) (Some 0x0F00) None None ∷
-    row 0x1A (Some 0x1A5B) (Some 0x1A7B) (Some 0x1A1B) None ∷
-    row 0x1B (Some 0x1B5D) (Some 0x1B7D) (Some 0x1B1D) None ∷
-    row 0x1C (Some 0x1C0D) (Some 0x1C0D) (Some 0x1C0A) None ∷
-    row 0x27 (Some 0x273B) (Some 0x273A) None None ∷
+    row 0x04 (Some 0x0433) (Some 0x0423) None (Some 0x7a00) ∷
+    row 0x05 (Some 0x0534) (Some 0x0524) None (Some 0x7b00) ∷
+    row 0x06 (Some 0x0635) (Some 0x0625) None (Some 0x7c00) ∷
+    row 0x07 (Some 0x0736) (Some 0x075e) (Some 0x071e) (Some 0x7d00) ∷
+    row 0x08 (Some 0x0837) (Some 0x0826) None (Some 0x7e00) ∷
+    row 0x09 (Some 0x0938) (Some 0x092a) None (Some 0x7f00) ∷
+    row 0x0a (Some 0x0a39) (Some 0x0a28) None (Some 0x8000) ∷
+    row 0x0b (Some 0x0b30) (Some 0x0b29) None (Some 0x8100) ∷
+    row 0x0c (Some 0x0c2d) (Some 0x0c5f) (Some 0x0c1f) (Some 0x8200) ∷
+    row 0x0d (Some 0x0d3d) (Some 0x0d2b) None (Some 0x8300) ∷
+    row 0x0e (Some 0x0e08) (Some 0x0e08) (Some 0x0e7f) None ∷
+    row 0x0f (Some 0x0f09) (Some 0x0f00) None None ∷
+    row 0x1a (Some 0x1a5b) (Some 0x1a7b) (Some 0x1a1b) None ∷
+    row 0x1b (Some 0x1b5d) (Some 0x1b7d) (Some 0x1b1d) None ∷
+    row 0x1c (Some 0x1c0d) (Some 0x1c0d) (Some 0x1c0a) None ∷
+    row 0x27 (Some 0x273b) (Some 0x273a) None None ∷
     row 0x28 (Some 0x2827) (Some 0x2822) None None ∷
-    row 0x29 (Some 0x2960) (Some 0x297E) None None ∷
-    row 0x2B (Some 0x2B5C) (Some 0x2B7C) (Some 0x2B1C) None ∷
-    row 0x33 (Some 0x332C) (Some 0x333C) None None ∷
-    row 0x34 (Some 0x342E) (Some 0x343E) None None ∷
-    row 0x35 (Some 0x352F) (Some 0x353F) None None ∷
-    row 0x37 (Some 0x372A) None (Some 0x7200) None ∷
+    row 0x29 (Some 0x2960) (Some 0x297e) None None ∷
+    row 0x2b (Some 0x2b5c) (Some 0x2b7c) (Some 0x2b1c) None ∷
+    row 0x33 (Some 0x332c) (Some 0x333c) None None ∷
+    row 0x34 (Some 0x342e) (Some 0x343e) None None ∷
+    row 0x35 (Some 0x352f) (Some 0x353f) None None ∷
+    row 0x37 (Some 0x372a) None (Some 0x7200) None ∷
     row 0x39 (Some 0x3920) (Some 0x3920) (Some 0x3920) (Some 0x3920) ∷
-    row 0x3A None None None None ∷
+    row 0x3a None None None None ∷
     row 0x45 None None None None ∷
     row 0x46 None None None None ∷
     row 0x47 (Some 0x4700) (Some 0x4737) (Some 0x7700) None ∷
     row 0x48 (Some 0x4800) (Some 0x4838) None None ∷
     row 0x49 (Some 0x4900) (Some 0x4939) (Some 0x8400) None ∷
-    row 0x4A (Some 0x4A2D) (Some 0x4A2D) None None ∷
-    row 0x4B (Some 0x4B00) (Some 0x4B34) (Some 0x7300) None ∷
-    row 0x4C None (Some 0x4C35) None None ∷
-    row 0x4D (Some 0x4D00) (Some 0x4D36) (Some 0x7400) None ∷
-    row 0x4E (Some 0x4E2B) (Some 0x4E2B) None None ∷
-    row 0x4F (Some 0x4F00) (Some 0x4F31) (Some 0x7500) None ∷
+    row 0x4a (Some 0x4a2d) (Some 0x4a2d) None None ∷
+    row 0x4b (Some 0x4b00) (Some 0x4b34) (Some 0x7300) None ∷
+    row 0x4c None (Some 0x4c35) None None ∷
+    row 0x4d (Some 0x4d00) (Some 0x4d36) (Some 0x7400) None ∷
+    row 0x4e (Some 0x4e2b) (Some 0x4e2b) None None ∷
+    row 0x4f (Some 0x4f00) (Some 0x4f31) (Some 0x7500) None ∷
     row 0x50 (Some 0x5000) (Some 0x5032) None None ∷
     row 0x51 (Some 0x5100) (Some 0x5133) (Some 0x7600) None ∷
     row 0x52 (Some 0x5200) (Some 0x5230) None None ∷
-    row 0x53 (Some 0x5300) (Some 0x532E) None None ∷
+    row 0x53 (Some 0x5300) (Some 0x532e) None None ∷
     []
 
 -- the lower-case letter, where the name is one letter
@@ -85,14 +85,14 @@ letter_words scan letter = record {
 -- F1 to F10, k from 0: the scan code, or an extended code, and the character 00
 abbrev pub function_words : ℕ → WordRow
 function_words k = record {
-  base = word (0x3B + k) 0;
+  base = word (0x3b + k) 0;
   shift = word (0x54 + k) 0;
-  ctrl = word (0x5E + k) 0;
+  ctrl = word (0x5e + k) 0;
   alt = word (0x68 + k) 0;
 }
 
 abbrev pub is_function_key : ℕ → Bool
-is_function_key scan = nat_le 0x3B scan && nat_le scan 0x44
+is_function_key scan = nat_le 0x3b scan && nat_le scan 0x44
 
 -- the row of the table with this scan code
 abbrev pub table_words : ℕ → Option WordRow
@@ -100,7 +100,7 @@ table_words scan = option_map (λ row. row.words) (find (λ row. row.scan == sca
 
 abbrev pub words_by : Option ℕ → ℕ → Option WordRow
 words_by (Some letter) scan = Some (letter_words scan letter)
-words_by None scan = if is_function_key scan then Some (function_words (scan - 0x3B)) else table_words scan
+words_by None scan = if is_function_key scan then Some (function_words (scan - 0x3b)) else table_words scan
 
 -- the words of the key with this scan code, by the rule for letters, by that for function keys, or by the table
 abbrev pub words_at : ℕ → Option WordRow
@@ -110,4 +110,4 @@ words_at scan = words_by (letter_on scan) scan
 abbrev pub has_words : ℕ → Bool
 has_words scan =
     nat_le 0x01 scan && nat_le scan 0x53
-    && not (scan == 0x1D || scan == 0x2A || scan == 0x36 || scan == 0x38)
+    && not (scan == 0x1d || scan == 0x2a || scan == 0x36 || scan == 0x38)

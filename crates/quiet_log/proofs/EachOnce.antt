@@ -59,10 +59,10 @@ first_known (x ∷ xs) byte e = let z : x ≡ byte = cc in ap (λ v. v ∷ xs) z
 
 -- AA that became due stands before the queue
 aa_behind : (before after : Bool) (q q' : List ℕ) → (before ≡ true → after ≡ true) → IsBehind q q'
-    → IsBehind (byte_if (after && not before) 0xAA ++ (byte_if before 0xAA ++ q)) (byte_if after 0xAA ++ q')
-aa_behind true true q q' h b = record { more = b.more; is = ap (λ v. 0xAA ∷ v) b.is }
+    → IsBehind (byte_if (after && not before) 0xaa ++ (byte_if before 0xaa ++ q)) (byte_if after 0xaa ++ q')
+aa_behind true true q q' h b = record { more = b.more; is = ap (λ v. 0xaa ∷ v) b.is }
 aa_behind true false q q' h b = let e : false ≡ true = h refl in absurd cc
-aa_behind false true q q' h b = record { more = b.more; is = ap (λ v. 0xAA ∷ v) b.is }
+aa_behind false true q q' h b = record { more = b.more; is = ap (λ v. 0xaa ∷ v) b.is }
 aa_behind false false q q' h b = b
 
 none_new : (b : Bool) → (b && not b) ≡ false
@@ -84,15 +84,15 @@ module _ (keys : Keys) (edges : List TickEdge) (k : Keyboard) where
       let after : Keyboard = ticked keys (kbd.Got byte true) edges k in
       let c : Bool = clears_queue byte in
       let r : List ℕ = reply_bytes k.reply in
-      let aa : List ℕ = byte_if k.aa_due 0xAA in
+      let aa : List ℕ = byte_if k.aa_due 0xaa in
       let gone : List ℕ = if c then cleared_away k.queue else [] in
       let stays : List ℕ = queued (if c then clear k.queue else k.queue) in
       let g : GotKeeps keys byte true k = got_leaves keys byte true k in
       let h : IsBehind (waiting m) (waiting after) = stays_in_line keys (kbd.Got byte true) edges k t in
       let w : waiting m ≡ reply_bytes after.reply ++ (aa ++ stays) =
-      ap (λ v. reply_bytes v ++ (byte_if m.aa_due 0xAA ++ queued m.queue))
+      ap (λ v. reply_bytes v ++ (byte_if m.aa_due 0xaa ++ queued m.queue))
       (sym (rest_adds keys (kbd.Got byte true) edges k).reply)
-      ∙ ap (λ v. reply_bytes after.reply ++ (byte_if v 0xAA ++ queued m.queue)) g.aa_due
+      ∙ ap (λ v. reply_bytes after.reply ++ (byte_if v 0xaa ++ queued m.queue)) g.aa_due
       ∙ ap (λ v. reply_bytes after.reply ++ (aa ++ queued v)) g.queue in
       record {
         first = record { more = waiting k; is = refl };
@@ -123,7 +123,7 @@ module _ (keys : Keys) (edges : List TickEdge) (k : Keyboard) where
     sends n =
         let h : IsBehind (waiting (met kbd.Sent keys k)) (waiting after) = stays_in_line keys kbd.Sent edges k t in
         let l : others ≡ waiting (met kbd.Sent keys k) = ap (λ v. drop 1 v) (sent_leaves keys k byte o n) in
-        let gone : Bool → List ℕ = λ c. if c then byte_if k.aa_due 0xAA ++ cleared_away k.queue else [] in
+        let gone : Bool → List ℕ = λ c. if c then byte_if k.aa_due 0xaa ++ cleared_away k.queue else [] in
         let stays : Bool → List ℕ = λ c. if c then queued (clear k.queue) else others in
         record {
           first = record { more = others; is = known };
@@ -143,7 +143,7 @@ module _ (keys : Keys) (edges : List TickEdge) (k : Keyboard) where
     resets : is_reset_due k.reply ≡ true → Passes (Sent byte) k after
     resets n =
         let h : IsBehind (waiting (met kbd.Sent keys k)) (waiting after) = stays_in_line keys kbd.Sent edges k t in
-        let aa : List ℕ = byte_if k.aa_due 0xAA in
+        let aa : List ℕ = byte_if k.aa_due 0xaa in
         let cleared : List ℕ = queued (clear k.queue) in
         let gone : Bool → List ℕ = λ c. if c then aa ++ cleared_away k.queue else [] in
         let stays : Bool → List ℕ = λ c. if c then cleared else others in
@@ -184,16 +184,16 @@ module _ (keys : Keys) (edges : List TickEdge) (k : Keyboard) where
             let s : Adds k (scanned keys false edges k) = scans_add keys false edges k in
             let a : then'.aa_due ≡ k.aa_due = ap (λ v. (scanned keys false edges v).aa_due) z ∙ s.aa_due in
             let n : (then'.aa_due && not k.aa_due) ≡ false = ap (λ v. v && not k.aa_due) a ∙ none_new k.aa_due in
-            subst (λ v. IsBehind (byte_if v 0xAA ++ waiting k) (waiting then')) (sym n)
+            subst (λ v. IsBehind (byte_if v 0xaa ++ waiting k) (waiting then')) (sym n)
             (stays_in_line keys kbd.Idle edges k t)
         | inr r ↦
             let h : OnlyAdds k then' = rest_adds keys kbd.Idle edges k in
             let b = aa_behind k.aa_due then'.aa_due (queued k.queue) (queued then'.queue) h.aa_due h.queue in
-            let front : List ℕ = byte_if (then'.aa_due && not k.aa_due) 0xAA in
+            let front : List ℕ = byte_if (then'.aa_due && not k.aa_due) 0xaa in
             record {
               more = b.more;
-              is = ap (λ v. reply_bytes v ++ (byte_if then'.aa_due 0xAA ++ queued then'.queue)) (h.reply ∙ r) ∙ b.is
-                  ∙ ap (λ v. (front ++ (reply_bytes v ++ (byte_if k.aa_due 0xAA ++ queued k.queue))) ++ b.more) (sym r);
+              is = ap (λ v. reply_bytes v ++ (byte_if then'.aa_due 0xaa ++ queued then'.queue)) (h.reply ∙ r) ∙ b.is
+                  ∙ ap (λ v. (front ++ (reply_bytes v ++ (byte_if k.aa_due 0xaa ++ queued k.queue))) ++ b.more) (sym r);
             }
       ];
     }

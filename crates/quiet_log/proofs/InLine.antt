@@ -60,10 +60,10 @@ behind_stands xs ys h = subst (λ v. StandsIn xs v) (sym h.is) (stands_behind xs
 
 -- what a tick adds leaves the line in its order
 aa_stands : (before after : Bool) (q q' : List ℕ) → (before ≡ true → after ≡ true) → StandsIn q q'
-    → StandsIn (byte_if before 0xAA ++ q) (byte_if after 0xAA ++ q')
+    → StandsIn (byte_if before 0xaa ++ q) (byte_if after 0xaa ++ q')
 aa_stands true true q q' h s = inl (refl, s)
 aa_stands true false q q' h s = let e : false ≡ true = h refl in absurd cc
-aa_stands false true q q' h s = stands_before (0xAA ∷ []) q q' s
+aa_stands false true q q' h s = stands_before (0xaa ∷ []) q q' s
 aa_stands false false q q' h s = s
 
 added : (a b : Keyboard) → OnlyAdds a b → StandsIn (line a) (line b)
@@ -85,7 +85,7 @@ module _ (keys : Keys) (k : Keyboard) where
   sent_line : (byte : ℕ) → offer k ≡ Some byte → is_reset_due k.reply ≡ false
       → StandsIn (line k) (byte ∷ line (met kbd.Sent keys k))
   sent_line byte o n =
-      let k' : Keyboard = record k { last = if byte == 0xFE then k.last else byte } in
+      let k' : Keyboard = record k { last = if byte == 0xfe then k.last else byte } in
       let s : met kbd.Sent keys k ≡ without_offered k.reply keys k' = ap (λ v. sent_byte v keys k) o in
       let w : waiting k ≡ byte ∷ waiting (without_offered k.reply keys k') =
       sent_leaves keys k byte o n ∙ ap (λ v. byte ∷ waiting v) s in
@@ -105,8 +105,8 @@ module _ (keys : Keys) (k : Keyboard) where
       let q : (met (kbd.Got byte true) keys k).queue ≡ k.queue =
       g.queue ∙ ap (λ v. if v then clear k.queue else k.queue) c in
       let e : line (met (kbd.Got byte true) keys k) ≡ line k =
-      ap (λ v. byte_if v 0xAA ++ queued (met (kbd.Got byte true) keys k).queue) g.aa_due
-      ∙ ap (λ v. byte_if k.aa_due 0xAA ++ queued v) q in
+      ap (λ v. byte_if v 0xaa ++ queued (met (kbd.Got byte true) keys k).queue) g.aa_due
+      ∙ ap (λ v. byte_if k.aa_due 0xaa ++ queued v) q in
       subst (λ v. StandsIn (line k) v) (sym e) (stands_self (line k))
   met_line Inhibited c o = stands_self (line k)
   met_line Idle c o = stands_self (line k)

@@ -51,13 +51,13 @@ short_enters_if (Some word) s = short_enters word s
 short_marks : (byte : ℕ) (s : State) → AreShort (marks byte s)
 unfolding marks
 short_marks byte s =
-    some_of (byte == 0xFA) (some short_quiet) (some_of (byte == 0xFE) (some short_quiet)
-    (some_of (byte == 0xFF) (some (record { few = omega arith })) none))
+    some_of (byte == 0xfa) (some short_quiet) (some_of (byte == 0xfe) (some short_quiet)
+    (some_of (byte == 0xff) (some (record { few = omega arith })) none))
 
 short_sysreq : (byte : ℕ) (s : State) → AreShort (on_sysreq byte s)
 unfolding on_sysreq
 short_sysreq byte s =
-    some_of (byte == 0xD4) (some short_says) (some_of (byte == 0x54 && has_bit sysreq s.downs) (some short_quiet)
+    some_of (byte == 0xd4) (some short_says) (some_of (byte == 0x54 && has_bit sysreq s.downs) (some short_quiet)
     (some_of (byte == 0x54) (some short_says) none))
 
 short_alt_broken : (s : State) → IsShort (alt_broken s)
@@ -68,11 +68,11 @@ short_alt_broken s =
 
 short_shift_bit : (byte : ℕ) (o : Option ℕ) (s : State)
     → AreShort (option_map (λ bit. if is_make byte then quiet (record s { shifts = with_bit bit s.shifts })
-    else if byte == 0xB8 then alt_broken s
+    else if byte == 0xb8 then alt_broken s
     else quiet (record s { shifts = without_bit bit s.shifts })) o)
 short_shift_bit byte None s = none
 short_shift_bit byte (Some bit) s =
-    some (one_of (is_make byte) short_quiet (one_of (byte == 0xB8) (short_alt_broken s) short_quiet))
+    some (one_of (is_make byte) short_quiet (one_of (byte == 0xb8) (short_alt_broken s) short_quiet))
 
 short_shift_key : (byte : ℕ) (s : State) → AreShort (on_shift_key byte s)
 unfolding on_shift_key

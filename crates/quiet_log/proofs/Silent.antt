@@ -34,20 +34,20 @@ either k false a b f g = g
 module _ (keys : Keys) (byte : ℕ) where
   commands : (k : Keyboard) → (commanded keys byte k).test ≡ k.test
   commands k =
-      either k (byte == 0xFF) _ _ refl (
-      either k (byte == 0xFE) _ _ refl (
-      either k (byte == 0xF6) _ _ refl (
-      either k (byte == 0xF5) _ _ refl (
-      either k (byte == 0xF4) _ _ refl (
-      either k (byte == 0xF3) _ _ refl (
-      either k (byte == 0xED) _ _ refl (
-      either k (byte == 0xEE) _ _ refl (
-      either k (nat_le 0xEF byte) _ _ refl refl))))))))
+      either k (byte == 0xff) _ _ refl (
+      either k (byte == 0xfe) _ _ refl (
+      either k (byte == 0xf6) _ _ refl (
+      either k (byte == 0xf5) _ _ refl (
+      either k (byte == 0xf4) _ _ refl (
+      either k (byte == 0xf3) _ _ refl (
+      either k (byte == 0xed) _ _ refl (
+      either k (byte == 0xee) _ _ refl (
+      either k (nat_le 0xef byte) _ _ refl refl))))))))
 
   parameters : (k with_it : Keyboard) → with_it.test ≡ k.test → (parameter keys byte with_it k).test ≡ k.test
   parameters k with_it e =
       either k (nat_lt byte 0x80) _ _ e
-      (either k (nat_lt byte 0xED) _ _ refl (commands (record k { mode = Ready })))
+      (either k (nat_lt byte 0xed) _ _ refl (commands (record k { mode = Ready })))
 
   -- a command leaves the test as it is
   obeys : (m : Mode) (k : Keyboard) → (obeyed_in m keys byte k).test ≡ k.test
@@ -100,7 +100,7 @@ went (Some r) keys k e = by r.resets
 sent_replies : (keys : Keys) (k : Keyboard) (byte : ℕ) → offer k ≡ Some byte → (met kbd.Sent keys k).reply ≡ None
 sent_replies keys k byte o =
     ap (λ v. (sent_byte v keys k).reply) o
-    ∙ went k.reply keys (record k { last = if byte == 0xFE then k.last else byte }) refl
+    ∙ went k.reply keys (record k { last = if byte == 0xfe then k.last else byte }) refl
 
 -- from tick to tick, by the meeting
 module _ (keys : Keys) (edges : List TickEdge) (k : Keyboard) (silent : IsSilentInTest k) where

@@ -58,12 +58,12 @@ abbrev pub taken_away : Meeting → Keyboard → List ℕ
 taken_away (Got byte) k = reply_bytes k.reply ++ (if clears_queue byte then cleared_away k.queue else [])
 taken_away Inhibited k = []
 taken_away Idle k = []
-taken_away (Sent byte) k = if is_reset_due k.reply then byte_if k.aa_due 0xAA ++ cleared_away k.queue else []
+taken_away (Sent byte) k = if is_reset_due k.reply then byte_if k.aa_due 0xaa ++ cleared_away k.queue else []
 taken_away Cut k = []
 
 -- the rest of what waited, in its order
 abbrev pub left : Meeting → Keyboard → List ℕ
-left (Got byte) k = byte_if k.aa_due 0xAA ++ queued (if clears_queue byte then clear k.queue else k.queue)
+left (Got byte) k = byte_if k.aa_due 0xaa ++ queued (if clears_queue byte then clear k.queue else k.queue)
 left Inhibited k = waiting k
 left Idle k = waiting k
 left (Sent byte) k = if is_reset_due k.reply then queued (clear k.queue) else drop 1 (waiting k)
@@ -73,7 +73,7 @@ left Cut k = waiting k
 abbrev pub put_before : Meeting → Keyboard → Keyboard → List ℕ
 put_before (Got byte) before after = reply_bytes after.reply
 put_before Inhibited before after = []
-put_before Idle before after = byte_if (after.aa_due && not before.aa_due) 0xAA
+put_before Idle before after = byte_if (after.aa_due && not before.aa_due) 0xaa
 put_before (Sent byte) before after = []
 put_before Cut before after = []
 
@@ -153,7 +153,7 @@ AllCounted =
 
 -- what waits behind the reply
 abbrev pub line : Keyboard → List ℕ
-line k = byte_if k.aa_due 0xAA ++ queued k.queue
+line k = byte_if k.aa_due 0xaa ++ queued k.queue
 
 -- a tick with this meeting clears nothing
 abbrev pub ClearsNothing : Meeting → Keyboard → Type 0

@@ -91,9 +91,9 @@ module _ (keys : Keys) (rate last : ℕ) (bytes : List ℕ) (started : Bool) (re
         queue = if b then q else enter (release (keys.code false place)) q;
       }) only
 
-  pub ends : keys.make_only place ≡ false → nat_lt 16 (length bytes + length (0xF0 ∷ code ∷ [])) ≡ false
+  pub ends : keys.make_only place ≡ false → nat_lt 16 (length bytes + length (0xf0 ∷ code ∷ [])) ≡ false
       → edges_if true keys (edge place false ∷ []) (typing rate last bytes started rep held)
-      ≡ typing rate last (bytes ++ 0xF0 ∷ code ∷ []) started (ended_at place rep) (turned place false held)
+      ≡ typing rate last (bytes ++ 0xf0 ∷ code ∷ []) started (ended_at place rep) (turned place false held)
   ends only room =
       let q : KeyQueue = record { bytes = bytes; overrun = false; break_started = started } in
       ap (λ b. record (typing rate last bytes started rep held) {
@@ -108,7 +108,7 @@ module _ (keys : Keys) (rate last : ℕ) (bytes : List ℕ) (started : Bool) (re
         queue = enter (release c) q;
       }) at
       ∙ ap (λ b. record (typing rate last bytes started (ended_at place rep) (turned place false held)) {
-        queue = if b then record q { overrun = true } else record q { bytes = bytes ++ 0xF0 ∷ code ∷ [] };
+        queue = if b then record q { overrun = true } else record q { bytes = bytes ++ 0xf0 ∷ code ∷ [] };
       }) room
 
 -- the base layer holds throughout

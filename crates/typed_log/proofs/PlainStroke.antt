@@ -27,7 +27,7 @@ use Rattle.typed_log.proofs.Resting.{line, not_one, At, Rest, idle, none_then, o
 
 -- a key's code, its scan code, and what INT 09h makes of them
 pub record IsPlain (code scan w : ℕ) : Type 0 where
-  pub no_prefix : (code == 0xF0) ≡ false
+  pub no_prefix : (code == 0xf0) ≡ false
   pub scan_is : translated code ≡ Some scan
   pub makes : fed scan start ≡ entered w start
   pub breaks : fed (with_bit 0x80 scan) start ≡ quiet start
@@ -61,7 +61,7 @@ module _ (layout : KeyLayout) (h : KeyHistory) (ss : List Stroke) (edges : h.edg
   down = turned key.place true all_up
 
   abbrev sent : ℕ → ℕ
-  sent last = if code == 0xFE then last else code
+  sent last = if code == 0xfe then last else code
 
   -- the key goes down, its code is sent and its word entered; it waits to repeat
   goes_down : (last out : ℕ) → At' (80 + 10 * m) (line last [] false false out start m) None all_up words
@@ -183,22 +183,22 @@ module _ (layout : KeyLayout) (h : KeyHistory) (ss : List Stroke) (edges : h.edg
   with_break last k' r =
       let bios : State = record start { words = w ∷ [] } in
       let n : ℕ = suc (suc (suc (suc (suc (suc (80 + 10 * m)))))) in
-      let r6 : At' n (line last (0xF0 ∷ code ∷ []) false false scan bios m) None all_up words =
-      goes_up last scan bios (0xF0 ∷ code ∷ [])
+      let r6 : At' n (line last (0xf0 ∷ code ∷ []) false false scan bios m) None all_up words =
+      goes_up last scan bios (0xf0 ∷ code ∷ [])
       (break_moves layout key.place code [] (waiting key.place (d - 1 - 1 - 1 - 1 - 1)) down k' refl) r in
-      let r7 : At' (suc n) (line 0xF0 (code ∷ []) true true scan start (m + 1)) None all_up (words ++ Some w ∷ []) =
-      taking_turn layout h ss host n (line last (0xF0 ∷ code ∷ []) false false scan bios m)
-      (line 0xF0 (code ∷ []) true true scan bios m) words [] [] None None all_up all_up (code ∷ []) r6
+      let r7 : At' (suc n) (line 0xf0 (code ∷ []) true true scan start (m + 1)) None all_up (words ++ Some w ∷ []) =
+      taking_turn layout h ss host n (line last (0xf0 ∷ code ∷ []) false false scan bios m)
+      (line 0xf0 (code ∷ []) true true scan bios m) words [] [] None None all_up all_up (code ∷ []) r6
       (none_then layout h ss edges host fit m (Plain key) is n 6 (omega arith) (omega arith) refl)
       tt (prefix (keys_of layout) layout.rate last (code ∷ []) scan m bios) (no_edges layout (code ∷ []) None all_up)
       (omega arith) below (refl, tt) (words ++ Some w ∷ []) refl in
-      last_two (sent 0xF0) (with_bit 0x80 scan)
-      (turn layout h ss host (suc n) (line 0xF0 (code ∷ []) true true scan start (m + 1))
-      (line (sent 0xF0) [] false false (with_bit 0x80 scan) start (m + 1)) (words ++ Some w ∷ [])
+      last_two (sent 0xf0) (with_bit 0x80 scan)
+      (turn layout h ss host (suc n) (line 0xf0 (code ∷ []) true true scan start (m + 1))
+      (line (sent 0xf0) [] false false (with_bit 0x80 scan) start (m + 1)) (words ++ Some w ∷ [])
       (Port (with_bit 0x80 scan) ∷ []) [] None None all_up all_up [] r7
       (none_then layout h ss edges host fit m (Plain key) is (suc n) 7 (omega arith) (omega arith) refl)
       tt
-      (code_passes (keys_of layout) layout.rate 0xF0 code scan f.no_prefix f.scan_is [] true scan (m + 1) start
+      (code_passes (keys_of layout) layout.rate 0xf0 code scan f.no_prefix f.scan_is [] true scan (m + 1) start
       start [] f.breaks)
       (no_edges layout [] None all_up) (omega arith) (refl, tt) (words ++ Some w ∷ [])
       (append-nil (words ++ Some w ∷ [])))

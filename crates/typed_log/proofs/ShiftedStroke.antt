@@ -27,9 +27,9 @@ use Rattle.typed_log.proofs.PlainStroke.{waiting, ended_self, ends_at_rest}
 
 -- the two keys' codes and scan codes, and what INT 09h makes of them
 pub record AreShifted (left : Bool) (code scan code' scan' w : ℕ) : Type 0 where
-  pub no_prefix : (code == 0xF0) ≡ false
+  pub no_prefix : (code == 0xf0) ≡ false
   pub scan_is : translated code ≡ Some scan
-  pub no_prefix' : (code' == 0xF0) ≡ false
+  pub no_prefix' : (code' == 0xf0) ≡ false
   pub scan_is' : translated code' ≡ Some scan'
   pub makes' : fed scan' start ≡ quiet (under_shift_key left)
   pub makes : fed scan (under_shift_key left) ≡ entered w (under_shift_key left)
@@ -54,7 +54,7 @@ module _ (layout : KeyLayout) (h : KeyHistory) (ss : List Stroke) (edges : h.edg
   both_down = turned key.place true shift_down
 
   abbrev sent : ℕ → ℕ → ℕ
-  sent c last = if c == 0xFE then last else c
+  sent c last = if c == 0xfe then last else c
 
   -- shift goes down, then the key; both codes are sent and the word entered
   go_down : (last out : ℕ) → At' (80 + 10 * m) (line last [] false false out start m) None all_up words
@@ -132,11 +132,11 @@ module _ (layout : KeyLayout) (h : KeyHistory) (ss : List Stroke) (edges : h.edg
 
   -- what shift's release does to a queue
   shift_up : (bytes : List ℕ) → Moves layout ((shift.place, false) ∷ []) bytes None shift_down
-      (bytes ++ 0xF0 ∷ code' ∷ []) None
+      (bytes ++ 0xf0 ∷ code' ∷ []) None
       (turned shift.place false shift_down)
-      → Moves layout ((shift.place, false) ∷ []) bytes None shift_down (bytes ++ 0xF0 ∷ code' ∷ []) None all_up
+      → Moves layout ((shift.place, false) ∷ []) bytes None shift_down (bytes ++ 0xf0 ∷ code' ∷ []) None all_up
   shift_up bytes mv =
-      subst (λ v. Moves layout ((shift.place, false) ∷ []) bytes None shift_down (bytes ++ 0xF0 ∷ code' ∷ []) None v)
+      subst (λ v. Moves layout ((shift.place, false) ∷ []) bytes None shift_down (bytes ++ 0xf0 ∷ code' ∷ []) None v)
       (struck all_up shift.place (up_at_first shift.place k'.in_matrix)) mv
 
   -- after shift's break nothing comes
@@ -164,36 +164,36 @@ module _ (layout : KeyLayout) (h : KeyHistory) (ss : List Stroke) (edges : h.edg
       let more : List (Option ℕ) = words ++ Some w ∷ [] in
       let r5 : At' n (line last [] false false scan (with_word left w) m) None shift_down words =
       key_up last [] (silent_moves layout key.place code [] (waiting key.place (d - 1 - 1 - 1)) both_down k0) r in
-      let r6 : At' (suc n) (line last (0xF0 ∷ code' ∷ []) false false scan (with_word left w) m) None all_up words =
+      let r6 : At' (suc n) (line last (0xf0 ∷ code' ∷ []) false false scan (with_word left w) m) None all_up words =
       turn layout h ss host n (line last [] false false scan (with_word left w) m)
       (line last [] false false scan (with_word left w) m) words [] ((shift.place, false) ∷ []) None None shift_down
       all_up
-      (0xF0 ∷ code' ∷ []) r5
+      (0xf0 ∷ code' ∷ []) r5
       (one_then layout h ss edges host fit m (Shifted shift key) is n 5 (releases shift (stroke_start m + 10240))
       (omega arith) (omega arith) k'.in_matrix refl)
       tt (nothing (keys_of layout) layout.rate last false q)
       (shift_up [] (break_moves layout shift.place code' [] None shift_down k' refl))
       (omega arith) tt words (append-nil words) in
-      let r7 : At' (suc (suc n)) (line 0xF0 (code' ∷ []) true true scan (under_shift_key left) (m + 1)) None all_up
+      let r7 : At' (suc (suc n)) (line 0xf0 (code' ∷ []) true true scan (under_shift_key left) (m + 1)) None all_up
       more =
-      taking_turn layout h ss host (suc n) (line last (0xF0 ∷ code' ∷ []) false false scan (with_word left w) m)
-      (line 0xF0 (code' ∷ []) true true scan (with_word left w) m) words [] [] None None all_up all_up (code' ∷ []) r6
+      taking_turn layout h ss host (suc n) (line last (0xf0 ∷ code' ∷ []) false false scan (with_word left w) m)
+      (line 0xf0 (code' ∷ []) true true scan (with_word left w) m) words [] [] None None all_up all_up (code' ∷ []) r6
       (none_then layout h ss edges host fit m (Shifted shift key) is (suc n) 6 (omega arith) (omega arith) refl)
       tt (prefix (keys_of layout) layout.rate last (code' ∷ []) scan m (with_word left w))
       (no_edges layout (code' ∷ []) None all_up) (omega arith) below (refl, tt) more refl in
-      let r8 : At' (suc (suc (suc n))) (line (sent code' 0xF0) [] false false (with_bit 0x80 scan') start (m + 1))
+      let r8 : At' (suc (suc (suc n))) (line (sent code' 0xf0) [] false false (with_bit 0x80 scan') start (m + 1))
       None all_up more =
-      turn layout h ss host (suc (suc n)) (line 0xF0 (code' ∷ []) true true scan (under_shift_key left) (m + 1))
-      (line (sent code' 0xF0) [] false false (with_bit 0x80 scan') start (m + 1)) more
+      turn layout h ss host (suc (suc n)) (line 0xf0 (code' ∷ []) true true scan (under_shift_key left) (m + 1))
+      (line (sent code' 0xf0) [] false false (with_bit 0x80 scan') start (m + 1)) more
       (Port (with_bit 0x80 scan') ∷ []) []
       None None all_up all_up [] r7
       (none_then layout h ss edges host fit m (Shifted shift key) is (suc (suc n)) 7 (omega arith) (omega arith) refl)
       tt
-      (code_passes (keys_of layout) layout.rate 0xF0 code' scan' f.no_prefix' f.scan_is' [] true scan (m + 1)
+      (code_passes (keys_of layout) layout.rate 0xf0 code' scan' f.no_prefix' f.scan_is' [] true scan (m + 1)
       (under_shift_key left) start [] f.breaks')
       (no_edges layout [] None all_up) (omega arith) (refl, tt) more (append-nil more) in
-      last_one (sent code' 0xF0) (with_bit 0x80 scan')
-      (idle layout h ss edges host fit (suc (suc (suc n))) (sent code' 0xF0) (with_bit 0x80 scan') (m + 1) start
+      last_one (sent code' 0xf0) (with_bit 0x80 scan')
+      (idle layout h ss edges host fit (suc (suc (suc n))) (sent code' 0xf0) (with_bit 0x80 scan') (m + 1) start
       None all_up more r8
       (none_then layout h ss edges host fit m (Shifted shift key) is (suc (suc (suc n))) 8 (omega arith)
       (omega arith) refl)
@@ -209,50 +209,50 @@ module _ (layout : KeyLayout) (h : KeyHistory) (ss : List Stroke) (edges : h.edg
       let n : ℕ = suc (suc (suc (suc (suc (80 + 10 * m))))) in
       let more : List (Option ℕ) = words ++ Some w ∷ [] in
       let out : ℕ = with_bit 0x80 scan in
-      let r5 : At' n (line last (0xF0 ∷ code ∷ []) false false scan (with_word left w) m) None shift_down words =
-      key_up last (0xF0 ∷ code ∷ [])
+      let r5 : At' n (line last (0xf0 ∷ code ∷ []) false false scan (with_word left w) m) None shift_down words =
+      key_up last (0xf0 ∷ code ∷ [])
       (break_moves layout key.place code [] (waiting key.place (d - 1 - 1 - 1)) both_down k0 refl) r in
-      let r6 : At' (suc n) (line 0xF0 (code ∷ 0xF0 ∷ code' ∷ []) true true scan (with_word left w) m) None all_up
+      let r6 : At' (suc n) (line 0xf0 (code ∷ 0xf0 ∷ code' ∷ []) true true scan (with_word left w) m) None all_up
       words =
-      turn layout h ss host n (line last (0xF0 ∷ code ∷ []) false false scan (with_word left w) m)
-      (line 0xF0 (code ∷ []) true true scan (with_word left w) m) words [] ((shift.place, false) ∷ []) None None
+      turn layout h ss host n (line last (0xf0 ∷ code ∷ []) false false scan (with_word left w) m)
+      (line 0xf0 (code ∷ []) true true scan (with_word left w) m) words [] ((shift.place, false) ∷ []) None None
       shift_down all_up
-      (code ∷ 0xF0 ∷ code' ∷ []) r5
+      (code ∷ 0xf0 ∷ code' ∷ []) r5
       (one_then layout h ss edges host fit m (Shifted shift key) is n 5 (releases shift (stroke_start m + 10240))
       (omega arith) (omega arith) k'.in_matrix refl)
       tt (prefix (keys_of layout) layout.rate last (code ∷ []) scan m (with_word left w))
       (shift_up (code ∷ []) (break_moves layout shift.place code' (code ∷ []) None shift_down k' refl))
       (omega arith) tt words (append-nil words) in
-      let r7 : At' (suc (suc n)) (line (sent code 0xF0) (0xF0 ∷ code' ∷ []) false false out (under_shift_key left)
+      let r7 : At' (suc (suc n)) (line (sent code 0xf0) (0xf0 ∷ code' ∷ []) false false out (under_shift_key left)
       (m + 1)) None
       all_up more =
-      taking_turn layout h ss host (suc n) (line 0xF0 (code ∷ 0xF0 ∷ code' ∷ []) true true scan (with_word left w) m)
-      (line (sent code 0xF0) (0xF0 ∷ code' ∷ []) false false out (with_word left w) m) words (Port out ∷ []) [] None
+      taking_turn layout h ss host (suc n) (line 0xf0 (code ∷ 0xf0 ∷ code' ∷ []) true true scan (with_word left w) m)
+      (line (sent code 0xf0) (0xf0 ∷ code' ∷ []) false false out (with_word left w) m) words (Port out ∷ []) [] None
       None
-      all_up all_up (0xF0 ∷ code' ∷ []) r6
+      all_up all_up (0xf0 ∷ code' ∷ []) r6
       (none_then layout h ss edges host fit m (Shifted shift key) is (suc n) 6 (omega arith) (omega arith) refl)
       tt
-      (code_passes (keys_of layout) layout.rate 0xF0 code scan f.no_prefix f.scan_is (0xF0 ∷ code' ∷ []) true scan m
+      (code_passes (keys_of layout) layout.rate 0xf0 code scan f.no_prefix f.scan_is (0xf0 ∷ code' ∷ []) true scan m
       (with_word left w) (with_word left w) [] f.breaks)
-      (no_edges layout (0xF0 ∷ code' ∷ []) None all_up) (omega arith) below (refl, (refl, tt)) more refl in
-      let r8 : At' (suc (suc (suc n))) (line 0xF0 (code' ∷ []) true true out (under_shift_key left) (m + 1)) None
+      (no_edges layout (0xf0 ∷ code' ∷ []) None all_up) (omega arith) below (refl, (refl, tt)) more refl in
+      let r8 : At' (suc (suc (suc n))) (line 0xf0 (code' ∷ []) true true out (under_shift_key left) (m + 1)) None
       all_up more =
       turn layout h ss host (suc (suc n))
-      (line (sent code 0xF0) (0xF0 ∷ code' ∷ []) false false out (under_shift_key left) (m + 1))
-      (line 0xF0 (code' ∷ []) true true out (under_shift_key left) (m + 1)) more [] [] None None all_up all_up
+      (line (sent code 0xf0) (0xf0 ∷ code' ∷ []) false false out (under_shift_key left) (m + 1))
+      (line 0xf0 (code' ∷ []) true true out (under_shift_key left) (m + 1)) more [] [] None None all_up all_up
       (code' ∷ []) r7
       (none_then layout h ss edges host fit m (Shifted shift key) is (suc (suc n)) 7 (omega arith) (omega arith) refl)
-      tt (prefix (keys_of layout) layout.rate (sent code 0xF0) (code' ∷ []) out (m + 1) (under_shift_key left))
+      tt (prefix (keys_of layout) layout.rate (sent code 0xf0) (code' ∷ []) out (m + 1) (under_shift_key left))
       (no_edges layout (code' ∷ []) None all_up) (omega arith) tt more (append-nil more) in
-      last_one (sent code' 0xF0) (with_bit 0x80 scan')
-      (turn layout h ss host (suc (suc (suc n))) (line 0xF0 (code' ∷ []) true true out (under_shift_key left) (m + 1))
-      (line (sent code' 0xF0) [] false false (with_bit 0x80 scan') start (m + 1)) more
+      last_one (sent code' 0xf0) (with_bit 0x80 scan')
+      (turn layout h ss host (suc (suc (suc n))) (line 0xf0 (code' ∷ []) true true out (under_shift_key left) (m + 1))
+      (line (sent code' 0xf0) [] false false (with_bit 0x80 scan') start (m + 1)) more
       (Port (with_bit 0x80 scan') ∷ []) []
       None None all_up all_up [] r8
       (none_then layout h ss edges host fit m (Shifted shift key) is (suc (suc (suc n))) 8 (omega arith)
       (omega arith) refl)
       tt
-      (code_passes (keys_of layout) layout.rate 0xF0 code' scan' f.no_prefix' f.scan_is' [] true out (m + 1)
+      (code_passes (keys_of layout) layout.rate 0xf0 code' scan' f.no_prefix' f.scan_is' [] true out (m + 1)
       (under_shift_key left) start [] f.breaks')
       (no_edges layout [] None all_up) (omega arith) (refl, tt) more (append-nil more))
 

@@ -33,7 +33,7 @@ in_test rate left due = record {
   mode = Ready;
   reply = None;
   aa_due = due;
-  last = 0xAA;
+  last = 0xaa;
   queue = empty;
   repeats = None;
   rate = rate;
@@ -79,12 +79,12 @@ test_silent layout left z = ap (λ b. items_of_meeting (calm_meeting b None) fir
 
 -- its end is told
 told : (layout : KeyLayout) → stepped (keyboard layout) [] false (testing layout.rate 0 true)
-    ≡ staged (layers_of (record (in_test layout.rate 0 false) { last = 0xAA }))
-    (record { mark = false; out = 0xAA; bios = start; done = 0 })
+    ≡ staged (layers_of (record (in_test layout.rate 0 false) { last = 0xaa }))
+    (record { mark = false; out = 0xaa; bios = start; done = 0 })
 unfolding scan_codes translated fed marks on_sysreq alt_broken on_shift_key
 told layout = refl
 
-told_says : (layout : KeyLayout) → says (keyboard layout) false (testing layout.rate 0 true) ≡ Port 0xAA ∷ []
+told_says : (layout : KeyLayout) → says (keyboard layout) false (testing layout.rate 0 true) ≡ Port 0xaa ∷ []
 unfolding scan_codes translated fed marks on_sysreq alt_broken on_shift_key
 told_says layout = refl
 
@@ -122,25 +122,25 @@ module _ (layout : KeyLayout) (h : KeyHistory) (ss : List Stroke) (edges : h.edg
       test_goes_on 63 1 0 true (omega arith) (omega arith) refl refl (tests 63 1 (omega arith) (omega arith))
 
   abbrev waits_at : ℕ → Type 0
-  waits_at n = At layout h ss edges host fit n (line 0xAA [] false false 0xAA start 0) None all_up []
+  waits_at n = At layout h ss edges host fit n (line 0xaa [] false false 0xaa start 0) None all_up []
 
   after_telling : waits_at 65
   after_telling =
       ticks_on (keyboard layout) h ss host 64 (testing layout.rate 0 true)
-      (staged (layers_of (record (in_test layout.rate 0 false) { last = 0xAA }))
-      (record { mark = false; out = 0xAA; bios = start; done = 0 }))
-      [] [] (Port 0xAA ∷ []) (none_before_first layout h ss edges host fit 64 (omega arith)) after_test (omega arith)
+      (staged (layers_of (record (in_test layout.rate 0 false) { last = 0xaa }))
+      (record { mark = false; out = 0xaa; bios = start; done = 0 }))
+      [] [] (Port 0xaa ∷ []) (none_before_first layout h ss edges host fit 64 (omega arith)) after_test (omega arith)
       (told layout) (told_says layout) (refl, tt)
 
   waits_on : (count n : ℕ) → n ≡ count + 65 → n ≤ 80 → waits_at n
   waits_on zero n z l = let e : 65 ≡ n = omega (arith, z) in subst waits_at e after_telling
   waits_on (suc count) zero z l = absurd (omega (arith, z))
   waits_on (suc count) (suc n) z l =
-      idle layout h ss edges host fit n 0xAA 0xAA 0 start None all_up []
+      idle layout h ss edges host fit n 0xaa 0xaa 0 start None all_up []
       (waits_on count n (omega (arith, z)) (omega (arith, l)))
       (none_before_first layout h ss edges host fit n (omega (arith, l))) tt (omega (arith, l))
 
   pub at_rest : Rest layout h ss edges host fit 0 []
   at_rest =
       let e : 80 ≡ 80 + 10 * 0 = omega arith in
-      record { last = 0xAA; out = 0xAA; is = subst waits_at e (waits_on 15 80 (omega arith) (omega arith)) }
+      record { last = 0xaa; out = 0xaa; is = subst waits_at e (waits_on 15 80 (omega arith) (omega arith)) }

@@ -38,9 +38,9 @@ at_table f g (suc n) h k l =
     ] refl
 
 -- a keyboard code begins no break, and the controller gives its scan code
-pub no_prefix : (k : ℕ) → k < 84 → (code_at k == 0xF0) ≡ false
+pub no_prefix : (k : ℕ) → k < 84 → (code_at k == 0xf0) ≡ false
 unfolding keys
-no_prefix = tests_by 84 (λ k. code_at k == 0xF0) (λ k. false) refl
+no_prefix = tests_by 84 (λ k. code_at k == 0xf0) (λ k. false) refl
 
 pub scan_is : (k : ℕ) → k < 84 → translated (code_at k) ≡ Some (scan_at k)
 unfolding keys scan_codes translated
@@ -89,7 +89,7 @@ bit_by true = 2
 bit_by false = 1
 
 abbrev pub is_left : ℕ → Bool
-is_left k = scan_at k == 0x2A
+is_left k = scan_at k == 0x2a
 
 abbrev pub under_shift_key : Bool → State
 under_shift_key left = record start { shifts = bit_by left }

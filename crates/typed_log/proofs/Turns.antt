@@ -67,13 +67,13 @@ module _ (keys : Keys) (rate last : ℕ) where
       → Passes keys rate
       (record {
         last = last;
-        bytes = 0xF0 ∷ bytes;
+        bytes = 0xf0 ∷ bytes;
         started = false;
         pc = record
             { mark = false; out = out; bios = bios; done = done };
       })
       (record {
-        last = 0xF0;
+        last = 0xf0;
         bytes = bytes;
         started = true;
         pc = record
@@ -81,13 +81,13 @@ module _ (keys : Keys) (rate last : ℕ) where
       })
       []
   prefix bytes out done bios = record {
-    keyed = λ edges rep held l. waits keys edges rate 0xF0 bytes true rep held l;
+    keyed = λ edges rep held l. waits keys edges rate 0xf0 bytes true rep held l;
     met = refl;
     said = refl;
   }
 
   -- a code is translated, put out and read
-  module _ (code scan : ℕ) (np : (code == 0xF0) ≡ false) (is : translated code ≡ Some scan) where
+  module _ (code scan : ℕ) (np : (code == 0xf0) ≡ false) (is : translated code ≡ Some scan) where
     abbrev pub put : Bool → ℕ
     put mark = if mark then with_bit 0x80 scan else scan
 
@@ -107,7 +107,7 @@ module _ (keys : Keys) (rate last : ℕ) where
               { mark = mark; out = out; bios = bios; done = done };
         })
         (record {
-          last = if code == 0xFE then last else code;
+          last = if code == 0xfe then last else code;
           bytes = bytes;
           started = false;
           pc = record { mark = false; out = put mark; bios = after; done = done };
@@ -115,9 +115,9 @@ module _ (keys : Keys) (rate last : ℕ) where
         (Port (put mark) ∷ items)
     code_passes bytes mark out done bios after items f = record {
       keyed = λ edges rep held l.
-          waits keys edges rate (if code == 0xFE then last else code) bytes ((code == 0xF0) && not mark) rep held l
+          waits keys edges rate (if code == 0xfe then last else code) bytes ((code == 0xf0) && not mark) rep held l
           ∙ ap (λ b. edges_if true keys edges
-          (typing rate (if code == 0xFE then last else code) bytes (b && not mark) (later rep) held)) np;
+          (typing rate (if code == 0xfe then last else code) bytes (b && not mark) (later rep) held)) np;
       met =
           ap (λ (t : Translated). read_of t.byte
           (marked t.mark (record { mark = mark; out = out; bios = bios; done = done })))
@@ -172,8 +172,8 @@ module _ (layout : KeyLayout) where
           k.only_is;
     }
 
-    pub break_moves : IsKeyAt place code false → nat_lt 16 (length bytes + length (0xF0 ∷ code ∷ [])) ≡ false
-        → Moves layout ((place, false) ∷ []) bytes rep held (bytes ++ 0xF0 ∷ code ∷ []) (ended_at place rep)
+    pub break_moves : IsKeyAt place code false → nat_lt 16 (length bytes + length (0xf0 ∷ code ∷ [])) ≡ false
+        → Moves layout ((place, false) ∷ []) bytes rep held (bytes ++ 0xf0 ∷ code ∷ []) (ended_at place rep)
         (turned place false held)
     break_moves k room = record {
       layers = layers_of_release (is_fn_place layout) place k.fn_is;

@@ -16,7 +16,7 @@ use Rattle.key_file.specs.Histories.{KeyHistory}
 
 -- the character of a byte of the text: a line feed is an Enter, as a carriage return is; any other byte is itself
 abbrev pub character : ℕ → ℕ
-character byte = if byte == 0x0A then 0x0D else byte
+character byte = if byte == 0x0a then 0x0d else byte
 
 -- a column of the table of words
 abbrev pub Column : Type 0
