@@ -3,7 +3,6 @@ use Rattle.std.proofs.Common.{cond, ◌≡◌, ℕ, Bool, true, false, List, [],
 use Rattle.std.specs.declared.option.Option.{Option}
 use Rattle.std.specs.declared.result.Result.{Result}
 use Rattle.first_fault.specs.FirstFault.{and_then, some_or, unless}
-use Rattle.joint_feed.specs.Stories.{Story}
 use Rattle.text_lines.specs.Fields.{is_blank_line}
 use Rattle.fw_debug.specs.declared.command.Command.{Command}
 use Rattle.fw_debug.specs.declared.rule.Rule.{Rule}
@@ -12,33 +11,33 @@ use Rattle.fw_debug.specs.Commands.{command_in}
 use Rattle.fw_debug.specs.CountLaw.{LinesAreObeyed, asked, obeyed_all}
 use Rattle.fw_debug.specs.Obeyed.{behind, lines_told}
 use Rattle.fw_debug.specs.Scripts.{judged, missing}
-use Rattle.fw_debug.specs.Sessions.{Debug}
+use Rattle.fw_debug.specs.Sessions.{Debug, Debuggee}
 use Rattle.fw_debug.specs.Told.{Told, obeyed, told}
 
-abbrev Leave : Story → List (List ℕ) → Type 0
+abbrev Leave : Debuggee → List (List ℕ) → Type 0
 Leave s ls = (d : Debug) (end : Told) → lines_told s ls d ≡ Ok end → end.debug ≡ obeyed_all s (asked ls) d
 
 -- the others, behind a line that printed this and left that
-behind_it : (s : Story) (text : List ℕ) (cs : List Command) (d : Debug) (r : Result Told Rule) → ((end : Told) → r ≡ Ok end → end.debug ≡ obeyed_all s cs d)
+behind_it : (s : Debuggee) (text : List ℕ) (cs : List Command) (d : Debug) (r : Result Told Rule) → ((end : Told) → r ≡ Ok end → end.debug ≡ obeyed_all s cs d)
     → (end : Told) → and_then r (λ u. Ok (behind text u)) ≡ Ok end → end.debug ≡ obeyed_all s cs d
 behind_it s text cs d (Ok u) h end e = let same : behind text u ≡ end = cc e in ap (λ (t : Told). t.debug) (sym same) ∙ h u refl
 behind_it s text cs d (Err rule) h end e = absurd (cc e)
 
 -- a line that isn't blank, by what it asks for and whether the probe is there
-commanded : (s : Story) (ls : List (List ℕ)) (d : Debug) → Leave s ls → (c : Command) (m : Option Rule) (end : Told)
+commanded : (s : Debuggee) (ls : List (List ℕ)) (d : Debug) → Leave s ls → (c : Command) (m : Option Rule) (end : Told)
     → and_then (and_then (unless m c) (λ f. Ok (obeyed s f d))) (λ t. and_then (lines_told s ls t.debug) (λ u. Ok (behind t.text u))) ≡ Ok end
     → end.debug ≡ obeyed_all s (c ∷ asked ls) d
 commanded s ls d h c None end e = behind_it s (obeyed s c d).text (asked ls) (obeyed s c d).debug (lines_told s ls (obeyed s c d).debug) (h (obeyed s c d).debug) end e
 commanded s ls d h c (Some rule) end e = absurd (cc e)
 
-formed : (s : Story) (ls : List (List ℕ)) (d : Debug) → Leave s ls → (o : Option Command) (end : Told)
+formed : (s : Debuggee) (ls : List (List ℕ)) (d : Debug) → Leave s ls → (o : Option Command) (end : Told)
     → and_then (and_then (and_then (some_or Form o) (λ c. unless (missing (length d.probes) c) c)) (λ c. Ok (obeyed s c d)))
     (λ t. and_then (lines_told s ls t.debug) (λ u. Ok (behind t.text u))) ≡ Ok end
     → end.debug ≡ obeyed_all s ((elim o [ None ↦ [] | Some c ↦ c ∷ [] ]) ++ asked ls) d
 formed s ls d h (Some c) end e = commanded s ls d h c (missing (length d.probes) c) end e
 formed s ls d h None end e = absurd (cc e)
 
-lined : (s : Story) (ls : List (List ℕ)) (d : Debug) (line : List ℕ) → Leave s ls → (blank : Bool) (end : Told)
+lined : (s : Debuggee) (ls : List (List ℕ)) (d : Debug) (line : List ℕ) → Leave s ls → (blank : Bool) (end : Told)
     → and_then (cond blank (Ok (told d [])) (and_then (judged (length d.probes) line) (λ c. Ok (obeyed s c d))))
     (λ t. and_then (lines_told s ls t.debug) (λ u. Ok (behind t.text u))) ≡ Ok end
     → end.debug ≡ obeyed_all s (cond blank [] (elim (command_in line) [ None ↦ [] | Some c ↦ c ∷ [] ]) ++ asked ls) d

@@ -6,13 +6,12 @@ use Rattle.std.specs.List.{remove}
 use Rattle.std.specs.Option.{option_and_then, option_map}
 use Rattle.std.specs.declared.option.Option.{Option}
 use Rattle.std.proofs.lemmas.Option.{slice_get-map}
-use Rattle.joint_feed.specs.Stories.{Story}
 use Rattle.fw_debug.specs.declared.command.Command.{Command}
 use Rattle.fw_debug.specs.declared.command.Command.TheVariants.{Step, Go, Show, Ram, Arm, Tell, Drop}
 use Rattle.fw_debug.specs.Counts.{counted_between}
 use Rattle.fw_debug.specs.CountLaw.{IsCounted, number_behind, number_after, obeyed_all, LinesCount, CountsSinceArmed}
 use Rattle.fw_debug.specs.Probes.{Watch, armed}
-use Rattle.fw_debug.specs.Sessions.{Debug, walk, hunt}
+use Rattle.fw_debug.specs.Sessions.{Debug, Debuggee, walk, hunt}
 use Rattle.fw_debug.specs.Told.{arm_at, obeyed}
 use Rattle.fw_debug.proofs.Counting.{counted_both, counted_nowhere, counts_from_none}
 use Rattle.fw_debug.proofs.Counted.{walk_counts, hunt_counts}
@@ -59,24 +58,24 @@ drop_other ws p i false is h =
 not_this : (p i : ℕ) → (p == i) ≡ false → p ≡ i → ⊥
 not_this p i h e = grind (arith, nat_tests, h, e)
 
-module _ (s : Story) (d : Debug) (probe : ℕ) (watch : Watch) (is : slice_get d.probes probe ≡ Some watch) where
-  read_counted : (new : Debug) → IsCounted s d new → slice_get new.probes probe ≡ Some (counted_between s d.steps new.steps watch)
+module _ (s : Debuggee) (d : Debug) (probe : ℕ) (watch : Watch) (is : slice_get d.probes probe ≡ Some watch) where
+  read_counted : (new : Debug) → IsCounted s.story d new → slice_get new.probes probe ≡ Some (counted_between s.story d.steps new.steps watch)
   read_counted new h =
-      ap (λ ps. slice_get ps probe) h.probes ∙ slice_get-map (counted_between s d.steps new.steps) d.probes probe
-      ∙ ap (option_map (counted_between s d.steps new.steps)) is
+      ap (λ ps. slice_get ps probe) h.probes ∙ slice_get-map (counted_between s.story d.steps new.steps) d.probes probe
+      ∙ ap (option_map (counted_between s.story d.steps new.steps)) is
 
-  still_counted : (probes : List Watch) (later : ℕ) → slice_get probes later ≡ slice_get d.probes probe → slice_get probes later ≡ Some (counted_between s d.steps d.steps watch)
-  still_counted probes later same = same ∙ is ∙ ap (λ w. Some w) (sym (counted_nowhere s d.steps watch))
+  still_counted : (probes : List Watch) (later : ℕ) → slice_get probes later ≡ slice_get d.probes probe → slice_get probes later ≡ Some (counted_between s.story d.steps d.steps watch)
+  still_counted probes later same = same ∙ is ∙ ap (λ w. Some w) (sym (counted_nowhere s.story d.steps watch))
 
   arm_counted : (p a b later : ℕ) (this : Bool) → (p == probe) ≡ this → cond this None (Some probe) ≡ Some later
-      → slice_get (arm_at p a b d.probes) later ≡ Some (counted_between s d.steps d.steps watch)
+      → slice_get (arm_at p a b d.probes) later ≡ Some (counted_between s.story d.steps d.steps watch)
   arm_counted p a b later true at h = absurd (cc h)
   arm_counted p a b later false at h =
       let e : later ≡ probe = cc h in
       still_counted (arm_at p a b d.probes) later (ap (slice_get (arm_at p a b d.probes)) e ∙ arm_other p a b d.probes probe (not_this p probe at))
 
   drop_counted : (p later : ℕ) (this : Bool) → (p == probe) ≡ this → cond this None (Some (cond (nat_lt p probe) (probe - 1) probe)) ≡ Some later
-      → slice_get (remove d.probes p) later ≡ Some (counted_between s d.steps d.steps watch)
+      → slice_get (remove d.probes p) later ≡ Some (counted_between s.story d.steps d.steps watch)
   drop_counted p later true at h = absurd (cc h)
   drop_counted p later false at h =
       let e : later ≡ cond (nat_lt p probe) (probe - 1) probe = cc h in
@@ -85,12 +84,12 @@ module _ (s : Story) (d : Debug) (probe : ℕ) (watch : Watch) (is : slice_get d
   same_number : (later : ℕ) → Some probe ≡ Some later → slice_get d.probes later ≡ slice_get d.probes probe
   same_number later h = let e : later ≡ probe = cc h in ap (slice_get d.probes) e
 
-  read_later : (new : Debug) (later : ℕ) → Some probe ≡ Some later → IsCounted s d new → slice_get new.probes later ≡ Some (counted_between s d.steps new.steps watch)
+  read_later : (new : Debug) (later : ℕ) → Some probe ≡ Some later → IsCounted s.story d new → slice_get new.probes later ≡ Some (counted_between s.story d.steps new.steps watch)
   read_later new later at h = let e : later ≡ probe = cc at in ap (slice_get new.probes) e ∙ read_counted new h
 
   -- one line
   line_counts : (command : Command) (later : ℕ) → number_behind command probe ≡ Some later
-      → slice_get (obeyed s command d).debug.probes later ≡ Some (counted_between s d.steps (obeyed s command d).debug.steps watch)
+      → slice_get (obeyed s command d).debug.probes later ≡ Some (counted_between s.story d.steps (obeyed s command d).debug.steps watch)
   line_counts (Step n) later at = read_later (walk s n d) later at (walk_counts s n d)
   line_counts (Go n) later at = read_later (hunt s n d).debug later at (hunt_counts s n d)
   line_counts Show later at = still_counted d.probes later (same_number later at)
@@ -100,7 +99,7 @@ module _ (s : Story) (d : Debug) (probe : ℕ) (watch : Watch) (is : slice_get d
   line_counts (Drop p) later at = drop_counted p later (p == probe) refl at
 
 -- no line goes back
-line_later : (s : Story) (command : Command) (d : Debug) → d.steps ≤ (obeyed s command d).debug.steps
+line_later : (s : Debuggee) (command : Command) (d : Debug) → d.steps ≤ (obeyed s command d).debug.steps
 line_later s (Step n) d = (walk_counts s n d).later
 line_later s (Go n) d = (hunt_counts s n d).later
 line_later s Show d = omega arith
@@ -109,20 +108,20 @@ line_later s (Arm p a b) d = omega arith
 line_later s (Tell p) d = omega arith
 line_later s (Drop p) d = omega arith
 
-lines_later : (s : Story) (lines : List Command) (d : Debug) → d.steps ≤ (obeyed_all s lines d).steps
+lines_later : (s : Debuggee) (lines : List Command) (d : Debug) → d.steps ≤ (obeyed_all s lines d).steps
 lines_later s [] d = omega arith
 lines_later s (command ∷ others) d = omega (arith, line_later s command d, lines_later s others (obeyed s command d).debug)
 
-lines_from : (s : Story) (command : Command) (others : List Command) (d : Debug) (probe later : ℕ) (watch : Watch) (o : Option ℕ) → number_behind command probe ≡ o
+lines_from : (s : Debuggee) (command : Command) (others : List Command) (d : Debug) (probe later : ℕ) (watch : Watch) (o : Option ℕ) → number_behind command probe ≡ o
     → slice_get d.probes probe ≡ Some watch → option_and_then (number_after others) o ≡ Some later
     → ((now : Watch) (mid : ℕ) → slice_get (obeyed s command d).debug.probes mid ≡ Some now → number_after others mid ≡ Some later
-    → slice_get (obeyed_all s (command ∷ others) d).probes later ≡ Some (counted_between s (obeyed s command d).debug.steps (obeyed_all s (command ∷ others) d).steps now))
-    → slice_get (obeyed_all s (command ∷ others) d).probes later ≡ Some (counted_between s d.steps (obeyed_all s (command ∷ others) d).steps watch)
+    → slice_get (obeyed_all s (command ∷ others) d).probes later ≡ Some (counted_between s.story (obeyed s command d).debug.steps (obeyed_all s (command ∷ others) d).steps now))
+    → slice_get (obeyed_all s (command ∷ others) d).probes later ≡ Some (counted_between s.story d.steps (obeyed_all s (command ∷ others) d).steps watch)
 lines_from s command others d probe later watch None at is to more = absurd (cc to)
 lines_from s command others d probe later watch (Some mid) at is to more =
     let k = (obeyed s command d).debug.steps in
-    more (counted_between s d.steps k watch) mid (line_counts s d probe watch is command mid at) to
-    ∙ ap (λ w. Some w) (sym (counted_both s d.steps k (obeyed_all s (command ∷ others) d).steps (line_later s command d) (lines_later s others (obeyed s command d).debug) watch))
+    more (counted_between s.story d.steps k watch) mid (line_counts s d probe watch is command mid at) to
+    ∙ ap (λ w. Some w) (sym (counted_both s.story d.steps k (obeyed_all s (command ∷ others) d).steps (line_later s command d) (lines_later s others (obeyed s command d).debug) watch))
 
 pub lines_count : LinesCount
 lines_count s [] d probe later watch is to = still_counted s d probe watch is d.probes later (same_number s d probe watch is later to)
@@ -134,7 +133,7 @@ pub counts_since_armed : CountsSinceArmed
 counts_since_armed s lines d probe a b later watch is to =
     let new = (obeyed s (Arm probe a b) d).debug in
     let end = (obeyed_all s lines new).steps in (
-      counted_between s d.steps end (armed a b watch),
+      counted_between s.story d.steps end (armed a b watch),
       lines_count s lines new probe later (armed a b watch) (arm_this probe a b d.probes watch is) to,
-      counts_from_none s d.steps end (armed a b watch) refl refl,
+      counts_from_none s.story d.steps end (armed a b watch) refl refl,
     )

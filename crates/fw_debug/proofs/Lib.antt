@@ -1,5 +1,6 @@
 pub mod Asked
 pub mod AtNumber
+pub mod AtRest
 pub mod Counted
 pub mod Counting
 pub mod Fields

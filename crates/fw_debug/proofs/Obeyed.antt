@@ -7,14 +7,13 @@ use Rattle.std.specs.Result.{IsErrAnd}
 use Rattle.std.specs.Str.Lines.{lines}
 use Rattle.std.specs.declared.result.Result.{Result}
 use Rattle.first_fault.specs.FirstFault.{and_then}
-use Rattle.joint_feed.specs.Stories.{Story}
 use Rattle.fw_debug.specs.declared.rule.LineFault.{LineFault}
 use Rattle.fw_debug.specs.declared.rule.LineFault.TheVariants.{Memory}
 use Rattle.fw_debug.specs.declared.rule.Rule.{Rule}
 use Rattle.fw_debug.specs.Lines.{IsLine}
 use Rattle.fw_debug.specs.Obeyed.{IsObeyed, IsObeyedInPart, behind, begun, lines_told}
 use Rattle.fw_debug.specs.Probes.{Watch}
-use Rattle.fw_debug.specs.Sessions.{Debug, Sitting}
+use Rattle.fw_debug.specs.Sessions.{Debug, Debuggee, Sitting}
 use Rattle.fw_debug.specs.Told.{Told, line_told, told}
 
 abbrev Outcome : Type 0
@@ -23,7 +22,7 @@ Outcome = Result Told Rule
 abbrev before_all : List ℕ → Outcome → Outcome
 before_all text r = and_then r (λ u. Ok (behind text u))
 
-abbrev and_lines : Story → List (List ℕ) → Outcome → Outcome
+abbrev and_lines : Debuggee → List (List ℕ) → Outcome → Outcome
 and_lines s ys r = and_then r (λ t. before_all t.text (lines_told s ys t.debug))
 
 behind_none : (r : Outcome) → r ≡ before_all [] r
@@ -35,35 +34,35 @@ behind_twice a b (Ok t) = ap (λ (x : List ℕ). Ok (told t.debug x)) (sym (appe
 behind_twice a b (Err rule) = refl
 
 -- behind a line come its others and then more
-others_both : (s : Story) (ys : List (List ℕ)) (text : List ℕ) (r : Outcome) → before_all text (and_lines s ys r) ≡ and_lines s ys (before_all text r)
+others_both : (s : Debuggee) (ys : List (List ℕ)) (text : List ℕ) (r : Outcome) → before_all text (and_lines s ys r) ≡ and_lines s ys (before_all text r)
 others_both s ys text (Ok t) = behind_twice text t.text (lines_told s ys t.debug)
 others_both s ys text (Err rule) = refl
 
-first_both : (s : Story) (xs ys : List (List ℕ)) (r : Outcome) → ((d : Debug) → lines_told s (xs ++ ys) d ≡ and_lines s ys (lines_told s xs d))
+first_both : (s : Debuggee) (xs ys : List (List ℕ)) (r : Outcome) → ((d : Debug) → lines_told s (xs ++ ys) d ≡ and_lines s ys (lines_told s xs d))
     → and_lines s (xs ++ ys) r ≡ and_lines s ys (and_lines s xs r)
 first_both s xs ys (Ok t) h = ap (before_all t.text) (h t.debug) ∙ others_both s ys t.text (lines_told s xs t.debug)
 first_both s xs ys (Err rule) h = refl
 
 -- some lines, and then others
-told_both : (s : Story) (xs ys : List (List ℕ)) (d : Debug) → lines_told s (xs ++ ys) d ≡ and_lines s ys (lines_told s xs d)
+told_both : (s : Debuggee) (xs ys : List (List ℕ)) (d : Debug) → lines_told s (xs ++ ys) d ≡ and_lines s ys (lines_told s xs d)
 told_both s [] ys d = behind_none (lines_told s ys d)
 told_both s (x ∷ xs) ys d = first_both s xs ys (line_told s x d) (told_both s xs ys)
 
 -- the first lines of all are obeyed, and these are left
-pub record AreDone (s : Story) (all : List (List ℕ)) (d : Debug) (rest : List (List ℕ)) (now : Debug) (text : List ℕ) : Type 0 where
+pub record AreDone (s : Debuggee) (all : List (List ℕ)) (d : Debug) (rest : List (List ℕ)) (now : Debug) (text : List ℕ) : Type 0 where
   pub first : List (List ℕ)
   pub all_so : all ≡ first ++ rest
   pub told : lines_told s first d ≡ Ok (told now text)
 
 -- none is obeyed yet
-pub none_done : (s : Story) (all : List (List ℕ)) (d : Debug) → AreDone s all d all d []
+pub none_done : (s : Debuggee) (all : List (List ℕ)) (d : Debug) → AreDone s all d all d []
 none_done s all d = record { first = []; all_so = refl; told = refl }
 
-right_by : (s : Story) (others : List (List ℕ)) (text : List ℕ) (end : Told) (r : Outcome) → before_all text (and_lines s others r) ≡ Ok end → (t : Told) × (r ≡ Ok t)
+right_by : (s : Debuggee) (others : List (List ℕ)) (text : List ℕ) (end : Told) (r : Outcome) → before_all text (and_lines s others r) ≡ Ok end → (t : Told) × (r ≡ Ok t)
 right_by s others text end (Ok t) e = (t, refl)
 right_by s others text end (Err rule) e = absurd (cc e)
 
-module _ (s : Story) (all : List (List ℕ)) (d : Debug) (line : List ℕ) (others : List (List ℕ)) (now : Debug) (text : List ℕ) where
+module _ (s : Debuggee) (all : List (List ℕ)) (d : Debug) (line : List ℕ) (others : List (List ℕ)) (now : Debug) (text : List ℕ) where
   -- where all lines come to an end, so does the next one
   pub next_right : (end : Told) → lines_told s all d ≡ Ok end → AreDone s all d (line ∷ others) now text → (t : Told) × (line_told s line now ≡ Ok t)
   next_right end right done =
@@ -90,16 +89,16 @@ line_lacks : (t : Told) (r : Outcome) (now new : Debug) (text text' : List ℕ) 
 line_lacks t r now new text text' fault is h =
     let so : IsLine (Ok t) now text (Err fault) new text' = subst (λ (o : Outcome). IsLine o now text (Err fault) new text') is h in (so.0, so.1)
 
-module _ (s s' : Story) (all : List (List ℕ)) (d : Debug) (rest : List (List ℕ)) (line : List ℕ) (others : List (List ℕ)) (now new : Debug) (text text' : List ℕ) (end : Told)
+module _ (s s' : Debuggee) (all : List (List ℕ)) (d : Debug) (rest : List (List ℕ)) (line : List ℕ) (others : List (List ℕ)) (now new : Debug) (text text' : List ℕ) (end : Told)
     (same : s' ≡ s) (right : lines_told s all d ≡ Ok end) (next : rest ≡ line ∷ others) (done : AreDone s all d rest now text) where
   before : AreDone s all d (line ∷ others) now text
   before = subst (λ ls. AreDone s all d ls now text) next done
 
   pub asked : (t : Told) × (line_told s' line now ≡ Ok t)
-  asked = subst (λ (r : Story). (t : Told) × (line_told r line now ≡ Ok t)) (sym same) (next_right s all d line others now text end right before)
+  asked = subst (λ (r : Debuggee). (t : Told) × (line_told r line now ≡ Ok t)) (sym same) (next_right s all d line others now text end right before)
 
   after : AreDone s all d others asked.0.debug (text ++ asked.0.text)
-  after = one_more s all d line others now text asked.0 (subst (λ (r : Story). line_told r line now ≡ Ok asked.0) same asked.1) before
+  after = one_more s all d line others now text asked.0 (subst (λ (r : Debuggee). line_told r line now ≡ Ok asked.0) same asked.1) before
 
   -- the next line is obeyed
   pub goes_on : IsLine (line_told s' line now) now text (Ok tt) new text' → AreDone s all d others new text'
@@ -113,7 +112,7 @@ module _ (s s' : Story) (all : List (List ℕ)) (d : Debug) (rest : List (List �
       let is : (fault ≡ Memory) × (asked.0.debug ≡ new) = line_lacks asked.0 (line_told s' line now) now new text text' fault asked.1 h in
       (is.0, subst (λ (x : Debug). AreDone s all d others x (text ++ asked.0.text)) is.1 after)
 
-module _ (s : Story) (script : List ℕ) (probes : List Watch) (rest : List (List ℕ)) (now : Debug) (text : List ℕ) (done : AreDone s (lines script) (begun probes) rest now text) where
+module _ (s : Debuggee) (script : List ℕ) (probes : List Watch) (rest : List (List ℕ)) (now : Debug) (text : List ℕ) (done : AreDone s (lines script) (begun probes) rest now text) where
   -- behind the last line all are obeyed
   pub all_done : rest ≡ [] → IsObeyed s script probes text now.probes
   all_done none = record {
@@ -137,13 +136,13 @@ lacks (Ok x) fault P is memory = absurd is
 lacks (Err e) fault P is memory = is ∙ memory
 
 -- a session at its start is over this run
-pub said_by : {X : Type 0} (items : X → List ℕ) (result : Result X LineFault) (sitting : Sitting) (s : Story) (script : List ℕ) (probes left : List Watch) → sitting ≡ record { story = s; steps = 0 }
-    → MatchResult result (λ x. IsObeyed sitting.story script probes (items x) left) (λ e. e ≡ Memory) → MatchResult result (λ x. IsObeyed s script probes (items x) left) (λ e. e ≡ Memory)
-said_by items result sitting s script probes left is h = subst (λ (x : Sitting). MatchResult result (λ y. IsObeyed x.story script probes (items y) left) (λ e. e ≡ Memory)) is h
+pub said_by : {X : Type 0} (items : X → List ℕ) (result : Result X LineFault) (sitting : Sitting) (s : Debuggee) (script : List ℕ) (probes left : List Watch) → sitting ≡ record { debuggee = s; steps = 0 }
+    → MatchResult result (λ x. IsObeyed sitting.debuggee script probes (items x) left) (λ e. e ≡ Memory) → MatchResult result (λ x. IsObeyed s script probes (items x) left) (λ e. e ≡ Memory)
+said_by items result sitting s script probes left is h = subst (λ (x : Sitting). MatchResult result (λ y. IsObeyed x.debuggee script probes (items y) left) (λ e. e ≡ Memory)) is h
 
-pub part_by : (sitting : Sitting) (s : Story) (script : List ℕ) (probes left : List Watch) → sitting ≡ record { story = s; steps = 0 } → IsObeyedInPart sitting.story script probes left → IsObeyedInPart s script probes left
-part_by sitting s script probes left is h = subst (λ (x : Sitting). IsObeyedInPart x.story script probes left) is h
+pub part_by : (sitting : Sitting) (s : Debuggee) (script : List ℕ) (probes left : List Watch) → sitting ≡ record { debuggee = s; steps = 0 } → IsObeyedInPart sitting.debuggee script probes left → IsObeyedInPart s script probes left
+part_by sitting s script probes left is h = subst (λ (x : Sitting). IsObeyedInPart x.debuggee script probes left) is h
 
 -- no line is obeyed yet
-pub none_obeyed : (s : Story) (script : List ℕ) (probes : List Watch) → IsObeyedInPart s script probes probes
+pub none_obeyed : (s : Debuggee) (script : List ℕ) (probes : List Watch) → IsObeyedInPart s script probes probes
 none_obeyed s script probes = (0, [], record { steps = 0; told = refl })

@@ -17,7 +17,7 @@ use Rattle.fw_logic.specs.JointRun.{TellsTick}
 use Rattle.joint_feed.specs.declared.course.Course.{Course}
 use Rattle.joint_feed.specs.Course.{IsOnCourse, IsStepOn}
 use Rattle.joint_feed.specs.Stories.{Story, state_at, starts_tick}
-use Rattle.fw_debug.specs.Sessions.{sitting, is_over, next_from, next_state, has_ended}
+use Rattle.fw_debug.specs.Sessions.{Debuggee, sitting, session_is_over, next_from, next_state, has_ended}
 use Rattle.fw_debug.specs.Stuck.{sticks}
 use Rattle.fw_debug.specs.Advance.{IsStateAt, IsAdvanced}
 use Rattle.fw_debug.proofs.Sights.{same_sight}
@@ -58,40 +58,41 @@ none_step edges events bytes w =
     none_after d w (stepped bytes (seen d w) w.cpu) ∙ none_stepped bytes (seen d w) w.cpu (int_high edges events w)
 
 -- the next state from one that is there
-next_there : (s : Story) (k : ℕ) (w : World Beside) (over : Bool) → state_at s k ≡ Some w → over ≡ is_over s w → next_state s k ≡ (if over then None else state_at s (suc k))
-next_there s k w over e o = ap (next_from s k) e ∙ ap (λ b. if b then None else state_at s (suc k)) (sym o)
+next_there : (s : Debuggee) (k : ℕ) (w : World Beside) (over : Bool) → state_at s.story k ≡ Some w → over ≡ session_is_over s w → next_state s k ≡ (if over then None else state_at s.story (suc k))
+next_there s k w over e o = ap (next_from s k) e ∙ ap (λ b. if b then None else state_at s.story (suc k)) (sym o)
 
 -- where the run is past its end it has ended
-pub ended_past : (s : Story) (k : ℕ) (w : World Beside) (over : Bool) → state_at s k ≡ Some w → over ≡ is_over s w → over ≡ true → next_state s k ≡ None
-ended_past s k w over e o t = next_there s k w over e o ∙ ap (λ b. if b then None else state_at s (suc k)) t
+pub ended_past : (s : Debuggee) (k : ℕ) (w : World Beside) (over : Bool) → state_at s.story k ≡ Some w → over ≡ session_is_over s w → over ≡ true → next_state s k ≡ None
+ended_past s k w over e o t = next_there s k w over e o ∙ ap (λ b. if b then None else state_at s.story (suc k)) t
 
-module _ (s : Story) (c : Course) (h : IsOnCourse s c) where
-  pub here : state_at s c.joint.steps ≡ Some h.world
-  here = subst (λ (bytes : List ℕ). run_at (joint_board s.edges s.events) bytes joint_start c.joint.steps ≡ Some h.world) h.image h.in_run.run
+module _ (s : Debuggee) (c : Course) (h : IsOnCourse s.story c) where
+  pub here : state_at s.story c.joint.steps ≡ Some h.world
+  here = subst (λ (bytes : List ℕ). run_at (joint_board s.story.edges s.story.events) bytes joint_start c.joint.steps ≡ Some h.world) h.image h.in_run.run
 
-  same : (w : World Beside) → state_at s c.joint.steps ≡ Some w → h.world ≡ w
+  same : (w : World Beside) → state_at s.story c.joint.steps ≡ Some w → h.world ≡ w
   same w e = let f : Some h.world ≡ Some w = sym here ∙ e in cc f
 
   -- what is answered of the machine is so of the state
-  pub past_so : (starts : Bool) (cycle stop : ℕ) (result : Bool) → TellsTick c.joint starts → cycle ≡ c.joint.cycle → stop ≡ s.stop
-      → result ≡ ((starts && nat_le (4096 + stop) cycle) || nat_le (stop + 6152) cycle) → (w : World Beside) → state_at s c.joint.steps ≡ Some w → result ≡ is_over s w
-  past_so starts cycle stop result tells at end is w e =
+  pub past_so : (starts : Bool) (cycle stop latest : ℕ) (result : Bool) → TellsTick c.joint starts → cycle ≡ c.joint.cycle → stop ≡ s.story.stop → latest ≡ s.latest
+      → result ≡ ((starts && nat_le (4096 + stop) cycle) || nat_le (stop + latest) cycle) → (w : World Beside) → state_at s.story c.joint.steps ≡ Some w → result ≡ session_is_over s w
+  past_so starts cycle stop latest result tells at end late is w e =
       let world : h.world ≡ w = same w e in
       let cpu : w.cpu ≡ c.joint.mcu = sym (h.in_run.mcu ∙ ap (λ (v : World Beside). v.cpu) world) in
-      let tick : starts ≡ starts_tick s w = tells s.edges s.events w cpu in
+      let tick : starts ≡ starts_tick s.story w = tells s.story.edges s.story.events w cpu in
       let now : cycle ≡ w.cycle = at ∙ h.in_run.cycle ∙ ap (λ (v : World Beside). v.cycle) world in
-      is ∙ ap (λ (n : ℕ). (starts && nat_le (4096 + n) cycle) || nat_le (n + 6152) cycle) end
-      ∙ ap (λ (n : ℕ). (starts && nat_le (4096 + s.stop) n) || nat_le (s.stop + 6152) n) now
-      ∙ ap (λ b. (b && nat_le (4096 + s.stop) w.cycle) || nat_le (s.stop + 6152) w.cycle) tick
+      is ∙ ap (λ (n : ℕ). (starts && nat_le (4096 + n) cycle) || nat_le (n + latest) cycle) end
+      ∙ ap (λ (n : ℕ). (starts && nat_le (4096 + s.story.stop) cycle) || nat_le (s.story.stop + n) cycle) late
+      ∙ ap (λ (n : ℕ). (starts && nat_le (4096 + s.story.stop) n) || nat_le (s.story.stop + s.latest) n) now
+      ∙ ap (λ b. (b && nat_le (4096 + s.story.stop) w.cycle) || nat_le (s.story.stop + s.latest) w.cycle) tick
 
   -- before its end the run ends exactly where the processor is stuck
-  pub ended_so : (past stuck : Bool) → ((w : World Beside) → state_at s c.joint.steps ≡ Some w → past ≡ is_over s w) → past ≡ false → stuck ≡ sticks s.bytes c.joint.mcu
+  pub ended_so : (past stuck : Bool) → ((w : World Beside) → state_at s.story c.joint.steps ≡ Some w → past ≡ session_is_over s w) → past ≡ false → stuck ≡ sticks s.story.bytes c.joint.mcu
       → stuck ≡ has_ended s c.joint.steps
   ended_so past stuck over f is =
-      let next : next_state s c.joint.steps ≡ state_at s (suc c.joint.steps) =
-      next_there s c.joint.steps h.world past here (over h.world here) ∙ ap (λ b. if b then None else state_at s (suc c.joint.steps)) f in
-      let step : state_at s (suc c.joint.steps) ≡ joint_step (joint_board s.edges s.events) s.bytes h.world = ap (step_on (joint_board s.edges s.events) s.bytes) here in
-      is ∙ ap (sticks s.bytes) h.in_run.mcu ∙ sym (none_step s.edges s.events s.bytes h.world) ∙ sym (ap is_none (next ∙ step))
+      let next : next_state s c.joint.steps ≡ state_at s.story (suc c.joint.steps) =
+      next_there s c.joint.steps h.world past here (over h.world here) ∙ ap (λ b. if b then None else state_at s.story (suc c.joint.steps)) f in
+      let step : state_at s.story (suc c.joint.steps) ≡ joint_step (joint_board s.story.edges s.story.events) s.story.bytes h.world = ap (step_on (joint_board s.story.edges s.story.events) s.story.bytes) here in
+      is ∙ ap (sticks s.story.bytes) h.in_run.mcu ∙ sym (none_step s.story.edges s.story.events s.story.bytes h.world) ∙ sym (ap is_none (next ∙ step))
 
   pub state_now : IsStateAt (sitting s c.joint.steps) c.joint
   state_now = record {
@@ -108,16 +109,16 @@ pub stays : (s : Story) (old new : Course) (r : Result (Unit {0}) Stuck) → IsO
 stays s old new (Ok done) h step = step.0
 stays s old new (Err stuck) h step = step.0
 
-pub advanced : (s : Story) (old new : Course) (r : Result (Unit {0}) Stuck) (past : Bool) → IsOnCourse s old → IsStepOn s old r new
-    → ((w : World Beside) → state_at s old.joint.steps ≡ Some w → past ≡ is_over s w) → past ≡ false
+pub advanced : (s : Debuggee) (old new : Course) (r : Result (Unit {0}) Stuck) (past : Bool) → IsOnCourse s.story old → IsStepOn s.story old r new
+    → ((w : World Beside) → state_at s.story old.joint.steps ≡ Some w → past ≡ session_is_over s w) → past ≡ false
     → IsAdvanced (sitting s old.joint.steps) (is_ok r) (sitting s new.joint.steps)
 advanced s old new (Ok done) past h step over f =
     let k : new.joint.steps ≡ suc old.joint.steps = step.1 in
-    let there : state_at s (suc old.joint.steps) ≡ Some step.0.world = subst (λ (n : ℕ). state_at s n ≡ Some step.0.world) k (here s new step.0) in
+    let there : state_at s.story (suc old.joint.steps) ≡ Some step.0.world = subst (λ (n : ℕ). state_at s.story n ≡ Some step.0.world) k (here s new step.0) in
     let w : World Beside = h.world in
-    let next = next_there s old.joint.steps w past (here s old h) (over w (here s old h)) ∙ ap (λ b. if b then None else state_at s (suc old.joint.steps)) f in
+    let next = next_there s old.joint.steps w past (here s old h) (over w (here s old h)) ∙ ap (λ b. if b then None else state_at s.story (suc old.joint.steps)) f in
     (ap (sitting s) k, step.0.world, there, next ∙ there)
 advanced s old new (Err stuck) past h step over f =
     let w : World Beside = h.world in
-    let next = next_there s old.joint.steps w past (here s old h) (over w (here s old h)) ∙ ap (λ b. if b then None else state_at s (suc old.joint.steps)) f in
+    let next = next_there s old.joint.steps w past (here s old h) (over w (here s old h)) ∙ ap (λ b. if b then None else state_at s.story (suc old.joint.steps)) f in
     (ap (λ (j : Machine). sitting s j.steps) step.1, next ∙ step.3)

@@ -12,7 +12,7 @@ use Rattle.fw_debug.specs.Obeyed.{lines_told}
 use Rattle.fw_debug.specs.Probes.{Watch, armed}
 use Rattle.fw_debug.specs.Counts.{met_between, counted_between}
 use Rattle.fw_debug.specs.Looks.{looks}
-use Rattle.fw_debug.specs.Sessions.{Debug, walk, hunt}
+use Rattle.fw_debug.specs.Sessions.{Debug, Debuggee, walk, hunt}
 use Rattle.fw_debug.specs.Told.{Told, obeyed}
 
 -- after a look at each of the states that the first n steps lead to
@@ -26,11 +26,11 @@ pub record IsCounted (s : Story) (old new : Debug) : Type 0 where
 
 -- after the steps that a line `step` makes
 abbrev pub WalkCounts : Type 0
-WalkCounts = (s : Story) (count : ℕ) (d : Debug) → IsCounted s d (walk s count d)
+WalkCounts = (s : Debuggee) (count : ℕ) (d : Debug) → IsCounted s.story d (walk s count d)
 
 -- after those that a line `go` makes
 abbrev pub HuntCounts : Type 0
-HuntCounts = (s : Story) (count : ℕ) (d : Debug) → IsCounted s d (hunt s count d).debug
+HuntCounts = (s : Debuggee) (count : ℕ) (d : Debug) → IsCounted s.story d (hunt s count d).debug
 
 -- what is told by a probe that had counted nothing: how many of the steps between meet it, and the least of them
 pub record IsTally (s : Story) (k n : ℕ) (old new : Watch) : Type 0 where
@@ -57,23 +57,23 @@ number_after [] probe = Some probe
 number_after (command ∷ others) probe = option_and_then (number_after others) (number_behind command probe)
 
 -- a session behind several lines
-abbrev pub obeyed_all : Story → List Command → Debug → Debug
+abbrev pub obeyed_all : Debuggee → List Command → Debug → Debug
 obeyed_all s [] d = d
 obeyed_all s (command ∷ others) d = obeyed_all s others (obeyed s command d).debug
 
 -- a probe goes on counting through the lines of a session, until it is armed anew or dropped
 abbrev pub LinesCount : Type 0
-LinesCount = (s : Story) (lines : List Command) (d : Debug) (probe later : ℕ) (watch : Watch)
+LinesCount = (s : Debuggee) (lines : List Command) (d : Debug) (probe later : ℕ) (watch : Watch)
     → slice_get d.probes probe ≡ Some watch → number_after lines probe ≡ Some later
     → slice_get (obeyed_all s lines d).probes later
-    ≡ Some (counted_between s d.steps (obeyed_all s lines d).steps watch)
+    ≡ Some (counted_between s.story d.steps (obeyed_all s lines d).steps watch)
 
 -- one that a line arms counts from there on, with the new arms
 abbrev pub CountsSinceArmed : Type 0
-CountsSinceArmed = (s : Story) (lines : List Command) (d : Debug) (probe a b later : ℕ) (watch : Watch)
+CountsSinceArmed = (s : Debuggee) (lines : List Command) (d : Debug) (probe a b later : ℕ) (watch : Watch)
     → slice_get d.probes probe ≡ Some watch → number_after lines probe ≡ Some later
     → (now : Watch) × (slice_get (obeyed_all s (Arm probe a b ∷ lines) d).probes later ≡ Some now)
-    × IsTally s d.steps (obeyed_all s lines (obeyed s (Arm probe a b) d).debug).steps (armed a b watch) now
+    × IsTally s.story d.steps (obeyed_all s lines (obeyed s (Arm probe a b) d).debug).steps (armed a b watch) now
 
 -- what lines ask for, in their order; a blank one asks for nothing
 abbrev pub asked_by : List ℕ → List Command
@@ -85,5 +85,5 @@ asked (line ∷ others) = asked_by line ++ asked others
 
 -- the lines of a script, obeyed one after another, leave what they ask for leaves
 abbrev pub LinesAreObeyed : Type 0
-LinesAreObeyed = (s : Story) (lines : List (List ℕ)) (d : Debug) (end : Told)
+LinesAreObeyed = (s : Debuggee) (lines : List (List ℕ)) (d : Debug) (end : Told)
     → lines_told s lines d ≡ Ok end → end.debug ≡ obeyed_all s (asked lines) d

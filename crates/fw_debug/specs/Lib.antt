@@ -9,6 +9,7 @@ pub mod Looks
 pub mod Making
 pub mod Obeyed
 pub mod Probes
+pub mod Resting
 pub mod Samples
 pub mod Scripts
 pub mod Sessions

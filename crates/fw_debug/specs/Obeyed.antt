@@ -3,10 +3,9 @@ use Rattle.std.specs.Prelude.{◌≡◌, List, [], ◌∷◌, ◌++◌, take, �
 use Rattle.std.specs.Str.Lines.{lines}
 use Rattle.std.specs.declared.result.Result.{Result}
 use Rattle.first_fault.specs.FirstFault.{and_then}
-use Rattle.joint_feed.specs.Stories.{Story}
 use Rattle.fw_debug.specs.declared.rule.Rule.{Rule}
 use Rattle.fw_debug.specs.Probes.{Watch}
-use Rattle.fw_debug.specs.Sessions.{Debug}
+use Rattle.fw_debug.specs.Sessions.{Debug, Debuggee}
 use Rattle.fw_debug.specs.Told.{Told, line_told, told}
 
 -- what was printed before
@@ -14,7 +13,7 @@ abbrev pub behind : List ℕ → Told → Told
 behind text t = told t.debug (text ++ t.text)
 
 -- what lines do in a session, one after another, and what they print, or the first rule that one of them breaks
-abbrev pub lines_told : Story → List (List ℕ) → Debug → Result Told Rule
+abbrev pub lines_told : Debuggee → List (List ℕ) → Debug → Result Told Rule
 lines_told s [] d = Ok (told d [])
 lines_told s (line ∷ others) d =
     and_then (line_told s line d) (λ t. and_then (lines_told s others t.debug) (λ u. Ok (behind t.text u)))
@@ -24,16 +23,16 @@ abbrev pub begun : List Watch → Debug
 begun probes = record { steps = 0; probes = probes }
 
 -- lines print this text in a session from its beginning on, and leave these probes
-pub record AreObeyed (s : Story) (lines : List (List ℕ)) (probes : List Watch) (text : List ℕ) (left : List Watch)
+pub record AreObeyed (s : Debuggee) (lines : List (List ℕ)) (probes : List Watch) (text : List ℕ) (left : List Watch)
     : Type 0 where
   pub steps : ℕ
   pub told : lines_told s lines (begun probes) ≡ Ok (told (record { steps = steps; probes = left }) text)
 
 -- so do all lines of a script
-abbrev pub IsObeyed : Story → List ℕ → List Watch → List ℕ → List Watch → Type 0
+abbrev pub IsObeyed : Debuggee → List ℕ → List Watch → List ℕ → List Watch → Type 0
 IsObeyed s script probes text left = AreObeyed s (lines script) probes text left
 
 -- its first lines, however many, leave these probes
-abbrev pub IsObeyedInPart : Story → List ℕ → List Watch → List Watch → Type 0
+abbrev pub IsObeyedInPart : Debuggee → List ℕ → List Watch → List Watch → Type 0
 IsObeyedInPart s script probes left =
     (count : ℕ) × (text : List ℕ) × AreObeyed s (take count (lines script)) probes text left

@@ -9,7 +9,7 @@ use Rattle.first_fault.specs.FirstFault.{and_then}
 use Rattle.hex_text.specs.Digits.{hex_byte}
 use Rattle.joint_run.specs.Joint.{Beside}
 use Rattle.joint_run.specs.Run.{World}
-use Rattle.joint_feed.specs.Stories.{Story, state_at}
+use Rattle.joint_feed.specs.Stories.{state_at}
 use Rattle.mcs48_core.specs.StateText.{state_text_of}
 use Rattle.text_lines.specs.Fields.{is_blank_line}
 use Rattle.fw_debug.specs.declared.command.Command.{Command}
@@ -17,7 +17,7 @@ use Rattle.fw_debug.specs.declared.command.Command.TheVariants.{Step, Go, Show, 
 use Rattle.fw_debug.specs.declared.rule.Rule.{Rule}
 use Rattle.fw_debug.specs.Probes.{Watch, armed}
 use Rattle.fw_debug.specs.Scripts.{judged}
-use Rattle.fw_debug.specs.Sessions.{Debug, has_ended, walk, hunt}
+use Rattle.fw_debug.specs.Sessions.{Debug, Debuggee, has_ended, walk, hunt}
 
 -- `at STEP`, with ` end` where the run has ended
 abbrev pub at_text : ℕ → Bool → List ℕ
@@ -55,7 +55,7 @@ abbrev pub told : Debug → List ℕ → Told
 told d text = record { debug = d; text = text }
 
 -- after steps the line says where they led, and which probe was hit there, or else whether the run has ended
-abbrev pub steps_text : Story → ℕ → Option ℕ → List ℕ
+abbrev pub steps_text : Debuggee → ℕ → Option ℕ → List ℕ
 steps_text s steps None = at_text steps (has_ended s steps)
 steps_text s steps (Some probe) = hit_text probe steps
 
@@ -80,11 +80,11 @@ arm_at zero a b (watch ∷ others) = armed a b watch ∷ others
 arm_at (suc probe) a b (watch ∷ others) = watch ∷ arm_at probe a b others
 
 -- what a line does in a session of this run, and what it prints
-abbrev pub obeyed : Story → Command → Debug → Told
+abbrev pub obeyed : Debuggee → Command → Debug → Told
 obeyed s (Step steps) d = told (walk s steps d) (steps_text s (walk s steps d).steps None)
 obeyed s (Go steps) d = told (hunt s steps d).debug (steps_text s (hunt s steps d).debug.steps (hunt s steps d).hit)
-obeyed s Show d = told d (shown d.steps (state_at s d.steps))
-obeyed s (Ram cell) d = told d (cell_shown cell (state_at s d.steps))
+obeyed s Show d = told d (shown d.steps (state_at s.story d.steps))
+obeyed s (Ram cell) d = told d (cell_shown cell (state_at s.story d.steps))
 obeyed s (Arm probe a b) d =
     told (record { steps = d.steps; probes = arm_at probe a b d.probes }) (number_text (codes "armed ") probe)
 obeyed s (Tell probe) d = told d (tally_shown probe (slice_get d.probes probe))
@@ -92,7 +92,7 @@ obeyed s (Drop probe) d =
     told (record { steps = d.steps; probes = remove d.probes probe }) (number_text (codes "dropped ") probe)
 
 -- what a line of a script does and prints, or the first rule that it breaks; a blank line does nothing
-abbrev pub line_told : Story → List ℕ → Debug → Result Told Rule
+abbrev pub line_told : Debuggee → List ℕ → Debug → Result Told Rule
 line_told s text d =
     if is_blank_line text then Ok (told d [])
     else and_then (judged (length d.probes) text) (λ command. Ok (obeyed s command d))

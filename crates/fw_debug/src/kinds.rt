@@ -106,6 +106,10 @@ impl Probe for AddressProbe {
         met
     }
 
+    fn rests(&self) -> bool {
+        self.counter.is_unarmed()
+    }
+
     fn tell(&self) -> Tally {
         self.counter.tally()
     }
@@ -135,6 +139,10 @@ impl Probe for RegisterProbe {
         met
     }
 
+    fn rests(&self) -> bool {
+        self.counter.is_unarmed()
+    }
+
     fn tell(&self) -> Tally {
         self.counter.tally()
     }
@@ -162,6 +170,10 @@ impl Probe for CellProbe {
         let met = has_cell(self.counter.arms(), joint.mcu());
         self.counter.note(step, met);
         met
+    }
+
+    fn rests(&self) -> bool {
+        self.counter.is_unarmed()
     }
 
     fn tell(&self) -> Tally {

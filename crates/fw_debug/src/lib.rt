@@ -6,6 +6,7 @@
 #![tactic(auto)]
 
 mod command;
+mod debuggee;
 mod decoder;
 mod heard;
 mod kinds;
@@ -14,6 +15,7 @@ mod listed;
 mod listening;
 mod obeying;
 mod probe;
+mod resting;
 mod rule;
 mod script;
 mod scripted;
@@ -24,12 +26,14 @@ mod tally;
 mod tests;
 mod texts;
 
+pub use debuggee::Debuggee;
 pub use decoder::LineDecoder;
 pub use heard::Transfer;
 pub use kinds::{AddressProbe, CellProbe, RegisterProbe};
 pub use law::{probes_count, transfers_are_heard};
 pub use listening::LineProbe;
 pub use probe::{Probe, look_all};
+pub use resting::all_rest;
 pub use rule::{LineFault, SessionFault};
 pub use script::check_script;
 pub use scripted::obey_script;

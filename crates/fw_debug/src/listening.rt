@@ -82,6 +82,10 @@ impl Probe for LineProbe {
         self.listen(step, joint)
     }
 
+    fn rests(&self) -> bool {
+        self.decoder.lines().clk && self.counter.is_unarmed()
+    }
+
     fn tell(&self) -> Tally {
         self.counter.tally()
     }

@@ -34,7 +34,7 @@ fn append(out: &mut Vec<u8>, text: &[u8]) -> Result<(), LineFault>
 impl Session {
     /// Where the steps led, and which probe was hit there, or else whether the run has ended.
     fn steps_text(&self, alloc: Global, hit: Option<usize>) -> Result<Vec<u8>, AllocError>
-        ensures { IfOk result (λ text. text.items ≡ steps_text self.now.story self.now.steps hit) }
+        ensures { IfOk result (λ text. text.items ≡ steps_text self.now.debuggee self.now.steps hit) }
     {
         match hit {
             None => at_text(alloc, self.steps(), self.has_ended()),
@@ -44,7 +44,7 @@ impl Session {
 
     /// The state's text.
     fn show(&self, alloc: Global) -> Result<Vec<u8>, AllocError>
-        ensures { IfOk result (λ text. text.items ≡ shown self.now.steps (state_at self.now.story self.now.steps)) }
+        ensures { IfOk result (λ text. text.items ≡ shown self.now.steps (state_at self.now.debuggee.story self.now.steps)) }
     {
         let joint = self.joint();
         state_text(alloc, joint.mcu(), joint.steps(), joint.cycle())
@@ -53,7 +53,7 @@ impl Session {
     /// A place of data memory.
     fn ram(&self, alloc: Global, cell: u8) -> Result<Vec<u8>, AllocError>
         requires { cell < 128 }
-        ensures { IfOk result (λ text. text.items ≡ cell_shown cell (state_at self.now.story self.now.steps)) }
+        ensures { IfOk result (λ text. text.items ≡ cell_shown cell (state_at self.now.debuggee.story self.now.steps)) }
     {
         let mcu = self.joint().mcu();
         ram_text(alloc, cell, mcu.ram[cell as usize])
@@ -69,12 +69,12 @@ impl Session {
     ) -> Result<Vec<u8>, AllocError>
         requires there { missing (length probes.old.items) command ≡ None }
         requires cell { HasCell command }
-        ensures story { self.new.story ≡ self.old.story }
+        ensures debuggee { self.new.debuggee ≡ self.old.debuggee }
         ensures obeyed { let before = debug self.old (map (λ b. watch b) probes.old.items) in
             let after = debug self.new (map (λ b. watch b) probes.new.items) in
-            (obeyed self.old.story command before).debug ≡ after }
+            (obeyed self.old.debuggee command before).debug ≡ after }
         ensures text { let before = debug self.old (map (λ b. watch b) probes.old.items) in
-            IfOk result (λ text. text.items ≡ (obeyed self.old.story command before).text) }
+            IfOk result (λ text. text.items ≡ (obeyed self.old.debuggee command before).text) }
     {
         match command {
             Command::Step(count) => {
@@ -112,10 +112,10 @@ impl Session {
         probes: &mut Vec<Box<dyn Probe>>,
         out: &mut Vec<u8>,
     ) -> Result<(), LineFault>
-        ensures story { self.new.story ≡ self.old.story }
+        ensures debuggee { self.new.debuggee ≡ self.old.debuggee }
         ensures line { let before = debug self.old (map (λ b. watch b) probes.old.items) in
             let after = debug self.new (map (λ b. watch b) probes.new.items) in
-            IsLine (line_told self.old.story text.now before) before out.old.items result after out.new.items }
+            IsLine (line_told self.old.debuggee text.now before) before out.old.items result after out.new.items }
     {
         if is_blank_line(text) {
             return Ok(());

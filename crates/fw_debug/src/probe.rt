@@ -2,6 +2,7 @@
 
 ghost use Rattle.std.specs.Prelude.{◌≡◌, true, map};
 ghost use Rattle.fw_debug.specs.Probes.{Watch, meets, looked, armed, first_met, or_met, sight_of};
+ghost use Rattle.fw_debug.specs.Resting.{rests};
 ghost use Rattle.fw_debug.specs.Tallies.{tells_first};
 
 use crate::tally::Tally;
@@ -23,6 +24,11 @@ pub trait Probe: Drop {
     fn look(&mut self, step: u64, joint: &Joint) -> bool
         ensures looked { watch self.new ≡ looked step (sight_of joint.now) (watch self.old) }
         ensures hit { result ≡ meets (sight_of joint.now) (watch self.old) };
+
+    /// Whether it rests: it isn't armed, and the clock was high at the last sample that it heard, if it heard one. Then it
+    /// needn't look at states in which nobody pulls a wire, as long as it looks at a later one.
+    fn rests(&self) -> bool
+        ensures rests { result ≡ rests (watch self.now) };
 
     /// How many steps it counted, and the first of them; none exactly where it counted none.
     fn tell(&self) -> Tally

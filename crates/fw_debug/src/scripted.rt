@@ -1,17 +1,14 @@
 //! A script, obeyed line by line in a session of its own.
 
 ghost use Rattle.std.specs.Prelude.{◌≡◌, length, map, MatchResult};
-ghost use Rattle.fw_compile.specs.Image.{image_of};
-ghost use Rattle.joint_feed.specs.Stories.{story};
 ghost use Rattle.fw_debug.specs.declared.rule.LineFault.TheVariants.{Memory};
 ghost use Rattle.fw_debug.specs.Faults.{IsRight};
 ghost use Rattle.fw_debug.specs.Obeyed.{IsObeyed, IsObeyedInPart};
 
+use crate::debuggee::Debuggee;
 use crate::probe::Probe;
 use crate::rule::LineFault;
 use crate::session::Session;
-use key_file::History;
-use layout_reader::Layout;
 use std::alloc::Global;
 use text_lines::next_line;
 
@@ -26,10 +23,10 @@ fn obey_lines(
     requires right { IsRight (length probes.old.items) script.now }
     ensures says { let before = map (λ b. watch b) probes.old.items in
         MatchResult result
-        (λ text. IsObeyed session.old.story script.now before text.items (map (λ b. watch b) probes.new.items))
+        (λ text. IsObeyed session.old.debuggee script.now before text.items (map (λ b. watch b) probes.new.items))
         (λ fault. fault ≡ Memory) }
     ensures obeyed_so_far { let before = map (λ b. watch b) probes.old.items in
-        IsObeyedInPart session.old.story script.now before (map (λ b. watch b) probes.new.items) }
+        IsObeyedInPart session.old.debuggee script.now before (map (λ b. watch b) probes.new.items) }
 {
     let mut text = Vec::new(alloc);
     let mut rest = script;
@@ -40,27 +37,23 @@ fn obey_lines(
     Ok(text)
 }
 
-/// What the lines of a script that is right for these probes print in a session over the run, under this history, of
-/// the image that `compile` gives for this layout, from power-on. Only memory may be wanting: then the probes are those
-/// that some first lines leave.
+/// What the lines of a script that is right for these probes print in a session over the run of what is debugged, from
+/// power-on. Only memory may be wanting: then the probes are those that some first lines leave.
 pub fn obey_script(
     alloc: Global,
-    layout: &Layout,
-    history: History,
+    debuggee: Debuggee,
     script: &[u8],
     probes: &mut Vec<Box<dyn Probe>>,
 ) -> Result<Vec<u8>, LineFault>
     requires right { IsRight (length probes.old.items) script.now }
-    ensures says { let s = story (image_of layout.now) history in
-        let before = map (λ b. watch b) probes.old.items in
+    ensures says { let before = map (λ b. watch b) probes.old.items in
         MatchResult result
-        (λ text. IsObeyed s script.now before text.items (map (λ b. watch b) probes.new.items))
+        (λ text. IsObeyed debuggee script.now before text.items (map (λ b. watch b) probes.new.items))
         (λ fault. fault ≡ Memory) }
-    ensures obeyed_so_far { let s = story (image_of layout.now) history in
-        let before = map (λ b. watch b) probes.old.items in
-        IsObeyedInPart s script.now before (map (λ b. watch b) probes.new.items) }
+    ensures obeyed_so_far { let before = map (λ b. watch b) probes.old.items in
+        IsObeyedInPart debuggee script.now before (map (λ b. watch b) probes.new.items) }
 {
-    match Session::new(alloc, layout, history) {
+    match Session::new(alloc, debuggee) {
         Err(_error) => Err(LineFault::Memory),
         Ok(mut session) => obey_lines(alloc, &mut session, script, probes),
     }

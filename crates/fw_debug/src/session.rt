@@ -1,55 +1,57 @@
-//! A session: the run of a layout's image under a history, made step by step.
+//! A session: the run of a program under a history, made step by step.
 
 ghost use Rattle.std.specs.Prelude.{◌≡◌, ◌≤◌, ◌<◌, ◌+◌, ◌^◌, ◌&&◌, ◌||◌, nat_le, false, Some, IfOk};
-ghost use Rattle.fw_compile.specs.Image.{image_of};
 ghost use Rattle.joint_feed.specs.Course.{IsOnCourse};
-ghost use Rattle.joint_feed.specs.Stories.{Story, story, starts_tick, state_at};
+ghost use Rattle.joint_feed.specs.Stories.{state_at};
 ghost use Rattle.joint_run.specs.Joint.{Beside};
 ghost use Rattle.joint_run.specs.Run.{World};
-ghost use Rattle.fw_debug.specs.Sessions.{has_ended};
+ghost use Rattle.fw_debug.specs.Sessions.{has_ended, latest_start, sitting};
 ghost use Rattle.fw_debug.specs.Stuck.{sticks};
 ghost use Rattle.fw_debug.specs.Advance.{IsStateAt, IsAdvanced, TellsOver};
 
-use fw_compile::compile;
+use crate::debuggee::Debuggee;
 use fw_logic::at_tick;
 use int09::Bios;
 use joint_feed::Course;
 use joint_run::Joint;
 use key_file::History;
-use layout_reader::Layout;
 use mcs48_core::Mcu;
 use mcs48_isa::{Image, decode};
 use std::alloc::{AllocError, Global};
 use std::marker::Model;
 
-/// The run of a layout's image under a history, as far as its steps are made. A clause sees what is run and how many
-/// steps are made.
+/// The run of a program under a history, as far as its steps are made. A clause sees what is debugged and how many steps
+/// are made.
 #[derive(Drop)]
 pub struct Session {
     image: Image,
     history: History,
     course: Course,
+    latest: u64,
 }
 
 impl Model for Session {
+    ghost use Rattle.std.specs.Prelude.{◌≤◌};
     ghost use Rattle.joint_feed.specs.Course.{IsOnCourse};
     ghost use Rattle.joint_feed.specs.Stories.{story};
-    ghost use Rattle.fw_debug.specs.Sessions.{Sitting};
+    ghost use Rattle.fw_debug.specs.Sessions.{Sitting, latest_start};
 
     ghost Value = { Sitting };
 
-    ghost view = { λ s. record { story = story s.image.bytes s.history; steps = s.course.joint.steps } };
+    ghost view = { λ s. record { debuggee = record { story = story s.image.bytes s.history; latest = s.latest }; steps = s.course.joint.steps } };
 
-    ghost invariant = { λ s. IsOnCourse (story s.image.bytes s.history) s.course };
+    ghost invariant = { λ s. IsOnCourse (story s.image.bytes s.history) s.course × (s.latest ≤ latest_start) };
 }
 
-/// Whether a run with this end stamp is over at a cycle, at which a tick starts or not.
-fn is_end(starts: bool, cycle: u64, stop: u64) -> bool
-    requires { stop ≤ 240000000 }
-    ensures over { result ≡ ((starts && nat_le (4096 + stop) cycle) || nat_le (stop + 6152) cycle) }
-    ensures near { result ≡ false → cycle < stop + 6152 }
+/// Whether a run with this end stamp, and with its latest end so many cycles behind it, is over at a cycle, at which a
+/// tick starts or not.
+fn is_end(starts: bool, cycle: u64, stop: u64, latest: u64) -> bool
+    requires stop { stop ≤ 240000000 }
+    requires latest { latest ≤ latest_start }
+    ensures over { result ≡ ((starts && nat_le (4096 + stop) cycle) || nat_le (stop + latest) cycle) }
+    ensures near { result ≡ false → cycle < stop + latest }
 {
-    starts && cycle >= 4096 + stop || cycle >= stop + 6152
+    starts && cycle >= 4096 + stop || cycle >= stop + latest
 }
 
 /// Whether a processor whose pin INT is high is stuck in its next step.
@@ -63,18 +65,18 @@ fn sticks(image: &Image, mcu: &Mcu) -> bool
 }
 
 impl Session {
-    /// The run at power-on, under this history, of the image that `compile` gives for this layout. Want of memory gives
-    /// the history up.
-    pub fn new(alloc: Global, layout: &Layout, history: History) -> Result<Session, AllocError>
-        ensures made { IfOk result (λ s. s ≡ record { story = story (image_of layout.now) history; steps = 0 }) }
+    /// The run of what is debugged, at power-on. Want of memory gives it up.
+    pub fn new(alloc: Global, debuggee: Debuggee) -> Result<Session, AllocError>
+        ensures made { IfOk result (λ s. s ≡ sitting debuggee 0) }
     {
-        let image = compile(layout);
+        let (image, history, latest) = debuggee.into_parts();
         let bios = Bios::new(alloc)?;
         let course = Course::new(&image, bios, &history);
         Ok(Session {
             image,
             history,
             course,
+            latest,
         })
     }
 
@@ -95,16 +97,17 @@ impl Session {
     /// Whether the run is over before its next step, which is at a cycle that isn't far otherwise.
     fn is_past(&self) -> bool
         ensures over { TellsOver self.now result }
-        ensures near { (w : World Beside) → state_at self.now.story self.now.steps ≡ Some w
+        ensures near { (w : World Beside) → state_at self.now.debuggee.story self.now.steps ≡ Some w
             → result ≡ false → w.cycle < 2 ^ 62 }
     {
         let starts = at_tick(&self.course.joint);
-        is_end(starts, self.course.joint.cycle(), self.history.end())
+        let cycle = self.course.joint.cycle();
+        is_end(starts, cycle, self.history.end(), self.latest)
     }
 
     /// Whether the run has ended.
     pub(crate) fn has_ended(&self) -> bool
-        ensures { result ≡ has_ended self.now.story self.now.steps }
+        ensures { result ≡ has_ended self.now.debuggee self.now.steps }
     {
         self.is_past() || sticks(&self.image, self.course.joint.mcu())
     }

@@ -48,9 +48,9 @@ impl Session {
 
     /// Makes so many steps, or as many as the run still has.
     pub(crate) fn walk(&mut self, count: u32, probes: &mut Vec<Box<dyn Probe>>)
-        ensures story { self.new.story ≡ self.old.story }
+        ensures debuggee { self.new.debuggee ≡ self.old.debuggee }
         ensures walked { let before = debug self.old (map (λ b. watch b) probes.old.items) in
-            debug self.new (map (λ b. watch b) probes.new.items) ≡ walk self.old.story count before }
+            debug self.new (map (λ b. watch b) probes.new.items) ≡ walk self.old.debuggee count before }
     {
         for _i in 0..count {
             if !self.goes_on(probes) {
@@ -61,11 +61,11 @@ impl Session {
 
     /// The same, but stops after the first step that hits a probe. Answers the first of those that it hit.
     pub(crate) fn hunt(&mut self, count: u32, probes: &mut Vec<Box<dyn Probe>>) -> Option<usize>
-        ensures story { self.new.story ≡ self.old.story }
+        ensures debuggee { self.new.debuggee ≡ self.old.debuggee }
         ensures hunted { let before = debug self.old (map (λ b. watch b) probes.old.items) in
-            (hunt self.old.story count before).debug ≡ debug self.new (map (λ b. watch b) probes.new.items) }
+            (hunt self.old.debuggee count before).debug ≡ debug self.new (map (λ b. watch b) probes.new.items) }
         ensures hit { let before = debug self.old (map (λ b. watch b) probes.old.items) in
-            (hunt self.old.story count before).hit ≡ result }
+            (hunt self.old.debuggee count before).hit ≡ result }
     {
         for _i in 0..count {
             match self.make(probes) {

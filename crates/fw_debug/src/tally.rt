@@ -1,6 +1,6 @@
 //! What a probe counts.
 
-ghost use Rattle.std.specs.Prelude.{◌≡◌, true};
+ghost use Rattle.std.specs.Prelude.{◌≡◌, true, is_none};
 ghost use Rattle.fw_debug.specs.Tallies.{tells_first, unarmed, armed, noted};
 
 use std::marker::Model;
@@ -61,6 +61,13 @@ impl Counter {
         ensures { result ≡ self.now.arms }
     {
         self.arms
+    }
+
+    /// Whether nothing was armed.
+    pub(crate) fn is_unarmed(&self) -> bool
+        ensures { result ≡ is_none self.now.arms }
+    {
+        self.arms.is_none()
     }
 
     /// Is armed, and counts anew.

@@ -1,12 +1,13 @@
 //! Scripts by hand: what they print, and each way to be wrong; and frames on the wires, as the decoder reads them.
 
 use super::{
-    AddressProbe, CellProbe, LineDecoder, LineFault, Probe, RegisterProbe, Session, SessionFault,
-    Transfer, check_script,
+    AddressProbe, CellProbe, Debuggee, LineDecoder, LineFault, Probe, RegisterProbe, Session,
+    SessionFault, Transfer, check_script,
 };
 use board_lines::{Lines, frame_of};
 use key_file::read_history;
 use layout_reader::us84_layout;
+use mcs48_isa::Image;
 use std::alloc::{AllocError, Global};
 use std::process::Abort;
 use std::test::Fail;
@@ -25,7 +26,7 @@ fn printed(
     let Ok(history) = read_history(alloc, KEYS, &layout) else {
         panic!(rt; "no history")
     };
-    let mut session = Session::new(alloc, &layout, history)?;
+    let mut session = Session::new(alloc, Debuggee::of_layout(&layout, history))?;
     let mut out = Vec::new(alloc);
     for line in script {
         assert!(rt;
@@ -69,6 +70,30 @@ fn a_hunt_stops_where_a_probe_hits(rt: HostRuntime) -> Result<(), Fail> {
     assert!(rt; out.as_slice() == wanted);
     let out = printed(&rt, alloc, &["step 999999999"], &mut probes)?;
     assert!(rt; out.as_slice().ends_with(b" end\n"));
+    Ok(())
+}
+
+#[test]
+fn a_session_of_any_program_ends_at_the_end_stamp(rt: HostRuntime) -> Result<(), Fail> {
+    let alloc = rt.alloc();
+    let layout = us84_layout(alloc)?;
+    for (third, wanted) in [
+        (0x00, b"at 2\nat 244096 end\n".as_slice()),
+        (0x01, b"at 2 end\nat 2 end\n".as_slice()),
+    ] {
+        let Ok(history) = read_history(alloc, KEYS, &layout) else {
+            panic!(&rt; "no history")
+        };
+        let mut image = Image { bytes: [0; 2048] };
+        image.bytes[2] = third;
+        let mut probes: Vec<Box<dyn Probe>> = Vec::new(alloc);
+        let mut session = Session::new(alloc, Debuggee::of_program(image, history))?;
+        let mut out = Vec::new(alloc);
+        for line in [b"step 2".as_slice(), b"step 999999999".as_slice()] {
+            assert!(&rt; session.line(alloc, line, &mut probes, &mut out).is_ok());
+        }
+        assert!(&rt; out.as_slice() == wanted);
+    }
     Ok(())
 }
 

@@ -1,4 +1,4 @@
-use Rattle.std.proofs.Common.{subst}
+use Rattle.std.proofs.Common.{refl, subst}
 use Rattle.joint_feed.specs.Stories.{story}
 use Rattle.fw_debug.specs.Advance.{TellsOver}
 use Rattle.fw_debug.proofs.Standing.{past_so}
@@ -7,5 +7,5 @@ use Rattle.fw_debug.proofs.session.Session.is_past.Goals as goal
 pub returns-clause-over : goal.returns-clause-over
 returns-clause-over c =
     subst (λ t. TellsOver t c.is_end.result) c.self.view_is
-    (past_so (story c.self.inside.image.bytes c.self.inside.history) c.self.inside.course c.self.invariant c.at_tick-starts.result c.cycle.result c.end.result c.is_end.result
-    c.at_tick-starts.ensures.tells c.cycle.ensures.cycle c.end.ensures.end c.is_end.ensures.over)
+    (past_so (record { story = story c.self.inside.image.bytes c.self.inside.history; latest = c.self.inside.latest }) c.self.inside.course c.self.invariant.0 c.at_tick-starts.result c.cycle-cycle.result c.end.result c.self.inside.latest c.is_end.result
+    c.at_tick-starts.ensures.tells c.cycle-cycle.ensures.cycle c.end.ensures.end refl c.is_end.ensures.over)

@@ -4,8 +4,8 @@ use Rattle.fw_debug.proofs.session.Session.walk.Given as goal
 
 abbrev pub invariant-loop-i : goal.invariant-loop-i
 invariant-loop-i g l = record {
-  story : l.self.story ≡ l.fn.self.story;
+  debuggee : l.self.debuggee ≡ l.fn.self.debuggee;
   so_far :
-      walk l.fn.self.story (l.count - l._i) (debug l.self (map (λ b. (goal.Probe-dyn g (b.vtable, b.value)).watch b.value) l.probes.items))
-      ≡ walk l.fn.self.story l.count (debug l.fn.self (map (λ b. (goal.Probe-dyn g (b.vtable, b.value)).watch b.value) l.fn.probes.items));
+      walk l.fn.self.debuggee (l.count - l._i) (debug l.self (map (λ b. (goal.Probe-dyn g (b.vtable, b.value)).watch b.value) l.probes.items))
+      ≡ walk l.fn.self.debuggee l.count (debug l.fn.self (map (λ b. (goal.Probe-dyn g (b.vtable, b.value)).watch b.value) l.fn.probes.items));
 }
