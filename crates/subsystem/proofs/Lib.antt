@@ -3,6 +3,7 @@ pub mod Agreed
 pub mod Alike
 pub mod Beginning
 pub mod Counted
+pub mod Dozing
 pub mod Ends
 pub mod Quietly
 pub mod Judging

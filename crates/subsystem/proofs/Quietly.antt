@@ -19,7 +19,6 @@ use Rattle.joint_run.specs.History.{GoesOn as RunGoesOn, IsStepOfRun}
 use Rattle.joint_run.specs.Joint.{Beside, joint_board, joint_start}
 use Rattle.joint_run.specs.Run.{World, run_at}
 use Rattle.key_file.specs.Histories.{KeyHistory}
-use Rattle.mcs48_core.specs.Cpu.{Cpu}
 use Rattle.subsystem.specs.declared.pace.Pace.{Pace}
 use Rattle.subsystem.specs.Account.{in_tick}
 use Rattle.subsystem.specs.Gliding.{IsGoing, IsOnward, IsStepped}

@@ -1,7 +1,7 @@
 -- Steps that are made one after another as long as nothing of them has to be counted or told.
-use Rattle.std.specs.Prelude.{◌≡◌, ◌≤◌, ◌<◌, ℕ, suc, List, false, Ok}
+use Rattle.std.specs.Prelude.{◌≡◌, ◌≤◌, ◌<◌, ℕ, suc, List, map, false, Ok}
 use Rattle.fw_debug.specs.Looks.{looked_at, looks}
-use Rattle.fw_debug.specs.Probes.{Watch}
+use Rattle.fw_debug.specs.Probes.{Watch, looked, sight_of}
 use Rattle.fw_logic.specs.JointRun.{KeepsTime}
 use Rattle.joint_feed.specs.Stories.{state_at, story}
 use Rattle.joint_run.specs.Due.{due_step, IsJointStep}
@@ -17,6 +17,10 @@ pub record IsGoing (bytes : List ℕ) (h : KeyHistory) (p : Pace) : Type 0 where
   pub judged : IsJudged (story bytes h) false p
   pub time : KeepsTime bytes h.edges h.host
 
+-- probes after a look at the present state
+abbrev pub looked_now : Pace → List Watch → List Watch
+looked_now p probes = map (looked p.course.joint.steps (sight_of p.course.joint)) probes
+
 -- a step was made, and the probes have looked at the state that it led to; what it took of the events isn't counted yet
 pub record IsStepped (bytes : List ℕ) (h : KeyHistory) (old new : Pace) (before after : List Watch) : Type 0 where
   pub step : IsJointStep old.course.ahead.due old.course.joint (due_step old.course.ahead.due old.course.joint)
@@ -29,7 +33,7 @@ pub record IsStepped (bytes : List ℕ) (h : KeyHistory) (old new : Pace) (befor
   pub looked : after
       ≡ looked_at (suc old.course.joint.steps) (state_at (story bytes h) (suc old.course.joint.steps)) before
 
--- steps were made, none of which took an event, said an item or led to a tick start; the probes have looked at each
+-- steps were made, none of which took an event, said an item or led to a tick start; the probes are as after a look at each
 pub record IsOnward (bytes : List ℕ) (h : KeyHistory) (old new : Pace) (before after : List Watch) : Type 0 where
   pub going : IsGoing bytes h new
   pub ahead : new.course.ahead ≡ old.course.ahead

@@ -1,16 +1,19 @@
-//! Steps of a run, one after another, as long as nothing of them has to be counted or told.
+//! Steps of a run, one after another, as long as nothing of them has to be counted or told. Probes that rest look only where
+//! they would miss something.
 
-ghost use Rattle.std.specs.Prelude.{◌≡◌, ◌<◌, ◌^◌, [], true, map, OnErr, OnOk};
+ghost use Rattle.std.specs.Prelude.{◌≡◌, ◌<◌, ◌^◌, List, [], true, map, OnErr, OnOk};
 ghost use Rattle.joint_run.specs.Due.{due_step, told, IsJointStep};
 ghost use Rattle.joint_run.specs.History.{IsStepOfRun};
 ghost use Rattle.key_file.specs.Histories.{KeyHistory};
-ghost use Rattle.subsystem.specs.Gliding.{HasGlided, IsGoing, IsOnward, IsStepped};
+ghost use Rattle.fw_debug.specs.Probes.{Watch, sight_of};
+ghost use Rattle.fw_debug.specs.Resting.{all_rest};
+ghost use Rattle.subsystem.specs.Gliding.{HasGlided, IsGoing, IsOnward, IsStepped, looked_now};
 
 use crate::pace::Pace;
-use fw_debug::{Probe, look_all};
+use fw_debug::{Probe, all_rest, look_all};
 use fw_logic::at_tick;
 use joint_feed::Course;
-use joint_run::Seen;
+use joint_run::{Joint, Seen};
 use mcs48_core::Stuck;
 use mcs48_isa::Image;
 
@@ -40,24 +43,40 @@ fn is_silent(seen: &Seen) -> bool
     seen.edges == 0 && seen.host == 0 && seen.items.is_empty()
 }
 
+/// Whether probes needn't look at this state, if they rest or not: they do, and nobody pulls a wire.
+#[inline(always)]
+fn is_passed_over(rest: bool, joint: &Joint) -> bool
+    ensures rest { result ≡ true → rest ≡ true }
+    ensures high { result ≡ true → (sight_of joint.now).lines.clk ≡ true }
+{
+    rest && joint.is_let_go()
+}
+
+/// Whether probes rest that have looked at this state. Where a wire is pulled they are taken not to, since most often one
+/// that listens doesn't.
+#[inline(always)]
+fn may_rest(joint: &Joint, probes: &Vec<Box<dyn Probe>>) -> bool
+    ensures { result ≡ true → all_rest (map (λ b. watch b) probes.now.items) ≡ true }
+{
+    joint.is_let_go() && all_rest(probes)
+}
+
 impl Pace {
-    /// Makes one joint step, and then each probe looks at the state that it led to. Answers whether the next one can
-    /// follow at once: it took no event, said nothing, and led to no tick start.
+    /// Makes one joint step. Answers whether the next one can follow at once: it took no event, said nothing, and led to no
+    /// tick start.
     #[inline(always)]
-    fn goes_quietly(&mut self, image: &Image, probes: &mut Vec<Box<dyn Probe>>) -> bool
+    fn goes_quietly(&mut self, image: &Image) -> bool
         requires going { (h : KeyHistory) × IsGoing image.now.bytes h self.old }
         ensures stepped { (h : KeyHistory) → IsGoing image.now.bytes h self.old
-            → IsStepped image.now.bytes h self.old self.new (map (λ b. watch b) probes.old.items) (map (λ b. watch b) probes.new.items) }
+            → (before : List Watch) → IsStepped image.now.bytes h self.old self.new before (looked_now self.new before) }
         ensures onward { (h : KeyHistory) → IsGoing image.now.bytes h self.old → result ≡ true
-            → IsOnward image.now.bytes h self.old self.new (map (λ b. watch b) probes.old.items) (map (λ b. watch b) probes.new.items) }
+            → (before : List Watch) → IsOnward image.now.bytes h self.old self.new before (looked_now self.new before) }
         ensures later { self.old.course.joint.cycle < self.new.course.joint.cycle }
     {
         match make_step(&mut self.course) {
             // The kernel never comes to a byte without an instruction.
             Err(_stuck) => unreachable!(),
             Ok(()) => {
-                let steps = self.course.joint.steps();
-                let _ = look_all(probes, steps, &self.course.joint);
                 if !is_silent(&self.course.seen) {
                     return false;
                 }
@@ -66,14 +85,53 @@ impl Pace {
         }
     }
 
-    /// Makes joint steps up to one that took an event, said something or led to a tick start; after each of them each
-    /// probe looks at the state that it led to. What the last one took and said is left in the course.
+    /// Makes joint steps up to one that probes must look at, and so answers for the last of them: the first step, if they
+    /// don't rest; else the first one behind which a wire is pulled or the next can't follow at once. A look at that state
+    /// comes to the same as one at each.
+    #[inline(always)]
+    fn goes_unseen(&mut self, image: &Image, rest: bool) -> bool
+        requires going { (h : KeyHistory) × IsGoing image.now.bytes h self.old }
+        ensures glided { (h : KeyHistory) → IsGoing image.now.bytes h self.old → (before : List Watch) → (rest ≡ true → all_rest before ≡ true)
+            → HasGlided image.now.bytes h self.old self.new before (looked_now self.new before) }
+        ensures onward { (h : KeyHistory) → IsGoing image.now.bytes h self.old → result ≡ true
+            → (before : List Watch) → (rest ≡ true → all_rest before ≡ true)
+            → IsOnward image.now.bytes h self.old self.new before (looked_now self.new before) }
+        ensures later { self.old.course.joint.cycle < self.new.course.joint.cycle }
+    {
+        'steps: while self.goes_quietly(image) {
+            if !is_passed_over(rest, &self.course.joint) {
+                return true;
+            }
+        }
+        false
+    }
+
+    /// Makes joint steps up to one that the probes must look at, and they look. Answers whether the next step can follow at
+    /// once.
+    #[inline(always)]
+    fn goes_on(&mut self, image: &Image, probes: &mut Vec<Box<dyn Probe>>) -> bool
+        requires going { (h : KeyHistory) × IsGoing image.now.bytes h self.old }
+        ensures glided { (h : KeyHistory) → IsGoing image.now.bytes h self.old
+            → HasGlided image.now.bytes h self.old self.new (map (λ b. watch b) probes.old.items) (map (λ b. watch b) probes.new.items) }
+        ensures onward { (h : KeyHistory) → IsGoing image.now.bytes h self.old → result ≡ true
+            → IsOnward image.now.bytes h self.old self.new (map (λ b. watch b) probes.old.items) (map (λ b. watch b) probes.new.items) }
+        ensures later { self.old.course.joint.cycle < self.new.course.joint.cycle }
+    {
+        let rest = may_rest(&self.course.joint, probes);
+        let onward = self.goes_unseen(image, rest);
+        let steps = self.course.joint.steps();
+        let _ = look_all(probes, steps, &self.course.joint);
+        onward
+    }
+
+    /// Makes joint steps up to one that took an event, said something or led to a tick start; of what each of them led to
+    /// the probes know what a look would have told them. What the last one took and said is left in the course.
     #[inline(never)]
     pub fn glide(&mut self, image: &Image, probes: &mut Vec<Box<dyn Probe>>)
         requires going { (h : KeyHistory) × IsGoing image.now.bytes h self.old }
         ensures glided { (h : KeyHistory) → IsGoing image.now.bytes h self.old
             → HasGlided image.now.bytes h self.old self.new (map (λ b. watch b) probes.old.items) (map (λ b. watch b) probes.new.items) }
     {
-        'steps: while self.goes_quietly(image, probes) {}
+        'stretches: while self.goes_on(image, probes) {}
     }
 }
