@@ -19,7 +19,7 @@ module _ (s : Story) where
   ends_not_on k w v (Stuck place) h on next = let none = h.none in absurd (cc (none, next))
 
   -- the state behind one that is before another
-  reached_by : (m j : ℕ) (v : World Beside) → state_at s m ≡ Some v → j < m → (w : World Beside) × (state_at s (suc j) ≡ Some w)
+  pub reached_by : (m j : ℕ) (v : World Beside) → state_at s m ≡ Some v → j < m → (w : World Beside) × (state_at s (suc j) ≡ Some w)
   reached_by zero j v h l = absurd (omega (arith, l))
   reached_by (suc m) j v h l =
       elim (ltb j m) as (λ b. ltb j m ≡ b → (w : World Beside) × (state_at s (suc j) ≡ Some w)) [

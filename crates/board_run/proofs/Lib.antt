@@ -7,3 +7,4 @@ pub mod Whole
 pub mod Loop
 pub mod Ends
 pub mod Telling
+pub mod EndOf

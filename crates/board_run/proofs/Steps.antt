@@ -47,7 +47,7 @@ after_later s w v (Some n) t h =
 
 module _ (s : Story) where
   -- the joint step between two states
-  joined : (k : ℕ) (w v : World Beside) → state_at s k ≡ Some w → state_at s (suc k) ≡ Some v → joint_step (joint_board s.edges s.events) s.bytes w ≡ Some v
+  pub joined : (k : ℕ) (w v : World Beside) → state_at s k ≡ Some w → state_at s (suc k) ≡ Some v → joint_step (joint_board s.edges s.events) s.bytes w ≡ Some v
   joined k w v h g = sym (ap (step_on (joint_board s.edges s.events) s.bytes) h) ∙ g
 
   -- it takes one cycle or two

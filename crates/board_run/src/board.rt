@@ -12,6 +12,7 @@ ghost use Rattle.joint_feed.specs.Ahead.{HasTaken};
 ghost use Rattle.joint_feed.specs.Stories.{story};
 ghost use Rattle.key_file.specs.Accepted.{IsAccepted};
 ghost use Rattle.key_file.specs.Feeds.{Fed};
+ghost use Rattle.subsystem.specs.Ending.{history_of};
 ghost use Rattle.subsystem.specs.Running.{log_at};
 
 use crate::ended::{End, Ended};
@@ -117,6 +118,7 @@ impl<F: Feed> Board<F> {
         requires no_host { (F.told feed).host ≡ 0 }
         requires accepted { IsAccepted (F.told feed).history }
         ensures board { IfOk result (λ board. board ≡ story image.now.bytes (F.told feed).history) }
+        ensures accepted { IfOk result (λ board. IsAccepted (history_of board)) }
     {
         let bios = Bios::new(alloc)?;
         let mut feed = feed;
@@ -138,6 +140,7 @@ impl<F: Feed> Board<F> {
         out: &mut K,
         probes: &mut Vec<Box<dyn Probe>>,
     ) -> Result<Ended, SinkFault>
+        requires accepted { IsAccepted (history_of self) }
         ensures run { IfOk result (λ ended. IsOutcome self (ending self ended)) }
         ensures said { IfOk result (λ ended. IsSaid (shown (K.taken out.old) (K.told out.old) (K.faults out.old))
             (shown (K.taken out.new) (K.told out.new) (K.faults out.new)) (log_text (ending self ended).log)) }

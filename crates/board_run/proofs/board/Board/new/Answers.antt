@@ -28,4 +28,5 @@ returns g c = record {
   board =
       ap (λ b. story b (g.F.Feed.told c.begin-course.new.feed).history) c.begin-course.ensures.on.image
       ∙ ap (story c.args.image.now.bytes) c.begin-course.ensures.history;
+  accepted = subst IsAccepted (sym c.begin-course.ensures.history) c.requires.accepted;
 }
