@@ -49,7 +49,7 @@ module _ (R : Answer → List Watch → List Watch → Type 0) (same : (answer :
       → (kept : List Watch) × MayAnswerRun d layout history answer probes (leaving kept) × R answer kept left) where
     -- behind the key file
     history_alike : (layout : KeyLayout) (outcome : HistoryOutcome) → EndsAlike R (with_history (Runs c layout) outcome) (with_history (Runs d layout) outcome)
-    history_alike layout (Ok history) shelf answer after probes left e = let k = h layout history answer probes left e.0 in (k.0, (k.1, e.1), k.2)
+    history_alike layout (Ok history) shelf answer after probes left e = let k = h layout history answer probes left e.0 in (k.0, (k.1, e.1, e.2), k.2)
     history_alike layout (Err fault) shelf answer after probes left e = (left, e, same answer left)
 
     -- behind the layout

@@ -1,28 +1,35 @@
 -- Each cause has its exit.
 use Rattle.std.proofs.Common.{◌≡◌, ℕ, List, Some, None, inl, inr, refl, ap, subst, ◌∙◌}
 use Rattle.std.specs.declared.option.Option.{Option}
+use Rattle.fw_compile.specs.Image.{image_of}
+use Rattle.fw_debug.specs.Sessions.{Debuggee, of_layout, of_program}
+use Rattle.joint_feed.specs.Stories.{story}
 use Rattle.io_edge.specs.Shelf.{Told, Fetched, Fails, Long, Found, after_fetch, fetched}
 use Rattle.kbd48_app.specs.declared.exit.Exit.{Exit}
 use Rattle.kbd48_app.specs.declared.exit.Exit.TheVariants as exits
 use Rattle.kbd48_app.specs.declared.kind.Kind.{Kind}
 use Rattle.kbd48_app.specs.declared.kind.Kind.TheVariants as kinds
 use Rattle.kbd48_app.specs.declared.words.Command.{Command}
-use Rattle.kbd48_app.specs.declared.words.Command.TheVariants.{OverFile, OverPair, Debug, Feed, Sample}
+use Rattle.kbd48_app.specs.declared.words.Command.TheVariants.{OverFile, OverPair, Debug, Probe, Board, Feed, Sample}
 use Rattle.kbd48_app.specs.declared.words.PairCommand.TheVariants.{Certify, OverRun, Spell}
 use Rattle.kbd48_app.specs.declared.words.FileCommand.{FileCommand}
 use Rattle.kbd48_app.specs.declared.words.FileCommand.TheVariants.{Step, Listing, Assemble, Compile}
 use Rattle.kbd48_app.specs.Answers.{OnFetched}
-use Rattle.kbd48_app.specs.Causes.{IsStuck}
+use Rattle.kbd48_app.specs.Causes.{BoardIsStuck, IsStuck, StepIsStuck}
+use Rattle.kbd48_app.specs.Debugging.{script_fault}
 use Rattle.kbd48_app.specs.Kinds.{kind_of, limit_of}
-use Rattle.kbd48_app.specs.Plans.{Plan, Gives, Certifies, Runs, Samples, Debugs, Fetches, plan_of, file_said, script_next, Spells}
+use Rattle.kbd48_app.specs.Plans.{Plan, Gives, Certifies, Runs, Boards, Samples, Debugs, Fetches, plan_of, file_said, Spells}
+use Rattle.kbd48_app.specs.Plans.{debug_next, probe_next, script_next}
 use Rattle.kbd48_app.specs.Reached.{on_fetched, IsUnserved, IsTooLong, Reads}
 use Rattle.kbd48_app.specs.Says.{exit_said}
-use Rattle.kbd48_app.specs.Words.{name_in, second_in, third_in}
+use Rattle.kbd48_app.specs.Words.{name_in, second_in, third_in, fourth_in}
+use Rattle.kbd48_app.proofs.BoardExits.{board_stuck, fault_led_by_board}
 use Rattle.kbd48_app.proofs.Certs.{fault_led_by_cert}
 use Rattle.kbd48_app.proofs.Ends.{leads, exit_by}
 use Rattle.kbd48_app.proofs.Faults.{Fault, InHex, InAsm, InLayout, InCert, InKeys, InScript, InText, HasFault, exit_at}
 use Rattle.kbd48_app.proofs.Faults.{faulty_file}
 use Rattle.kbd48_app.proofs.FileExits.{hex_answered, asm_answered, layout_answered, stop_answered}
+use Rattle.kbd48_app.proofs.Programs.{fault_led_by_program}
 use Rattle.kbd48_app.proofs.Reaching.{fetch_read, leads_found}
 use Rattle.kbd48_app.proofs.Runs.{IsReadThird, IsScriptLed, fault_led_by_run}
 use Rattle.kbd48_app.proofs.Texts.{fault_led_by_text}
@@ -52,10 +59,11 @@ is_of_file Listing = tt
 is_of_file Assemble = tt
 is_of_file Compile = tt
 
--- behind a layout and a key file comes a script, for `debug` alone
-third_of_script : (name : List ℕ) → IsReadThird (script_next name)
-third_of_script name read file layout history shelf h =
-    elim (fetch_read read file kinds.Script name (Debugs layout history) shelf h) [
+-- behind what is debugged comes a script
+script_alone : (name : List ℕ) (s : Debuggee) (read : Kind) (file : List ℕ) (shelf : Told)
+    → Reads read file (script_next name s) shelf → kinds.Script ≡ read
+script_alone name s read file shelf h =
+    elim (fetch_read read file kinds.Script name (Debugs s) shelf h) [
       | inl this ↦ this.0
       | inr more ↦ absurd more.2
     ]
@@ -67,8 +75,9 @@ module _ (n : ℕ) where
   unserved (Certifies image text) shelf h = absurd h
   unserved (Spells layout text) shelf h = absurd h
   unserved (Runs command layout history) shelf h = absurd h
+  unserved (Boards steps image history) shelf h = absurd h
   unserved (Samples count) shelf h = absurd h
-  unserved (Debugs layout history script) shelf h = absurd h
+  unserved (Debugs s script) shelf h = absurd h
   unserved (Fetches kind name next) shelf h =
       fetch_led (Unit {0}) ⊥ (λ bytes. IsUnserved (next bytes) (after_fetch shelf))
       (λ bytes. leads n (next bytes) (after_fetch shelf)) exits.Read (λ fails. refl) (λ long. absurd long)
@@ -79,8 +88,9 @@ module _ (n : ℕ) where
   too_long long (Certifies image text) shelf h = absurd h
   too_long long (Spells layout text) shelf h = absurd h
   too_long long (Runs command layout history) shelf h = absurd h
+  too_long long (Boards steps image history) shelf h = absurd h
   too_long long (Samples count) shelf h = absurd h
-  too_long long (Debugs layout history script) shelf h = absurd h
+  too_long long (Debugs s script) shelf h = absurd h
   too_long long (Fetches kind name next) shelf h =
       fetch_led ⊥ (kind ≡ long) (λ bytes. IsTooLong long (next bytes) (after_fetch shelf))
       (λ bytes. leads n (next bytes) (after_fetch shelf)) exits.Input (λ fails. absurd fails) (λ same. refl)
@@ -121,13 +131,32 @@ module _ (n : ℕ) where
       absurd (subst IsOfFile (file_read command words shelf kinds.Text h.4 h.5).0 (is_of_file command))
 
   -- the first fault of a script
-  script_led : (name : List ℕ) → IsScriptLed n (script_next name)
-  script_led name script fault layout history shelf h is =
-      elim (fetch_read kinds.Script script kinds.Script name (Debugs layout history) shelf h) [
-        | inl this ↦
-            leads_found n kinds.Script name script (Debugs layout history) shelf this.1 ∙ ap exit_by is
+  script_led : (name : List ℕ) (s : Debuggee) (script : List ℕ) (fault : ℕ × ℕ) (shelf : Told)
+      → Reads kinds.Script script (script_next name s) shelf → script_fault n script ≡ Some fault
+      → leads n (script_next name s) shelf ≡ exits.Input
+  script_led name s script fault shelf h is =
+      elim (fetch_read kinds.Script script kinds.Script name (Debugs s) shelf h) [
+        | inl this ↦ leads_found n kinds.Script name script (Debugs s) shelf this.1 ∙ ap exit_by is
         | inr more ↦ absurd more.2
       ]
+
+  -- in `debug`
+  debug_read : (name : List ℕ) → IsReadThird (debug_next name)
+  debug_read name read file layout history shelf h =
+      script_alone name (of_layout (story (image_of layout) history)) read file shelf h
+
+  debug_led : (name : List ℕ) → IsScriptLed n (debug_next name)
+  debug_led name script fault layout history shelf h is =
+      script_led name (of_layout (story (image_of layout) history)) script fault shelf h is
+
+  -- in `probe`
+  probe_read : (name image : List ℕ) → IsReadThird (λ layout. probe_next name image)
+  probe_read name image read file layout history shelf h =
+      script_alone name (of_program (story image history)) read file shelf h
+
+  probe_led : (name image : List ℕ) → IsScriptLed n (λ layout. probe_next name image)
+  probe_led name image script fault layout history shelf h is =
+      script_led name (of_program (story image history)) script fault shelf h is
 
   -- the first fault of a file leads to its exit
   pub fault_led : (fault : Fault) (command : Option Command) (words : List (List ℕ)) (shelf : Told)
@@ -145,17 +174,41 @@ module _ (n : ℕ) where
   fault_led fault (Some (OverPair (OverRun command))) words shelf h =
       fault_led_by_run n (Runs command) (λ read file layout history after third. absurd third)
       (λ script at layout history after third is. absurd third) (name_in words) (second_in words) shelf fault h
+  fault_led fault (Some (Board steps)) words shelf h =
+      fault_led_by_board n steps (name_in words) (second_in words) (third_in words) shelf fault h
   fault_led fault (Some Debug) words shelf h =
-      fault_led_by_run n (script_next (third_in words)) (third_of_script (third_in words)) (script_led (third_in words))
+      fault_led_by_run n (debug_next (third_in words)) (debug_read (third_in words)) (debug_led (third_in words))
       (name_in words) (second_in words) shelf fault h
+  fault_led fault (Some Probe) words shelf h =
+      let name = fourth_in words in
+      fault_led_by_program (probe_next name) (name_in words) (second_in words) (third_in words) shelf
+      n (probe_read name) (probe_led name) fault h
 
-  -- a run that stops
-  pub stuck : (command : Option Command) (words : List (List ℕ)) (shelf : Told)
-      → IsStuck command (plan_of command words) shelf
+  -- a run of the processor that stops
+  step_stuck : (command : Option Command) (words : List (List ℕ)) (shelf : Told)
+      → StepIsStuck command (plan_of command words) shelf
       → leads n (plan_of command words) shelf ≡ exits.Stuck
-  stuck command words shelf h =
+  step_stuck command words shelf h =
       let step : Option Command = Some (OverFile (Step h.0)) in
       let read : Reads kinds.Hex h.2 (plan_of step words) shelf =
       subst (λ (c : Option Command). Reads kinds.Hex h.2 (plan_of c words) shelf) h.1 h.3 in
       ap (λ (c : Option Command). leads n (plan_of c words) shelf) h.1
       ∙ ((file_read (Step h.0) words shelf kinds.Hex h.2 read).1 ∙ stop_answered h.0 h.2 h.4 h.6 h.5 h.7)
+
+  -- a run on the board that does
+  board_is_stuck : (command : Option Command) (words : List (List ℕ)) (shelf : Told)
+      → BoardIsStuck command (plan_of command words) shelf
+      → leads n (plan_of command words) shelf ≡ exits.Stuck
+  board_is_stuck command words shelf h =
+      let board : Option Command = Some (Board h.0) in
+      let read : (kind : Kind) (file : List ℕ) → Reads kind file (plan_of command words) shelf → Reads kind file (plan_of board words) shelf =
+      λ kind file r. subst (λ (c : Option Command). Reads kind file (plan_of c words) shelf) h.1 r in
+      ap (λ (c : Option Command). leads n (plan_of c words) shelf) h.1
+      ∙ board_stuck n h.0 (name_in words) (second_in words) (third_in words) shelf h.2 h.4 h.6 h.10 h.8 h.12 h.14 h.16
+      (read kinds.Hex h.2 h.3) h.5 (read kinds.Layout h.6 h.7) h.9 (read kinds.Keys h.10 h.11) h.13 h.15 h.17
+
+  pub stuck : (command : Option Command) (words : List (List ℕ)) (shelf : Told)
+      → IsStuck command (plan_of command words) shelf
+      → leads n (plan_of command words) shelf ≡ exits.Stuck
+  stuck command words shelf (inl h) = step_stuck command words shelf h
+  stuck command words shelf (inr h) = board_is_stuck command words shelf h

@@ -1,8 +1,9 @@
 -- What is said of an answer that was come to, and how it ends the call.
-use Rattle.std.proofs.Common.{◌≡◌, ◌<◌, ℕ, Bool, List, Ok, Err, inl, inr, refl, ap, sym, subst, ◌∙◌, ◌⊎◌, arith}
+use Rattle.std.proofs.Common.{◌≡◌, ◌<◌, ℕ, Bool, true, List, [], ◌++◌, Ok, Err, inl, inr, refl, ap, sym, subst, ◌∙◌, ◌⊎◌, arith}
 use Rattle.std.specs.declared.option.Option.{Option}
 use Rattle.std.specs.declared.result.Result.{Result}
 use Rattle.fw_debug.specs.Probes.{Watch}
+use Rattle.io_edge.proofs.Pieces.{AreLines, said_then_broken, said_then_said}
 use Rattle.io_edge.specs.Faults.{Rose}
 use Rattle.io_edge.specs.Said.{IsBrokenOff, IsSaid, Shown}
 use Rattle.io_edge.specs.Shelf.{Told}
@@ -11,12 +12,13 @@ use Rattle.kbd48_app.specs.declared.exit.Exit.TheVariants as exits
 use Rattle.kbd48_app.specs.declared.refusal.Refusal.{Refusal}
 use Rattle.kbd48_app.specs.declared.refusal.Refusal.TheVariants as refusals
 use Rattle.kbd48_app.specs.declared.spoken.Spoken.{Spoken}
-use Rattle.kbd48_app.specs.declared.spoken.Spoken.TheVariants.{Text, Said}
+use Rattle.kbd48_app.specs.declared.spoken.Spoken.TheVariants.{Text, Said, Stuck}
 use Rattle.kbd48_app.specs.Answers.{MayAnswer}
 use Rattle.kbd48_app.specs.Plans.{Answer}
 use Rattle.kbd48_app.specs.Refusals.{exit_of, line_of}
-use Rattle.kbd48_app.specs.Says.{Says, exit_said, is_whole}
-use Rattle.kbd48_app.specs.Spoken.{Concludes, IsSpoken}
+use Rattle.kbd48_app.specs.Says.{Says, exit_said, is_whole, text_said}
+use Rattle.kbd48_app.specs.Spoken.{Concludes, IsSpoken, May}
+use Rattle.kbd48_app.proofs.Logs.{lines_before}
 
 -- no refusal ends with Write
 refused_never : (refusal : Refusal) → exit_of refusal ≡ exits.Write → ⊥
@@ -79,6 +81,8 @@ read_of (Ok (Text text)) y z exit h is =
     elim h [ inl same ↦ let e : exits.Done ≡ exits.Read = sym same.0 ∙ is in absurd cc | inr part ↦ let e : exits.Write ≡ exits.Read = sym part.0 ∙ is in absurd cc ]
 read_of (Ok (Said (Ok done))) y z exit h is = let e : exits.Done ≡ exits.Read = sym h.0 ∙ is in absurd cc
 read_of (Ok (Said (Err fault))) y z exit h is = let e : exits.Write ≡ exits.Read = sym h.0 ∙ is in absurd cc
+read_of (Ok (Stuck place)) y z exit h is =
+    elim h [ inl same ↦ let e : exits.Stuck ≡ exits.Read = sym same.0 ∙ is in absurd cc | inr part ↦ let e : exits.Write ≡ exits.Read = sym part.0 ∙ is in absurd cc ]
 read_of (Err refusal) y z exit h is =
     elim h [
       | inl same ↦ ap (λ (r : Refusal). Err r) (read_alone refusal (sym same.0 ∙ is))
@@ -91,10 +95,15 @@ read_ends (Err refusal) y z exit h is =
     let so : refusal ≡ refusals.Read = cc is in
     elim h [ inl same ↦ inl (same.0 ∙ ap exit_of so) | inr part ↦ inr part.0 ]
 
+-- what is said before an answer is of whole lines
+abbrev AreLinesBefore : May → Type 0
+AreLinesBefore may = (answer : Answer) (whole : Bool) (log : List ℕ) → may answer whole log → AreLines log
+
 -- what was said before, and what is said now
-pub concluded : (may : Answer → Bool → Type 0) (result : Result Spoken Refusal) (x y z : Shown) (exit : Exit) → IsSpoken may result x y → Concludes result y z exit
-    → (answer : Answer) × may answer (is_whole exit) × Says answer x z exit
-concluded may (Err refusal) x y z exit h k = (
+pub concluded : (may : May) → AreLinesBefore may → (result : Result Spoken Refusal) (x y z : Shown) (exit : Exit) → IsSpoken may result x y → Concludes result y z exit
+    → (log : List ℕ) × (answer : Answer) × may answer (is_whole exit) log × Says log answer x z exit
+concluded may lines (Err refusal) x y z exit h k = (
+  [],
   Err refusal,
   h.0 (is_whole exit),
   elim k [
@@ -102,7 +111,8 @@ concluded may (Err refusal) x y z exit h k = (
     | inr part ↦ inr (part.0, subst (λ (v : Shown). IsBrokenOff v z (line_of refusal)) h.1 part.1)
   ],
 )
-concluded may (Ok (Text text)) x y z exit h k = (
+concluded may lines (Ok (Text text)) x y z exit h k = (
+  [],
   Ok text.items,
   h.0 (is_whole exit),
   elim k [
@@ -110,26 +120,52 @@ concluded may (Ok (Text text)) x y z exit h k = (
     | inr part ↦ inr (part.0, subst (λ (v : Shown). IsBrokenOff v z text.items) h.1 part.1)
   ],
 )
-concluded may (Ok (Said (Ok done))) x y z exit h k =
-    (Ok h.0, subst (may (Ok h.0)) (sym (ap is_whole k.0)) h.1, inl (k.0, subst (λ (v : Shown). IsSaid x v h.0) (sym k.1) h.2))
-concluded may (Ok (Said (Err fault))) x y z exit h k =
-    (Ok h.0, subst (may (Ok h.0)) (sym (ap is_whole k.0)) h.1, inr (k.0, subst (λ (v : Shown). IsBrokenOff x v h.0) (sym k.1) h.2))
+concluded may lines (Ok (Said (Ok done))) x y z exit h k = (
+  h.1,
+  Ok h.0,
+  subst (λ (w : Bool). may (Ok h.0) w h.1) (sym (ap is_whole k.0)) h.2,
+  inl (k.0, subst (λ (v : Shown). IsSaid x v (h.1 ++ h.0)) (sym k.1) h.3),
+)
+concluded may lines (Ok (Said (Err fault))) x y z exit h k = (
+  h.1,
+  h.0,
+  subst (λ (w : Bool). may h.0 w h.1) (sym (ap is_whole k.0)) h.2,
+  inr (k.0, subst (λ (v : Shown). IsBrokenOff x v (h.1 ++ text_said h.0)) (sym k.1) h.3),
+)
+concluded may lines (Ok (Stuck place)) x y z exit h k =
+    let stuck : Answer = Err (refusals.Stuck place) in
+    let whole : AreLines h.0 = lines stuck true h.0 (h.1 true) in (
+      h.0,
+      stuck,
+      h.1 (is_whole exit),
+      elim k [
+        | inl same ↦ inl (same.0, said_then_said x y z h.0 (text_said stuck) whole h.2 same.1)
+        | inr part ↦ inr (part.0, said_then_broken x y z h.0 (text_said stuck) whole h.2 part.1)
+      ],
+    )
 
 -- the same of words
-abbrev pub MaySo : List (List ℕ) → Option Told → Option Told → List Watch → List Watch → Answer → Bool → Type 0
-MaySo words shelf after probes left answer whole = MayAnswer words shelf answer after probes (record { probes = left; whole = whole })
+abbrev pub MaySo : List (List ℕ) → Option Told → Option Told → List Watch → List Watch → May
+MaySo words shelf after probes left answer whole log = MayAnswer words shelf answer after probes (record { probes = left; whole = whole; log = log })
+
+-- a call has ended so, having said this before its answer
+abbrev pub EndedBehind : List ℕ → List (List ℕ) → Option Told → Option Told → List Watch → List Watch → Shown → Shown → Exit → Type 0
+EndedBehind log words shelf after probes left x z exit =
+    (answer : Answer) × MayAnswer words shelf answer after probes (record { probes = left; whole = is_whole exit; log = log }) × Says log answer x z exit
 
 abbrev pub HasEnded : List (List ℕ) → Option Told → Option Told → List Watch → List Watch → Shown → Shown → Exit → Type 0
-HasEnded words shelf after probes left x z exit =
-    (answer : Answer) × MayAnswer words shelf answer after probes (record { probes = left; whole = is_whole exit }) × Says answer x z exit
+HasEnded words shelf after probes left x z exit = (log : List ℕ) × EndedBehind log words shelf after probes left x z exit
 
 pub has_ended : (words : List (List ℕ)) (shelf after : Option Told) (probes left : List Watch) (result : Result Spoken Refusal) (x y z : Shown) (exit : Exit)
     → IsSpoken (MaySo words shelf after probes left) result x y → Concludes result y z exit → HasEnded words shelf after probes left x z exit
-has_ended words shelf after probes left result x y z exit h k = concluded (MaySo words shelf after probes left) result x y z exit h k
+has_ended words shelf after probes left result x y z exit h k =
+    let ended = concluded (MaySo words shelf after probes left)
+    (λ answer whole log may. lines_before words shelf answer after probes (record { probes = left; whole = whole; log = log }) may) result x y z exit h k in
+    (ended.0, (ended.1, ended.2, ended.3))
 
 -- Write comes only where a put failed, and wherever one did
-pub wrote : (answer : Answer) (x z : Shown) (exit : Exit) → Says answer x z exit → exit ≡ exits.Write → Rose x.faults z.faults
-wrote answer x z exit h is = elim h [ inl whole ↦ absurd (never_write answer (sym whole.0 ∙ is)) | inr part ↦ part.1.failed ]
+pub wrote : (log : List ℕ) (answer : Answer) (x z : Shown) (exit : Exit) → Says log answer x z exit → exit ≡ exits.Write → Rose x.faults z.faults
+wrote log answer x z exit h is = elim h [ inl whole ↦ absurd (never_write answer (sym whole.0 ∙ is)) | inr part ↦ part.1.failed ]
 
-pub put_failed : (answer : Answer) (x z : Shown) (exit : Exit) → Says answer x z exit → x.faults < z.faults → exit ≡ exits.Write
-put_failed answer x z exit h more = elim h [ inl whole ↦ let same = whole.1.steady in absurd (omega (arith, same, more)) | inr part ↦ part.0 ]
+pub put_failed : (log : List ℕ) (answer : Answer) (x z : Shown) (exit : Exit) → Says log answer x z exit → x.faults < z.faults → exit ≡ exits.Write
+put_failed log answer x z exit h more = elim h [ inl whole ↦ let same = whole.1.steady in absurd (omega (arith, same, more)) | inr part ↦ part.0 ]

@@ -1,9 +1,13 @@
 -- How a plan ends over a shelf that tells its files.
-use Rattle.std.proofs.Common.{◌≡◌, ℕ, Bool, true, false, List, length, Some, None, Err, inl, inr, refl, ap, subst, sym, ◌∙◌, ◌⊎◌}
+use Rattle.std.proofs.Common.{◌≡◌, ℕ, Bool, true, false, List, [], length, Some, None, Err, inl, inr, refl, ap, subst, sym, ◌∙◌, ◌⊎◌}
 use Rattle.std.specs.declared.option.Option.{Option}
-use Rattle.fw_compile.specs.Image.{image_of}
+use Rattle.board_run.proofs.EndOf.{end_found, end_of}
+use Rattle.board_run.specs.Running.{Outcome}
+use Rattle.board_run.specs.declared.ended.End.{End}
+use Rattle.board_run.specs.declared.ended.End.TheVariants.{Over, Stuck}
 use Rattle.fw_debug.specs.Probes.{Watch}
-use Rattle.joint_feed.specs.Stories.{Story, story}
+use Rattle.fw_debug.specs.Sessions.{Debuggee}
+use Rattle.joint_feed.specs.Stories.{story}
 use Rattle.io_edge.specs.Said.{Shown}
 use Rattle.layout_reader.specs.Layouts.{KeyLayout}
 use Rattle.typed_log.specs.Typing.{first_without}
@@ -14,10 +18,11 @@ use Rattle.kbd48_app.specs.declared.kind.Kind.{Kind}
 use Rattle.kbd48_app.specs.declared.refusal.Refusal.TheVariants.{Read, TooLong, Memory}
 use Rattle.kbd48_app.specs.declared.words.Command.{Command}
 use Rattle.kbd48_app.specs.Answers.{OnFetched, MayAnswerOf, MayAnswerSession, MayEnd, MayEndAs, MayAnswer, Left, MayAnswerText}
+use Rattle.kbd48_app.specs.BoardTexts.{board_said}
 use Rattle.kbd48_app.specs.CertTexts.{cert_said}
 use Rattle.kbd48_app.specs.Debugging.{script_fault}
 use Rattle.kbd48_app.specs.Kinds.{limit_of}
-use Rattle.kbd48_app.specs.Plans.{Answer, Plan, Gives, Certifies, Runs, Samples, Debugs, Fetches, plan, plan_of, Spells}
+use Rattle.kbd48_app.specs.Plans.{Answer, Plan, Gives, Certifies, Runs, Boards, Samples, Debugs, Fetches, plan, plan_of, Spells}
 use Rattle.kbd48_app.specs.Reached.{on_fetched, may_lack}
 use Rattle.kbd48_app.specs.Says.{Says, exit_said}
 use Rattle.kbd48_app.specs.Words.{command_of}
@@ -27,14 +32,25 @@ abbrev pub exit_by : Option (ℕ × ℕ) → Exit
 exit_by None = exits.Done
 exit_by (Some fault) = exits.Input
 
+-- the exit of a run on the board, by its end
+abbrev pub board_exit : Option End → Exit
+board_exit (Some Over) = exits.Done
+board_exit (Some (Stuck place)) = exits.Stuck
+board_exit None = exits.Done
+
+board_led : (steps : Bool) (run : Outcome) (end : End) → exit_said (board_said steps run end) ≡ board_exit (Some end)
+board_led steps run Over = refl
+board_led steps run (Stuck place) = refl
+
 -- the exit where memory isn't wanting, and there are so many probes
 abbrev pub leads : ℕ → Plan → Told → Exit
 leads n (Gives said) shelf = exit_said said
 leads n (Certifies image text) shelf = exit_said (cert_said image text)
 leads n (Spells layout text) shelf = exit_by (first_without layout text)
 leads n (Runs command layout history) shelf = exits.Done
+leads n (Boards steps image history) shelf = board_exit (end_of (story image history))
 leads n (Samples count) shelf = exits.Done
-leads n (Debugs layout history script) shelf = exit_by (script_fault n script)
+leads n (Debugs s script) shelf = exit_by (script_fault n script)
 leads n (Fetches kind name next) shelf =
     on_fetched exits.Read exits.Input (λ bytes. leads n (next bytes) (after_fetch shelf)) (fetched shelf name (limit_of kind))
 
@@ -50,7 +66,7 @@ after_fetched kind on exit end answer goes (Found bytes) h = elim h [ inl memory
 weaker : (exit : Exit) (lack : Bool) (answer : Answer) → IsLed exit lack answer → IsLed exit true answer
 weaker exit lack answer h = elim h [ inl same ↦ inl same | inr memory ↦ inr (memory.0, refl) ]
 
-session_led : (first : Option (ℕ × ℕ)) (s : Story) (script : List ℕ) (answer : Answer) (probes : List Watch) (left : Left) → MayAnswerSession first s script answer probes left → IsLed (exit_by first) true answer
+session_led : (first : Option (ℕ × ℕ)) (s : Debuggee) (script : List ℕ) (answer : Answer) (probes : List Watch) (left : Left) → MayAnswerSession first s script answer probes left → IsLed (exit_by first) true answer
 session_led None s script answer probes left h = elim h [ inl memory ↦ inr (memory.0, refl) | inr said ↦ inl (ap exit_said said.2) ]
 session_led (Some fault) s script answer probes left h = inl (ap exit_said h.0)
 
@@ -73,14 +89,21 @@ ends_so (Certifies image text) shelf answer after probes left h = said_led (cert
 ends_so (Spells layout text) shelf answer after probes left h = text_led layout text answer h.0
 ends_so (Runs command layout history) shelf answer after probes left h =
     elim h.0 [ inl memory ↦ inr (memory.0, refl) | inr said ↦ inl (ap exit_said said.3) ]
+ends_so (Boards steps image history) shelf answer after probes left h =
+    elim h.0 [
+      | inl memory ↦ inr (memory.0, refl)
+      | inr told ↦
+          let led = ap board_exit (end_found (story image history) told.0 told.1) in
+          inl (ap exit_said told.3 ∙ board_led steps told.0 told.0.end ∙ sym led)
+    ]
 ends_so (Samples count) shelf answer after probes left h =
     elim h.0 [ inl memory ↦ inr (memory.0, refl) | inr said ↦ inl (ap exit_said said.3) ]
-ends_so (Debugs layout history script) shelf answer after probes left h =
-    session_led (script_fault (length probes) script) (story (image_of layout) history) script answer probes left h.0
+ends_so (Debugs s script) shelf answer after probes left h =
+    session_led (script_fault (length probes) script) s script answer probes left h.0
 ends_so (Fetches kind name next) shelf answer after probes left h =
     let on : List ℕ → Type 0 = λ bytes. MayEnd (next bytes) (Some (after_fetch shelf)) answer after probes left in
     let exit : List ℕ → Exit = λ bytes. leads (length probes) (next bytes) (after_fetch shelf) in
-    let end : Type 0 = (after ≡ Some (after_fetch shelf)) × (left.probes ≡ probes) in
+    let end : Type 0 = (after ≡ Some (after_fetch shelf)) × (left.probes ≡ probes) × (left.log ≡ []) in
     after_fetched kind on exit end answer
     (λ bytes more. weaker (exit bytes) (may_lack (next bytes) (after_fetch shelf)) answer (ends_so (next bytes) (after_fetch shelf) answer after probes left more))
     (fetched shelf name (limit_of kind))
@@ -94,7 +117,7 @@ ends_as (Some command) words shelf answer after probes left h = ends_so (plan_of
 abbrev pub IsExit : Exit → Bool → Exit → Type 0
 IsExit led lack exit = (exit ≡ led) ⊎ ((exit ≡ exits.Memory) × (lack ≡ true)) ⊎ (exit ≡ exits.Write)
 
-pub exits_so : (words : List (List ℕ)) (shelf : Told) (taken taken' : Shown) (exit : Exit) (after : Option Told) (probes : List Watch) (left : Left) → (answer : Answer) × MayAnswer words (Some shelf) answer after probes left × Says answer taken taken' exit → IsExit (leads (length probes) (plan words) shelf) (may_lack (plan words) shelf) exit
+pub exits_so : (words : List (List ℕ)) (shelf : Told) (taken taken' : Shown) (exit : Exit) (after : Option Told) (probes : List Watch) (left : Left) → (answer : Answer) × MayAnswer words (Some shelf) answer after probes left × Says left.log answer taken taken' exit → IsExit (leads (length probes) (plan words) shelf) (may_lack (plan words) shelf) exit
 exits_so words shelf taken taken' exit after probes left h =
     elim h.2 [
       | inl whole ↦

@@ -7,7 +7,7 @@ use Rattle.kbd48_app.specs.declared.exit.Exit.TheVariants as exits
 use Rattle.kbd48_app.specs.declared.kind.Kind.{Kind}
 use Rattle.kbd48_app.specs.declared.kind.Kind.TheVariants as kinds
 use Rattle.kbd48_app.specs.declared.words.Command.{Command}
-use Rattle.kbd48_app.specs.declared.words.Command.TheVariants.{OverFile, OverPair, Debug, Feed, Sample}
+use Rattle.kbd48_app.specs.declared.words.Command.TheVariants.{OverFile, OverPair, Debug, Probe, Board, Feed, Sample}
 use Rattle.kbd48_app.specs.declared.words.PairCommand.TheVariants.{Certify, OverRun, Spell}
 use Rattle.kbd48_app.specs.declared.words.FileCommand.{FileCommand}
 use Rattle.kbd48_app.specs.Causes.{HasFileFault, IsStuck, IsUntimely, MayExit}
@@ -15,11 +15,13 @@ use Rattle.kbd48_app.specs.Kinds.{kind_of}
 use Rattle.kbd48_app.specs.Plans.{Answer, Plan, Gives, file_said, plan_of}
 use Rattle.kbd48_app.specs.Reached.{may_lack, IsUnserved, Reads}
 use Rattle.kbd48_app.specs.Says.{exit_said}
-use Rattle.kbd48_app.specs.Words.{name_in, second_in, third_in}
+use Rattle.kbd48_app.specs.Words.{name_in, second_in, third_in, fourth_in}
+use Rattle.kbd48_app.proofs.BoardExits.{board_caused}
 use Rattle.kbd48_app.proofs.Caused.{IsCaused, caused_as}
 use Rattle.kbd48_app.proofs.CertExits.{cert_caused}
 use Rattle.kbd48_app.proofs.Ends.{leads, IsExit}
 use Rattle.kbd48_app.proofs.FileExits.{Exits, file_exits}
+use Rattle.kbd48_app.proofs.ProgramExits.{probe_caused}
 use Rattle.kbd48_app.proofs.RunExits.{run_caused, debug_caused}
 use Rattle.kbd48_app.proofs.TextExits.{text_caused}
 use Rattle.kbd48_app.proofs.Within.{fetch_caused, whole}
@@ -51,7 +53,7 @@ module _ (n : ℕ) where
               | inr stops ↦
                   let h = stops.1 in
                   let is = ap (λ (c : FileCommand). let k : Option Command = Some (OverFile c) in k) h.1 in
-                  so exits.Stuck stops.0 (h.0, is, bytes, here kinds.Hex (ap kind_of h.1), h.2, h.3, h.4, h.5)
+                  so exits.Stuck stops.0 (inl (h.0, is, bytes, here kinds.Hex (ap kind_of h.1), h.2, h.3, h.4, h.5))
             ]
       ]
 
@@ -77,8 +79,12 @@ module _ (n : ℕ) where
       text_caused n (Some (OverPair Spell)) (name_in words) (second_in words) shelf
   caused (Some (OverPair (OverRun command))) words shelf =
       run_caused n (Some (OverPair (OverRun command))) command (name_in words) (second_in words) shelf
+  caused (Some (Board steps)) words shelf =
+      board_caused n steps (name_in words) (second_in words) (third_in words) shelf
   caused (Some Debug) words shelf =
       debug_caused n (Some Debug) (third_in words) (name_in words) (second_in words) shelf
+  caused (Some Probe) words shelf =
+      probe_caused n (Some Probe) (name_in words) (second_in words) (third_in words) (fourth_in words) shelf
 
   -- the exit of a call: with its cause, or that of want of memory, or of a sink that fails
   abbrev pub Ended : Option Command → Plan → Told → Exit → Type 0

@@ -18,11 +18,13 @@ pub mod Concluded
 pub mod Told
 pub mod Certs
 pub mod Runs
+pub mod Programs
 pub mod Alike
 pub mod OneText
 pub mod PrintAlike
 pub mod Printed
 pub mod RunExits
+pub mod ProgramExits
 pub mod Sessions
 pub mod Found
 pub mod Caused
@@ -35,3 +37,7 @@ pub mod Sampled
 pub mod Starts
 pub mod Streamed
 pub mod Speaking
+pub mod Logs
+pub mod BoardExits
+pub mod Boarded
+pub mod Tells

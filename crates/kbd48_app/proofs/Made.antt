@@ -10,7 +10,7 @@ use Rattle.kbd48_app.specs.declared.refusal.Refusal.TheVariants.{Read, TooLong, 
 use Rattle.kbd48_app.specs.declared.words.Command.{Command}
 use Rattle.kbd48_app.specs.Answers.{OnFetched, MayEnd, MayEndAs, MayAnswer, Left}
 use Rattle.kbd48_app.specs.Kinds.{limit_of}
-use Rattle.kbd48_app.specs.Plans.{Answer, Plan, Gives, Certifies, Runs, Samples, Debugs, Fetches, plan, plan_of, Spells}
+use Rattle.kbd48_app.specs.Plans.{Answer, Plan, Gives, Certifies, Runs, Boards, Samples, Debugs, Fetches, plan, plan_of, Spells}
 use Rattle.kbd48_app.specs.Reached.{on_fetched, fetches_of, after_fetches, Makes}
 use Rattle.kbd48_app.specs.Says.{Says, exit_said}
 use Rattle.kbd48_app.specs.Words.{command_of}
@@ -32,23 +32,27 @@ only_one first shelf after answer is = (1, omega arith, is, inl refl)
 cut_off : (first : List ℕ × ℕ) (rest : List (List ℕ × ℕ)) (shelf : Told) (after : Option Told) (answer : Answer) → after ≡ Some (after_fetch shelf) → answer ≡ Err Memory → MakesSo (first ∷ rest) shelf after answer
 cut_off first rest shelf after answer is memory = (1, omega arith, is, inr (omega arith, memory))
 
-made_by : (first : List ℕ × ℕ) (kind : Kind) (shelf : Told) (on : List ℕ → Type 0) (rest : List ℕ → List (List ℕ × ℕ)) (after : Option Told) (kept : Type 0) (answer : Answer) → ((bytes : List ℕ) → on bytes → MakesSo (rest bytes) (after_fetch shelf) after answer) → (outcome : Fetched) → OnFetched ((answer ≡ Err Read) × ((after ≡ Some (after_fetch shelf)) × kept)) ((answer ≡ Err (TooLong kind)) × ((after ≡ Some (after_fetch shelf)) × kept)) (λ bytes. ((answer ≡ Err Memory) × ((after ≡ Some (after_fetch shelf)) × kept)) ⊎ on bytes) outcome → MakesSo (first ∷ on_fetched [] [] rest outcome) shelf after answer
-made_by first kind shelf on rest after kept answer goes Fails h = only_one first shelf after answer h.1.0
-made_by first kind shelf on rest after kept answer goes Long h = only_one first shelf after answer h.1.0
-made_by first kind shelf on rest after kept answer goes (Found bytes) h =
-    elim h [ inl memory ↦ cut_off first (rest bytes) shelf after answer memory.1.0 memory.0 | inr more ↦ one_more first (rest bytes) shelf after answer (goes bytes more) ]
+made_by : (first : List ℕ × ℕ) (kind : Kind) (shelf : Told) (on : List ℕ → Type 0) (rest : List ℕ → List (List ℕ × ℕ)) (after : Option Told) (end : Type 0) (answer : Answer) → (end → after ≡ Some (after_fetch shelf))
+    → ((bytes : List ℕ) → on bytes → MakesSo (rest bytes) (after_fetch shelf) after answer) → (outcome : Fetched)
+    → OnFetched ((answer ≡ Err Read) × end) ((answer ≡ Err (TooLong kind)) × end) (λ bytes. ((answer ≡ Err Memory) × end) ⊎ on bytes) outcome
+    → MakesSo (first ∷ on_fetched [] [] rest outcome) shelf after answer
+made_by first kind shelf on rest after end answer came goes Fails h = only_one first shelf after answer (came h.1)
+made_by first kind shelf on rest after end answer came goes Long h = only_one first shelf after answer (came h.1)
+made_by first kind shelf on rest after end answer came goes (Found bytes) h =
+    elim h [ inl memory ↦ cut_off first (rest bytes) shelf after answer (came memory.1) memory.0 | inr more ↦ one_more first (rest bytes) shelf after answer (goes bytes more) ]
 
 made : (p : Plan) (shelf : Told) (answer : Answer) (after : Option Told) (probes : List Watch) (left : Left) → MayEnd p (Some shelf) answer after probes left → MakesSo (fetches_of p shelf) shelf after answer
 made (Gives said) shelf answer after probes left h = (0, omega arith, h.1.0, inl refl)
 made (Certifies image text) shelf answer after probes left h = (0, omega arith, h.1.0, inl refl)
 made (Spells layout text) shelf answer after probes left h = (0, omega arith, h.1.0, inl refl)
 made (Runs command layout history) shelf answer after probes left h = (0, omega arith, h.1, inl refl)
+made (Boards steps image history) shelf answer after probes left h = (0, omega arith, h.1, inl refl)
 made (Samples count) shelf answer after probes left h = (0, omega arith, h.1, inl refl)
-made (Debugs layout history script) shelf answer after probes left h = (0, omega arith, h.1, inl refl)
+made (Debugs s script) shelf answer after probes left h = (0, omega arith, h.1, inl refl)
 made (Fetches kind name next) shelf answer after probes left h =
     let on : List ℕ → Type 0 = λ bytes. MayEnd (next bytes) (Some (after_fetch shelf)) answer after probes left in
-    let end : Type 0 = (after ≡ Some (after_fetch shelf)) × (left.probes ≡ probes) in
-    made_by (name, limit_of kind) kind shelf on (λ bytes. fetches_of (next bytes) (after_fetch shelf)) after (left.probes ≡ probes) answer
+    let end : Type 0 = (after ≡ Some (after_fetch shelf)) × (left.probes ≡ probes) × (left.log ≡ []) in
+    made_by (name, limit_of kind) kind shelf on (λ bytes. fetches_of (next bytes) (after_fetch shelf)) after end answer (λ e. e.0)
     (λ bytes more. made (next bytes) (after_fetch shelf) answer after probes left more)
     (fetched shelf name (limit_of kind))
     (subst (λ (o : Fetched). OnFetched ((answer ≡ Err Read) × end) ((answer ≡ Err (TooLong kind)) × end) (λ bytes. ((answer ≡ Err Memory) × end) ⊎ on bytes) o) h.1 h.2)
@@ -57,8 +61,8 @@ made_as : (command : Option Command) (words : List (List ℕ)) (shelf : Told) (a
 made_as None words shelf answer after probes left h = (0, omega arith, h.1.0, inl refl)
 made_as (Some command) words shelf answer after probes left h = made (plan_of (Some command) words) shelf answer after probes left h
 
-by_exit : (fetches : List (List ℕ × ℕ)) (shelf : Told) (after : Option Told) (answer : Answer) (taken taken' : Shown) (exit : Exit) → Says answer taken taken' exit → MakesSo fetches shelf after answer → Makes fetches shelf after exit
-by_exit fetches shelf after answer taken taken' exit says h = (
+by_exit : (fetches : List (List ℕ × ℕ)) (shelf : Told) (after : Option Told) (log : List ℕ) (answer : Answer) (taken taken' : Shown) (exit : Exit) → Says log answer taken taken' exit → MakesSo fetches shelf after answer → Makes fetches shelf after exit
+by_exit fetches shelf after log answer taken taken' exit says h = (
   h.0,
   h.1,
   h.2,
@@ -68,6 +72,6 @@ by_exit fetches shelf after answer taken taken' exit says h = (
   ],
 )
 
-pub makes : (words : List (List ℕ)) (shelf : Told) (taken taken' : Shown) (exit : Exit) (after : Option Told) (probes : List Watch) (left : Left) → (answer : Answer) × MayAnswer words (Some shelf) answer after probes left × Says answer taken taken' exit → Makes (fetches_of (plan words) shelf) shelf after exit
+pub makes : (words : List (List ℕ)) (shelf : Told) (taken taken' : Shown) (exit : Exit) (after : Option Told) (probes : List Watch) (left : Left) → (answer : Answer) × MayAnswer words (Some shelf) answer after probes left × Says left.log answer taken taken' exit → Makes (fetches_of (plan words) shelf) shelf after exit
 makes words shelf taken taken' exit after probes left h =
-    by_exit (fetches_of (plan words) shelf) shelf after h.0 taken taken' exit h.2 (made_as (command_of words) words shelf h.0 after probes left h.1)
+    by_exit (fetches_of (plan words) shelf) shelf after left.log h.0 taken taken' exit h.2 (made_as (command_of words) words shelf h.0 after probes left h.1)

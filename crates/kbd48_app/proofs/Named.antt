@@ -1,16 +1,16 @@
 -- The words behind a command's own.
-use Rattle.std.proofs.Common.{◌≡◌, ℕ, ◌<◌, List, [], ◌∷◌, length, map, string_bytes, slice_index_or, String, Global, Some, ap, sym, subst, ◌∙◌, arith}
+use Rattle.std.proofs.Common.{◌≡◌, ℕ, Bool, ◌<◌, List, [], ◌∷◌, length, map, string_bytes, slice_index_or, String, Global, Some, ap, sym, subst, ◌∙◌, arith}
 use Rattle.std.specs.declared.option.Option.{Option}
 use Rattle.fw_debug.specs.Probes.{Watch}
 use Rattle.io_edge.specs.Shelf.{Told}
 use Rattle.kbd48_app.specs.declared.words.Command.{Command}
-use Rattle.kbd48_app.specs.declared.words.Command.TheVariants.{OverFile, OverPair, Debug}
+use Rattle.kbd48_app.specs.declared.words.Command.TheVariants.{OverFile, OverPair, Debug, Probe, Board}
 use Rattle.kbd48_app.specs.declared.words.PairCommand.{PairCommand}
 use Rattle.kbd48_app.specs.declared.words.FileCommand.{FileCommand}
 use Rattle.kbd48_app.specs.Answers.{MayAnswer, MayEnd, MayEndAs, Left}
 use Rattle.kbd48_app.specs.Kinds.{kind_of}
-use Rattle.kbd48_app.specs.Plans.{Answer, Gives, Fetches, debug_plan, file_said, pair_plan}
-use Rattle.kbd48_app.specs.Words.{command_of, name_in, second_in, third_in}
+use Rattle.kbd48_app.specs.Plans.{Answer, Boards, Gives, Fetches, debug_plan, file_said, pair_plan, probe_plan, program_plan}
+use Rattle.kbd48_app.specs.Words.{command_of, name_in, second_in, third_in, fourth_in}
 
 -- the second word is the first name
 name_is : (words : List (String Global)) (word : String Global) → 1 < length words → word ≡ slice_index_or words 1 word → string_bytes word ≡ name_in (map string_bytes words)
@@ -67,3 +67,44 @@ ends_over_debug words word word' word'' name name' name'' shelf after answer pro
     (subst (λ (n : List ℕ). MayEnd (debug_plan (name_in texts) n name'') shelf answer after probes left) second
     (subst (λ (n : List ℕ). MayEnd (debug_plan n name' name'') shelf answer after probes left) first h)) in
     subst (λ (c : Option Command). MayEndAs c texts shelf answer after probes left) (sym is) named
+
+-- `board`, whose names are the words behind its own
+pub ends_over_board : (words : List (String Global)) (steps : Bool) (word word' word'' : String Global) (name name' name'' : List ℕ) (shelf after : Option Told) (answer : Answer) (probes : List Watch) (left : Left) → command_of (map string_bytes words) ≡ Some (Board steps) → 3 < length words → word ≡ slice_index_or words 1 word → word' ≡ slice_index_or words 2 word' → word'' ≡ slice_index_or words 3 word'' → name ≡ string_bytes word → name' ≡ string_bytes word' → name'' ≡ string_bytes word'' → MayEnd (program_plan (Boards steps) name name' name'') shelf answer after probes left → MayAnswer (map string_bytes words) shelf answer after probes left
+ends_over_board words steps word word' word'' name name' name'' shelf after answer probes left is more at at' at'' same same' same'' h =
+    let texts = map string_bytes words in
+    let first : name ≡ name_in texts = same ∙ name_is words word (omega (arith, more)) at in
+    let second : name' ≡ second_in texts = same' ∙ second_name words word' (omega (arith, more)) at' in
+    let third : name'' ≡ third_in texts = same'' ∙ third_name words word'' more at'' in
+    let named : MayEnd (program_plan (Boards steps) (name_in texts) (second_in texts) (third_in texts)) shelf answer after probes left =
+    subst (λ (n : List ℕ). MayEnd (program_plan (Boards steps) (name_in texts) (second_in texts) n) shelf answer after probes left) third
+    (subst (λ (n : List ℕ). MayEnd (program_plan (Boards steps) (name_in texts) n name'') shelf answer after probes left) second
+    (subst (λ (n : List ℕ). MayEnd (program_plan (Boards steps) n name' name'') shelf answer after probes left) first h)) in
+    subst (λ (c : Option Command). MayEndAs c (map string_bytes words) shelf answer after probes left) (sym is) named
+
+-- the fifth word is the fourth name
+fourth_name : (words : List (String Global)) (word : String Global) → 4 < length words → word ≡ slice_index_or words 4 word → string_bytes word ≡ fourth_in (map string_bytes words)
+fourth_name [] word more at = absurd (omega arith)
+fourth_name (first ∷ []) word more at = absurd (omega arith)
+fourth_name (first ∷ second ∷ []) word more at = absurd (omega arith)
+fourth_name (first ∷ second ∷ third ∷ []) word more at = absurd (omega arith)
+fourth_name (first ∷ second ∷ third ∷ fourth ∷ []) word more at = absurd (omega arith)
+fourth_name (first ∷ second ∷ third ∷ fourth ∷ fifth ∷ others) word more at = ap string_bytes at
+
+-- `probe`, whose names are the words behind its own
+module _ (words : List (String Global)) (a b c d : String Global) (image layout keys script : List ℕ) (shelf after : Option Told) (answer : Answer) (probes : List Watch) (left : Left) where
+  pub ends_over_probe : command_of (map string_bytes words) ≡ Some Probe → 4 < length words
+      → a ≡ slice_index_or words 1 a → b ≡ slice_index_or words 2 b → c ≡ slice_index_or words 3 c → d ≡ slice_index_or words 4 d
+      → image ≡ string_bytes a → layout ≡ string_bytes b → keys ≡ string_bytes c → script ≡ string_bytes d
+      → MayEnd (probe_plan image layout keys script) shelf answer after probes left → MayAnswer (map string_bytes words) shelf answer after probes left
+  ends_over_probe is more at_a at_b at_c at_d same_a same_b same_c same_d h =
+      let texts = map string_bytes words in
+      let first : image ≡ name_in texts = same_a ∙ name_is words a (omega (arith, more)) at_a in
+      let second : layout ≡ second_in texts = same_b ∙ second_name words b (omega (arith, more)) at_b in
+      let third : keys ≡ third_in texts = same_c ∙ third_name words c (omega (arith, more)) at_c in
+      let fourth : script ≡ fourth_in texts = same_d ∙ fourth_name words d more at_d in
+      let named : MayEnd (probe_plan (name_in texts) (second_in texts) (third_in texts) (fourth_in texts)) shelf answer after probes left =
+      subst (λ (n : List ℕ). MayEnd (probe_plan (name_in texts) (second_in texts) (third_in texts) n) shelf answer after probes left) fourth
+      (subst (λ (n : List ℕ). MayEnd (probe_plan (name_in texts) (second_in texts) n script) shelf answer after probes left) third
+      (subst (λ (n : List ℕ). MayEnd (probe_plan (name_in texts) n keys script) shelf answer after probes left) second
+      (subst (λ (n : List ℕ). MayEnd (probe_plan n layout keys script) shelf answer after probes left) first h))) in
+      subst (λ (k : Option Command). MayEndAs k texts shelf answer after probes left) (sym is) named

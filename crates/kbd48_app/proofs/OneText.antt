@@ -1,6 +1,6 @@
 -- Over a shelf that tells its files two commands over a layout and a key file say one text, where of each layout and
 -- history they say one.
-use Rattle.std.proofs.Common.{◌≡◌, ◌⊎◌, ℕ, List, Some, Ok, Err, inl, inr, subst}
+use Rattle.std.proofs.Common.{◌≡◌, ◌⊎◌, ℕ, List, [], Some, Ok, Err, inl, inr, subst}
 use Rattle.std.specs.declared.option.Option.{Option}
 use Rattle.fw_debug.specs.Probes.{Watch}
 use Rattle.io_edge.specs.Shelf.{Told, Fetched, Fails, Long, Found, after_fetch, fetched}
@@ -45,8 +45,8 @@ fetch_one : (kind : Kind) (name : List ℕ) (next other : List ℕ → Plan) →
     → PrintsOne (Fetches kind name next) (Fetches kind name other)
 fetch_one kind name next other h shelf a b after later probes left others e k =
     let on : Option Told = Some (after_fetch shelf) in
-    let end : Type 0 = (after ≡ on) × (left.probes ≡ probes) in
-    let end' : Type 0 = (later ≡ on) × (others.probes ≡ probes) in
+    let end : Type 0 = (after ≡ on) × (left.probes ≡ probes) × (left.log ≡ []) in
+    let end' : Type 0 = (later ≡ on) × (others.probes ≡ probes) × (others.log ≡ []) in
     let f : List ℕ → Type 0 = λ bytes. ((Ok a ≡ Err Memory) × end) ⊎ MayEnd (next bytes) on (Ok a) after probes left in
     let g : List ℕ → Type 0 = λ bytes. ((Ok b ≡ Err Memory) × end') ⊎ MayEnd (other bytes) on (Ok b) later probes others in
     found_one a b f g

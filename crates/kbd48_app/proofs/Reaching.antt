@@ -5,7 +5,7 @@ use Rattle.kbd48_app.specs.declared.exit.Exit.TheVariants as exits
 use Rattle.kbd48_app.specs.declared.kind.Kind.{Kind}
 use Rattle.kbd48_app.specs.Answers.{OnFetched}
 use Rattle.kbd48_app.specs.Kinds.{limit_of}
-use Rattle.kbd48_app.specs.Plans.{Plan, Gives, Certifies, Runs, Samples, Debugs, Fetches, Spells}
+use Rattle.kbd48_app.specs.Plans.{Plan, Gives, Certifies, Runs, Boards, Samples, Debugs, Fetches, Spells}
 use Rattle.kbd48_app.specs.Reached.{on_fetched, may_lack, Reads}
 use Rattle.kbd48_app.proofs.Ends.{leads}
 
@@ -52,8 +52,9 @@ lacks (Gives said) shelf kind file h = refl
 lacks (Certifies image text) shelf kind file h = refl
 lacks (Spells layout text) shelf kind file h = refl
 lacks (Runs command layout history) shelf kind file h = refl
+lacks (Boards steps image history) shelf kind file h = refl
 lacks (Samples count) shelf kind file h = refl
-lacks (Debugs layout history script) shelf kind file h = refl
+lacks (Debugs s script) shelf kind file h = refl
 lacks (Fetches first name next) shelf kind file h =
     lack_by (λ bytes. ((first ≡ kind) × (bytes ≡ file)) ⊎ Reads kind file (next bytes) (after_fetch shelf))
     (fetched shelf name (limit_of first)) h

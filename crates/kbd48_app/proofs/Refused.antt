@@ -1,7 +1,10 @@
 -- Words outside the forms, over any shelf.
-use Rattle.std.proofs.Common.{◌≡◌, ℕ, List, length, Some, None, Ok, Err, inl, inr, refl, ap, sym, ◌∙◌, ◌⊎◌}
+use Rattle.std.proofs.Common.{◌≡◌, ℕ, Bool, List, [], length, Some, None, Ok, Err, inl, inr, refl, ap, sym, ◌∙◌, ◌⊎◌}
 use Rattle.std.specs.declared.option.Option.{Option}
 use Rattle.std.specs.declared.result.Result.{Result}
+use Rattle.board_run.specs.Running.{Outcome}
+use Rattle.board_run.specs.declared.ended.End.{End}
+use Rattle.board_run.specs.declared.ended.End.TheVariants.{Over, Stuck}
 use Rattle.hexfile.specs.Hex.{HexOutcome, hex_of}
 use Rattle.key_file.specs.Histories.{KeyHistory}
 use Rattle.key_file.specs.KeyFile.{history_of}
@@ -11,31 +14,31 @@ use Rattle.layout_reader.specs.Documents.{layout_of_document}
 use Rattle.layout_reader.specs.Faults.{Refusal as LayoutRefusal}
 use Rattle.layout_reader.specs.Layouts.{KeyLayout}
 use Rattle.fw_debug.specs.Probes.{Watch}
-use Rattle.fw_compile.specs.Image.{image_of}
-use Rattle.joint_feed.specs.Stories.{Story, story}
+use Rattle.fw_debug.specs.Sessions.{Debuggee}
 use Rattle.io_edge.specs.Said.{Shown}
 use Rattle.io_edge.specs.Shelf.{Told, Fetched, Fails, Long, Found, after_fetch}
 use Rattle.kbd48_app.specs.declared.exit.Exit.{Exit}
 use Rattle.kbd48_app.specs.declared.exit.Exit.TheVariants as exits
 use Rattle.kbd48_app.specs.declared.refusal.Refusal.TheVariants.{Words, Read, TooLong, Memory}
 use Rattle.kbd48_app.specs.declared.words.Command.{Command}
-use Rattle.kbd48_app.specs.declared.words.Command.TheVariants.{OverFile, OverPair, Debug, Feed, Sample}
+use Rattle.kbd48_app.specs.declared.words.Command.TheVariants.{OverFile, OverPair, Debug, Probe, Board, Feed, Sample}
 use Rattle.kbd48_app.specs.declared.words.PairCommand.TheVariants.{Certify, OverRun, Spell}
 use Rattle.kbd48_app.specs.declared.words.FileCommand.{FileCommand}
 use Rattle.std.specs.Option.{option_map}
 use Rattle.kbd48_app.specs.Answers.{OnFetched, MayAnswerOf, MayAnswerSession, MayAnswer, MayEnd, MayEndAs, Left}
 use Rattle.kbd48_app.specs.Debugging.{script_fault}
 use Rattle.kbd48_app.specs.declared.kind.Kind.{Kind}
+use Rattle.kbd48_app.specs.BoardTexts.{board_said}
 use Rattle.kbd48_app.specs.CertTexts.{cert_said}
-use Rattle.kbd48_app.specs.Plans.{Answer, Plan, Gives, Certifies, Runs, Samples, Debugs, Fetches, cert_next, file_said, keys_next, plan_of, script_next, with_history, with_image, with_layout, Spells, text_next}
+use Rattle.kbd48_app.specs.Plans.{Answer, Plan, Gives, Certifies, Runs, Boards, Samples, Debugs, Fetches, cert_next, file_said, keys_next, plan_of, debug_next, probe_next, program_next, with_history, with_image, with_layout, Spells, text_next}
 use Rattle.kbd48_app.specs.Says.{Says, exit_said}
-use Rattle.kbd48_app.specs.Words.{command_of, second_in, third_in}
+use Rattle.kbd48_app.specs.Words.{command_of, second_in, third_in, fourth_in}
 use Rattle.kbd48_app.proofs.Certs.{cert_exits}
 use Rattle.kbd48_app.proofs.FileExits.{Exits, file_exits}
 
 -- the exit is that of the answer, or the sink failed
-pub said_exit : (answer : Answer) (taken taken' : Shown) (exit : Exit) → Says answer taken taken' exit → (exit ≡ exit_said answer) ⊎ (exit ≡ exits.Write)
-said_exit answer taken taken' exit h = elim h [ inl whole ↦ inl whole.0 | inr part ↦ inr part.0 ]
+pub said_exit : (log : List ℕ) (answer : Answer) (taken taken' : Shown) (exit : Exit) → Says log answer taken taken' exit → (exit ≡ exit_said answer) ⊎ (exit ≡ exits.Write)
+said_exit log answer taken taken' exit h = elim h [ inl whole ↦ inl whole.0 | inr part ↦ inr part.0 ]
 
 never_file : (command : FileCommand) (bytes : List ℕ) (said : Answer) → Exits command bytes said → exit_said said ≡ exits.Words → ⊥
 never_file command bytes said h is =
@@ -58,8 +61,9 @@ Never (Gives said) = exit_said said ≡ exits.Words → ⊥
 Never (Certifies image text) = Unit {0}
 Never (Spells layout text) = Unit {0}
 Never (Runs command layout history) = Unit {0}
+Never (Boards steps image history) = Unit {0}
 Never (Samples count) = Unit {0}
-Never (Debugs layout history script) = Unit {0}
+Never (Debugs s script) = Unit {0}
 Never (Fetches kind name next) = (bytes : List ℕ) → Never (next bytes)
 
 never_by : (kind : Kind) (answer : Answer) (end : Type 0) (on : List ℕ → Type 0) → ((bytes : List ℕ) → on bytes → exit_said answer ≡ exits.Words → ⊥) → (outcome : Fetched) → OnFetched ((answer ≡ Err Read) × end) ((answer ≡ Err (TooLong kind)) × end) (λ bytes. ((answer ≡ Err Memory) × end) ⊎ on bytes) outcome → exit_said answer ≡ exits.Words → ⊥
@@ -71,7 +75,11 @@ never_by kind answer end on goes (Found bytes) h is =
       | inr more ↦ goes bytes more is
     ]
 
-never_session : (first : Option (ℕ × ℕ)) (s : Story) (script : List ℕ) (answer : Answer) (probes : List Watch) (left : Left) → MayAnswerSession first s script answer probes left → exit_said answer ≡ exits.Words → ⊥
+never_board : (steps : Bool) (run : Outcome) (end : End) → exit_said (board_said steps run end) ≡ exits.Words → ⊥
+never_board steps run Over is = cc
+never_board steps run (Stuck place) is = cc
+
+never_session : (first : Option (ℕ × ℕ)) (s : Debuggee) (script : List ℕ) (answer : Answer) (probes : List Watch) (left : Left) → MayAnswerSession first s script answer probes left → exit_said answer ≡ exits.Words → ⊥
 never_session (Some fault) s script answer probes left h is = let e : exits.Input ≡ exits.Words = sym (ap exit_said h.0) ∙ is in cc
 never_session None s script answer probes left h is =
     elim h [
@@ -96,20 +104,25 @@ never_ends (Runs command layout history) never shelf after answer probes left h 
       | inl memory ↦ let e : exits.Memory ≡ exits.Words = sym (ap exit_said memory.0) ∙ is in cc
       | inr said ↦ let e : exits.Done ≡ exits.Words = sym (ap exit_said said.3) ∙ is in cc
     ]
+never_ends (Boards steps image history) never shelf after answer probes left h is =
+    elim h.0 [
+      | inl memory ↦ let e : exits.Memory ≡ exits.Words = sym (ap exit_said memory.0) ∙ is in cc
+      | inr told ↦ never_board steps told.0 told.0.end (sym (ap exit_said told.3) ∙ is)
+    ]
 never_ends (Samples count) never shelf after answer probes left h is =
     elim h.0 [
       | inl memory ↦ let e : exits.Memory ≡ exits.Words = sym (ap exit_said memory.0) ∙ is in cc
       | inr said ↦ let e : exits.Done ≡ exits.Words = sym (ap exit_said said.3) ∙ is in cc
     ]
-never_ends (Debugs layout history script) never shelf after answer probes left h is =
-    never_session (script_fault (length probes) script) (story (image_of layout) history) script answer probes left h.0 is
+never_ends (Debugs s script) never shelf after answer probes left h is =
+    never_session (script_fault (length probes) script) s script answer probes left h.0 is
 never_ends (Fetches kind name next) never shelf after answer probes left h is =
-    never_by kind answer ((after ≡ option_map after_fetch shelf) × (left.probes ≡ probes)) (λ bytes. MayEnd (next bytes) (option_map after_fetch shelf) answer after probes left)
+    never_by kind answer ((after ≡ option_map after_fetch shelf) × (left.probes ≡ probes) × (left.log ≡ [])) (λ bytes. MayEnd (next bytes) (option_map after_fetch shelf) answer after probes left)
     (λ bytes more. never_ends (next bytes) (never bytes) (option_map after_fetch shelf) after answer probes left more) h.0 h.2 is
 
-never_image : (second : List ℕ) (outcome : HexOutcome) → Never (with_image (cert_next second) outcome)
-never_image second (Ok image) = λ text. tt
-never_image second (Err fault) = λ is. cc
+never_image : (next : List ℕ → Plan) → ((image : List ℕ) → Never (next image)) → (outcome : HexOutcome) → Never (with_image next outcome)
+never_image next never (Ok image) = never image
+never_image next never (Err fault) = λ is. cc
 
 never_text : (second : List ℕ) (outcome : Result KeyLayout LayoutRefusal) → Never (with_layout (text_next second) outcome)
 never_text second (Ok layout) = λ text. tt
@@ -129,10 +142,18 @@ never_command : (command : Command) (words : List (List ℕ)) → Never (plan_of
 never_command (Feed bytes) words = λ is. cc
 never_command (Sample count) words = tt
 never_command (OverFile command) words = λ bytes. never_file command bytes (file_said command bytes) (file_exits command bytes)
-never_command (OverPair Certify) words = λ bytes. never_image (second_in words) (hex_of bytes)
+never_command (OverPair Certify) words = λ bytes. never_image (cert_next (second_in words)) (λ image text. tt) (hex_of bytes)
 never_command (OverPair Spell) words = λ bytes. never_text (second_in words) (layout_of_document bytes)
 never_command (OverPair (OverRun command)) words = λ bytes. never_layout (Runs command) (λ layout history. tt) (second_in words) (layout_of_document bytes)
-never_command Debug words = λ bytes. never_layout (script_next (third_in words)) (λ layout history script. tt) (second_in words) (layout_of_document bytes)
+never_command (Board steps) words = λ bytes.
+    never_image (program_next (Boards steps) (second_in words) (third_in words))
+    (λ image document. never_layout (λ layout. Boards steps image) (λ layout history. tt) (third_in words) (layout_of_document document))
+    (hex_of bytes)
+never_command Debug words = λ bytes. never_layout (debug_next (third_in words)) (λ layout history script. tt) (second_in words) (layout_of_document bytes)
+never_command Probe words = λ bytes.
+    never_image (program_next (probe_next (fourth_in words)) (second_in words) (third_in words))
+    (λ image document. never_layout (λ layout. probe_next (fourth_in words) image) (λ layout history script. tt) (third_in words) (layout_of_document document))
+    (hex_of bytes)
 
 only_none : (command : Option Command) (words : List (List ℕ)) (shelf after : Option Told) (answer : Answer) (probes : List Watch) (left : Left) → MayEndAs command words shelf answer after probes left → exit_said answer ≡ exits.Words → command ≡ None
 only_none None words shelf after answer probes left h is = refl
@@ -140,9 +161,9 @@ only_none (Some command) words shelf after answer probes left h is =
     absurd (never_ends (plan_of (Some command) words) (never_command command words) shelf after answer probes left h is)
 
 -- the words are refused only where they have no form
-pub words_only : (words : List (List ℕ)) (shelf after : Option Told) (probes : List Watch) (left : Left) (taken taken' : Shown) (exit : Exit) → (answer : Answer) × MayAnswer words shelf answer after probes left × Says answer taken taken' exit → exit ≡ exits.Words → command_of words ≡ None
+pub words_only : (words : List (List ℕ)) (shelf after : Option Told) (probes : List Watch) (left : Left) (taken taken' : Shown) (exit : Exit) → (answer : Answer) × MayAnswer words shelf answer after probes left × Says left.log answer taken taken' exit → exit ≡ exits.Words → command_of words ≡ None
 words_only words shelf after probes left taken taken' exit h is =
-    elim (said_exit h.0 taken taken' exit h.2) [
+    elim (said_exit left.log h.0 taken taken' exit h.2) [
       | inl same ↦ only_none (command_of words) words shelf after h.0 probes left h.1 (sym same ∙ is)
       | inr write ↦ absurd (cc)
     ]
@@ -152,9 +173,9 @@ none_refused None words shelf after answer probes left h is = h.0
 none_refused (Some command) words shelf after answer probes left h is = absurd cc
 
 -- and wherever they have none
-pub words_refused : (words : List (List ℕ)) (shelf after : Option Told) (probes : List Watch) (left : Left) (taken taken' : Shown) (exit : Exit) → (answer : Answer) × MayAnswer words shelf answer after probes left × Says answer taken taken' exit → command_of words ≡ None → (exit ≡ exits.Words) ⊎ (exit ≡ exits.Write)
+pub words_refused : (words : List (List ℕ)) (shelf after : Option Told) (probes : List Watch) (left : Left) (taken taken' : Shown) (exit : Exit) → (answer : Answer) × MayAnswer words shelf answer after probes left × Says left.log answer taken taken' exit → command_of words ≡ None → (exit ≡ exits.Words) ⊎ (exit ≡ exits.Write)
 words_refused words shelf after probes left taken taken' exit h is =
-    elim (said_exit h.0 taken taken' exit h.2) [
+    elim (said_exit left.log h.0 taken taken' exit h.2) [
       | inl same ↦ inl (same ∙ ap exit_said (none_refused (command_of words) words shelf after h.0 probes left h.1 is))
       | inr write ↦ inr write
     ]

@@ -1,6 +1,9 @@
 -- The exits of `run`, `expect` and `debug`.
 use Rattle.std.proofs.Common.{◌≡◌, ℕ, List, None, Some, Ok, Err, inl, inr, refl}
 use Rattle.std.specs.declared.option.Option.{Option}
+use Rattle.fw_compile.specs.Image.{image_of}
+use Rattle.fw_debug.specs.Sessions.{Debuggee, of_layout}
+use Rattle.joint_feed.specs.Stories.{story}
 use Rattle.io_edge.specs.Shelf.{Told, after_fetch}
 use Rattle.key_file.specs.Histories.{KeyHistory}
 use Rattle.key_file.specs.KeyFile.{history_of}
@@ -12,7 +15,7 @@ use Rattle.kbd48_app.specs.declared.words.Command.{Command}
 use Rattle.kbd48_app.specs.declared.words.PairCommand.TheVariants.{OverRun}
 use Rattle.kbd48_app.specs.declared.words.RunCommand.{RunCommand}
 use Rattle.kbd48_app.specs.Debugging.{script_fault}
-use Rattle.kbd48_app.specs.Plans.{Plan, Debugs, Runs, debug_plan, history_plan, keys_next, pair_plan}
+use Rattle.kbd48_app.specs.Plans.{Plan, Debugs, Runs, debug_next, debug_plan, history_plan, keys_next, pair_plan}
 use Rattle.kbd48_app.specs.Plans.{script_next, with_history, with_layout}
 use Rattle.kbd48_app.specs.Reached.{Reads}
 use Rattle.kbd48_app.proofs.Caused.{IsCaused}
@@ -22,11 +25,17 @@ use Rattle.kbd48_app.proofs.Runs.{Following, HistoryOutcome, LayoutOutcome, plan
 use Rattle.kbd48_app.proofs.Within.{IsWithin, fetch_caused, whole}
 
 module _ (n : ℕ) (command : Option Command) (plan : Plan) (shelf : Told) where
+  -- a layout and a key file for it are read, and have no fault
+  abbrev pub ReadsBoth : KeyLayout → KeyHistory → Type 0
+  ReadsBoth layout history =
+      (bytes : List ℕ) × Reads kinds.Layout bytes plan shelf × (layout_of_document bytes ≡ Ok layout)
+      × (text : List ℕ) × Reads kinds.Keys text plan shelf × (history_of layout text ≡ Ok history)
+
   -- behind a layout and a history
-  abbrev IsCausedThird : Following → Type 0
+  abbrev pub IsCausedThird : Following → Type 0
   IsCausedThird next =
-      (layout : KeyLayout) (history : KeyHistory) (after : Told) → IsWithin (next layout history) after plan shelf
-      → IsCaused n command plan shelf (leads n (next layout history) after)
+      (layout : KeyLayout) (history : KeyHistory) (after : Told) → ReadsBoth layout history
+      → IsWithin (next layout history) after plan shelf → IsCaused n command plan shelf (leads n (next layout history) after)
 
   module _ (next : Following) (third : IsCausedThird next) where
     -- behind a key file
@@ -35,7 +44,8 @@ module _ (n : ℕ) (command : Option Command) (plan : Plan) (shelf : Told) where
         → Reads kinds.Layout bytes plan shelf → Reads kinds.Keys text plan shelf
         → IsWithin (with_history (next layout) outcome) after plan shelf
         → IsCaused n command plan shelf (leads n (with_history (next layout) outcome) after)
-    keys_exit bytes text layout after (Ok history) has gives read read' within = third layout history after within
+    keys_exit bytes text layout after (Ok history) has gives read read' within =
+        third layout history after (bytes, read, has, text, read', gives) within
     keys_exit bytes text layout after (Err (faults.Input line number)) has gives read read' within =
         inr (inr (inr (inr (inr (inl ((line, number), (bytes, read, layout, has, text, read', gives)))))))
     keys_exit bytes text layout after (Err (faults.Timing line number earlier stamp)) has gives read read' within =
@@ -56,15 +66,24 @@ module _ (n : ℕ) (command : Option Command) (plan : Plan) (shelf : Told) where
     layout_exit second bytes after (Err fault) has read within =
         inr (inr (inr (inl (fault, (bytes, read, has)))))
 
+    -- both, where the plan reaches them
+    pub history_exits : (first second : List ℕ) (before : Told) → IsWithin (history_plan next first second) before plan shelf
+        → IsCaused n command plan shelf (leads n (history_plan next first second) before)
+    history_exits first second before within =
+        fetch_caused n command plan shelf kinds.Layout first (plan_from next second) before within
+        (λ bytes read more.
+        layout_exit second bytes (after_fetch before) (layout_of_document bytes) refl read more)
+
   -- behind a script
   script_caused : (script : List ℕ) (fault : Option (ℕ × ℕ)) → script_fault n script ≡ fault
       → Reads kinds.Script script plan shelf → IsCaused n command plan shelf (exit_by fault)
   script_caused script None is read = tt
   script_caused script (Some fault) is read = inr (inr (inr (inr (inr (inr (inl (fault, (script, read, is))))))))
 
-  script_exits : (name : List ℕ) → IsCausedThird (script_next name)
-  script_exits name layout history after within =
-      fetch_caused n command plan shelf kinds.Script name (Debugs layout history) after within
+  pub script_exits : (name : List ℕ) (s : Debuggee) (after : Told) → IsWithin (script_next name s) after plan shelf
+      → IsCaused n command plan shelf (leads n (script_next name s) after)
+  script_exits name s after within =
+      fetch_caused n command plan shelf kinds.Script name (Debugs s) after within
       (λ script read more. script_caused script (script_fault n script) refl read)
 
 history_caused : (n : ℕ) (command : Option Command) (next : Following) (first second : List ℕ) (shelf : Told)
@@ -72,19 +91,18 @@ history_caused : (n : ℕ) (command : Option Command) (next : Following) (first 
     → IsCaused n command (history_plan next first second) shelf (leads n (history_plan next first second) shelf)
 history_caused n command next first second shelf third =
     let plan = history_plan next first second in
-    fetch_caused n command plan shelf kinds.Layout first (plan_from next second) shelf (whole plan shelf)
-    (λ bytes read within.
-    layout_exit n command plan shelf next third second bytes (after_fetch shelf) (layout_of_document bytes)
-    refl read within)
+    history_exits n command plan shelf next third first second shelf (whole plan shelf)
 
 pub run_caused : (n : ℕ) (command : Option Command) (over : RunCommand) (first second : List ℕ) (shelf : Told)
     → IsCaused n command (pair_plan (OverRun over) first second) shelf
     (leads n (pair_plan (OverRun over) first second) shelf)
 run_caused n command over first second shelf =
-    history_caused n command (Runs over) first second shelf (λ layout history after within. tt)
+    history_caused n command (Runs over) first second shelf (λ layout history after read within. tt)
 
 pub debug_caused : (n : ℕ) (command : Option Command) (third first second : List ℕ) (shelf : Told)
     → IsCaused n command (debug_plan first second third) shelf (leads n (debug_plan first second third) shelf)
 debug_caused n command third first second shelf =
-    history_caused n command (script_next third) first second shelf
-    (script_exits n command (debug_plan first second third) shelf third)
+    history_caused n command (debug_next third) first second shelf
+    (λ layout history after read within.
+    script_exits n command (debug_plan first second third) shelf third
+    (of_layout (story (image_of layout) history)) after within)

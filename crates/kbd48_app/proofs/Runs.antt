@@ -107,7 +107,7 @@ read_third read file next first second shelf other other' h =
     ]
 
 -- a layout, a key file or a script, and no other
-abbrev IsOfRun : Kind → Type 0
+abbrev pub IsOfRun : Kind → Type 0
 IsOfRun kinds.Hex = ⊥
 IsOfRun kinds.Asm = ⊥
 IsOfRun kinds.Layout = Unit {0}
@@ -122,7 +122,7 @@ IsReadThird next =
     (read : Kind) (file : List ℕ) (layout : KeyLayout) (history : KeyHistory) (shelf : Told)
     → Reads read file (next layout history) shelf → kinds.Script ≡ read
 
-is_of_run : (read : Kind) (file : List ℕ) (next : Following) (first second : List ℕ) (shelf : Told) → IsReadThird next
+pub is_of_run : (read : Kind) (file : List ℕ) (next : Following) (first second : List ℕ) (shelf : Told) → IsReadThird next
     → Reads read file (history_plan next first second) shelf → IsOfRun read
 is_of_run read file next first second shelf third h =
     elim (is_read read file next first second shelf h) [
@@ -166,7 +166,7 @@ module _ (n : ℕ) (next : Following) where
 
   module _ (third : IsReadThird next) (led : IsScriptLed) (first second : List ℕ) (shelf : Told) where
     -- the document is found
-    first_found : (bytes : List ℕ) → Reads kinds.Layout bytes (history_plan next first second) shelf
+    pub first_found : (bytes : List ℕ) → Reads kinds.Layout bytes (history_plan next first second) shelf
         → fetched shelf first (limit_of kinds.Layout) ≡ Found bytes
     first_found bytes h =
         elim (is_read kinds.Layout bytes next first second shelf h) [
@@ -180,7 +180,7 @@ module _ (n : ℕ) (next : Following) where
         ]
 
     -- so is the key file
-    second_found : (text : List ℕ) → Reads kinds.Keys text (history_plan next first second) shelf
+    pub second_found : (text : List ℕ) → Reads kinds.Keys text (history_plan next first second) shelf
         → fetched (after_fetch shelf) second (limit_of kinds.Keys) ≡ Found text
     second_found text h =
         elim (is_read kinds.Keys text next first second shelf h) [

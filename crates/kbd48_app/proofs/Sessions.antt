@@ -1,5 +1,5 @@
 -- The verdict on a script, and what is answered of it.
-use Rattle.std.proofs.Common.{◌≡◌, ℕ, Bool, List, length, Global, None, Ok, Err, inl, inr, refl, ap, sym, subst, ◌∙◌}
+use Rattle.std.proofs.Common.{◌≡◌, ℕ, Bool, List, [], length, Global, None, Ok, Err, inl, inr, refl, ap, sym, subst, ◌∙◌}
 use Rattle.std.specs.Prelude.{MatchResult}
 use Rattle.std.specs.declared.option.Option.{Option}
 use Rattle.std.specs.declared.result.Result.{Result}
@@ -9,17 +9,17 @@ use Rattle.fw_debug.specs.Faults.{IsRight, IsVerdict}
 use Rattle.fw_debug.specs.Obeyed.{IsObeyed, IsObeyedInPart}
 use Rattle.fw_debug.specs.Probes.{Watch}
 use Rattle.fw_debug.specs.Scripts.{number_of, script_of}
-use Rattle.joint_feed.specs.Stories.{Story}
+use Rattle.fw_debug.specs.Sessions.{Debuggee}
 use Rattle.kbd48_app.specs.declared.refusal.Refusal.{Refusal}
 use Rattle.kbd48_app.specs.declared.refusal.Refusal.TheVariants as refusals
 use Rattle.kbd48_app.specs.Answers.{MayAnswerSession, answer_of}
 use Rattle.kbd48_app.specs.Debugging.{fault_in, script_fault, script_refusal}
 
 -- a script's first fault is refused
-pub refused_so : (whole : Bool) (n : ℕ) (s : Story) (script : List ℕ) (probes : List Watch) (verdict : Result (Unit {0}) SessionFault) (fault : SessionFault) (refusal : Refusal) → n ≡ length probes → verdict ≡ Err fault → refusal ≡ script_refusal fault → IsVerdict (script_of n script) verdict → MayAnswerSession (script_fault (length probes) script) s script (Err refusal) probes (record { probes = probes; whole = whole })
+pub refused_so : (whole : Bool) (n : ℕ) (s : Debuggee) (script : List ℕ) (probes : List Watch) (verdict : Result (Unit {0}) SessionFault) (fault : SessionFault) (refusal : Refusal) → n ≡ length probes → verdict ≡ Err fault → refusal ≡ script_refusal fault → IsVerdict (script_of n script) verdict → MayAnswerSession (script_fault (length probes) script) s script (Err refusal) probes (record { probes = probes; whole = whole; log = [] })
 refused_so whole n s script probes verdict fault refusal same is refused judged =
-    subst (λ (k : ℕ). MayAnswerSession (script_fault k script) s script (Err refusal) probes (record { probes = probes; whole = whole })) same
-    ((elim (script_of n script) as (λ o. IsVerdict o (Err fault) → MayAnswerSession (fault_in number_of o) s script (Err refusal) probes (record { probes = probes; whole = whole })) [
+    subst (λ (k : ℕ). MayAnswerSession (script_fault k script) s script (Err refusal) probes (record { probes = probes; whole = whole; log = [] })) same
+    ((elim (script_of n script) as (λ o. IsVerdict o (Err fault) → MayAnswerSession (fault_in number_of o) s script (Err refusal) probes (record { probes = probes; whole = whole; log = [] })) [
       | Ok left ↦ λ h. absurd h
       | Err first ↦ λ h. (ap (λ (r : Refusal). Err r) (refused ∙ ap script_refusal h), refl)
     ]) (subst (λ (v : Result (Unit {0}) SessionFault). IsVerdict (script_of n script) v) is judged))
@@ -32,12 +32,12 @@ no_fault : (n : ℕ) (script : List ℕ) → IsRight n script → script_fault n
 no_fault n script =
     elim (script_of n script) as (λ o. IsVerdict o (Ok tt) → fault_in number_of o ≡ None) [ Ok left ↦ λ h. refl | Err first ↦ λ h. absurd h ]
 
-said_of : (whole : Bool) (s : Story) (script : List ℕ) (probes left : List Watch) (result : Result (Vec ℕ Global) Refusal) → MatchResult result (λ text. IsObeyed s script probes text.items left) (λ refusal. refusal ≡ refusals.Memory) → IsObeyedInPart s script probes left → MayAnswerSession None s script (answer_of result) probes (record { probes = left; whole = whole })
+said_of : (whole : Bool) (s : Debuggee) (script : List ℕ) (probes left : List Watch) (result : Result (Vec ℕ Global) Refusal) → MatchResult result (λ text. IsObeyed s script probes text.items left) (λ refusal. refusal ≡ refusals.Memory) → IsObeyedInPart s script probes left → MayAnswerSession None s script (answer_of result) probes (record { probes = left; whole = whole; log = [] })
 said_of whole s script probes left (Ok text) h part = inr (text.items, h, refl)
 said_of whole s script probes left (Err refusal) h part = inl (ap (λ (r : Refusal). Err r) h, part)
 
 -- of such a one all lines are obeyed, or memory was wanting, and the first ones were
-pub said_so : (whole : Bool) (n : ℕ) (s : Story) (script : List ℕ) (probes left : List Watch) (result : Result (Vec ℕ Global) Refusal) → n ≡ length probes → IsRight n script → MatchResult result (λ text. IsObeyed s script probes text.items left) (λ refusal. refusal ≡ refusals.Memory) → IsObeyedInPart s script probes left → MayAnswerSession (script_fault (length probes) script) s script (answer_of result) probes (record { probes = left; whole = whole })
+pub said_so : (whole : Bool) (n : ℕ) (s : Debuggee) (script : List ℕ) (probes left : List Watch) (result : Result (Vec ℕ Global) Refusal) → n ≡ length probes → IsRight n script → MatchResult result (λ text. IsObeyed s script probes text.items left) (λ refusal. refusal ≡ refusals.Memory) → IsObeyedInPart s script probes left → MayAnswerSession (script_fault (length probes) script) s script (answer_of result) probes (record { probes = left; whole = whole; log = [] })
 said_so whole n s script probes left result same right h part =
     let none : script_fault (length probes) script ≡ None = subst (λ (k : ℕ). script_fault k script ≡ None) same (no_fault n script right) in
-    subst (λ (f : Option (ℕ × ℕ)). MayAnswerSession f s script (answer_of result) probes (record { probes = left; whole = whole })) (sym none) (said_of whole s script probes left result h part)
+    subst (λ (f : Option (ℕ × ℕ)). MayAnswerSession f s script (answer_of result) probes (record { probes = left; whole = whole; log = [] })) (sym none) (said_of whole s script probes left result h part)

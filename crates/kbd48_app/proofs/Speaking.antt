@@ -1,5 +1,5 @@
 -- What a command comes to, said or still to be said.
-use Rattle.std.proofs.Common.{◌≡◌, ◌<◌, ℕ, Bool, true, false, List, length, map, string_bytes, slice_index_or, String, Global, Some, Ok, Err, refl, sym, subst}
+use Rattle.std.proofs.Common.{◌≡◌, ◌<◌, ℕ, Bool, true, false, List, [], length, map, string_bytes, slice_index_or, String, Global, Some, Ok, Err, refl, sym, subst}
 use Rattle.std.specs.Option.{option_map}
 use Rattle.std.specs.declared.option.Option.{Option}
 use Rattle.std.specs.declared.result.Result.{Result}
@@ -12,10 +12,11 @@ use Rattle.layout_reader.specs.Documents.{layout_of_document}
 use Rattle.layout_reader.specs.Layouts.{KeyLayout}
 use Rattle.kbd48_app.specs.declared.kind.Kind.TheVariants as kinds
 use Rattle.kbd48_app.specs.declared.refusal.Refusal.{Refusal}
+use Rattle.kbd48_app.specs.declared.refusal.Refusal.TheVariants as refusals
 use Rattle.kbd48_app.specs.declared.spoken.Spoken.{Spoken}
-use Rattle.kbd48_app.specs.declared.spoken.Spoken.TheVariants.{Text, Said}
+use Rattle.kbd48_app.specs.declared.spoken.Spoken.TheVariants.{Text, Said, Stuck}
 use Rattle.kbd48_app.specs.declared.words.Command.{Command}
-use Rattle.kbd48_app.specs.declared.words.Command.TheVariants.{OverFile, OverPair, Debug, Sample}
+use Rattle.kbd48_app.specs.declared.words.Command.TheVariants.{OverFile, OverPair, Debug, Probe, Sample}
 use Rattle.kbd48_app.specs.declared.words.FileCommand.{FileCommand}
 use Rattle.kbd48_app.specs.declared.words.PairCommand.{PairCommand}
 use Rattle.kbd48_app.specs.declared.words.PairCommand.TheVariants.{OverRun}
@@ -23,44 +24,45 @@ use Rattle.kbd48_app.specs.declared.words.RunCommand.{RunCommand}
 use Rattle.kbd48_app.specs.Answers.{Left, MayAnswer, MayAnswerSample, MayEnd, MayEndAs, answer_of}
 use Rattle.kbd48_app.specs.Fetching.{MayGive}
 use Rattle.kbd48_app.specs.Kinds.{kind_of}
-use Rattle.kbd48_app.specs.Plans.{Answer, Gives, Fetches, Runs, debug_plan, file_said, keys_next, pair_plan, with_history, with_layout}
-use Rattle.kbd48_app.specs.Spoken.{IsSpoken, still_to_say}
+use Rattle.kbd48_app.specs.Plans.{Answer, Gives, Fetches, Runs, debug_plan, file_said, keys_next, pair_plan, probe_plan, with_history, with_layout}
+use Rattle.kbd48_app.specs.Spoken.{IsSpoken, May, still_to_say}
 use Rattle.kbd48_app.specs.Telling.{MayTell}
 use Rattle.kbd48_app.specs.Words.{command_of}
 use Rattle.kbd48_app.proofs.Found.{found_so}
-use Rattle.kbd48_app.proofs.Named.{ends_over_debug, ends_over_file, ends_over_pair}
+use Rattle.kbd48_app.proofs.Named.{ends_over_debug, ends_over_file, ends_over_pair, ends_over_probe}
 use Rattle.kbd48_app.proofs.Runs.{LayoutOutcome, plan_from}
-use Rattle.kbd48_app.proofs.Streamed.{left_so}
+use Rattle.kbd48_app.proofs.Streamed.{left_behind, left_so}
 
 -- what one thing may say, another may
-spoken_on : (P Q : Answer → Bool → Type 0) → ((answer : Answer) (whole : Bool) → P answer whole → Q answer whole)
+pub spoken_on : (P Q : May) → ((answer : Answer) (whole : Bool) (log : List ℕ) → P answer whole log → Q answer whole log)
     → (result : Result Spoken Refusal) (x y : Shown) → IsSpoken P result x y → IsSpoken Q result x y
-spoken_on P Q on (Err refusal) x y h = (λ whole. on (Err refusal) whole (h.0 whole), h.1)
-spoken_on P Q on (Ok (Text said)) x y h = (λ whole. on (Ok said.items) whole (h.0 whole), h.1)
-spoken_on P Q on (Ok (Said (Ok done))) x y h = (h.0, on (Ok h.0) true h.1, h.2)
-spoken_on P Q on (Ok (Said (Err fault))) x y h = (h.0, on (Ok h.0) false h.1, h.2)
+spoken_on P Q on (Err refusal) x y h = (λ whole. on (Err refusal) whole [] (h.0 whole), h.1)
+spoken_on P Q on (Ok (Text said)) x y h = (λ whole. on (Ok said.items) whole [] (h.0 whole), h.1)
+spoken_on P Q on (Ok (Said (Ok done))) x y h = (h.0, h.1, on (Ok h.0) true h.1 h.2, h.3)
+spoken_on P Q on (Ok (Said (Err fault))) x y h = (h.0, h.1, on h.0 false h.1 h.2, h.3)
+spoken_on P Q on (Ok (Stuck place)) x y h = (h.0, λ whole. on (Err (refusals.Stuck place)) whole h.0 (h.1 whole), h.2)
 
 -- nothing of it is said yet
-unsaid : (may : Answer → Bool → Type 0) (said : Result (Vec ℕ Global) Refusal) (x : Shown) → ((whole : Bool) → may (answer_of said) whole) → IsSpoken may (still_to_say said) x x
+unsaid : (may : May) (said : Result (Vec ℕ Global) Refusal) (x : Shown) → ((whole : Bool) → may (answer_of said) whole []) → IsSpoken may (still_to_say said) x x
 unsaid may (Ok text) x h = (h, refl)
 unsaid may (Err refusal) x h = (h, refl)
 
-unsaid_so : (may : Answer → Bool → Type 0) (said : Result (Vec ℕ Global) Refusal) (result : Result Spoken Refusal) (x : Shown) → result ≡ still_to_say said
-    → ((whole : Bool) → may (answer_of said) whole) → IsSpoken may result x x
+unsaid_so : (may : May) (said : Result (Vec ℕ Global) Refusal) (result : Result Spoken Refusal) (x : Shown) → result ≡ still_to_say said
+    → ((whole : Bool) → may (answer_of said) whole []) → IsSpoken may result x x
 unsaid_so may said result x is h = subst (λ (r : Result Spoken Refusal). IsSpoken may r x x) (sym is) (unsaid may said x h)
 
 -- `run` and `expect`, of a layout and a key file's text
 pub told_by : (c d : RunCommand) (layout : KeyLayout) (text : List ℕ) (probes left : List Watch) (result : Result Spoken Refusal) (x y : Shown) → c ≡ d
-    → IsSpoken (λ answer whole. MayTell d layout text answer probes (left_so left whole)) result x y
-    → IsSpoken (λ answer whole. MayTell c layout text answer probes (left_so left whole)) result x y
+    → IsSpoken (λ answer whole log. MayTell d layout text answer probes (left_behind left whole log)) result x y
+    → IsSpoken (λ answer whole log. MayTell c layout text answer probes (left_behind left whole log)) result x y
 told_by c d layout text probes left result x y is h =
-    subst (λ (k : RunCommand). IsSpoken (λ answer whole. MayTell k layout text answer probes (left_so left whole)) result x y) (sym is) h
+    subst (λ (k : RunCommand). IsSpoken (λ answer whole log. MayTell k layout text answer probes (left_behind left whole log)) result x y) (sym is) h
 
 pub told_unsaid : (c d : RunCommand) (layout : KeyLayout) (text : List ℕ) (probes left : List Watch) (said : Result (Vec ℕ Global) Refusal) (result : Result Spoken Refusal) (x : Shown) → c ≡ d
     → result ≡ still_to_say said → ((whole : Bool) → MayTell d layout text (answer_of said) probes (left_so left whole))
-    → IsSpoken (λ answer whole. MayTell c layout text answer probes (left_so left whole)) result x x
+    → IsSpoken (λ answer whole log. MayTell c layout text answer probes (left_behind left whole log)) result x x
 told_unsaid c d layout text probes left said result x is so h =
-    told_by c d layout text probes left result x x is (unsaid_so (λ answer whole. MayTell d layout text answer probes (left_so left whole)) said result x so h)
+    told_by c d layout text probes left result x x is (unsaid_so (λ answer whole log. MayTell d layout text answer probes (left_behind left whole log)) said result x so h)
 
 -- behind both files
 module _ (command : RunCommand) (first second : List ℕ) (shelf on last : Option Told) (file keys : Vec ℕ Global) (layout : KeyLayout) (text : List ℕ)
@@ -75,33 +77,33 @@ module _ (command : RunCommand) (first second : List ℕ) (shelf on last : Optio
       (subst (λ (t : List ℕ). MayEnd (with_history (Runs command layout) (history_of layout t)) last answer last probes left) same (tells last))))
 
   pub ran_spoken : (probes left : List Watch) (result : Result Spoken Refusal) (x y : Shown)
-      → IsSpoken (λ answer whole. MayTell command layout text answer probes (left_so left whole)) result x y
-      → IsSpoken (λ answer whole. MayEnd (pair_plan (OverRun command) first second) shelf answer last probes (left_so left whole)) result x y
+      → IsSpoken (λ answer whole log. MayTell command layout text answer probes (left_behind left whole log)) result x y
+      → IsSpoken (λ answer whole log. MayEnd (pair_plan (OverRun command) first second) shelf answer last probes (left_behind left whole log)) result x y
   ran_spoken probes left result x y h =
-      spoken_on (λ answer whole. MayTell command layout text answer probes (left_so left whole))
-      (λ answer whole. MayEnd (pair_plan (OverRun command) first second) shelf answer last probes (left_so left whole))
-      (λ answer whole k. ran_over answer probes (left_so left whole) k) result x y h
+      spoken_on (λ answer whole log. MayTell command layout text answer probes (left_behind left whole log))
+      (λ answer whole log. MayEnd (pair_plan (OverRun command) first second) shelf answer last probes (left_behind left whole log))
+      (λ answer whole log k. ran_over answer probes (left_behind left whole log) k) result x y h
 
 -- a command over two files, by what it is
 pub pair_by : (c d : PairCommand) (first second : List ℕ) (shelf after : Option Told) (probes left : List Watch) (result : Result Spoken Refusal) (x y : Shown) → c ≡ d
-    → IsSpoken (λ answer whole. MayEnd (pair_plan d first second) shelf answer after probes (left_so left whole)) result x y
-    → IsSpoken (λ answer whole. MayEnd (pair_plan c first second) shelf answer after probes (left_so left whole)) result x y
+    → IsSpoken (λ answer whole log. MayEnd (pair_plan d first second) shelf answer after probes (left_behind left whole log)) result x y
+    → IsSpoken (λ answer whole log. MayEnd (pair_plan c first second) shelf answer after probes (left_behind left whole log)) result x y
 pair_by c d first second shelf after probes left result x y is h =
-    subst (λ (k : PairCommand). IsSpoken (λ answer whole. MayEnd (pair_plan k first second) shelf answer after probes (left_so left whole)) result x y) (sym is) h
+    subst (λ (k : PairCommand). IsSpoken (λ answer whole log. MayEnd (pair_plan k first second) shelf answer after probes (left_behind left whole log)) result x y) (sym is) h
 
 -- one that leaves the probes alone, and says nothing itself
 pub pair_unsaid : (c d : PairCommand) (first second : List ℕ) (shelf after : Option Told) (probes : List Watch) (said : Result (Vec ℕ Global) Refusal) (result : Result Spoken Refusal)
     (x : Shown) → c ≡ d → result ≡ still_to_say said
     → ((all : List Watch) (whole : Bool) → MayEnd (pair_plan d first second) shelf (answer_of said) after all (left_so all whole))
-    → IsSpoken (λ answer whole. MayEnd (pair_plan c first second) shelf answer after probes (left_so probes whole)) result x x
+    → IsSpoken (λ answer whole log. MayEnd (pair_plan c first second) shelf answer after probes (left_behind probes whole log)) result x x
 pair_unsaid c d first second shelf after probes said result x is so h =
     pair_by c d first second shelf after probes probes result x x is
-    (unsaid_so (λ answer whole. MayEnd (pair_plan d first second) shelf answer after probes (left_so probes whole)) said result x so (h probes))
+    (unsaid_so (λ answer whole log. MayEnd (pair_plan d first second) shelf answer after probes (left_behind probes whole log)) said result x so (h probes))
 
 -- the same of the words
 module _ (words : List (String Global)) (shelf after : Option Told) where
-  abbrev MaySay : List Watch → List Watch → Answer → Bool → Type 0
-  MaySay probes left answer whole = MayAnswer (map string_bytes words) shelf answer after probes (left_so left whole)
+  abbrev pub MaySay : List Watch → List Watch → May
+  MaySay probes left answer whole log = MayAnswer (map string_bytes words) shelf answer after probes (left_behind left whole log)
 
   pub file_spoken : (command : FileCommand) (word : String Global) (name : List ℕ) (probes : List Watch) (said : Result (Vec ℕ Global) Refusal) (result : Result Spoken Refusal) (x : Shown)
       → command_of (map string_bytes words) ≡ Some (OverFile command) → 1 < length words → word ≡ slice_index_or words 1 word → name ≡ string_bytes word
@@ -115,11 +117,11 @@ module _ (words : List (String Global)) (shelf after : Option Told) where
   pub pair_spoken : (command : PairCommand) (word word' : String Global) (name name' : List ℕ) (probes left : List Watch) (result : Result Spoken Refusal) (x y : Shown)
       → command_of (map string_bytes words) ≡ Some (OverPair command) → 2 < length words → word ≡ slice_index_or words 1 word → word' ≡ slice_index_or words 2 word'
       → name ≡ string_bytes word → name' ≡ string_bytes word'
-      → IsSpoken (λ answer whole. MayEnd (pair_plan command name name') shelf answer after probes (left_so left whole)) result x y
+      → IsSpoken (λ answer whole log. MayEnd (pair_plan command name name') shelf answer after probes (left_behind left whole log)) result x y
       → IsSpoken (MaySay probes left) result x y
   pair_spoken command word word' name name' probes left result x y is more at at' same same' h =
-      spoken_on (λ answer whole. MayEnd (pair_plan command name name') shelf answer after probes (left_so left whole)) (MaySay probes left)
-      (λ answer whole k. ends_over_pair words command word word' name name' shelf after answer probes (left_so left whole) is more at at' same same' k) result x y h
+      spoken_on (λ answer whole log. MayEnd (pair_plan command name name') shelf answer after probes (left_behind left whole log)) (MaySay probes left)
+      (λ answer whole log k. ends_over_pair words command word word' name name' shelf after answer probes (left_behind left whole log) is more at at' same same' k) result x y h
 
   pub debug_spoken : (word word' word'' : String Global) (name name' name'' : List ℕ) (probes left : List Watch) (said : Result (Vec ℕ Global) Refusal) (result : Result Spoken Refusal)
       (x : Shown) → command_of (map string_bytes words) ≡ Some Debug → 3 < length words → word ≡ slice_index_or words 1 word → word' ≡ slice_index_or words 2 word'
@@ -129,11 +131,20 @@ module _ (words : List (String Global)) (shelf after : Option Told) where
       unsaid_so (MaySay probes left) said result x so
       (λ whole. ends_over_debug words word word' word'' name name' name'' shelf after (answer_of said) probes (left_so left whole) is more at at' at'' same same' same'' (h whole))
 
+  pub probe_spoken : (a b c d : String Global) (image layout keys script : List ℕ) (probes left : List Watch) (said : Result (Vec ℕ Global) Refusal) (result : Result Spoken Refusal)
+      (x : Shown) → command_of (map string_bytes words) ≡ Some Probe → 4 < length words
+      → a ≡ slice_index_or words 1 a → b ≡ slice_index_or words 2 b → c ≡ slice_index_or words 3 c → d ≡ slice_index_or words 4 d
+      → image ≡ string_bytes a → layout ≡ string_bytes b → keys ≡ string_bytes c → script ≡ string_bytes d → result ≡ still_to_say said
+      → ((whole : Bool) → MayEnd (probe_plan image layout keys script) shelf (answer_of said) after probes (left_so left whole)) → IsSpoken (MaySay probes left) result x x
+  probe_spoken a b c d image layout keys script probes left said result x is more at_a at_b at_c at_d same_a same_b same_c same_d so h =
+      unsaid_so (MaySay probes left) said result x so
+      (λ whole. ends_over_probe words a b c d image layout keys script shelf after (answer_of said) probes (left_so left whole) is more at_a at_b at_c at_d same_a same_b same_c same_d (h whole))
+
 -- `sample` fetches nothing
 pub sample_spoken : (words : List (String Global)) (shelf : Option Told) (count n : ℕ) (probes left : List Watch) (result : Result Spoken Refusal) (x y : Shown)
-    → command_of (map string_bytes words) ≡ Some (Sample count) → n ≡ count → IsSpoken (λ answer whole. MayAnswerSample n answer probes left) result x y
+    → command_of (map string_bytes words) ≡ Some (Sample count) → n ≡ count → IsSpoken (λ answer whole log. MayAnswerSample n answer probes left × (log ≡ [])) result x y
     → IsSpoken (MaySay words shelf shelf probes left) result x y
 sample_spoken words shelf count n probes left result x y is same h =
-    spoken_on (λ answer whole. MayAnswerSample n answer probes left) (MaySay words shelf shelf probes left)
-    (λ answer whole k. subst (λ (c : Option Command). MayEndAs c (map string_bytes words) shelf answer shelf probes (left_so left whole)) (sym is)
-    (subst (λ (m : ℕ). MayAnswerSample m answer probes left) same k, refl)) result x y h
+    spoken_on (λ answer whole log. MayAnswerSample n answer probes left × (log ≡ [])) (MaySay words shelf shelf probes left)
+    (λ answer whole log k. subst (λ (c : Option Command). MayEndAs c (map string_bytes words) shelf answer shelf probes (left_behind left whole log)) (sym is)
+    (subst (λ (m : ℕ). MayAnswerSample m answer probes left) same k.0, refl, k.1)) result x y h

@@ -109,10 +109,12 @@ rows_put m steps cycles none first second third fourth fifth n a b c d e =
     e ∙ rw (d, c, b, a, n)
     (five (state_row m steps cycles 0) (state_row m steps cycles 1) (state_row m steps cycles 2) (state_row m steps cycles 3) (state_row m steps cycles 4))
 
-pub same_row : (m m' : Cpu) (steps steps' cycles cycles' row : ℕ) → m ≡ m' → steps ≡ steps' → cycles ≡ cycles'
-    → state_row m steps cycles row ≡ state_row m' steps' cycles' row
-same_row m m' steps steps' cycles cycles' row a b c =
-    ap (λ v. state_row v steps cycles row) a ∙ ap (λ v. state_row m' v cycles row) b ∙ ap (λ v. state_row m' steps' v row) c
+-- the state at a run's end, where it is wanted
+pub same_state : (wanted : Bool) (m m' : Cpu) (steps steps' cycles cycles' : ℕ) → m ≡ m' → steps ≡ steps' → cycles ≡ cycles'
+    → (if wanted then state_text_of m steps cycles else []) ≡ (if wanted then state_text_of m' steps' cycles' else [])
+same_state wanted m m' steps steps' cycles cycles' a b c =
+    ap (λ v. if wanted then state_text_of v steps cycles else []) a ∙ ap (λ v. if wanted then state_text_of m' v cycles else []) b
+    ∙ ap (λ v. if wanted then state_text_of m' steps' v else []) c
 
 -- of what was answered
 pub ok_on : {A E P Q : Type 0} (result : Result A E) → (P → Q) → OnOk result P → OnOk result Q

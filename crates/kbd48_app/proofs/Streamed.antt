@@ -1,5 +1,5 @@
 -- What `run`, `expect` and `sample` may say, behind files that were judged.
-use Rattle.std.proofs.Common.{◌≡◌, ◌≤◌, ℕ, Bool, true, false, List, Ok, Err, inl, inr, refl, ap, sym, subst}
+use Rattle.std.proofs.Common.{◌≡◌, ◌≤◌, ℕ, Bool, true, false, List, [], Ok, Err, inl, inr, refl, ap, sym, subst}
 use Rattle.std.specs.Prelude.{OnErr, OnOk}
 use Rattle.std.specs.declared.result.Result.{Result}
 use Rattle.fw_compile.specs.Image.{image_of}
@@ -24,34 +24,37 @@ use Rattle.kbd48_app.specs.Answers.{Left, MayAnswerRun, MayAnswerSample, MayEnd}
 use Rattle.kbd48_app.specs.Plans.{Answer, Runs, keys_refusal, with_history}
 use Rattle.kbd48_app.specs.RunTexts.{HaveLooked, HaveLookedAtAll, IsRunText, run_text, trace_text}
 use Rattle.kbd48_app.specs.Sampling.{sample_history, sample_story, sample_text}
-use Rattle.kbd48_app.specs.Spoken.{IsSpoken}
+use Rattle.kbd48_app.specs.Spoken.{IsSpoken, May}
 use Rattle.kbd48_app.specs.Telling.{MayTell}
 use Rattle.wire_trace.specs.Ending.{IsTraceBrokenOff, IsTraceSaid}
 use Rattle.wires_heard.specs.Hearing.{HearsAll}
 use Rattle.kbd48_app.proofs.Runs.{HistoryOutcome}
 use Rattle.kbd48_app.proofs.Sampled.{sample_accepted}
 
--- how the probes are left
+-- how the probes are left, and what was said before the answer
+abbrev pub left_behind : List Watch → Bool → List ℕ → Left
+left_behind probes whole log = record { probes = probes; whole = whole; log = log }
+
 abbrev pub left_so : List Watch → Bool → Left
-left_so probes whole = record { probes = probes; whole = whole }
+left_so probes whole = left_behind probes whole []
 
 -- a key file with a fault is refused
 pub refused : (command : RunCommand) (layout : KeyLayout) (text : List ℕ) (fault : KeyFault) (refusal : Refusal) (probes : List Watch) (whole : Bool)
     → history_of layout text ≡ Err fault → refusal ≡ keys_refusal fault → MayTell command layout text (Err refusal) probes (left_so probes whole)
 refused command layout text fault refusal probes whole is same = λ shelf.
     subst (λ (o : HistoryOutcome). MayEnd (with_history (Runs command layout) o) shelf (Err refusal) shelf probes (left_so probes whole)) (sym is)
-    (inr (ap (λ (r : Refusal). Err r) same), (refl, refl))
+    (inr (ap (λ (r : Refusal). Err r) same), (refl, refl, refl))
 
 -- the run of any other
 pub ran : (command : RunCommand) (layout : KeyLayout) (text : List ℕ) (history : KeyHistory) (answer : Answer) (probes : List Watch) (left : Left)
-    → history_of layout text ≡ Ok history → MayAnswerRun command layout history answer probes left → MayTell command layout text answer probes left
-ran command layout text history answer probes left is may = λ shelf.
-    subst (λ (o : HistoryOutcome). MayEnd (with_history (Runs command layout) o) shelf answer shelf probes left) (sym is) (may, refl)
+    → history_of layout text ≡ Ok history → left.log ≡ [] → MayAnswerRun command layout history answer probes left → MayTell command layout text answer probes left
+ran command layout text history answer probes left is alone may = λ shelf.
+    subst (λ (o : HistoryOutcome). MayEnd (with_history (Runs command layout) o) shelf answer shelf probes left) (sym is) (may, refl, alone)
 
 module _ (ticks steps : Bool) (layout : KeyLayout) (text : List ℕ) (history : KeyHistory) (is : history_of layout text ≡ Ok history) where
   -- memory is wanting before it begins
   pub lacking : (probes : List Watch) (whole : Bool) → MayTell (Log ticks steps) layout text (Err Memory) probes (left_so probes whole)
-  lacking probes whole = ran (Log ticks steps) layout text history (Err Memory) probes (left_so probes whole) is (inl (refl, refl))
+  lacking probes whole = ran (Log ticks steps) layout text history (Err Memory) probes (left_so probes whole) is refl (inl (refl, refl))
 
   module _ (law : RunsAsExpected) (sound : IsKeyLayout layout) (accepted : IsAcceptedFor layout history) (s : Story) (this : s ≡ story (image_of layout) history)
       (run : Outcome) (made : IsOutcome s run) (probes left : List Watch) where
@@ -64,13 +67,13 @@ module _ (ticks steps : Bool) (layout : KeyLayout) (text : List ℕ) (history : 
     -- it is said whole
     pub told_whole : HaveLookedAtAll s run.steps probes left → MayTell (Log ticks steps) layout text (Ok (run_text ticks steps run)) probes (left_so left true)
     told_whole looked =
-        ran (Log ticks steps) layout text history (Ok (run_text ticks steps run)) probes (left_so left true) is
+        ran (Log ticks steps) layout text history (Ok (run_text ticks steps run)) probes (left_so left true) is refl
         (inr (run_text ticks steps run, run, said_so, refl, subst (λ (t : Story). HaveLookedAtAll t run.steps probes left) this looked))
 
     -- it is broken off
     pub told_in_part : HaveLookedAtSome s probes left → MayTell (Log ticks steps) layout text (Ok (run_text ticks steps run)) probes (left_so left false)
     told_in_part looked =
-        ran (Log ticks steps) layout text history (Ok (run_text ticks steps run)) probes (left_so left false) is
+        ran (Log ticks steps) layout text history (Ok (run_text ticks steps run)) probes (left_so left false) is refl
         (inr (run_text ticks steps run, run, said_so, refl, subst (λ (t : Story). HaveLookedAtSome t probes left) this looked))
 
   -- what the run said while it was made
@@ -78,22 +81,22 @@ module _ (ticks steps : Bool) (layout : KeyLayout) (text : List ℕ) (history : 
       → (result : Result (Unit {0}) SinkFault) (x y : Shown) (probes left : List Watch)
       → OnOk result ((run : Outcome) × IsOutcome s run × IsSaid x y (run_text ticks steps run) × HaveLookedAtAll s run.steps probes left)
       → OnErr result ((run : Outcome) × IsOutcome s run × IsBrokenOff x y (run_text ticks steps run)) → HaveLookedAtSome s probes left
-      → IsSpoken (λ answer whole. MayTell (Log ticks steps) layout text answer probes (left_so left whole)) (Ok (Said result)) x y
+      → IsSpoken (λ answer whole log. MayTell (Log ticks steps) layout text answer probes (left_behind left whole log)) (Ok (Said result)) x y
   streamed law sound accepted s this (Ok done) x y probes left h k some =
-      (run_text ticks steps h.0, told_whole law sound accepted s this h.0 h.1 probes left h.3, h.2)
+      (run_text ticks steps h.0, [], told_whole law sound accepted s this h.0 h.1 probes left h.3, h.2)
   streamed law sound accepted s this (Err fault) x y probes left h k some =
-      (run_text ticks steps k.0, told_in_part law sound accepted s this k.0 k.1 probes left some, k.2)
+      (Ok (run_text ticks steps k.0), [], told_in_part law sound accepted s this k.0 k.1 probes left some, k.2)
 
 -- a text that was said at the end, whole or not
-said_at_end : (may : Answer → Bool → Type 0) (result : Result (Unit {0}) SinkFault) (text : List ℕ) (x y : Shown) → ((whole : Bool) → may (Ok text) whole)
+said_at_end : (may : May) (result : Result (Unit {0}) SinkFault) (text : List ℕ) (x y : Shown) → ((whole : Bool) → may (Ok text) whole [])
     → OnOk result (IsSaid x y text) → OnErr result (IsBrokenOff x y text) → IsSpoken may (Ok (Said result)) x y
-said_at_end may (Ok done) text x y h said broken = (text, h true, said)
-said_at_end may (Err fault) text x y h said broken = (text, h false, broken)
+said_at_end may (Ok done) text x y h said broken = (text, [], h true, said)
+said_at_end may (Err fault) text x y h said broken = (Ok text, [], h false, broken)
 
 pub said_sample : (count : ℕ) (result : Result (Unit {0}) SinkFault) (text : List ℕ) (x y : Shown) (probes left : List Watch) → MayAnswerSample count (Ok text) probes left
-    → OnOk result (IsSaid x y text) → OnErr result (IsBrokenOff x y text) → IsSpoken (λ answer whole. MayAnswerSample count answer probes left) (Ok (Said result)) x y
+    → OnOk result (IsSaid x y text) → OnErr result (IsBrokenOff x y text) → IsSpoken (λ answer whole log. MayAnswerSample count answer probes left × (log ≡ [])) (Ok (Said result)) x y
 said_sample count result text x y probes left may said broken =
-    said_at_end (λ answer whole. MayAnswerSample count answer probes left) result text x y (λ whole. may) said broken
+    said_at_end (λ answer whole log. MayAnswerSample count answer probes left × (log ≡ [])) result text x y (λ whole. (may, refl)) said broken
 
 -- what `sample` says
 pub sampled : (count : ℕ) → count ≤ 10000 → RunsAsExpected → IsKeyLayout us84 → (s : Story) → s ≡ sample_story count → (text : List ℕ) (probes left : List Watch)
@@ -116,29 +119,29 @@ IsExpectText layout history probes left said =
 
 module _ (layout : KeyLayout) (text : List ℕ) (history : KeyHistory) (is : history_of layout text ≡ Ok history) (probes left : List Watch) (whole : Bool) where
   pub expected_lacking : HaveLooked layout history probes left → MayTell Expect layout text (Err Memory) probes (left_so left whole)
-  expected_lacking looked = ran Expect layout text history (Err Memory) probes (left_so left whole) is (inl (refl, looked))
+  expected_lacking looked = ran Expect layout text history (Err Memory) probes (left_so left whole) is refl (inl (refl, looked))
 
   pub expected_said : (said : List ℕ) → IsExpectText layout history probes left said → MayTell Expect layout text (Ok said) probes (left_so left whole)
   expected_said said h =
-      ran Expect layout text history (Ok said) probes (left_so left whole) is (inr (said, h.0, h.1, refl, h.2))
+      ran Expect layout text history (Ok said) probes (left_so left whole) is refl (inr (said, h.0, h.1, refl, h.2))
 
 -- what `trace` says, which leaves the probes alone
 module _ (layout : KeyLayout) (text : List ℕ) (history : KeyHistory) (is : history_of layout text ≡ Ok history) (probes : List Watch) where
   pub trace_lacking : (whole : Bool) → MayTell Trace layout text (Err Memory) probes (left_so probes whole)
-  trace_lacking whole = ran Trace layout text history (Err Memory) probes (left_so probes whole) is (inl (refl, refl))
+  trace_lacking whole = ran Trace layout text history (Err Memory) probes (left_so probes whole) is refl (inl (refl, refl))
 
   module _ (law : RunsAsExpected) (heard : HearsAll (story (image_of layout) history)) (sound : IsKeyLayout layout) (accepted : IsAcceptedFor layout history) (x y : Shown) where
     trace_told : (run : Outcome) → IsOutcome (story (image_of layout) history) run → (whole : Bool) → MayTell Trace layout text (Ok (trace_text layout history run)) probes (left_so probes whole)
     trace_told run made whole =
-        ran Trace layout text history (Ok (trace_text layout history run)) probes (left_so probes whole) is
+        ran Trace layout text history (Ok (trace_text layout history run)) probes (left_so probes whole) is refl
         (inr (trace_text layout history run, run, (made, law layout history run sound accepted made, refl, heard), refl, refl))
 
     -- it is said whole
     pub traced : (done : Unit {0}) → IsTraceSaid (story (image_of layout) history) x y
-        → IsSpoken (λ answer whole. MayTell Trace layout text answer probes (left_so probes whole)) (Ok (Said (Ok done))) x y
-    traced done h = (trace_text layout history h.run, trace_told h.run h.is true, h.said)
+        → IsSpoken (λ answer whole log. MayTell Trace layout text answer probes (left_behind probes whole log)) (Ok (Said (Ok done))) x y
+    traced done h = (trace_text layout history h.run, [], trace_told h.run h.is true, h.said)
 
     -- it is broken off
     pub trace_stopped : (fault : SinkFault) → IsTraceBrokenOff (story (image_of layout) history) x y
-        → IsSpoken (λ answer whole. MayTell Trace layout text answer probes (left_so probes whole)) (Ok (Said (Err fault))) x y
-    trace_stopped fault h = (trace_text layout history h.run, trace_told h.run h.is false, h.broken)
+        → IsSpoken (λ answer whole log. MayTell Trace layout text answer probes (left_behind probes whole log)) (Ok (Said (Err fault))) x y
+    trace_stopped fault h = (Ok (trace_text layout history h.run), [], trace_told h.run h.is false, h.broken)

@@ -22,7 +22,7 @@ use Rattle.kbd48_app.proofs.Made.{makes}
 
 -- a call has ended so
 abbrev pub Ending : List (List ℕ) → Option Told → Option Told → List Watch → Left → Shown → Shown → Exit → Type 0
-Ending words shelf after probes left taken taken' exit = (answer : Answer) × MayAnswer words shelf answer after probes left × Says answer taken taken' exit
+Ending words shelf after probes left taken taken' exit = (answer : Answer) × MayAnswer words shelf answer after probes left × Says left.log answer taken taken' exit
 
 has_ended : (words : List (List ℕ)) (shelf : Told) (after : Option Told) (probes : List Watch) (left : Left) (taken taken' : Shown) (exit : Exit) → Ending words (Some shelf) after probes left taken taken' exit → Ended (length probes) (command_of words) (plan words) shelf exit
 has_ended words shelf after probes left taken taken' exit h = ended (length probes) (command_of words) words shelf exit (exits_so words shelf taken taken' exit after probes left h)

@@ -1,12 +1,14 @@
 -- How a plan ends over a shelf: with which answer, after which fetches, and how it leaves the probes that are handed in.
-use Rattle.std.specs.Prelude.{◌≡◌, ◌⊎◌, ℕ, ◌≤◌, Bool, List, length, None, Some, Ok, Err, IfOk}
+use Rattle.std.specs.Prelude.{◌≡◌, ◌⊎◌, ℕ, ◌≤◌, Bool, List, [], length, None, Some, Ok, Err, IfOk}
 use Rattle.std.specs.Option.{option_map}
 use Rattle.std.specs.declared.alloc.Global.{Global}
 use Rattle.std.specs.declared.option.Option.{Option}
 use Rattle.std.specs.declared.result.Result.{Result}
 use Rattle.std.specs.declared.vec.Vec.{Vec}
-use Rattle.fw_compile.specs.Image.{image_of}
+use Rattle.board_run.specs.Running as board
+use Rattle.board_run.specs.Texts.{log_text}
 use Rattle.fw_debug.specs.Probes.{Watch}
+use Rattle.fw_debug.specs.Sessions.{Debuggee}
 use Rattle.joint_feed.specs.Stories.{Story, story}
 use Rattle.subsystem.specs.Running.{Outcome}
 use Rattle.io_edge.specs.Shelf.{Told, Fetched, Fails, Long, Found, after_fetch, fetched}
@@ -18,10 +20,11 @@ use Rattle.key_file.specs.Histories.{KeyHistory}
 use Rattle.layout_reader.specs.Layouts.{KeyLayout}
 use Rattle.typed_log.specs.Typing.{first_without}
 use Rattle.fw_debug.specs.Obeyed.{IsObeyed, IsObeyedInPart}
+use Rattle.kbd48_app.specs.BoardTexts.{AreLeftOnBoard, board_said}
 use Rattle.kbd48_app.specs.CertTexts.{cert_said, IsCertText}
 use Rattle.kbd48_app.specs.Debugging.{script_fault}
 use Rattle.kbd48_app.specs.Kinds.{limit_of}
-use Rattle.kbd48_app.specs.Plans.{Answer, Plan, Gives, Certifies, Runs, Samples, Debugs, Fetches, plan_of, Spells}
+use Rattle.kbd48_app.specs.Plans.{Answer, Plan, Gives, Certifies, Runs, Boards, Samples, Debugs, Fetches, plan_of, Spells}
 use Rattle.kbd48_app.specs.RunTexts.{AreLeft, AreLeftWanting, HaveLookedAtAll, IsRunText}
 use Rattle.kbd48_app.specs.Sampling.{IsSampleText, sample_story}
 use Rattle.kbd48_app.specs.TextPlans.{IsPlanText}
@@ -46,10 +49,12 @@ MayAnswerOf said answer = (answer ≡ Err Memory) ⊎ (answer ≡ said)
 abbrev pub MayAnswerCert : List ℕ → List ℕ → Answer → Type 0
 MayAnswerCert image text answer = MayAnswerOf (cert_said image text) answer × IfOk answer (IsCertText image text)
 
--- what a call leaves behind: the probes, and whether the sink has taken all that it had to say
+-- what a call leaves behind: the probes, whether the sink has taken all that it had to say, and what it said before its
+-- answer, which is the log of a run on the board, and else nothing
 pub record Left : Type 0 where
   pub probes : List Watch
   pub whole : Bool
+  pub log : List ℕ
 
 -- the same of a text for a layout: its plan, or the number of its first byte without a key, from 1
 abbrev pub MayAnswerText : KeyLayout → List ℕ → Answer → Type 0
@@ -65,6 +70,18 @@ MayAnswerRun command layout history answer probes left =
     ⊎ ((text : List ℕ) × (run : Outcome) × IsRunText command layout history text run × (answer ≡ Ok text)
     × AreLeft command layout history run.steps left.whole probes left.probes)
 
+-- the run of a program on the board is told: its log is said before the answer
+abbrev pub IsBoardTold : Bool → Story → Answer → List Watch → Left → Type 0
+IsBoardTold steps s answer probes left =
+    (run : board.Outcome) × board.IsOutcome s run × (left.log ≡ log_text run.log)
+    × (answer ≡ board_said steps run run.end) × AreLeftOnBoard s run.steps left.whole probes left.probes
+
+-- the same of such a run under a history; no memory is wanting once it has begun
+abbrev pub MayAnswerBoard : Bool → List ℕ → KeyHistory → Answer → List Watch → Left → Type 0
+MayAnswerBoard steps image history answer probes left =
+    ((answer ≡ Err Memory) × (left.log ≡ []) × (left.probes ≡ probes))
+    ⊎ IsBoardTold steps (story image history) answer probes left
+
 -- the same of the run of so many strokes; no memory is wanting once it has begun
 abbrev pub MayAnswerSample : ℕ → Answer → List Watch → List Watch → Type 0
 MayAnswerSample count answer probes left =
@@ -72,19 +89,19 @@ MayAnswerSample count answer probes left =
     ⊎ ((text : List ℕ) × (run : Outcome) × IsSampleText count text run × (answer ≡ Ok text)
     × HaveLookedAtAll (sample_story count) run.steps probes left)
 
--- the same of a script over a run: one with a fault is refused before a line of it is obeyed; of any other the lines
--- are obeyed, or, where memory was wanting, the first ones, however many
-abbrev pub MayAnswerSession : Option (ℕ × ℕ) → Story → List ℕ → Answer → List Watch → Left → Type 0
+-- the same of a script over the run of what is debugged: one with a fault is refused before a line of it is obeyed; of
+-- any other the lines are obeyed, or, where memory was wanting, the first ones, however many
+abbrev pub MayAnswerSession : Option (ℕ × ℕ) → Debuggee → List ℕ → Answer → List Watch → Left → Type 0
 MayAnswerSession (Some fault) s script answer probes left =
     (answer ≡ Err (Script fault.0 fault.1)) × (left.probes ≡ probes)
 MayAnswerSession None s script answer probes left =
     ((answer ≡ Err Memory) × IsObeyedInPart s script probes left.probes)
     ⊎ ((text : List ℕ) × IsObeyed s script probes text left.probes × (answer ≡ Ok text))
 
--- the same of a script over the run of a layout under a history
-abbrev pub MayAnswerDebug : KeyLayout → KeyHistory → List ℕ → Answer → List Watch → Left → Type 0
-MayAnswerDebug layout history script answer probes left =
-    MayAnswerSession (script_fault (length probes) script) (story (image_of layout) history) script answer probes left
+-- the same, by the first fault that the script has for these probes
+abbrev pub MayAnswerDebug : Debuggee → List ℕ → Answer → List Watch → Left → Type 0
+MayAnswerDebug s script answer probes left =
+    MayAnswerSession (script_fault (length probes) script) s script answer probes left
 
 -- a case for each thing that a fetch may come to
 abbrev pub OnFetched : Type 0 → Type 0 → (List ℕ → Type 0) → Fetched → Type 0
@@ -92,9 +109,9 @@ OnFetched fails long found Fails = fails
 OnFetched fails long found Long = long
 OnFetched fails long found (Found bytes) = found bytes
 
--- the shelf has come so far, and the probes are as they were
+-- the shelf has come so far, the probes are as they were, and nothing was said before the answer
 abbrev pub IsKept : Option Told → Option Told → List Watch → Left → Type 0
-IsKept on after probes left = (after ≡ on) × (left.probes ≡ probes)
+IsKept on after probes left = (after ≡ on) × (left.probes ≡ probes) × (left.log ≡ [])
 
 -- how a plan may end over a shelf, which tells `after` when it has ended, and with probes, which are `left` then: a
 -- fetch that fails, or finds too many bytes, ends it; where one finds a file, memory may be wanting for it, and else the
@@ -106,11 +123,13 @@ MayEnd (Certifies image text) shelf answer after probes left =
 MayEnd (Spells layout text) shelf answer after probes left =
     MayAnswerText layout text answer × IsKept shelf after probes left
 MayEnd (Runs command layout history) shelf answer after probes left =
-    MayAnswerRun command layout history answer probes left × (after ≡ shelf)
+    MayAnswerRun command layout history answer probes left × (after ≡ shelf) × (left.log ≡ [])
+MayEnd (Boards steps image history) shelf answer after probes left =
+    MayAnswerBoard steps image history answer probes left × (after ≡ shelf)
 MayEnd (Samples count) shelf answer after probes left =
-    MayAnswerSample count answer probes left.probes × (after ≡ shelf)
-MayEnd (Debugs layout history script) shelf answer after probes left =
-    MayAnswerDebug layout history script answer probes left × (after ≡ shelf)
+    MayAnswerSample count answer probes left.probes × (after ≡ shelf) × (left.log ≡ [])
+MayEnd (Debugs s script) shelf answer after probes left =
+    MayAnswerDebug s script answer probes left × (after ≡ shelf) × (left.log ≡ [])
 MayEnd (Fetches kind name next) shelf answer after probes left =
     let on = option_map after_fetch shelf in
     (outcome : Fetched) × MayFetch shelf name (limit_of kind) outcome

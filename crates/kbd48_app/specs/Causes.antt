@@ -1,6 +1,8 @@
 -- What causes each exit, of a shelf that tells its files: one definition a cause.
-use Rattle.std.specs.Prelude.{◌≡◌, ◌⊎◌, ℕ, List, Some, Ok, Err}
+use Rattle.std.specs.Prelude.{◌≡◌, ◌⊎◌, ℕ, Bool, List, Some, Ok, Err}
 use Rattle.std.specs.declared.option.Option.{Option}
+use Rattle.board_run.specs.Running.{IsOutcome, Outcome}
+use Rattle.board_run.specs.declared.ended.End.TheVariants.{Stuck as BoardStuck}
 use Rattle.hexfile.specs.Hex.{hex_of}
 use Rattle.hexfile.specs.declared.fault.HexFault.{HexFault}
 use Rattle.mcs48_asm.specs.Assembly.{assembly_of}
@@ -8,6 +10,8 @@ use Rattle.layout_reader.specs.Documents.{layout_of_document}
 use Rattle.layout_reader.specs.Faults.{Refusal as LayoutRefusal}
 use Rattle.layout_reader.specs.Layouts.{KeyLayout}
 use Rattle.typed_log.specs.Typing.{first_without}
+use Rattle.joint_feed.specs.Stories.{story}
+use Rattle.key_file.specs.Histories.{KeyHistory}
 use Rattle.key_file.specs.KeyFile.{history_of}
 use Rattle.key_file.specs.declared.fault.KeyFault.{KeyFault}
 use Rattle.key_file.specs.declared.fault.KeyFault.TheVariants.{Input as InputFault, Timing as TimingFault}
@@ -19,7 +23,7 @@ use Rattle.kbd48_app.specs.declared.kind.Kind.{Kind}
 use Rattle.kbd48_app.specs.declared.kind.Kind.TheVariants.{Hex, Asm, Layout, Keys, Cert, Script, Text}
 use Rattle.kbd48_app.specs.declared.refusal.Refusal.TheVariants as refusals
 use Rattle.kbd48_app.specs.declared.words.Command.{Command}
-use Rattle.kbd48_app.specs.declared.words.Command.TheVariants.{OverFile}
+use Rattle.kbd48_app.specs.declared.words.Command.TheVariants.{OverFile, Board}
 use Rattle.kbd48_app.specs.declared.words.FileCommand.TheVariants.{Step}
 use Rattle.kbd48_app.specs.CertTexts.{cert_said}
 use Rattle.kbd48_app.specs.Debugging.{script_fault}
@@ -87,12 +91,28 @@ HasFileFault probes plan shelf =
     ⊎ ((fault : ℕ × ℕ) × HasTextFault fault plan shelf)
 
 -- one of the COUNT steps of `step`, over the image of the HEX file, meets a byte without an instruction
-abbrev pub IsStuck : Option Command → Plan → Told → Type 0
-IsStuck command plan shelf =
+abbrev pub StepIsStuck : Option Command → Plan → Told → Type 0
+StepIsStuck command plan shelf =
     (count : ℕ) × (command ≡ Some (OverFile (Step count)))
     × (bytes : List ℕ) × Reads Hex bytes plan shelf
     × (image : List ℕ) × (hex_of bytes ≡ Ok image)
     × (stuck : Stuck) × (after_steps image count ≡ Stopped stuck)
+
+-- the run of `board`, of the image of the HEX file under the history of the key file for the layout, ends at such a byte
+abbrev pub BoardIsStuck : Option Command → Plan → Told → Type 0
+BoardIsStuck command plan shelf =
+    (steps : Bool) × (command ≡ Some (Board steps))
+    × (bytes : List ℕ) × Reads Hex bytes plan shelf
+    × (image : List ℕ) × (hex_of bytes ≡ Ok image)
+    × (document : List ℕ) × Reads Layout document plan shelf
+    × (layout : KeyLayout) × (layout_of_document document ≡ Ok layout)
+    × (text : List ℕ) × Reads Keys text plan shelf
+    × (history : KeyHistory) × (history_of layout text ≡ Ok history)
+    × (run : Outcome) × IsOutcome (story image history) run
+    × (stuck : Stuck) × (run.end ≡ BoardStuck stuck)
+
+abbrev pub IsStuck : Option Command → Plan → Told → Type 0
+IsStuck command plan shelf = StepIsStuck command plan shelf ⊎ BoardIsStuck command plan shelf
 
 -- a call ends with the exit of its cause, or with that of want of memory, or of a sink that fails
 abbrev pub MayExit : Exit → Exit → Type 0

@@ -14,7 +14,7 @@ use Rattle.key_file.specs.KeyFile.{history_of}
 use Rattle.kbd48_app.specs.declared.exit.Exit.{Exit}
 use Rattle.kbd48_app.specs.declared.exit.Exit.TheVariants.{Done, Memory, Stuck}
 use Rattle.kbd48_app.specs.declared.words.Command.{Command}
-use Rattle.kbd48_app.specs.declared.words.Command.TheVariants.{OverFile, OverPair, Debug, Feed, Sample}
+use Rattle.kbd48_app.specs.declared.words.Command.TheVariants.{OverFile, OverPair, Debug, Probe, Board, Feed, Sample}
 use Rattle.kbd48_app.specs.declared.words.FileCommand.{FileCommand}
 use Rattle.kbd48_app.specs.declared.words.FileCommand.TheVariants.{Step, Listing, Assemble, Compile}
 use Rattle.kbd48_app.specs.declared.words.PairCommand.{PairCommand}
@@ -22,7 +22,7 @@ use Rattle.kbd48_app.specs.declared.words.PairCommand.TheVariants.{Certify, Spel
 use Rattle.kbd48_app.specs.declared.kind.Kind.TheVariants.{Hex, Layout, Keys, Cert, Script, Text}
 use Rattle.kbd48_app.specs.Debugging.{script_fault}
 use Rattle.kbd48_app.specs.Kinds.{limit_of, kind_of}
-use Rattle.kbd48_app.specs.Words.{command_of, name_in, second_in, third_in}
+use Rattle.kbd48_app.specs.Words.{command_of, name_in, second_in, third_in, fourth_in}
 
 -- the bytes are a file without a fault
 abbrev pub IsSound : FileCommand → List ℕ → Type 0
@@ -57,6 +57,11 @@ AreServed (OverRun command) first second (Some shelf) =
     × (text : List ℕ) × (fetched (after_fetch shelf) second (limit_of Keys) ≡ Found text)
     × (history : KeyHistory) × (history_of layout text ≡ Ok history)
 
+-- the same of a script, where there are so many probes
+abbrev pub ScriptServed : ℕ → List ℕ → Told → Type 0
+ScriptServed probes name shelf =
+    (script : List ℕ) × (fetched shelf name (limit_of Script) ≡ Found script) × (script_fault probes script ≡ None)
+
 -- the same of the three files of `debug`, where there are so many probes
 abbrev pub AllServed : ℕ → List ℕ → List ℕ → List ℕ → Option Told → Type 0
 AllServed probes first second third None = ⊥
@@ -65,8 +70,19 @@ AllServed probes first second third (Some shelf) =
     × (layout : KeyLayout) × (layout_of_document bytes ≡ Ok layout)
     × (text : List ℕ) × (fetched (after_fetch shelf) second (limit_of Keys) ≡ Found text)
     × (history : KeyHistory) × (history_of layout text ≡ Ok history)
-    × (script : List ℕ) × (fetched (after_fetch (after_fetch shelf)) third (limit_of Script) ≡ Found script)
-    × (script_fault probes script ≡ None)
+    × ScriptServed probes third (after_fetch (after_fetch shelf))
+
+-- the same of an image, and of a layout and a key file for it, and so much of what the shelf tells behind them
+abbrev pub ProgramServed : List ℕ → List ℕ → List ℕ → (Told → Type 0) → Option Told → Type 0
+ProgramServed first second third behind None = ⊥
+ProgramServed first second third behind (Some shelf) =
+    (bytes : List ℕ) × (fetched shelf first (limit_of Hex) ≡ Found bytes)
+    × (image : List ℕ) × (hex_of bytes ≡ Ok image)
+    × (document : List ℕ) × (fetched (after_fetch shelf) second (limit_of Layout) ≡ Found document)
+    × (layout : KeyLayout) × (layout_of_document document ≡ Ok layout)
+    × (text : List ℕ) × (fetched (after_fetch (after_fetch shelf)) third (limit_of Keys) ≡ Found text)
+    × (history : KeyHistory) × (history_of layout text ≡ Ok history)
+    × behind (after_fetch (after_fetch (after_fetch shelf)))
 
 -- the words have a form, and the files that it names are served
 abbrev pub IsFaultlessAs : ℕ → Option Command → List (List ℕ) → Option Told → Type 0
@@ -75,14 +91,19 @@ IsFaultlessAs probes (Some (Feed bytes)) words shelf = Unit {0}
 IsFaultlessAs probes (Some (Sample count)) words shelf = Unit {0}
 IsFaultlessAs probes (Some (OverFile command)) words shelf = IsServed command (name_in words) shelf
 IsFaultlessAs probes (Some (OverPair command)) words shelf = AreServed command (name_in words) (second_in words) shelf
+IsFaultlessAs probes (Some (Board steps)) words shelf =
+    ProgramServed (name_in words) (second_in words) (third_in words) (λ shelf. Unit {0}) shelf
 IsFaultlessAs probes (Some Debug) words shelf =
     AllServed probes (name_in words) (second_in words) (third_in words) shelf
+IsFaultlessAs probes (Some Probe) words shelf =
+    ProgramServed (name_in words) (second_in words) (third_in words) (ScriptServed probes (fourth_in words)) shelf
 
 abbrev pub IsFaultless : ℕ → List (List ℕ) → Option Told → Type 0
 IsFaultless probes words shelf = IsFaultlessAs probes (command_of words) words shelf
 
--- the exits that are left then: all was done, memory was wanting, or, in `step` alone, a byte without an instruction
--- was met
+-- the exits that are left then: all was done, memory was wanting, or, in `step` and `board` alone, a byte without an
+-- instruction was met
 abbrev pub IsLeft : Option Command → Exit → Type 0
 IsLeft (Some (OverFile (Step count))) exit = (exit ≡ Done) ⊎ (exit ≡ Memory) ⊎ (exit ≡ Stuck)
+IsLeft (Some (Board steps)) exit = (exit ≡ Done) ⊎ (exit ≡ Memory) ⊎ (exit ≡ Stuck)
 IsLeft command exit = (exit ≡ Done) ⊎ (exit ≡ Memory)

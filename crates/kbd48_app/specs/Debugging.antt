@@ -1,4 +1,4 @@
--- `debug`: the first fault of a script, and its refusal.
+-- `debug` and `probe`: the first fault of a script, and its refusal.
 use Rattle.std.specs.Prelude.{ℕ, List, None, Some, Ok, Err}
 use Rattle.std.specs.declared.option.Option.{Option}
 use Rattle.std.specs.declared.result.Result.{Result}

@@ -9,12 +9,15 @@ pub mod RunTexts
 pub mod Sampling
 pub mod Debugging
 pub mod Plans
+pub mod Asked
 pub mod CertTexts
+pub mod BoardTexts
 pub mod TextPlans
 pub mod Answers
 pub mod Spoken
 pub mod Telling
 pub mod PrintAlike
+pub mod BoardTells
 pub mod Fetching
 pub mod Says
 pub mod Reached

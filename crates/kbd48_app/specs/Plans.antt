@@ -1,5 +1,5 @@
 -- What a command does with files: which it asks for, in what order, and what it says of their bytes.
-use Rattle.std.specs.Prelude.{ℕ, List, Ok, Err, None, Some}
+use Rattle.std.specs.Prelude.{ℕ, Bool, List, Ok, Err, None, Some}
 use Rattle.std.specs.declared.option.Option.{Option}
 use Rattle.std.specs.declared.result.Result.{Result}
 use Rattle.hexfile.specs.Hex.{HexOutcome, hex_of}
@@ -13,6 +13,8 @@ use Rattle.key_file.specs.KeyFile.{history_of}
 use Rattle.key_file.specs.declared.fault.KeyFault.{KeyFault}
 use Rattle.key_file.specs.declared.fault.KeyFault.TheVariants as keys
 use Rattle.fw_compile.specs.Image.{image_of}
+use Rattle.fw_debug.specs.Sessions.{Debuggee, of_layout, of_program}
+use Rattle.joint_feed.specs.Stories.{story}
 use Rattle.mcs48_isa.specs.Listing.{listing_of}
 use Rattle.mcs48_core.specs.StateText.{state_text_of}
 use Rattle.kbd48_app.specs.declared.kind.Kind.{Kind}
@@ -21,7 +23,7 @@ use Rattle.kbd48_app.specs.declared.refusal.Refusal.{Refusal}
 use Rattle.kbd48_app.specs.declared.refusal.Refusal.TheVariants.{Words, Hex, Asm, Layout, Keys, Timing}
 use Rattle.kbd48_app.specs.declared.refusal.Refusal.TheVariants.{Stuck, Memory}
 use Rattle.kbd48_app.specs.declared.words.Command.{Command}
-use Rattle.kbd48_app.specs.declared.words.Command.TheVariants.{OverFile, OverPair, Debug, Feed, Sample}
+use Rattle.kbd48_app.specs.declared.words.Command.TheVariants.{OverFile, OverPair, Debug, Probe, Board, Feed, Sample}
 use Rattle.kbd48_app.specs.declared.words.FileCommand.{FileCommand}
 use Rattle.kbd48_app.specs.declared.words.FileCommand.TheVariants.{Step, Listing, Assemble, Compile}
 use Rattle.kbd48_app.specs.declared.words.PairCommand.{PairCommand}
@@ -29,7 +31,7 @@ use Rattle.kbd48_app.specs.declared.words.PairCommand.TheVariants.{Certify, Spel
 use Rattle.kbd48_app.specs.declared.words.RunCommand.{RunCommand}
 use Rattle.kbd48_app.specs.Kinds.{kind_of}
 use Rattle.kbd48_app.specs.Feeding.{fed_text}
-use Rattle.kbd48_app.specs.Words.{command_of, name_in, second_in, third_in}
+use Rattle.kbd48_app.specs.Words.{command_of, name_in, second_in, third_in, fourth_in}
 use Rattle.kbd48_app.specs.Stepping.{Progress, Stands, Stopped, after_steps}
 
 -- a text, or a refusal
@@ -37,16 +39,18 @@ abbrev pub Answer : Type 0
 Answer = Result (List ℕ) Refusal
 
 -- a plan says something, or what is found of a certificate for an image, or with which keys of a layout a text is
--- typed, or what a command says of the run of a layout under a history, or what is counted in the run of so many
--- strokes, or what a script says in a session over a run, or it fetches the file of this kind and name, and goes on with
--- the file's bytes
+-- typed, or what a command says of the run of a layout under a history, or what the run of an image on the board under a
+-- history says, with the state at its end or without, or what is counted in the run of so many strokes, or what a script
+-- says in a session over the run of what is debugged, or it fetches the file of this kind and name, and goes on with the
+-- file's bytes
 pub data Plan : Type 0 where
   Gives : Answer → Plan
   Certifies : List ℕ → List ℕ → Plan
   Spells : KeyLayout → List ℕ → Plan
   Runs : RunCommand → KeyLayout → KeyHistory → Plan
+  Boards : Bool → List ℕ → KeyHistory → Plan
   Samples : ℕ → Plan
-  Debugs : KeyLayout → KeyHistory → List ℕ → Plan
+  Debugs : Debuggee → List ℕ → Plan
   Fetches : Kind → List ℕ → (List ℕ → Plan) → Plan
 
 -- `step` of a run that stands or has stopped after its steps
@@ -114,12 +118,32 @@ abbrev pub history_plan : (KeyLayout → KeyHistory → Plan) → List ℕ → L
 history_plan next first second =
     Fetches kinds.Layout first (λ bytes. with_layout (keys_next next second) (layout_of_document bytes))
 
--- `debug`: behind both comes the script
-abbrev pub script_next : List ℕ → KeyLayout → KeyHistory → Plan
-script_next name layout history = Fetches kinds.Script name (Debugs layout history)
+-- behind what is debugged comes the script
+abbrev pub script_next : List ℕ → Debuggee → Plan
+script_next name s = Fetches kinds.Script name (Debugs s)
+
+-- `debug`: the image that a layout gives, under the history of the key file
+abbrev pub debug_next : List ℕ → KeyLayout → KeyHistory → Plan
+debug_next name layout history = script_next name (of_layout (story (image_of layout) history))
 
 abbrev pub debug_plan : List ℕ → List ℕ → List ℕ → Plan
-debug_plan first second third = history_plan (script_next third) first second
+debug_plan first second third = history_plan (debug_next third) first second
+
+-- behind an image come a layout, which has the places of its keys and hands nothing else on, and the key file
+abbrev pub program_next : (List ℕ → KeyHistory → Plan) → List ℕ → List ℕ → List ℕ → Plan
+program_next next second third image = history_plan (λ layout. next image) second third
+
+-- what is fetched for an image and a history of three files
+abbrev pub program_plan : (List ℕ → KeyHistory → Plan) → List ℕ → List ℕ → List ℕ → Plan
+program_plan next first second third =
+    Fetches kinds.Hex first (λ bytes. with_image (program_next next second third) (hex_of bytes))
+
+-- `probe`: any program, under the history of the key file
+abbrev pub probe_next : List ℕ → List ℕ → KeyHistory → Plan
+probe_next name image history = script_next name (of_program (story image history))
+
+abbrev pub probe_plan : List ℕ → List ℕ → List ℕ → List ℕ → Plan
+probe_plan first second third fourth = program_plan (probe_next fourth) first second third
 
 -- a command over two files, by their names
 abbrev pub pair_plan : PairCommand → List ℕ → List ℕ → Plan
@@ -135,7 +159,9 @@ plan_of (Some (Sample count)) words = Samples count
 plan_of (Some (OverFile command)) words =
     Fetches (kind_of command) (name_in words) (λ bytes. Gives (file_said command bytes))
 plan_of (Some (OverPair command)) words = pair_plan command (name_in words) (second_in words)
+plan_of (Some (Board steps)) words = program_plan (Boards steps) (name_in words) (second_in words) (third_in words)
 plan_of (Some Debug) words = debug_plan (name_in words) (second_in words) (third_in words)
+plan_of (Some Probe) words = probe_plan (name_in words) (second_in words) (third_in words) (fourth_in words)
 
 abbrev pub plan : List (List ℕ) → Plan
 plan words = plan_of (command_of words) words

@@ -14,9 +14,9 @@ run_words layout keys = codes "run" ∷ layout ∷ keys ∷ []
 abbrev pub expect_words : List ℕ → List ℕ → List (List ℕ)
 expect_words layout keys = codes "expect" ∷ layout ∷ keys ∷ []
 
--- all that a call had to say was taken, and it leaves the probes so
+-- all that a call had to say was taken, nothing was said before its answer, and it leaves the probes so
 abbrev pub leaving : List Watch → Left
-leaving probes = record { probes = probes; whole = true }
+leaving probes = record { probes = probes; whole = true; log = [] }
 
 -- what one of them may answer, over any shelf and with any probes, the other may; an answer with a text leaves the probes
 -- alike. Where memory is wanting, `run` leaves them as they were, and `expect` after the first steps of its run. Over a

@@ -7,7 +7,7 @@ use Rattle.kbd48_app.specs.declared.exit.Exit.TheVariants.{Memory, Write}
 use Rattle.kbd48_app.specs.declared.kind.Kind.{Kind}
 use Rattle.kbd48_app.specs.Answers.{OnFetched}
 use Rattle.kbd48_app.specs.Kinds.{limit_of}
-use Rattle.kbd48_app.specs.Plans.{Plan, Gives, Certifies, Runs, Samples, Debugs, Fetches, Spells}
+use Rattle.kbd48_app.specs.Plans.{Plan, Gives, Certifies, Runs, Boards, Samples, Debugs, Fetches, Spells}
 
 -- a value for each thing that a fetch may come to
 abbrev pub on_fetched : {A : Type 0} → A → A → (List ℕ → A) → Fetched → A
@@ -21,8 +21,9 @@ IsUnserved (Gives said) shelf = ⊥
 IsUnserved (Certifies image text) shelf = ⊥
 IsUnserved (Spells layout text) shelf = ⊥
 IsUnserved (Runs command layout history) shelf = ⊥
+IsUnserved (Boards steps image history) shelf = ⊥
 IsUnserved (Samples count) shelf = ⊥
-IsUnserved (Debugs layout history script) shelf = ⊥
+IsUnserved (Debugs s script) shelf = ⊥
 IsUnserved (Fetches kind name next) shelf =
     OnFetched (Unit {0}) ⊥ (λ bytes. IsUnserved (next bytes) (after_fetch shelf)) (fetched shelf name (limit_of kind))
 
@@ -32,8 +33,9 @@ IsTooLong long (Gives said) shelf = ⊥
 IsTooLong long (Certifies image text) shelf = ⊥
 IsTooLong long (Spells layout text) shelf = ⊥
 IsTooLong long (Runs command layout history) shelf = ⊥
+IsTooLong long (Boards steps image history) shelf = ⊥
 IsTooLong long (Samples count) shelf = ⊥
-IsTooLong long (Debugs layout history script) shelf = ⊥
+IsTooLong long (Debugs s script) shelf = ⊥
 IsTooLong long (Fetches kind name next) shelf =
     OnFetched ⊥ (kind ≡ long)
     (λ bytes. IsTooLong long (next bytes) (after_fetch shelf))
@@ -45,8 +47,9 @@ Reads read file (Gives said) shelf = ⊥
 Reads read file (Certifies image text) shelf = ⊥
 Reads read file (Spells layout text) shelf = ⊥
 Reads read file (Runs command layout history) shelf = ⊥
+Reads read file (Boards steps image history) shelf = ⊥
 Reads read file (Samples count) shelf = ⊥
-Reads read file (Debugs layout history script) shelf = ⊥
+Reads read file (Debugs s script) shelf = ⊥
 Reads read file (Fetches kind name next) shelf =
     OnFetched ⊥ ⊥
     (λ bytes. ((kind ≡ read) × (bytes ≡ file)) ⊎ Reads read file (next bytes) (after_fetch shelf))
@@ -58,8 +61,9 @@ may_lack (Gives said) shelf = true
 may_lack (Certifies image text) shelf = true
 may_lack (Spells layout text) shelf = true
 may_lack (Runs command layout history) shelf = true
+may_lack (Boards steps image history) shelf = true
 may_lack (Samples count) shelf = true
-may_lack (Debugs layout history script) shelf = true
+may_lack (Debugs s script) shelf = true
 may_lack (Fetches kind name next) shelf = on_fetched false false (λ bytes. true) (fetched shelf name (limit_of kind))
 
 -- the names and the limits of the fetches that a plan comes to, in order, where memory isn't wanting
@@ -68,8 +72,9 @@ fetches_of (Gives said) shelf = []
 fetches_of (Certifies image text) shelf = []
 fetches_of (Spells layout text) shelf = []
 fetches_of (Runs command layout history) shelf = []
+fetches_of (Boards steps image history) shelf = []
 fetches_of (Samples count) shelf = []
-fetches_of (Debugs layout history script) shelf = []
+fetches_of (Debugs s script) shelf = []
 fetches_of (Fetches kind name next) shelf =
     (name, limit_of kind)
     ∷ on_fetched [] [] (λ bytes. fetches_of (next bytes) (after_fetch shelf)) (fetched shelf name (limit_of kind))

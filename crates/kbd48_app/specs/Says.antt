@@ -1,5 +1,5 @@
 -- What an answer prints, and how it ends the call.
-use Rattle.std.specs.Prelude.{◌≡◌, ◌⊎◌, ℕ, Bool, true, false, List, Ok, Err}
+use Rattle.std.specs.Prelude.{◌≡◌, ◌⊎◌, ℕ, Bool, true, false, List, ◌++◌, Ok, Err}
 use Rattle.io_edge.specs.Said.{IsBrokenOff, IsSaid, Shown}
 use Rattle.kbd48_app.specs.declared.exit.Exit.{Exit}
 use Rattle.kbd48_app.specs.declared.exit.Exit.TheVariants.{Done, Words, Input, Timing, Read, Write, Memory, Stuck}
@@ -15,11 +15,12 @@ abbrev pub text_said : Answer → List ℕ
 text_said (Ok text) = text
 text_said (Err refusal) = line_of refusal
 
--- the sink takes the whole text of the answer, line by line, or a put fails, and then what it took is a prefix
-abbrev pub Says : Answer → Shown → Shown → Exit → Type 0
-Says answer before after exit =
-    ((exit ≡ exit_said answer) × IsSaid before after (text_said answer))
-    ⊎ ((exit ≡ Write) × IsBrokenOff before after (text_said answer))
+-- the sink takes a log and then the whole text of the answer, line by line, or a put fails, and then what it took is a
+-- prefix
+abbrev pub Says : List ℕ → Answer → Shown → Shown → Exit → Type 0
+Says log answer before after exit =
+    ((exit ≡ exit_said answer) × IsSaid before after (log ++ text_said answer))
+    ⊎ ((exit ≡ Write) × IsBrokenOff before after (log ++ text_said answer))
 
 -- all of it was said where the call doesn't end with Write
 abbrev pub is_whole : Exit → Bool

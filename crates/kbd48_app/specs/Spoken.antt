@@ -1,32 +1,43 @@
 -- An answer as the code has it: still to be said, or said as it arose.
-use Rattle.std.specs.Prelude.{◌≡◌, ◌⊎◌, ℕ, Bool, true, false, List, Ok, Err}
+use Rattle.std.specs.Prelude.{◌≡◌, ◌⊎◌, ℕ, Bool, true, false, List, [], ◌++◌, Ok, Err}
 use Rattle.std.specs.declared.alloc.Global.{Global}
 use Rattle.std.specs.declared.result.Result.{Result}
 use Rattle.std.specs.declared.vec.Vec.{Vec}
 use Rattle.io_edge.specs.Said.{IsBrokenOff, IsSaid, Shown}
 use Rattle.kbd48_app.specs.declared.refusal.Refusal.{Refusal}
+use Rattle.kbd48_app.specs.declared.refusal.Refusal.TheVariants as refusals
 use Rattle.kbd48_app.specs.declared.spoken.Spoken.{Spoken}
-use Rattle.kbd48_app.specs.declared.spoken.Spoken.TheVariants.{Text, Said}
+use Rattle.kbd48_app.specs.declared.spoken.Spoken.TheVariants.{Text, Said, Stuck}
 use Rattle.kbd48_app.specs.declared.exit.Exit.{Exit}
 use Rattle.kbd48_app.specs.declared.exit.Exit.TheVariants.{Done, Write}
 use Rattle.kbd48_app.specs.Plans.{Answer}
 use Rattle.kbd48_app.specs.Refusals.{exit_of, line_of}
+use Rattle.kbd48_app.specs.Says.{text_said}
 
 -- an answer of the code, nothing of which is said yet
 abbrev pub still_to_say : Result (Vec ℕ Global) Refusal → Result Spoken Refusal
 still_to_say (Ok text) = Ok (Text text)
 still_to_say (Err refusal) = Err refusal
 
--- nothing of the answer is said, and it may be given whether or not all of it will be taken
-abbrev pub IsUnsaid : (Answer → Bool → Type 0) → Answer → Shown → Shown → Type 0
-IsUnsaid may answer before after = ((whole : Bool) → may answer whole) × (after ≡ before)
+-- which answers may be given, whether all of it is taken or not, behind which log
+abbrev pub May : Type 1
+May = Answer → Bool → List ℕ → Type 0
 
--- a refusal and a text are still to be said; any other text was said, whole or up to a put that failed
-abbrev pub IsSpoken : (Answer → Bool → Type 0) → Result Spoken Refusal → Shown → Shown → Type 0
+-- nothing of the answer is said, and it may be given whether or not all of it will be taken
+abbrev pub IsUnsaid : May → Answer → Shown → Shown → Type 0
+IsUnsaid may answer before after = ((whole : Bool) → may answer whole []) × (after ≡ before)
+
+-- a refusal and a text are still to be said; any other text was said behind its log, whole or up to a put that failed; of
+-- a run that is stuck the log was said
+abbrev pub IsSpoken : May → Result Spoken Refusal → Shown → Shown → Type 0
 IsSpoken may (Err refusal) before after = IsUnsaid may (Err refusal) before after
 IsSpoken may (Ok (Text text)) before after = IsUnsaid may (Ok text.items) before after
-IsSpoken may (Ok (Said (Ok done))) before after = (text : List ℕ) × may (Ok text) true × IsSaid before after text
-IsSpoken may (Ok (Said (Err fault))) before after = (text : List ℕ) × may (Ok text) false × IsBrokenOff before after text
+IsSpoken may (Ok (Said (Ok done))) before after =
+    (text : List ℕ) × (log : List ℕ) × may (Ok text) true log × IsSaid before after (log ++ text)
+IsSpoken may (Ok (Said (Err fault))) before after =
+    (answer : Answer) × (log : List ℕ) × may answer false log × IsBrokenOff before after (log ++ text_said answer)
+IsSpoken may (Ok (Stuck place)) before after =
+    (log : List ℕ) × ((whole : Bool) → may (Err (refusals.Stuck place)) whole log) × IsSaid before after log
 
 -- a text is printed, and ends the call so; or a put failed
 abbrev pub Prints : List ℕ → Exit → Shown → Shown → Exit → Type 0
@@ -39,3 +50,5 @@ Concludes (Err refusal) before after exit = Prints (line_of refusal) (exit_of re
 Concludes (Ok (Text text)) before after exit = Prints text.items Done before after exit
 Concludes (Ok (Said (Ok done))) before after exit = (exit ≡ Done) × (after ≡ before)
 Concludes (Ok (Said (Err fault))) before after exit = (exit ≡ Write) × (after ≡ before)
+Concludes (Ok (Stuck place)) before after exit =
+    Prints (line_of (refusals.Stuck place)) (exit_of (refusals.Stuck place)) before after exit

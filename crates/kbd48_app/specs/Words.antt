@@ -10,7 +10,7 @@ use Rattle.std.specs.Str.Parse.{digits_value}
 use Rattle.std.specs.declared.option.Option.{Option}
 use Rattle.hex_text.specs.Digits.{digit_value}
 use Rattle.kbd48_app.specs.declared.words.Command.{Command}
-use Rattle.kbd48_app.specs.declared.words.Command.TheVariants.{OverFile, OverPair, Debug, Feed, Sample}
+use Rattle.kbd48_app.specs.declared.words.Command.TheVariants.{OverFile, OverPair, Debug, Probe, Board, Feed, Sample}
 use Rattle.kbd48_app.specs.declared.words.FileCommand.{FileCommand}
 use Rattle.kbd48_app.specs.declared.words.FileCommand.TheVariants.{Step, Listing, Assemble, Compile}
 use Rattle.kbd48_app.specs.declared.words.PairCommand.{PairCommand}
@@ -61,6 +61,12 @@ debug_of (layout ∷ keys ∷ script ∷ []) =
     if is_name layout && is_name keys && is_name script then Some Debug else None
 debug_of words = None
 
+-- `probe` NAME NAME NAME NAME
+abbrev pub probe_of : List (List ℕ) → Option Command
+probe_of (image ∷ layout ∷ keys ∷ script ∷ []) =
+    if is_name image && is_name layout && is_name keys && is_name script then Some Probe else None
+probe_of words = None
+
 -- both options of `run`, in either order
 abbrev pub are_both : List ℕ → List ℕ → Bool
 are_both first second =
@@ -81,6 +87,18 @@ abbrev pub run_of : List (List ℕ) → Option Command
 run_of (first ∷ second ∷ options) =
     if is_name first && is_name second then option_map (λ command. OverPair (OverRun command)) (log_of options) else None
 run_of words = None
+
+-- the option of `board`: `--steps`, at most once
+abbrev pub board_option_of : List (List ℕ) → Option Bool
+board_option_of [] = Some false
+board_option_of (option ∷ []) = if bytes_eq option (codes "--steps") then Some true else None
+board_option_of words = None
+
+-- `board` NAME NAME NAME, and its option
+abbrev pub board_of : List (List ℕ) → Option Command
+board_of (image ∷ layout ∷ keys ∷ options) =
+    if is_name image && is_name layout && is_name keys then option_map Board (board_option_of options) else None
+board_of words = None
 
 -- the bytes that words give, where each is a BYTE
 abbrev pub bytes_of : List (List ℕ) → Option (List ℕ)
@@ -113,8 +131,10 @@ command_of (command ∷ words) =
     else (if bytes_eq command (codes "expect") then pair_of (OverRun Expect) words
     else (if bytes_eq command (codes "trace") then pair_of (OverRun Trace) words
     else (if bytes_eq command (codes "debug") then debug_of words
+    else (if bytes_eq command (codes "board") then board_of words
+    else (if bytes_eq command (codes "probe") then probe_of words
     else (if bytes_eq command (codes "words") then feed_of words
-    else (if bytes_eq command (codes "sample") then sample_of words else None)))))))))))
+    else (if bytes_eq command (codes "sample") then sample_of words else None)))))))))))))
 
 -- the words have an accepted form
 abbrev pub is_form : List (List ℕ) → Bool
@@ -126,10 +146,13 @@ is_trace (Log ticks steps) = false
 is_trace Expect = false
 is_trace Trace = true
 
--- words that leave the probes as they are: those without a form, and the commands but `run`, `expect`, `sample` and `debug`
+-- words that leave the probes as they are: those without a form, and the commands but `run`, `expect`, `sample`, `board`,
+-- `debug` and `probe`
 abbrev pub leaves_probes : Option Command → Bool
 leaves_probes (Some (OverPair (OverRun command))) = is_trace command
 leaves_probes (Some Debug) = false
+leaves_probes (Some Probe) = false
+leaves_probes (Some (Board steps)) = false
 leaves_probes (Some (Sample count)) = false
 leaves_probes command = true
 
@@ -137,6 +160,7 @@ leaves_probes command = true
 abbrev pub takes_memory_first : Option Command → Bool
 takes_memory_first (Some (OverPair (OverRun (Log ticks steps)))) = true
 takes_memory_first (Some (OverPair (OverRun Trace))) = true
+takes_memory_first (Some (Board steps)) = true
 takes_memory_first (Some (Sample count)) = true
 takes_memory_first command = false
 
@@ -155,10 +179,17 @@ abbrev pub third_in : List (List ℕ) → List ℕ
 third_in (command ∷ name ∷ second ∷ third ∷ others) = third
 third_in words = []
 
+-- the fourth file that a command names
+abbrev pub fourth_in : List (List ℕ) → List ℕ
+fourth_in (command ∷ name ∷ second ∷ third ∷ fourth ∷ others) = fourth
+fourth_in words = []
+
 -- how many files a command names; they are the words behind its own
 abbrev pub files_in : Command → ℕ
 files_in (OverFile command) = 1
 files_in (OverPair command) = 2
 files_in Debug = 3
+files_in Probe = 4
+files_in (Board steps) = 3
 files_in (Feed bytes) = 0
 files_in (Sample count) = 0

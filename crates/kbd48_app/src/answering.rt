@@ -1,30 +1,25 @@
 //! From the words and the files to the answer: a text, or the refusal that stands in its place.
 
-ghost use Rattle.std.specs.Prelude.{◌≡◌, ◌⊎◌, ◌≤◌, Bool, List, map, string_bytes, length, true, Ok, Err, IfOk, MatchResult, Some};
+ghost use Rattle.std.specs.Prelude.{◌≡◌, ◌⊎◌, ◌≤◌, [], Bool, List, map, string_bytes, length, true, Ok, Err, Some};
 ghost use Rattle.io_edge.specs.Faults.{Rose};
 ghost use Rattle.io_edge.specs.Said.{shown};
 ghost use Rattle.kbd48_app.specs.Answers.{answer_of, MayAnswer, MayAnswerOf, MayEnd};
 ghost use Rattle.kbd48_app.specs.Kinds.{limit_of, kind_of};
-ghost use Rattle.kbd48_app.specs.Plans.{Gives, Fetches, assembled, compiled, debug_plan, file_said, keys_refusal};
-ghost use Rattle.kbd48_app.specs.Plans.{pair_plan, script_next};
+ghost use Rattle.kbd48_app.specs.Plans.{Gives, Fetches, assembled, compiled, file_said, pair_plan};
 ghost use Rattle.kbd48_app.specs.Spoken.{IsSpoken};
 ghost use Rattle.kbd48_app.specs.Telling.{MayTell};
 ghost use Rattle.kbd48_app.specs.Words.{command_of, leaves_probes};
 ghost use Rattle.fw_debug.specs.Probes.{Watch};
-ghost use Rattle.hexfile.specs.Hex.{hex_of};
-ghost use Rattle.hexfile.specs.declared.fault.HexFault.{HexFault};
 ghost use Rattle.layout_reader.specs.Documents.{layout_of_document};
-ghost use Rattle.layout_reader.specs.Faults.{Refusal as LayoutRefusal};
-ghost use Rattle.key_file.specs.Accepted.{IsAcceptedFor};
-ghost use Rattle.key_file.specs.KeyFile.{history_of};
-ghost use Rattle.key_file.specs.declared.fault.KeyFault.{KeyFault as KeysFault};
 ghost use Rattle.mcs48_asm.specs.Assembly.{assembly_of};
 ghost use Rattle.mcs48_isa.specs.Listing.{listing_of};
 
+use crate::boarding::over_board;
 use crate::certifying::certify;
-use crate::debugging::debug;
+use crate::debugging::{over_debug, over_probe};
 use crate::feeding::feed;
 use crate::fetching::fetch_file;
+use crate::judging::{history_in, image_in, layout_in};
 use crate::kind::Kind;
 use crate::refusal::Refusal;
 use crate::sampling::sample;
@@ -36,25 +31,13 @@ use crate::telling::tell;
 use crate::tracing::trace_wires;
 use crate::words::{Command, FileCommand, PairCommand, RunCommand, read_command};
 use fw_compile::compile;
-use fw_debug::{Probe, check_script};
-use hexfile::{read_hex, write_hex};
+use fw_debug::Probe;
+use hexfile::write_hex;
 use io_edge::{Shelf, Sink};
-use key_file::{History, KeyFault, read_history};
-use layout_reader::{Layout, LayoutFault, read_layout};
+use layout_reader::Layout;
 use mcs48_asm::{AsmFault, assemble};
 use mcs48_isa::{Image, list};
 use std::alloc::Global;
-
-/// The image of a HEX file.
-fn image_in(file: &[u8]) -> Result<Image, Refusal>
-    requires { length file.now ≤ 16384 }
-    ensures { MatchResult result (λ image. hex_of file.now ≡ Ok image.bytes) (λ refusal. (fault : HexFault) × (hex_of file.now ≡ Err fault) × (refusal ≡ Refusal.Hex fault)) }
-{
-    match read_hex(file) {
-        Ok(image) => Ok(image),
-        Err(fault) => Err(Refusal::Hex(fault)),
-    }
-}
 
 /// The listing of an image.
 fn listing(alloc: Global, image: &Image) -> Result<Vec<u8>, Refusal>
@@ -65,45 +48,13 @@ fn listing(alloc: Global, image: &Image) -> Result<Vec<u8>, Refusal>
 
 /// The HEX text of a source's image.
 fn assembled(alloc: Global, source: &[u8]) -> Result<Vec<u8>, Refusal>
-    requires { length source.now ≤ 262144 }
+    requires { length source.now ≤ limit_of Kind.Asm }
     ensures { MayAnswerOf (assembled (assembly_of source.now)) (answer_of result) }
 {
     match assemble(alloc, source) {
         Err(AsmFault::Line { line, number }) => Err(Refusal::Asm { line, number }),
         Err(AsmFault::Memory) => Err(Refusal::Memory),
         Ok(image) => write_hex(alloc, &image).map_err(|_| Refusal::Memory),
-    }
-}
-
-/// The layout of a document.
-fn layout_in(alloc: Global, document: &[u8]) -> Result<Layout, Refusal>
-    ensures { MatchResult result (λ layout. layout_of_document document.now ≡ Ok layout) (λ refusal. (refusal ≡ Refusal.Memory)
-        ⊎ ((fault : LayoutRefusal) × (layout_of_document document.now ≡ Err fault) × (refusal ≡ Refusal.Layout fault.entry fault.number))) }
-{
-    match read_layout(alloc, document) {
-        Ok(layout) => Ok(layout),
-        Err(LayoutFault::Entry { entry, number }) => Err(Refusal::Layout { entry, number }),
-        Err(LayoutFault::Memory) => Err(Refusal::Memory),
-    }
-}
-
-/// The history of a key file for a layout.
-fn history_in(alloc: Global, text: &[u8], layout: &Layout) -> Result<History, Refusal>
-    requires { length text.now ≤ 4194304 }
-    ensures history { MatchResult result (λ history. history_of layout.now text.now ≡ Ok history) (λ refusal. (refusal ≡ Refusal.Memory)
-        ⊎ ((fault : KeysFault) × (history_of layout.now text.now ≡ Err fault) × (refusal ≡ keys_refusal fault))) }
-    ensures accepted { IfOk result (IsAcceptedFor layout.now) }
-{
-    match read_history(alloc, text, layout) {
-        Ok(history) => Ok(history),
-        Err(KeyFault::Input { line, number }) => Err(Refusal::Keys { line, number }),
-        Err(KeyFault::Timing { line, number, a, b }) => Err(Refusal::Timing {
-            line,
-            number,
-            first: a,
-            second: b,
-        }),
-        Err(KeyFault::Memory) => Err(Refusal::Memory),
     }
 }
 
@@ -137,7 +88,7 @@ fn over_file<F: Shelf>(
 ) -> Result<Vec<u8>, Refusal>
     ensures ends { (probes : List Watch) (whole : Bool) →
         MayEnd (Fetches (kind_of command) name.now (λ bytes. Gives (file_said command bytes)))
-        (F.told shelf.old) (answer_of result) (F.told shelf.new) probes (record { probes = probes; whole = whole }) }
+        (F.told shelf.old) (answer_of result) (F.told shelf.new) probes (record { probes = probes; whole = whole; log = [] }) }
     ensures read { result ≡ Err Refusal.Read → Rose (F.faults shelf.old) (F.faults shelf.new) }
     ensures steady { (result ≡ Err Refusal.Read) ⊎ (F.faults shelf.new ≡ F.faults shelf.old) }
 {
@@ -153,7 +104,7 @@ fn over_cert<F: Shelf>(
     shelf: &mut F,
 ) -> Result<Vec<u8>, Refusal>
     ensures ends { (probes : List Watch) (whole : Bool) → MayEnd (pair_plan PairCommand.Certify image.now certificate.now)
-        (F.told shelf.old) (answer_of result) (F.told shelf.new) probes (record { probes = probes; whole = whole }) }
+        (F.told shelf.old) (answer_of result) (F.told shelf.new) probes (record { probes = probes; whole = whole; log = [] }) }
     ensures read { result ≡ Err Refusal.Read → Rose (F.faults shelf.old) (F.faults shelf.new) }
     ensures steady { (result ≡ Err Refusal.Read) ⊎ (F.faults shelf.new ≡ F.faults shelf.old) }
 {
@@ -171,7 +122,7 @@ fn over_text<F: Shelf>(
     shelf: &mut F,
 ) -> Result<Vec<u8>, Refusal>
     ensures ends { (probes : List Watch) (whole : Bool) → MayEnd (pair_plan PairCommand.Spell layout.now text.now)
-        (F.told shelf.old) (answer_of result) (F.told shelf.new) probes (record { probes = probes; whole = whole }) }
+        (F.told shelf.old) (answer_of result) (F.told shelf.new) probes (record { probes = probes; whole = whole; log = [] }) }
     ensures read { result ≡ Err Refusal.Read → Rose (F.faults shelf.old) (F.faults shelf.new) }
     ensures steady { (result ≡ Err Refusal.Read) ⊎ (F.faults shelf.new ≡ F.faults shelf.old) }
 {
@@ -188,10 +139,11 @@ fn expected(
     text: &[u8],
     probes: &mut Vec<Box<dyn Probe>>,
 ) -> Result<Vec<u8>, Refusal>
-    requires within { length text.now ≤ 4194304 }
-    ensures says { let before = map (λ b. watch b) probes.old.items in let after = map (λ b. watch b) probes.new.items in
+    requires within { length text.now ≤ limit_of Kind.Keys }
+    ensures says { let before = map (λ b. watch b) probes.old.items in
+        let after = map (λ b. watch b) probes.new.items in
         (whole : Bool) → MayTell RunCommand.Expect layout.now text.now (answer_of result) before
-        (record { probes = after; whole = whole }) }
+        (record { probes = after; whole = whole; log = [] }) }
     ensures unread { result ≡ Err Refusal.Read → ⊥ }
 {
     let history = history_in(alloc, text, layout)?;
@@ -210,10 +162,11 @@ fn told<K: Sink>(
     out: &mut K,
     probes: &mut Vec<Box<dyn Probe>>,
 ) -> Result<Spoken, Refusal>
-    requires within { length text.now ≤ 4194304 }
-    ensures says { let before = map (λ b. watch b) probes.old.items in let after = map (λ b. watch b) probes.new.items in
-        IsSpoken (λ answer whole. MayTell command layout.now text.now answer before
-        (record { probes = after; whole = whole }))
+    requires within { length text.now ≤ limit_of Kind.Keys }
+    ensures says { let before = map (λ b. watch b) probes.old.items in
+        let after = map (λ b. watch b) probes.new.items in
+        IsSpoken (λ answer whole log. MayTell command layout.now text.now answer before
+        (record { probes = after; whole = whole; log = log }))
         result (shown (K.taken out.old) (K.told out.old) (K.faults out.old))
         (shown (K.taken out.new) (K.told out.new) (K.faults out.new)) }
     ensures untouched { leaves_probes (Some (Command.OverPair (PairCommand.OverRun command))) ≡ true
@@ -238,9 +191,10 @@ fn over_run<F: Shelf, K: Sink>(
     out: &mut K,
     probes: &mut Vec<Box<dyn Probe>>,
 ) -> Result<Spoken, Refusal>
-    ensures ends { let before = map (λ b. watch b) probes.old.items in let after = map (λ b. watch b) probes.new.items in
-        IsSpoken (λ answer whole. MayEnd (pair_plan (PairCommand.OverRun command) layout.now keys.now) (F.told shelf.old)
-        answer (F.told shelf.new) before (record { probes = after; whole = whole }))
+    ensures ends { let before = map (λ b. watch b) probes.old.items in
+        let after = map (λ b. watch b) probes.new.items in
+        IsSpoken (λ answer whole log. MayEnd (pair_plan (PairCommand.OverRun command) layout.now keys.now) (F.told shelf.old)
+        answer (F.told shelf.new) before (record { probes = after; whole = whole; log = log }))
         result (shown (K.taken out.old) (K.told out.old) (K.faults out.old))
         (shown (K.taken out.new) (K.told out.new) (K.faults out.new)) }
     ensures untouched { leaves_probes (Some (Command.OverPair (PairCommand.OverRun command))) ≡ true
@@ -254,49 +208,6 @@ fn over_run<F: Shelf, K: Sink>(
     told(alloc, command, &layout, &text, out, probes)
 }
 
-/// `debug`, once the layout and the key file are judged: fetches the script, judges it, and obeys its lines.
-fn over_script<F: Shelf>(
-    alloc: Global,
-    layout: &Layout,
-    history: History,
-    script: &str,
-    shelf: &mut F,
-    probes: &mut Vec<Box<dyn Probe>>,
-) -> Result<Vec<u8>, Refusal>
-    ensures ends { (whole : Bool) → MayEnd (script_next script.now layout.now history) (F.told shelf.old)
-        (answer_of result) (F.told shelf.new) (map (λ b. watch b) probes.old.items)
-        (record { probes = map (λ b. watch b) probes.new.items; whole = whole }) }
-    ensures read { result ≡ Err Refusal.Read → Rose (F.faults shelf.old) (F.faults shelf.new) }
-    ensures steady { (result ≡ Err Refusal.Read) ⊎ (F.faults shelf.new ≡ F.faults shelf.old) }
-{
-    let script = fetch_file(alloc, shelf, script, Kind::Script)?;
-    let verdict = check_script(&script, probes.len());
-    debug(alloc, layout, history, &script, verdict, probes)
-}
-
-/// `debug`: fetches the layout, the key file and the script, judges each before the next is fetched, and then obeys the
-/// script's lines.
-fn over_debug<F: Shelf>(
-    alloc: Global,
-    layout: &str,
-    keys: &str,
-    script: &str,
-    shelf: &mut F,
-    probes: &mut Vec<Box<dyn Probe>>,
-) -> Result<Vec<u8>, Refusal>
-    ensures ends { (whole : Bool) → MayEnd (debug_plan layout.now keys.now script.now) (F.told shelf.old)
-        (answer_of result) (F.told shelf.new) (map (λ b. watch b) probes.old.items)
-        (record { probes = map (λ b. watch b) probes.new.items; whole = whole }) }
-    ensures read { result ≡ Err Refusal.Read → Rose (F.faults shelf.old) (F.faults shelf.new) }
-    ensures steady { (result ≡ Err Refusal.Read) ⊎ (F.faults shelf.new ≡ F.faults shelf.old) }
-{
-    let document = fetch_file(alloc, shelf, layout, Kind::Layout)?;
-    let layout = layout_in(alloc, &document)?;
-    let text = fetch_file(alloc, shelf, keys, Kind::Keys)?;
-    let history = history_in(alloc, &text, &layout)?;
-    over_script(alloc, &layout, history, script, shelf, probes)
-}
-
 /// A command over two files.
 fn over_pair<F: Shelf, K: Sink>(
     alloc: Global,
@@ -307,9 +218,10 @@ fn over_pair<F: Shelf, K: Sink>(
     out: &mut K,
     probes: &mut Vec<Box<dyn Probe>>,
 ) -> Result<Spoken, Refusal>
-    ensures ends { let before = map (λ b. watch b) probes.old.items in let after = map (λ b. watch b) probes.new.items in
-        IsSpoken (λ answer whole. MayEnd (pair_plan command first.now second.now) (F.told shelf.old)
-        answer (F.told shelf.new) before (record { probes = after; whole = whole }))
+    ensures ends { let before = map (λ b. watch b) probes.old.items in
+        let after = map (λ b. watch b) probes.new.items in
+        IsSpoken (λ answer whole log. MayEnd (pair_plan command first.now second.now) (F.told shelf.old)
+        answer (F.told shelf.new) before (record { probes = after; whole = whole; log = log }))
         result (shown (K.taken out.old) (K.told out.old) (K.faults out.old))
         (shown (K.taken out.new) (K.told out.new) (K.faults out.new)) }
     ensures untouched { leaves_probes (Some (Command.OverPair command)) ≡ true
@@ -334,9 +246,10 @@ pub fn answer<F: Shelf, K: Sink>(
     out: &mut K,
     probes: &mut Vec<Box<dyn Probe>>,
 ) -> Result<Spoken, Refusal>
-    ensures ends { let before = map (λ b. watch b) probes.old.items in let after = map (λ b. watch b) probes.new.items in
-        IsSpoken (λ answer whole. MayAnswer (map string_bytes words.now) (F.told shelf.old)
-        answer (F.told shelf.new) before (record { probes = after; whole = whole }))
+    ensures ends { let before = map (λ b. watch b) probes.old.items in
+        let after = map (λ b. watch b) probes.new.items in
+        IsSpoken (λ answer whole log. MayAnswer (map string_bytes words.now) (F.told shelf.old)
+        answer (F.told shelf.new) before (record { probes = after; whole = whole; log = log }))
         result (shown (K.taken out.old) (K.told out.old) (K.faults out.old))
         (shown (K.taken out.new) (K.told out.new) (K.faults out.new)) }
     ensures untouched { leaves_probes (command_of (map string_bytes words.now)) ≡ true
@@ -354,6 +267,12 @@ pub fn answer<F: Shelf, K: Sink>(
         Some(Command::Debug) => {
             to_say(over_debug(alloc, &words[1], &words[2], &words[3], shelf, probes))
         }
+        Some(Command::Probe) => to_say(over_probe(
+            alloc, &words[1], &words[2], &words[3], &words[4], shelf, probes,
+        )),
+        Some(Command::Board { steps }) => over_board(
+            alloc, steps, &words[1], &words[2], &words[3], shelf, out, probes,
+        ),
         Some(Command::Sample(strokes)) => sample(alloc, strokes.count(), out, probes),
     }
 }

@@ -1,6 +1,8 @@
 //! `cert`: what a certificate without a fault says.
 
 ghost use Rattle.std.specs.Prelude.{◌≡◌, ◌≤◌, length, IfOk};
+ghost use Rattle.kbd48_app.specs.declared.kind.Kind.{Kind};
+ghost use Rattle.kbd48_app.specs.Kinds.{limit_of};
 ghost use Rattle.kbd48_app.specs.Answers.{answer_of, MayAnswerCert};
 ghost use Rattle.kbd48_app.specs.CertTexts.{proved_text};
 
@@ -24,7 +26,7 @@ fn proved_line(alloc: Global, proved: Proved) -> Result<Vec<u8>, AllocError>
 
 /// Judges a certificate for an image.
 pub fn certify(alloc: Global, image: &Image, text: &[u8]) -> Result<Vec<u8>, Refusal>
-    requires { length text.now ≤ 65536 }
+    requires { length text.now ≤ limit_of Kind.Cert }
     ensures says { MayAnswerCert image.now.bytes text.now (answer_of result) }
 {
     match check_cert(alloc, image, text) {

@@ -43,7 +43,8 @@ fn hear(
     ensures empty { controller.new.output_full ≡ false }
     ensures controller { controller.new ≡ (desk_after_read (after_received controller.old byte true) bios.old).controller }
     ensures bios { bios.new ≡ (desk_after_read (after_received controller.old byte true) bios.old).bios }
-    ensures said { OnOk result (text.new.items ≡ text.old.items ++ lines_of (said_of_read (after_received controller.old byte true) bios.old)) }
+    ensures said { OnOk result (text.new.items
+        ≡ text.old.items ++ lines_of (said_of_read (after_received controller.old byte true) bios.old)) }
 {
     match controller.receive(byte, true) {
         Received::Put => {}

@@ -1,8 +1,11 @@
 //! Laws over layers below that don't know each other.
 
+ghost use Rattle.kbd48_app.specs.BoardTells.{BoardTellsRun};
 ghost use Rattle.kbd48_app.specs.ListingLaw.{ListAndAsmAreInverse};
 ghost use Rattle.kbd48_app.specs.PrintAlike.{RunAndExpectPrintAlike};
 ghost use Rattle.kbd48_app.specs.TranslationLaw.{EachKeyGivesItsScanCode};
+
+use board_run::boards_tell_runs;
 
 /// With the translate bit set and the break mark clear, translation gives for the keyboard code of each of the 84 keys
 /// its scan code. Nothing is done when it is called; the law is its contract.
@@ -21,3 +24,12 @@ pub fn list_and_asm_are_inverse()
 pub fn run_and_expect_print_alike()
     ensures alike { RunAndExpectPrintAlike }
 {}
+
+/// `board` of the image that `compile` makes of a layout, and `run` of the layout without options, under a history that is
+/// accepted for it: the log of `board` has a line for each item that `run` says up to the end stamp, in the same order, with
+/// its stamp in place of its tick, and nothing follows it. Nothing is done when it is called; the law is its contract.
+pub fn board_tells_run()
+    ensures tell { BoardTellsRun }
+{
+    boards_tell_runs();
+}

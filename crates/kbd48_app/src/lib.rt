@@ -7,12 +7,15 @@
 #![tactic(auto)]
 
 mod answering;
+mod boarding;
 mod bytes;
 mod certifying;
 mod debugging;
+mod end_state;
 mod exit;
 mod feeding;
 mod fetching;
+mod judging;
 mod kind;
 mod law;
 mod refusal;
@@ -28,6 +31,9 @@ mod tracing;
 mod words;
 
 pub use exit::Exit;
-pub use law::{each_key_gives_its_scan_code, list_and_asm_are_inverse, run_and_expect_print_alike};
+pub use law::{
+    board_tells_run, each_key_gives_its_scan_code, list_and_asm_are_inverse,
+    run_and_expect_print_alike,
+};
 pub use top::kbd48;
 pub use words::form;

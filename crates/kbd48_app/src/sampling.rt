@@ -1,6 +1,6 @@
 //! `sample`: a run of the sample layout under so many strokes of keys, and what it counts.
 
-ghost use Rattle.std.specs.Prelude.{◌≡◌, ◌≤◌, map, Err, IfOk, MatchResult, Ok};
+ghost use Rattle.std.specs.Prelude.{◌≡◌, ◌≤◌, [], map, Err, IfOk, MatchResult, Ok};
 ghost use Rattle.io_edge.specs.Said.{shown};
 ghost use Rattle.subsystem.specs.Counts.{none_counted, with_lines};
 ghost use Rattle.key_file.specs.Accepted.{IsAccepted, IsAcceptedFor};
@@ -146,8 +146,9 @@ pub fn sample<K: Sink>(
     probes: &mut Vec<Box<dyn Probe>>,
 ) -> Result<Spoken, Refusal>
     requires few { count ≤ 10000 }
-    ensures says { let before = map (λ b. watch b) probes.old.items in let after = map (λ b. watch b) probes.new.items in
-        IsSpoken (λ answer whole. MayAnswerSample count answer before after)
+    ensures says { let before = map (λ b. watch b) probes.old.items in
+        let after = map (λ b. watch b) probes.new.items in
+        IsSpoken (λ answer whole log. MayAnswerSample count answer before after × (log ≡ []))
         result (shown (K.taken out.old) (K.told out.old) (K.faults out.old))
         (shown (K.taken out.new) (K.told out.new) (K.faults out.new)) }
     ensures unread { result ≡ Err Refusal.Read → ⊥ }

@@ -5,6 +5,7 @@ ghost use Rattle.kbd48_app.specs.Spoken.{still_to_say};
 
 use crate::refusal::Refusal;
 use io_edge::SinkFault;
+use mcs48_core::Stuck;
 
 /// What a command answers that isn't refused.
 #[derive(Debug, Drop)]
@@ -13,6 +14,9 @@ pub enum Spoken {
     Text(Vec<u8>),
     /// A text that was said line by line as it arose, all of it or up to a put that failed.
     Said(Result<(), SinkFault>),
+    /// A log that was said line by line as it arose, all of it, and the byte without an instruction at which its run got
+    /// stuck, of which nothing is said yet.
+    Stuck(Stuck),
 }
 
 /// A text or a refusal, nothing of which is said yet.

@@ -3,18 +3,20 @@
 
 ghost use Rattle.std.specs.Prelude.{◌≡◌, ◌≤◌, [], if◌then◌else◌, Err, length, map, OnErr, OnOk};
 ghost use Rattle.io_edge.specs.Said.{IsBrokenOff, IsSaid, shown};
-ghost use Rattle.mcs48_core.specs.StateText.{state_text_of};
 ghost use Rattle.subsystem.specs.Ending.{history_of};
 ghost use Rattle.subsystem.specs.Looking.{HaveLookedAtSome};
 ghost use Rattle.subsystem.specs.Running.{IsOutcome, Outcome};
 ghost use Rattle.key_file.specs.Accepted.{IsAccepted};
 ghost use Rattle.key_file.specs.KeyFile.{key_fault};
+ghost use Rattle.kbd48_app.specs.declared.kind.Kind.{Kind};
+ghost use Rattle.kbd48_app.specs.Kinds.{limit_of};
 ghost use Rattle.kbd48_app.specs.Plans.{keys_refusal};
 ghost use Rattle.kbd48_app.specs.declared.words.RunCommand.{RunCommand};
 ghost use Rattle.kbd48_app.specs.RunTexts.{HaveLookedAtAll, run_text, start_line, start_lines};
 ghost use Rattle.kbd48_app.specs.Spoken.{IsSpoken};
 ghost use Rattle.kbd48_app.specs.Telling.{MayTell};
 
+use crate::end_state::put_end;
 use crate::refusal::Refusal;
 use crate::spoken::Spoken;
 use arrayvec::ArrayVec;
@@ -22,10 +24,9 @@ use fw_debug::Probe;
 use io_edge::{Sink, SinkFault, say};
 use key_file::{Feed, FileFault, check_history};
 use layout_reader::Layout;
-use mcs48_core::state_line;
 use short_text::{append, begun};
 use std::alloc::Global;
-use subsystem::{Ended, Engine, runs_are_expected};
+use subsystem::{Engine, runs_are_expected};
 
 /// The line of a tick start: its number, counted from 0, and its stamp, in cycles.
 fn start_line(number: usize, stamp: u64) -> ArrayVec<u8, 64>
@@ -67,49 +68,6 @@ fn put_ticks<K: Sink>(out: &mut K, starts: &[u64], wanted: bool) -> Result<(), S
     put_starts(out, starts)
 }
 
-/// The five lines of the state at a run's end.
-fn end_lines(ended: &Ended) -> ArrayVec<u8, 320>
-    ensures { result.items ≡ state_text_of ended.now.end ended.now.steps ended.now.cycles }
-{
-    let mut text = ArrayVec::new();
-    append(
-        &mut text,
-        &state_line(ended.end(), ended.steps(), ended.cycles(), 0),
-    );
-    append(
-        &mut text,
-        &state_line(ended.end(), ended.steps(), ended.cycles(), 1),
-    );
-    append(
-        &mut text,
-        &state_line(ended.end(), ended.steps(), ended.cycles(), 2),
-    );
-    append(
-        &mut text,
-        &state_line(ended.end(), ended.steps(), ended.cycles(), 3),
-    );
-    append(
-        &mut text,
-        &state_line(ended.end(), ended.steps(), ended.cycles(), 4),
-    );
-    text
-}
-
-/// Puts the state at a run's end, where it is wanted.
-fn put_end<K: Sink>(out: &mut K, ended: &Ended, wanted: bool) -> Result<(), SinkFault>
-    ensures said { OnOk result (IsSaid (shown (K.taken out.old) (K.told out.old) (K.faults out.old))
-        (shown (K.taken out.new) (K.told out.new) (K.faults out.new))
-        (if wanted then state_text_of ended.now.end ended.now.steps ended.now.cycles else [])) }
-    ensures broken { OnErr result (IsBrokenOff (shown (K.taken out.old) (K.told out.old) (K.faults out.old))
-        (shown (K.taken out.new) (K.told out.new) (K.faults out.new))
-        (if wanted then state_text_of ended.now.end ended.now.steps ended.now.cycles else [])) }
-{
-    if !wanted {
-        return Ok(());
-    }
-    say(out, &end_lines(ended))
-}
-
 /// Makes a run and puts its log as it arises, then its tick starts where they are wanted, and then the state at its end
 /// where that is. It takes no memory.
 fn put_run<F: Feed, K: Sink>(
@@ -132,7 +90,7 @@ fn put_run<F: Feed, K: Sink>(
 {
     let ended = engine.run_to(out, probes)?;
     put_ticks(out, ended.starts(), ticks)?;
-    put_end(out, &ended, steps)
+    put_end(out, ended.end(), ended.steps(), ended.cycles(), steps)
 }
 
 /// The refusal of a key file, by its first fault.
@@ -161,10 +119,11 @@ pub fn stream<K: Sink>(
     out: &mut K,
     probes: &mut Vec<Box<dyn Probe>>,
 ) -> Result<Spoken, Refusal>
-    requires within { length text.now ≤ 4194304 }
-    ensures says { let before = map (λ b. watch b) probes.old.items in let after = map (λ b. watch b) probes.new.items in
-        IsSpoken (λ answer whole. MayTell (RunCommand.Log ticks steps) layout.now text.now answer before
-        (record { probes = after; whole = whole }))
+    requires within { length text.now ≤ limit_of Kind.Keys }
+    ensures says { let before = map (λ b. watch b) probes.old.items in
+        let after = map (λ b. watch b) probes.new.items in
+        IsSpoken (λ answer whole log. MayTell (RunCommand.Log ticks steps) layout.now text.now answer before
+        (record { probes = after; whole = whole; log = log }))
         result (shown (K.taken out.old) (K.told out.old) (K.faults out.old))
         (shown (K.taken out.new) (K.told out.new) (K.faults out.new)) }
     ensures unread { result ≡ Err Refusal.Read → ⊥ }

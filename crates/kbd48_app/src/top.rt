@@ -1,22 +1,23 @@
 //! The top call.
 
-ghost use Rattle.std.specs.Prelude.{◌≡◌, ℕ, ◌-◌, ◌^◌, ◌<◌, ◌⊎◌, List, length, map, string_bytes, true, false, None, Some, IfSome};
+ghost use Rattle.std.specs.Prelude.{◌≡◌, ℕ, ◌-◌, ◌^◌, ◌<◌, ◌⊎◌, List, length, map, true, false, None, Some, IfSome};
 ghost use Rattle.hexfile.specs.declared.fault.HexFault.{HexFault};
 ghost use Rattle.io_edge.specs.Faults.{Rose};
 ghost use Rattle.io_edge.specs.Said.{TakesAll, said, shown};
 ghost use Rattle.layout_reader.specs.Faults.{Refusal as LayoutRefusal};
 ghost use Rattle.kbd48_app.specs.declared.kind.Kind.{Kind};
 ghost use Rattle.kbd48_app.specs.Answers.{MayAnswer};
+ghost use Rattle.kbd48_app.specs.Asked.{asked, planned, texts};
 ghost use Rattle.kbd48_app.specs.Causes.{HasAsmFault, HasCertFault, HasFileFault, HasHexFault, HasKeysFault};
 ghost use Rattle.kbd48_app.specs.Causes.{HasLayoutFault, HasScriptFault, HasTextFault, HasTimingFault, IsStuck, IsUntimely};
 ghost use Rattle.kbd48_app.specs.Causes.{MayExit};
 ghost use Rattle.kbd48_app.specs.Complete.{IsFaultless, IsLeft};
-ghost use Rattle.kbd48_app.specs.Plans.{Answer, plan};
+ghost use Rattle.kbd48_app.specs.Plans.{Answer};
 ghost use Rattle.kbd48_app.specs.Reached.{IsTooLong, IsUnserved, fetches_of, Makes, may_lack};
-ghost use Rattle.kbd48_app.specs.Refusals.{line_of};
+ghost use Rattle.kbd48_app.specs.Refusals.{exit_of, line_of};
 ghost use Rattle.kbd48_app.specs.Says.{Says, is_whole};
 ghost use Rattle.kbd48_app.specs.Spoken.{Concludes, Prints};
-ghost use Rattle.kbd48_app.specs.Words.{command_of, leaves_probes, takes_memory_first};
+ghost use Rattle.kbd48_app.specs.Words.{leaves_probes, takes_memory_first};
 
 use crate::answering::answer;
 use crate::exit::Exit;
@@ -37,6 +38,15 @@ fn print<K: Sink>(out: &mut K, text: &[u8], exit: Exit) -> Exit
     }
 }
 
+/// Prints the line of a refusal, and ends with its exit, or with `Write` where the sink fails.
+fn print_refusal<K: Sink>(out: &mut K, refusal: &Refusal) -> Exit
+    ensures says { Prints (line_of refusal.now) (exit_of refusal.now)
+        (shown (K.taken out.old) (K.told out.old) (K.faults out.old))
+        (shown (K.taken out.new) (K.told out.new) (K.faults out.new)) result }
+{
+    print(out, &refusal.line(), refusal.exit())
+}
+
 /// Prints what is left of an answer to be said, and ends with its exit, or with `Write` where the sink fails or has
 /// failed.
 fn conclude<K: Sink>(out: &mut K, answer: &Result<Spoken, Refusal>) -> Exit
@@ -47,7 +57,8 @@ fn conclude<K: Sink>(out: &mut K, answer: &Result<Spoken, Refusal>) -> Exit
         Ok(Spoken::Text(text)) => print(out, text, Exit::Done),
         Ok(Spoken::Said(Ok(()))) => Exit::Done,
         Ok(Spoken::Said(Err(_))) => Exit::Write,
-        Err(refusal) => print(out, &refusal.line(), refusal.exit()),
+        Ok(Spoken::Stuck(stuck)) => print_refusal(out, &Refusal::Stuck(*stuck)),
+        Err(refusal) => print_refusal(out, refusal),
     }
 }
 
@@ -55,12 +66,13 @@ fn conclude<K: Sink>(out: &mut K, answer: &Result<Spoken, Refusal>) -> Exit
 ///
 /// Words outside the accepted forms are refused first. Then the files that the words name are fetched and judged, in
 /// the order of the words, each before the next is fetched; the first refusal ends the call. All that is said goes to
-/// the sink line by line: each line is offered whole in one `put`, and what that didn't take of it again. `run` and
-/// `trace` put each line as it arises. A sink that fails ends the call with `Write`; want of memory with `Memory`, which
-/// never comes for words outside the forms, and in `run`, `trace` and `sample` only before the run's first step.
+/// the sink line by line: each line is offered whole in one `put`, and what that didn't take of it again. `run`, `trace`
+/// and `board` put each line as it arises. A sink that fails ends the call with `Write`; want of memory with `Memory`,
+/// which never comes for words outside the forms, and in `run`, `trace`, `board` and `sample` only before the run's
+/// first step.
 ///
-/// At each step of the run of `run`, `expect` and `sample` each probe looks once. `debug` obeys a script with them. Nothing
-/// else is done with them.
+/// `run`, `expect`, `board` and `sample` leave each probe as one look at each state of their run does. `debug` and
+/// `probe` obey a script with them. Nothing else is done with them.
 pub fn kbd48<F: Shelf, K: Sink>(
     alloc: Global,
     words: &[String],
@@ -69,81 +81,84 @@ pub fn kbd48<F: Shelf, K: Sink>(
     probes: &mut Vec<Box<dyn Probe>>,
 ) -> Exit
     // What is printed, and how the probes are left: the text of an answer that the words, the shelf and the probes may
-    // give, put line by line; where all of it is taken, a run's probes have looked at each of its states.
-    ensures says { let before = map (λ b. watch b) probes.old.items in let after = map (λ b. watch b) probes.new.items in
-        (answer : Answer)
-        × MayAnswer (map string_bytes words.now) (F.told shelf.old) answer (F.told shelf.new) before
-        (record { probes = after; whole = is_whole result })
-        × Says answer (shown (K.taken out.old) (K.told out.old) (K.faults out.old))
+    // give, put line by line, behind a log in `board` alone; where all of it is taken, a run's probes are as after a
+    // look at each of its states.
+    ensures says { let before = map (λ b. watch b) probes.old.items in
+        let after = map (λ b. watch b) probes.new.items in
+        (log : List ℕ) × (answer : Answer)
+        × MayAnswer (texts words.now) (F.told shelf.old) answer (F.told shelf.new) before
+        (record { probes = after; whole = is_whole result; log = log })
+        × Says log answer (shown (K.taken out.old) (K.told out.old) (K.faults out.old))
         (shown (K.taken out.new) (K.told out.new) (K.faults out.new)) result }
     // The probes: words without a run leave them as they are.
-    ensures untouched { leaves_probes (command_of (map string_bytes words.now)) ≡ true
+    ensures untouched { leaves_probes (asked words.now) ≡ true
         → map (λ b. watch b) probes.new.items ≡ map (λ b. watch b) probes.old.items }
     // Words: exactly where the words have no form.
-    ensures words { command_of (map string_bytes words.now) ≡ None → (result ≡ Exit.Words) ⊎ (result ≡ Exit.Write) }
-    ensures words_only { result ≡ Exit.Words → command_of (map string_bytes words.now) ≡ None }
+    ensures words { asked words.now ≡ None → (result ≡ Exit.Words) ⊎ (result ≡ Exit.Write) }
+    ensures words_only { result ≡ Exit.Words → asked words.now ≡ None }
     // Read: only where the shelf's count of faults rose, and where it did, nothing but Read or Write comes.
     ensures read { result ≡ Exit.Read → Rose (F.faults shelf.old) (F.faults shelf.new) }
     ensures fetch_failed { F.faults shelf.old < F.faults shelf.new → (result ≡ Exit.Read) ⊎ (result ≡ Exit.Write) }
     // Read, of a shelf that tells its files: exactly where a fetch that is reached fails.
     ensures unserved { IfSome (F.told shelf.old) (λ told.
-        IsUnserved (plan (map string_bytes words.now)) told → MayExit Exit.Read result) }
+        IsUnserved (planned words.now) told → MayExit Exit.Read result) }
     ensures unserved_only { IfSome (F.told shelf.old) (λ told.
-        result ≡ Exit.Read → IsUnserved (plan (map string_bytes words.now)) told) }
+        result ≡ Exit.Read → IsUnserved (planned words.now) told) }
     // Input, of a shelf that tells its files: exactly where a file that is reached is too long, or has a fault.
     ensures too_long { IfSome (F.told shelf.old) (λ told. (kind : Kind) →
-        IsTooLong kind (plan (map string_bytes words.now)) told → MayExit Exit.Input result) }
+        IsTooLong kind (planned words.now) told → MayExit Exit.Input result) }
     ensures hex { IfSome (F.told shelf.old) (λ told. (fault : HexFault) →
-        HasHexFault fault (plan (map string_bytes words.now)) told → MayExit Exit.Input result) }
+        HasHexFault fault (planned words.now) told → MayExit Exit.Input result) }
     ensures asm { IfSome (F.told shelf.old) (λ told. (fault : ℕ × ℕ) →
-        HasAsmFault fault (plan (map string_bytes words.now)) told → MayExit Exit.Input result) }
+        HasAsmFault fault (planned words.now) told → MayExit Exit.Input result) }
     ensures layout { IfSome (F.told shelf.old) (λ told. (fault : LayoutRefusal) →
-        HasLayoutFault fault (plan (map string_bytes words.now)) told → MayExit Exit.Input result) }
+        HasLayoutFault fault (planned words.now) told → MayExit Exit.Input result) }
     ensures cert { IfSome (F.told shelf.old) (λ told. (fault : ℕ × ℕ) →
-        HasCertFault fault (plan (map string_bytes words.now)) told → MayExit Exit.Input result) }
+        HasCertFault fault (planned words.now) told → MayExit Exit.Input result) }
     ensures keys { IfSome (F.told shelf.old) (λ told. (fault : ℕ × ℕ) →
-        HasKeysFault fault (plan (map string_bytes words.now)) told → MayExit Exit.Input result) }
+        HasKeysFault fault (planned words.now) told → MayExit Exit.Input result) }
     ensures script { IfSome (F.told shelf.old) (λ told. (fault : ℕ × ℕ) →
-        HasScriptFault (length probes.old.items) fault (plan (map string_bytes words.now)) told
+        HasScriptFault (length probes.old.items) fault (planned words.now) told
         → MayExit Exit.Input result) }
     ensures text { IfSome (F.told shelf.old) (λ told. (fault : ℕ × ℕ) →
-        HasTextFault fault (plan (map string_bytes words.now)) told → MayExit Exit.Input result) }
+        HasTextFault fault (planned words.now) told → MayExit Exit.Input result) }
     ensures input_only { IfSome (F.told shelf.old) (λ told.
-        result ≡ Exit.Input → HasFileFault (length probes.old.items) (plan (map string_bytes words.now)) told) }
+        result ≡ Exit.Input → HasFileFault (length probes.old.items) (planned words.now) told) }
     // Timing, of a shelf that tells its files: exactly where a key file that is reached has a fault of time first.
     ensures timing { IfSome (F.told shelf.old) (λ told. (fault : ℕ × ℕ) (stamps : ℕ × ℕ) →
-        HasTimingFault fault stamps (plan (map string_bytes words.now)) told → MayExit Exit.Timing result) }
+        HasTimingFault fault stamps (planned words.now) told → MayExit Exit.Timing result) }
     ensures timing_only { IfSome (F.told shelf.old) (λ told.
-        result ≡ Exit.Timing → IsUntimely (plan (map string_bytes words.now)) told) }
-    // Stuck, of a shelf that tells its files: exactly where a step of `step` meets a byte without an instruction.
-    ensures stuck { IfSome (F.told shelf.old) (λ told. let texts = map string_bytes words.now in
-        IsStuck (command_of texts) (plan texts) told → MayExit Exit.Stuck result) }
-    ensures stuck_only { IfSome (F.told shelf.old) (λ told. let texts = map string_bytes words.now in
-        result ≡ Exit.Stuck → IsStuck (command_of texts) (plan texts) told) }
+        result ≡ Exit.Timing → IsUntimely (planned words.now) told) }
+    // Stuck, of a shelf that tells its files: exactly where a step of `step`, or of the run of `board`, would execute a
+    // byte without an instruction.
+    ensures stuck { IfSome (F.told shelf.old) (λ told.
+        IsStuck (asked words.now) (planned words.now) told → MayExit Exit.Stuck result) }
+    ensures stuck_only { IfSome (F.told shelf.old) (λ told.
+        result ≡ Exit.Stuck → IsStuck (asked words.now) (planned words.now) told) }
     // Memory: never where the first fetch fails, or finds a file that is too long.
     ensures memory { IfSome (F.told shelf.old) (λ told.
-        result ≡ Exit.Memory → may_lack (plan (map string_bytes words.now)) told ≡ true) }
-    // Memory, in `run`, `trace` and `sample`: only before the run's first step. No probe has looked, and one line is all
-    // that is said.
-    ensures memory_first { takes_memory_first (command_of (map string_bytes words.now)) ≡ true → result ≡ Exit.Memory
+        result ≡ Exit.Memory → may_lack (planned words.now) told ≡ true) }
+    // Memory, in `run`, `trace`, `board` and `sample`: only before the run's first step. No probe has looked, and one
+    // line is all that is said.
+    ensures memory_first { takes_memory_first (asked words.now) ≡ true → result ≡ Exit.Memory
         → (map (λ b. watch b) probes.new.items ≡ map (λ b. watch b) probes.old.items)
         × TakesAll (K.taken out.old) (K.taken out.new) (line_of Refusal.Memory) }
     // Write: only where the sink's count of faults rose, and where it did, nothing else comes.
     ensures write { result ≡ Exit.Write → Rose (K.faults out.old) (K.faults out.new) }
     ensures put_failed { K.faults out.old < K.faults out.new → result ≡ Exit.Write }
-    // Where nothing stands in the way, and no put failed, only want of memory is left, or in `step` a byte without an
-    // instruction.
-    ensures complete { IsFaultless (length probes.old.items) (map string_bytes words.now) (F.told shelf.old)
+    // Where nothing stands in the way, and no put failed, only want of memory is left, or in `step` and `board` a byte
+    // without an instruction.
+    ensures complete { IsFaultless (length probes.old.items) (texts words.now) (F.told shelf.old)
         → K.faults out.new ≡ K.faults out.old → K.faults out.old < 2 ^ 64 - 1
-        → IsLeft (command_of (map string_bytes words.now)) result }
+        → IsLeft (asked words.now) result }
     // The same, of a sink that tells itself, where no put of what was said failed.
     ensures complete_told { IfSome (K.told out.old) (λ sink.
-        IsFaultless (length probes.old.items) (map string_bytes words.now) (F.told shelf.old)
+        IsFaultless (length probes.old.items) (texts words.now) (F.told shelf.old)
         → (text : List ℕ) × (K.told out.new ≡ Some (said text sink).sink)
-        × ((said text sink).failed ≡ false → IsLeft (command_of (map string_bytes words.now)) result)) }
+        × ((said text sink).failed ≡ false → IsLeft (asked words.now) result)) }
     // The fetches: those that the words come to, in their order, and no others.
     ensures fetches { IfSome (F.told shelf.old) (λ told.
-        Makes (fetches_of (plan (map string_bytes words.now)) told) told (F.told shelf.new) result) }
+        Makes (fetches_of (planned words.now) told) told (F.told shelf.new) result) }
 {
     let answer = answer(alloc, words, shelf, out, probes);
     conclude(out, &answer)

@@ -3,6 +3,8 @@
 ghost use Rattle.std.specs.Prelude.{◌≡◌, ◌≤◌, List, Err, length};
 ghost use Rattle.fw_debug.specs.Probes.{Watch};
 ghost use Rattle.io_edge.specs.Said.{shown};
+ghost use Rattle.kbd48_app.specs.declared.kind.Kind.{Kind};
+ghost use Rattle.kbd48_app.specs.Kinds.{limit_of};
 ghost use Rattle.kbd48_app.specs.declared.words.RunCommand.{RunCommand};
 ghost use Rattle.kbd48_app.specs.Spoken.{IsSpoken};
 ghost use Rattle.kbd48_app.specs.Telling.{MayTell};
@@ -25,10 +27,10 @@ pub fn trace_wires<K: Sink>(
     text: &[u8],
     out: &mut K,
 ) -> Result<Spoken, Refusal>
-    requires within { length text.now ≤ 4194304 }
+    requires within { length text.now ≤ limit_of Kind.Keys }
     ensures says { (probes : List Watch) →
-        IsSpoken (λ answer whole. MayTell RunCommand.Trace layout.now text.now answer probes
-        (record { probes = probes; whole = whole }))
+        IsSpoken (λ answer whole log. MayTell RunCommand.Trace layout.now text.now answer probes
+        (record { probes = probes; whole = whole; log = log }))
         result (shown (K.taken out.old) (K.told out.old) (K.faults out.old))
         (shown (K.taken out.new) (K.told out.new) (K.faults out.new)) }
     ensures unread { result ≡ Err Refusal.Read → ⊥ }

@@ -4,8 +4,9 @@ ghost use Rattle.std.specs.Prelude.{◌≡◌, ◌<◌, ◌≤◌, codes, length
 ghost use Rattle.std.specs.Str.{bytes_eq};
 ghost use Rattle.std.specs.Char.{is_ascii_digit};
 ghost use Rattle.std.specs.List.{list_all};
-ghost use Rattle.kbd48_app.specs.Words.{is_name, is_short_number, count_of, step_of, named_of, pair_of, debug_of};
-ghost use Rattle.kbd48_app.specs.Words.{are_both, log_of, run_of, feed_of, sample_of, command_of, files_in, is_form};
+ghost use Rattle.kbd48_app.specs.Words.{is_name, is_short_number, count_of, step_of, named_of, pair_of, debug_of, probe_of};
+ghost use Rattle.kbd48_app.specs.Words.{are_both, board_of, board_option_of};
+ghost use Rattle.kbd48_app.specs.Words.{log_of, run_of, feed_of, sample_of, command_of, files_in, is_form};
 
 use crate::bytes::KeyboardBytes;
 use crate::kind::Kind;
@@ -58,6 +59,12 @@ pub enum Command {
     OverPair(PairCommand),
     /// `debug` NAME NAME NAME: a layout, a key file for it, and a script. They are the three words behind the command.
     Debug,
+    /// `probe` NAME NAME NAME NAME: a HEX image, a layout, a key file for it, and a script. They are the four words behind
+    /// the command.
+    Probe,
+    /// `board` NAME NAME NAME and its option: a HEX image, a layout, and a key file for it. They are the three words behind
+    /// the command.
+    Board { steps: bool },
     /// `words` BYTE ..
     Feed(KeyboardBytes),
     /// `sample` COUNT
@@ -166,6 +173,20 @@ fn read_debug(words: &[String]) -> Option<Command>
     }
 }
 
+/// `probe` NAME NAME NAME NAME
+fn read_probe(words: &[String]) -> Option<Command>
+    ensures command { result ≡ probe_of (map string_bytes words.now) }
+    ensures named { IfSome result (λ command. files_in command ≤ length words.now) }
+{
+    match words {
+        [image, layout, keys, script]
+            if is_name(image) && is_name(layout) && is_name(keys) && is_name(script) => {
+            Some(Command::Probe)
+        }
+        _ => None,
+    }
+}
+
 /// Whether the word is the option for a run's tick starts.
 fn is_ticks(word: &str) -> bool
     ensures { result ≡ bytes_eq word.now (codes "--ticks") }
@@ -226,6 +247,32 @@ fn read_run(words: &[String]) -> Option<Command>
     }
 }
 
+/// The option of `board`, at most once: whether the state at the run's end is wanted.
+fn read_board_option(words: &[String]) -> Option<bool>
+    ensures { result ≡ board_option_of (map string_bytes words.now) }
+{
+    match words {
+        [] => Some(false),
+        [option] if is_steps(option) => Some(true),
+        _ => None,
+    }
+}
+
+/// `board` NAME NAME NAME, and its option.
+fn read_board(words: &[String]) -> Option<Command>
+    ensures command { result ≡ board_of (map string_bytes words.now) }
+    ensures named { IfSome result (λ command. files_in command ≤ length words.now) }
+{
+    match words {
+        [image, layout, keys, options @ ..] if is_name(image) && is_name(layout) && is_name(keys) =>
+            {
+                let steps = read_board_option(options)?;
+                Some(Command::Board { steps })
+            }
+        _ => None,
+    }
+}
+
 /// `words` BYTE ..
 fn read_feed(words: &[String]) -> Option<Command>
     ensures command { result ≡ feed_of (map string_bytes words.now) }
@@ -262,6 +309,8 @@ pub fn read_command(words: &[String]) -> Option<Command>
         "expect" => read_pair(PairCommand::OverRun(RunCommand::Expect), words),
         "trace" => read_pair(PairCommand::OverRun(RunCommand::Trace), words),
         "debug" => read_debug(words),
+        "board" => read_board(words),
+        "probe" => read_probe(words),
         "words" => read_feed(words),
         "sample" => read_sample(words),
         _ => None,

@@ -1,7 +1,5 @@
 use Rattle.std.proofs.Common.{sym}
 use Rattle.std.proofs.lemmas.List.{length-map}
-use Rattle.fw_compile.specs.Image.{image_of}
-use Rattle.joint_feed.specs.Stories.{story}
 use Rattle.kbd48_app.proofs.Sessions.{refused_so, right_by, said_so}
 use Rattle.kbd48_app.proofs.debugging.debug.Goals as goal
 
@@ -10,10 +8,10 @@ over_session-requires g c = record { right = right_by _ c.args.script.now c.args
 
 pub returns-in-Err-clause-says : goal.returns-in-Err-clause-says
 returns-in-Err-clause-says g c = λ whole.
-    refused_so whole _ (story (image_of c.args.layout.now) c.args.history) c.args.script.now _ c.args.verdict c.in-Err.fault c.refusal_of.result
+    refused_so whole _ c.args.debuggee c.args.script.now _ c.args.verdict c.in-Err.fault c.refusal_of.result
     (sym (length-map c.args.probes.now.items _)) c.in-Err.is c.refusal_of.ensures c.requires.judged
 
 pub returns-in-Ok-clause-says : goal.returns-in-Ok-clause-says
 returns-in-Ok-clause-says g c = λ whole.
-    said_so whole _ (story (image_of c.args.layout.now) c.args.history) c.args.script.now _ _ _
+    said_so whole _ c.args.debuggee c.args.script.now _ _ _
     (sym (length-map c.args.probes.now.items _)) (right_by _ c.args.script.now c.args.verdict c.in-Ok.is c.requires.judged) c.over_session.ensures.says c.over_session.ensures.obeyed_so_far

@@ -4,7 +4,7 @@ use Rattle.io_edge.specs.Said.{IsBrokenOff, IsSaid, shown}
 use Rattle.subsystem.specs.Ending.{ending}
 use Rattle.subsystem.proofs.Looking.{on_err}
 use Rattle.kbd48_app.specs.RunTexts.{start_lines}
-use Rattle.kbd48_app.proofs.Starts.{cut_in_end, cut_in_log, cut_in_starts, err_on, ok_on, whole_run}
+use Rattle.kbd48_app.proofs.Starts.{cut_in_end, cut_in_log, cut_in_starts, err_on, ok_on, same_state, whole_run}
 use Rattle.kbd48_app.proofs.streaming.put_run.Goals as goal
 
 pub returns-in_err-ended-clause-broken : goal.returns-in_err-ended-clause-broken
@@ -35,8 +35,9 @@ returns-clause-said g c =
     let z = shown (g.K.Sink.taken c.put_end.new.out) (g.K.Sink.told c.put_end.new.out) (g.K.Sink.faults c.put_end.new.out) in
     let run = ending c.args.engine c.in_ok-ended.ended in
     let ticks = subst (λ s. IsSaid a b (if c.args.ticks then start_lines 0 s else [])) c.starts.ensures.starts c.in_ok-put_ticks.ensures.said in
+    let same = same_state c.args.steps c.end.result.now run.end c.steps.result run.steps c.cycles.result run.cycles c.end.ensures.end c.steps.ensures.steps c.cycles.ensures.cycles in
     ok_on c.put_end.result
-    (λ k. (run, c.in_ok-ended.ensures.run, whole_run c.args.ticks c.args.steps run x a b z c.in_ok-ended.ensures.said ticks k, c.in_ok-ended.ensures.looked))
+    (λ k. (run, c.in_ok-ended.ensures.run, whole_run c.args.ticks c.args.steps run x a b z c.in_ok-ended.ensures.said ticks (subst (IsSaid b z) same k), c.in_ok-ended.ensures.looked))
     c.put_end.ensures.said
 
 pub returns-clause-broken : goal.returns-clause-broken
@@ -47,6 +48,7 @@ returns-clause-broken g c =
     let z = shown (g.K.Sink.taken c.put_end.new.out) (g.K.Sink.told c.put_end.new.out) (g.K.Sink.faults c.put_end.new.out) in
     let run = ending c.args.engine c.in_ok-ended.ended in
     let ticks = subst (λ s. IsSaid a b (if c.args.ticks then start_lines 0 s else [])) c.starts.ensures.starts c.in_ok-put_ticks.ensures.said in
+    let same = same_state c.args.steps c.end.result.now run.end c.steps.result run.steps c.cycles.result run.cycles c.end.ensures.end c.steps.ensures.steps c.cycles.ensures.cycles in
     err_on c.put_end.result
-    (λ k. (run, c.in_ok-ended.ensures.run, cut_in_end c.args.ticks c.args.steps run x a b z c.in_ok-ended.ensures.said ticks k))
+    (λ k. (run, c.in_ok-ended.ensures.run, cut_in_end c.args.ticks c.args.steps run x a b z c.in_ok-ended.ensures.said ticks (subst (IsBrokenOff b z) same k)))
     c.put_end.ensures.broken

@@ -1,0 +1,50 @@
+-- The exits of a plan that fetches an image, a layout and a key file.
+use Rattle.std.proofs.Common.{◌≡◌, ℕ, List, Ok, Err, inl, inr, refl}
+use Rattle.std.specs.declared.option.Option.{Option}
+use Rattle.fw_debug.specs.Sessions.{of_program}
+use Rattle.hexfile.specs.Hex.{HexOutcome, hex_of}
+use Rattle.io_edge.specs.Shelf.{Told, after_fetch}
+use Rattle.joint_feed.specs.Stories.{story}
+use Rattle.kbd48_app.specs.declared.kind.Kind.TheVariants as kinds
+use Rattle.kbd48_app.specs.declared.words.Command.{Command}
+use Rattle.kbd48_app.specs.Plans.{Plan, probe_next, probe_plan, program_next, program_plan, with_image}
+use Rattle.kbd48_app.specs.Reached.{Reads}
+use Rattle.kbd48_app.proofs.Caused.{IsCaused}
+use Rattle.kbd48_app.proofs.Ends.{leads}
+use Rattle.kbd48_app.proofs.Programs.{Behind, program_from}
+use Rattle.kbd48_app.proofs.RunExits.{IsCausedThird, history_exits, script_exits}
+use Rattle.kbd48_app.proofs.Within.{IsWithin, fetch_caused, whole}
+
+-- behind an image that is read, a layout and a history
+abbrev pub IsCausedFourth : ℕ → Option Command → Plan → Told → Behind → Type 0
+IsCausedFourth n command plan shelf next =
+    (bytes image : List ℕ) → Reads kinds.Hex bytes plan shelf → hex_of bytes ≡ Ok image
+    → IsCausedThird n command plan shelf (λ layout. next image)
+
+-- behind an image
+image_exit : (n : ℕ) (command : Option Command) (plan : Plan) (shelf : Told) (next : Behind) (second third bytes : List ℕ)
+    (after : Told) → IsCausedFourth n command plan shelf next → (outcome : HexOutcome) → hex_of bytes ≡ outcome → Reads kinds.Hex bytes plan shelf
+    → IsWithin (with_image (program_next next second third) outcome) after plan shelf
+    → IsCaused n command plan shelf (leads n (with_image (program_next next second third) outcome) after)
+image_exit n command plan shelf next second third bytes after causes (Ok image) is read within =
+    history_exits n command plan shelf (λ layout. next image) (causes bytes image read is) second third after within
+image_exit n command plan shelf next second third bytes after causes (Err fault) is read within =
+    inr (inl (fault, (bytes, read, is)))
+
+pub program_caused : (n : ℕ) (command : Option Command) (next : Behind) (first second third : List ℕ) (shelf : Told)
+    → IsCausedFourth n command (program_plan next first second third) shelf next
+    → IsCaused n command (program_plan next first second third) shelf
+    (leads n (program_plan next first second third) shelf)
+program_caused n command next first second third shelf causes =
+    let plan = program_plan next first second third in
+    fetch_caused n command plan shelf kinds.Hex first (program_from next second third) shelf (whole plan shelf)
+    (λ bytes read within.
+    image_exit n command plan shelf next second third bytes (after_fetch shelf) causes (hex_of bytes) refl read within)
+
+pub probe_caused : (n : ℕ) (command : Option Command) (first second third fourth : List ℕ) (shelf : Told)
+    → IsCaused n command (probe_plan first second third fourth) shelf
+    (leads n (probe_plan first second third fourth) shelf)
+probe_caused n command first second third fourth shelf =
+    program_caused n command (probe_next fourth) first second third shelf
+    (λ bytes image read is layout history after reads within.
+    script_exits n command (probe_plan first second third fourth) shelf fourth (of_program (story image history)) after within)

@@ -1,0 +1,36 @@
+-- `board`, of the image that `compile` makes of a layout, beside `run` of the layout.
+use Rattle.std.specs.Prelude.{◌≡◌, ◌⊎◌, ℕ, false, List, [], Ok, Err}
+use Rattle.board_run.specs.Agreement.{TellsRun}
+use Rattle.board_run.specs.Running as board
+use Rattle.board_run.specs.Texts.{log_text as stamped_text}
+use Rattle.fw_compile.specs.Image.{image_of}
+use Rattle.fw_debug.specs.Probes.{Watch}
+use Rattle.joint_feed.specs.Stories.{Story, story}
+use Rattle.key_file.specs.Accepted.{IsAcceptedFor}
+use Rattle.key_file.specs.Histories.{KeyHistory}
+use Rattle.layout_reader.specs.Layouts.{IsKeyLayout, KeyLayout}
+use Rattle.subsystem.specs.Running.{Outcome}
+use Rattle.subsystem.specs.Texts.{log_text}
+use Rattle.kbd48_app.specs.declared.refusal.Refusal.TheVariants.{Memory}
+use Rattle.kbd48_app.specs.declared.words.RunCommand.TheVariants.{Log}
+use Rattle.kbd48_app.specs.Answers.{Left, MayAnswerBoard, MayAnswerRun}
+use Rattle.kbd48_app.specs.Plans.{Answer}
+
+-- a text has a line with its tick for each item that a run said, and a log has a line with its stamp for each that was
+-- said up to the end stamp
+pub record TellsText (s : Story) (ran said : List ℕ) : Type 0 where
+  pub run : Outcome
+  pub board : board.Outcome
+  pub tells : TellsRun s board run
+  pub text : ran ≡ log_text run.log
+  pub log : said ≡ stamped_text board.log
+
+-- so do the text of `run` and the log of `board`, which says no more than that, of the same layout and history, where
+-- memory isn't wanting
+abbrev pub BoardTellsRun : Type 0
+BoardTellsRun = (of : KeyLayout) (history : KeyHistory) (text : List ℕ) (answer : Answer) (probes others : List Watch)
+    (left kept : Left) → IsKeyLayout of → IsAcceptedFor of history
+    → MayAnswerRun (Log false false) of history (Ok text) probes left
+    → MayAnswerBoard false (image_of of) history answer others kept
+    → (answer ≡ Err Memory)
+    ⊎ ((answer ≡ Ok []) × TellsText (story (image_of of) history) text kept.log)

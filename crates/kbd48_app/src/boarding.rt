@@ -1,0 +1,116 @@
+//! `board`: the log of the run of any program on the board under a key file, said line by line as it arises.
+
+ghost use Rattle.std.specs.Prelude.{◌≡◌, ◌⊎◌, ◌≤◌, Err, length, map, Ok};
+ghost use Rattle.io_edge.specs.Faults.{Rose};
+ghost use Rattle.io_edge.specs.Said.{shown};
+ghost use Rattle.key_file.specs.Accepted.{IsAccepted};
+ghost use Rattle.subsystem.specs.Ending.{history_of};
+ghost use Rattle.kbd48_app.specs.Kinds.{limit_of};
+ghost use Rattle.kbd48_app.specs.Answers.{IsBoardTold, MayEnd};
+ghost use Rattle.kbd48_app.specs.Plans.{Boards, program_plan};
+ghost use Rattle.kbd48_app.specs.Spoken.{IsSpoken};
+ghost use Rattle.kbd48_app.specs.Telling.{MayTellBoard};
+
+use crate::end_state::put_end;
+use crate::fetching::fetch_file;
+use crate::judging::{image_in, layout_in};
+use crate::kind::Kind;
+use crate::refusal::Refusal;
+use crate::spoken::Spoken;
+use crate::streaming::refusal_of;
+use board_run::{Board, End};
+use fw_debug::Probe;
+use io_edge::{Shelf, Sink};
+use key_file::{Feed, check_history};
+use layout_reader::Layout;
+use mcs48_isa::Image;
+use std::alloc::Global;
+
+/// Makes a run on the board and puts its log as it arises, and then, where the run is over, the state at its end where
+/// that is wanted. It takes no memory.
+fn put_board<F: Feed, K: Sink>(
+    board: Board<F>,
+    steps: bool,
+    out: &mut K,
+    probes: &mut Vec<Box<dyn Probe>>,
+) -> Spoken
+    requires accepted { IsAccepted (history_of board) }
+    ensures says { let before = map (λ b. watch b) probes.old.items in
+        let after = map (λ b. watch b) probes.new.items in
+        IsSpoken (λ answer whole log. IsBoardTold steps board answer before
+        (record { probes = after; whole = whole; log = log }))
+        (Ok result) (shown (K.taken out.old) (K.told out.old) (K.faults out.old))
+        (shown (K.taken out.new) (K.told out.new) (K.faults out.new)) }
+{
+    match board.run_to(out, probes) {
+        Err(fault) => Spoken::Said(Err(fault)),
+        Ok(ended) => match ended.end() {
+            End::Over => Spoken::Said(put_end(
+                out,
+                ended.mcu(),
+                ended.steps(),
+                ended.cycles(),
+                steps,
+            )),
+            End::Stuck(stuck) => Spoken::Stuck(stuck),
+        },
+    }
+}
+
+/// `board`, of an image, a layout and the text of a key file. The text is judged in one pass, all memory is taken, and then
+/// each line is put as it arises in the run.
+fn run_board<K: Sink>(
+    alloc: Global,
+    steps: bool,
+    image: &Image,
+    layout: &Layout,
+    text: &[u8],
+    out: &mut K,
+    probes: &mut Vec<Box<dyn Probe>>,
+) -> Result<Spoken, Refusal>
+    requires within { length text.now ≤ limit_of Kind.Keys }
+    ensures says { let before = map (λ b. watch b) probes.old.items in
+        let after = map (λ b. watch b) probes.new.items in
+        IsSpoken (λ answer whole log. MayTellBoard steps image.now.bytes layout.now text.now answer before
+        (record { probes = after; whole = whole; log = log }))
+        result (shown (K.taken out.old) (K.told out.old) (K.faults out.old))
+        (shown (K.taken out.new) (K.told out.new) (K.faults out.new)) }
+    ensures unread { result ≡ Err Refusal.Read → ⊥ }
+{
+    match check_history(text, layout) {
+        Err(fault) => Err(refusal_of(fault)),
+        Ok(feed) => match Board::new(alloc, image, feed) {
+            Err(_) => Err(Refusal::Memory),
+            Ok(board) => Ok(put_board(board, steps, out, probes)),
+        },
+    }
+}
+
+/// `board`: fetches the image, the layout and the key file, judges each before the next is fetched, and then makes the
+/// run.
+pub fn over_board<F: Shelf, K: Sink>(
+    alloc: Global,
+    steps: bool,
+    image: &str,
+    layout: &str,
+    keys: &str,
+    shelf: &mut F,
+    out: &mut K,
+    probes: &mut Vec<Box<dyn Probe>>,
+) -> Result<Spoken, Refusal>
+    ensures ends { let before = map (λ b. watch b) probes.old.items in
+        let after = map (λ b. watch b) probes.new.items in
+        IsSpoken (λ answer whole log. MayEnd (program_plan (Boards steps) image.now layout.now keys.now) (F.told shelf.old)
+        answer (F.told shelf.new) before (record { probes = after; whole = whole; log = log }))
+        result (shown (K.taken out.old) (K.told out.old) (K.faults out.old))
+        (shown (K.taken out.new) (K.told out.new) (K.faults out.new)) }
+    ensures read { result ≡ Err Refusal.Read → Rose (F.faults shelf.old) (F.faults shelf.new) }
+    ensures steady { (result ≡ Err Refusal.Read) ⊎ (F.faults shelf.new ≡ F.faults shelf.old) }
+{
+    let file = fetch_file(alloc, shelf, image, Kind::Hex)?;
+    let image = image_in(&file)?;
+    let document = fetch_file(alloc, shelf, layout, Kind::Layout)?;
+    let layout = layout_in(alloc, &document)?;
+    let text = fetch_file(alloc, shelf, keys, Kind::Keys)?;
+    run_board(alloc, steps, &image, &layout, &text, out, probes)
+}
