@@ -51,30 +51,24 @@ high:   ORL P2,#2
 fall:   NOP
         NOP
         ANL P2,#0FEH            ; the clock falls, and the bit is taken
-        NOP
-        NOP
-        NOP
-        NOP
-        NOP
-        NOP
-        NOP
-        NOP
-        NOP
-        NOP
-        NOP
-        NOP
-        NOP
-        NOP
-        ORL P2,#1               ; it rises 16 cycles later
-        DJNZ R4,more
-        JMP freed
-more:   JNT0 freed              ; the controller pulls it: the byte is broken off
-        MOV A,R3
+        MOV A,R3                ; the next bit comes into the carry
         RRC A
         MOV R3,A
         MOV A,R2
         RRC A
         MOV R2,A
+        NOP
+        NOP
+        NOP
+        NOP
+        NOP
+        NOP
+        NOP
+        NOP
+        ORL P2,#1               ; it rises 16 cycles later, and falls again 16 cycles behind that
+        DJNZ R4,more
+        JMP freed
+more:   JNT0 freed              ; the controller pulls it: the byte is broken off
         JMP cell
 freed:  ORL P2,#3               ; both wires are released
         MOV A,R4
