@@ -11,7 +11,7 @@ pub record IsNear (n start : ℕ) : Type 0 where
 abbrev pub KeepsCadence : (ℕ → ℕ) → Type 0
 KeepsCadence starts = (n : ℕ) → IsNear n (starts n)
 
--- the same of the starts up to one
+-- the starts up to one are near theirs
 abbrev pub KeepsCadenceTo : (ℕ → ℕ) → ℕ → Type 0
 KeepsCadenceTo starts last = (n : ℕ) → n ≤ last → IsNear n (starts n)
 

@@ -1,7 +1,8 @@
 -- Noise: a bit of a frame that is turned round on its way to the controller.
 use Rattle.std.specs.Prelude.{◌≤◌, ℕ, List, All}
 use Rattle.board_lines.specs.declared.event.HostAct.{HostAct}
-use Rattle.board_lines.specs.declared.event.HostAct.TheVariants.{Write60, Write64, Read60, Mask, Unmask, Take, Status, Flip}
+use Rattle.board_lines.specs.declared.event.HostAct.TheVariants.{Write60, Write64, Read60, Mask, Unmask, Take}
+use Rattle.board_lines.specs.declared.event.HostAct.TheVariants.{Status, Flip}
 use Rattle.board_lines.specs.declared.event.HostEvent.{HostEvent}
 
 -- the bits that may be turned round: the data, 1 to 8, and the parity, 9; the start is bit 0
@@ -19,6 +20,6 @@ FlipsDataOrParity Unmask = Unit {0}
 FlipsDataOrParity Take = Unit {0}
 FlipsDataOrParity Status = Unit {0}
 
--- the same of each event
+-- each of these events that turns a bit round turns a data bit or the parity
 abbrev pub AreFlips : List HostEvent → Type 0
 AreFlips events = All (λ event. FlipsDataOrParity event.act) events

@@ -80,7 +80,7 @@ took now since t p = record {
   did = t.did;
 }
 
--- the same, where it may be taken and there is one
+-- the input is taken where it may be, and there is one; else nothing changes
 abbrev pub took_where : {F : Type 0} → ℕ → Option ℕ → Option Taken → Port F → Settled F
 took_where now None input p = record { port = p; did = Nothing }
 took_where now (Some since) None p = record { port = p; did = Nothing }
@@ -102,7 +102,7 @@ link_after now stop awaits (Ask byte since) = if nat_le (since + 64) now then Re
 link_after now stop awaits (Request byte) = Request byte
 link_after now stop awaits (Busy under_way) = Busy under_way
 
--- the same, in its place
+-- the controller, its link changed so
 abbrev pub moves_link : {F : Type 0} → ℕ → Port F → Port F
 moves_link now p = record p { link = link_after now (p.core.output_full || is_disabled p.core) p.awaits p.link }
 

@@ -60,7 +60,7 @@ row_fault cert None place before = Some Row
 row_fault cert (Some row) place before =
     if is_certifiable row.op then ways_fault cert row before (ways row.op row.len place) else Some Row
 
--- the same by the program's bytes
+-- the first rule that a certified place of this program breaks
 abbrev pub place_fault : List ℕ → Certificate → ℕ → Bound → Option Rule
 place_fault bytes cert place before = row_fault cert (row_at bytes place) place before
 

@@ -21,7 +21,7 @@ falls_at p first second =
     || list_all (λ left. nat_le (cycles_at p.after left + p.cycles) (cycles_at p.before first))
     (values_after p.op p.after.register second)
 
--- the same at all values of the registers before the row
+-- the bound falls so whatever the two bounds' registers hold before the row
 unfoldable pub falls : Passage → Bool
 falls p =
     list_all (λ first. list_all (falls_at p first) (values_beside p.before.register first p.after.register)) byte_values

@@ -14,7 +14,7 @@ pub record Drives (d : Board) (tick : ℕ) (bytes : List ℕ) (w : World d.State
       → joint_step d bytes one ≡ Some next → one.cycle ≤ c → c < next.cycle → next.cpu.p2 ≡ latch c
   pub goal : Q end
 
--- the same from a tick start, whose step is the first
+-- the run comes from a tick start, whose step is the first, to one of a set, and the latch is this on the whole way
 pub record DrivesTick (d : Board) (tick : ℕ) (bytes : List ℕ) (w : World d.State) (latch : ℕ → ℕ)
     (Q : World d.State → Type 0) : Type 0 where
   pub at : at_tick d tick w ≡ true

@@ -25,8 +25,9 @@ ExecutesTick m answer =
     → stepped bytes (seen (joint_board edges events) w) w.cpu
     ≡ executed (row_at KERNEL TICK) bytes (seen (joint_board edges events) w) w.cpu
 
--- a joint run is never stuck; no tick starts before cycle 4,096; each number has its start, which keeps the cadence, and
--- an interrupt is in service there, with register bank 1; and the run ends at one of them, whatever its end stamp is
+-- a joint run is never stuck; no tick starts before cycle 4,096; each number has its start, which keeps the cadence,
+-- and an interrupt is in service there, with register bank 1; and the run ends at one of them, whatever its end stamp
+-- is
 pub record KeepsTimeFrom (from : World Beside) (bytes : List ℕ) (edges : List Edge) (events : List HostEvent)
     : Type 0 where
   pub goes_on : (k : ℕ) → (w : World Beside) × (run_at (joint_board edges events) bytes from k ≡ Some w)

@@ -24,7 +24,7 @@ abbrev pub after_rules : Option Rule → Progress → Record → Result Progress
 after_rules None before line = Ok (after_record before line)
 after_rules (Some rule) before line = Err rule
 
--- the same of a line that may lack the form, which is the first rule
+-- what a line does, or the first rule that it breaks: that is the form, where it is no record
 abbrev pub after_form : Option Record → Progress → Result Progress Rule
 after_form None before = Err Form
 after_form (Some line) before = after_rules (first_broken (judgements before line)) before line

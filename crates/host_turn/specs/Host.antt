@@ -57,7 +57,7 @@ abbrev pub is_done : ℕ → Option HostEvent → ControllerState → Bool
 is_done now None s = false
 is_done now (Some event) s = nat_le (event.stamp + 4096) now && not (waits event.act s)
 
--- the same, where it is done
+-- what the event does, where it is done in this cycle; else nothing is done and said
 abbrev pub acted_where : Bool → HostAct → Host → Turn
 acted_where done act h = if done then acted act h else in_silence h
 
@@ -78,7 +78,7 @@ read_by_bios h =
     let o : Outcome = fed h.core.output h.bios in
     record { host = record h { core = emptied h.core; bios = o.after }; items = Port h.core.output ∷ o.items }
 
--- the same, where the interrupt comes through
+-- INT 09h reads the byte where the interrupt comes through; else nothing is done and said
 abbrev pub bios_turn : ℕ → ℕ → Host → Turn
 bios_turn now filled h = if interrupts now filled h then read_by_bios h else in_silence h
 

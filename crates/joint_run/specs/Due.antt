@@ -51,7 +51,7 @@ beside o done log = record {
   shown = o.shown;
 }
 
--- the same without what is done and said
+-- what stands outside in a state of the run: all but what is done and said
 abbrev pub outside_of : Beside → Outside
 outside_of s = record {
   desk = record { port = s.pc.side.port; masked = s.pc.side.masked; bios = s.pc.side.bios };

@@ -38,7 +38,7 @@ pins_by keys p1 p2 s =
     let line : Lines = wires (latch_of p2) s.pc in
     record { p1 = 0xff; p2 = 0xff; bus = rows_of keys p1; t0 = line.clk; t1 = line.dat; int_pin = true }
 
--- the same under the edges of a history
+-- the levels that the processor reads in a step that begins at a cycle, under the edges of a history
 unfoldable pub joint_pins : List Edge → ℕ → ℕ → ℕ → Beside → Pins
 joint_pins edges p1 p2 cycle s = pins_by (keys_at edges cycle) p1 p2 s
 

@@ -37,7 +37,7 @@ pub record IsEnd (d : Board) (tick : ℕ) (bytes : List ℕ) (from : World d.Sta
   pub reaches : stop ≤ stamp
   pub before : (j before : ℕ) → j < n → IsStart d tick bytes from j before → before < stop
 
--- The same for proofs, which go from one tick start to the next.
+-- From one tick start to the next: how proofs go along a run.
 
 -- a joint step from a state that is no tick start
 abbrev pub calm_step : (d : Board) → ℕ → List ℕ → World d.State → Option (World d.State)

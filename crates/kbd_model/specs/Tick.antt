@@ -64,8 +64,8 @@ is_ready WantLights = false
 abbrev pub is_scanning : Keyboard → Bool
 is_scanning k = k.enabled && is_ready k.mode && (k.test == 0)
 
--- step 4: the key that repeats has a tick less to wait; in its last it is entered, in the layer of its press, unless the
--- line is inhibited, and waits a period
+-- step 4: the key that repeats has a tick less to wait; in its last it is entered, in the layer of its press, unless
+-- the line is inhibited, and waits a period
 abbrev pub repeated : Option Repeat → Keys → Bool → Keyboard → Keyboard
 repeated (Some r) keys inhibited k = record k {
   repeats = Some (record r { count = if r.count == 1 then period k.rate else r.count - 1 });

@@ -2,7 +2,8 @@
 use Rattle.std.specs.Prelude.{◌≡◌, ◌≤◌, ◌<◌, ℕ, ◌+◌, Bool, false, not, List, [], ◌∷◌, length, All, IsSome}
 use Rattle.board_lines.specs.declared.event.Edge.{Edge}
 use Rattle.board_lines.specs.declared.event.HostAct.{HostAct}
-use Rattle.board_lines.specs.declared.event.HostAct.TheVariants.{Write60, Write64, Read60, Mask, Unmask, Take, Status, Flip}
+use Rattle.board_lines.specs.declared.event.HostAct.TheVariants.{Write60, Write64, Read60, Mask, Unmask, Take}
+use Rattle.board_lines.specs.declared.event.HostAct.TheVariants.{Status, Flip}
 use Rattle.board_lines.specs.declared.event.HostEvent.{HostEvent}
 use Rattle.board_lines.specs.Edges.{of_place, AreInOrder}
 use Rattle.board_lines.specs.Flips.{AreFlips}
@@ -27,7 +28,7 @@ WritesByte Take = Unit {0}
 WritesByte Status = Unit {0}
 WritesByte (Flip bit) = Unit {0}
 
--- the same of each event
+-- what is written by these events are bytes
 abbrev pub AreWritten : List HostEvent → Type 0
 AreWritten events = All (λ event. WritesByte event.act) events
 
@@ -47,7 +48,7 @@ abbrev pub IsFifthLater : Edge → List Edge → Type 0
 IsFifthLater a (b ∷ c ∷ d ∷ e ∷ es) = a.stamp + 2240 ≤ e.stamp
 IsFifthLater a es = Unit {0}
 
--- the same of each edge
+-- of five edges in a row the last is so much later than the first
 abbrev pub IsThin : List Edge → Type 0
 IsThin [] = Unit {0}
 IsThin (a ∷ es) = IsFifthLater a es × IsThin es

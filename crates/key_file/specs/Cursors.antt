@@ -30,7 +30,7 @@ edge_before (Some (HostOf event)) edges = edges
 edge_before (Some (End stamp)) edges = edges
 edge_before None edges = edges
 
--- the same of the host's events
+-- the host's events, with one more before them where this is one
 abbrev pub host_before : Option Event → List HostEvent → List HostEvent
 host_before (Some (EdgeOf edge)) events = events
 host_before (Some (HostOf event)) events = event ∷ events

@@ -22,7 +22,7 @@ use Rattle.key_file.specs.Rules.{number_of, judgements}
 abbrev pub take_event : Before → Event → Result Before Rule
 take_event before event = unless (first_broken (judgements (brief_of before) event)) (with_event before event)
 
--- the same of what a line says; one that is skipped does nothing
+-- what a line says makes this of the events before it; a line that is skipped says nothing
 abbrev pub take_said : Before → Option Event → Result Before Rule
 take_said before None = Ok before
 take_said before (Some event) = take_event before event

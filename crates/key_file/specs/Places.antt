@@ -7,7 +7,8 @@ use Rattle.key_file.specs.Cursors.{edges_in, host_in, history_in}
 use Rattle.key_file.specs.KeyFile.{history_of}
 
 -- the file has a history; the lines behind each cursor give just what wasn't taken of it
-pub record AreCursors (layout : KeyLayout) (text : List ℕ) (edges_text host_text : List ℕ) (edges_taken host_taken stop : ℕ) : Type 0 where
+pub record AreCursors (layout : KeyLayout) (text edges_text host_text : List ℕ) (edges_taken host_taken stop : ℕ)
+    : Type 0 where
   pub file : history_of layout text ≡ Ok (history_in layout text)
   pub accepted : IsAccepted (history_in layout text)
   pub end : stop ≡ (history_in layout text).end

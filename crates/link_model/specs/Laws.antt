@@ -9,7 +9,8 @@ use Rattle.host_turn.specs.Run.{Side, says_lights}
 use Rattle.byte_time.specs.declared.UnderWay.{UnderWay}
 use Rattle.byte_time.specs.declared.meeting.Meeting.{Meeting}
 use Rattle.byte_time.specs.declared.meeting.Meeting.TheVariants.{Got, Inhibited, Idle, Sent, Cut}
-use Rattle.byte_time.specs.ByteTime.{Event, Quiet, Begins, Closes, Arrives, IsWhole, byte_cycle, ended_as, meeting_in, sent_or_cut}
+use Rattle.byte_time.specs.ByteTime.{Event, Quiet, Begins, Closes, Arrives, IsWhole}
+use Rattle.byte_time.specs.ByteTime.{byte_cycle, ended_as, meeting_in, sent_or_cut}
 use Rattle.ctl_link.specs.declared.link.Link.{Link}
 use Rattle.layout_reader.specs.Layouts.{KeyLayout, is_fn_place}
 use Rattle.kbd_model.specs.Layers.{no_layers, all_layers_after}

@@ -38,7 +38,8 @@ pub record ArrivalLaw : Type 0 where
 abbrev pub ArrivesAsOffered : Type 0
 ArrivesAsOffered =
     (layout : KeyLayout) (events : List HostEvent) (start byte : ℕ) (w : Whole LayeredKeyboard)
-    → meeting_from (keyboard layout) events start w ≡ Sent byte → (w.keys.keyboard.test ≡ 0) × (offer w.keys.keyboard ≡ Some byte)
+    → meeting_from (keyboard layout) events start w ≡ Sent byte
+    → (w.keys.keyboard.test ≡ 0) × (offer w.keys.keyboard ≡ Some byte)
 
 -- what arrives in a tick with this meeting
 abbrev pub arrived : Meeting → List ℕ
@@ -91,7 +92,8 @@ IsSilentInTest k = (k.test ≡ 0) ⊎ (k.reply ≡ None)
 -- so it is in each tick of a layout's keyboard, whatever its meeting
 abbrev pub EachByteOnce : Type 0
 EachByteOnce =
-    (layout : KeyLayout) (events : List HostEvent) (edges : List (ℕ × Bool)) (start rest : ℕ) (w : Whole LayeredKeyboard)
+    (layout : KeyLayout) (events : List HostEvent) (edges : List (ℕ × Bool)) (start rest : ℕ)
+    (w : Whole LayeredKeyboard)
     → IsSilentInTest w.keys.keyboard
     → Passes (meeting_from (keyboard layout) events start w) w.keys.keyboard
     (whole_tick (keyboard layout) events edges start rest w).keys.keyboard
@@ -99,7 +101,8 @@ EachByteOnce =
 -- what was cut off, before it began or under way, is offered again
 abbrev pub CutIsOffered : Type 0
 CutIsOffered =
-    (layout : KeyLayout) (events : List HostEvent) (edges : List (ℕ × Bool)) (start rest byte : ℕ) (w : Whole LayeredKeyboard)
+    (layout : KeyLayout) (events : List HostEvent) (edges : List (ℕ × Bool)) (start rest byte : ℕ)
+    (w : Whole LayeredKeyboard)
     → meeting_from (keyboard layout) events start w ≡ Cut → offer w.keys.keyboard ≡ Some byte
     → offer (whole_tick (keyboard layout) events edges start rest w).keys.keyboard ≡ Some byte
 
@@ -133,7 +136,8 @@ module _ (layout : KeyLayout) (history : KeyHistory) (starts : ℕ → ℕ) (n :
   all_taken_away zero = []
   all_taken_away (suc count) =
       all_taken_away count
-      ++ taken_away (meeting_at layout history starts (count + n)) (at_tick layout history starts (count + n)).keys.keyboard
+      ++ taken_away (meeting_at layout history starts (count + n))
+      (at_tick layout history starts (count + n)).keys.keyboard
 
   abbrev pub all_came : ℕ → List ℕ
   all_came zero = []
@@ -149,7 +153,8 @@ AllCounted =
     (layout : KeyLayout) (history : KeyHistory) (starts : ℕ → ℕ) (n count : ℕ)
     → IsPermutation (waiting (at_tick layout history starts n).keys.keyboard ++ all_came layout history starts n count)
     (all_arrived layout history starts n count
-    ++ (all_taken_away layout history starts n count ++ waiting (at_tick layout history starts (count + n)).keys.keyboard))
+    ++ (all_taken_away layout history starts n count
+    ++ waiting (at_tick layout history starts (count + n)).keys.keyboard))
 
 -- what waits behind the reply
 abbrev pub line : Keyboard → List ℕ

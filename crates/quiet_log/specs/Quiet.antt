@@ -1,7 +1,8 @@
 -- Quiet histories, and the one log that each has.
 use Rattle.std.specs.Prelude.{◌≡◌, ◌≤◌, ◌<◌, ℕ, ◌+◌, ◌-◌, ◌*◌, ◌/◌, ◌%◌, ◌⊎◌, List, [], ◌∷◌, length, All}
 use Rattle.board_lines.specs.declared.event.HostAct.{HostAct}
-use Rattle.board_lines.specs.declared.event.HostAct.TheVariants.{Write60, Write64, Read60, Mask, Unmask, Take, Status, Flip}
+use Rattle.board_lines.specs.declared.event.HostAct.TheVariants.{Write60, Write64, Read60, Mask, Unmask, Take}
+use Rattle.board_lines.specs.declared.event.HostAct.TheVariants.{Status, Flip}
 use Rattle.board_lines.specs.declared.event.HostEvent.{HostEvent}
 use Rattle.board_lines.specs.Cadence.{KeepsCadence, KeepsCadenceTo, IsLast, listed}
 use Rattle.layout_reader.specs.Layouts.{KeyLayout}
@@ -69,7 +70,7 @@ QuietLaw =
     (layout : KeyLayout) (history : KeyHistory) (starts : ℕ → ℕ) (last : ℕ) → IsQuiet history
     → KeepsCadenceTo starts last → IsLast starts history.end last → SaysTheSame layout history starts last
 
--- the same of the starts of a run, as a list
+-- as the law is used: the starts of a run stand in a list
 abbrev pub ListedLaw : Type 0
 ListedLaw =
     (layout : KeyLayout) (history : KeyHistory) (starts : List ℕ) → IsQuiet history

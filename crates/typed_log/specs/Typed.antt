@@ -64,7 +64,7 @@ taken_by Boot = []
 taken_by SysMake = []
 taken_by SysBreak = []
 
--- the same of the lines of a log, in their order
+-- the words that the host takes in a log, in their order
 abbrev pub taken_in : List LogLine → List (Option ℕ)
 taken_in [] = []
 taken_in (line ∷ lines) = taken_by line.item ++ taken_in lines
