@@ -72,25 +72,21 @@ abbrev pub quietly : List HostEvent → ℕ → ℕ → Side UnderWay → Side U
 quietly events zero now m = m
 quietly events (suc n) now m = quietly events n (suc now) (byte_cycle events now Quiet m)
 
--- The meeting of a tick is known in two steps. What begins at offset 288, where the link was free after offset 255: by
--- the byte offered, and by the link after offset 287. Here `Sent` says that the keyboard's byte begins
-abbrev pub meeting_free : Option ℕ → Link UnderWay → Meeting
-meeting_free None later = Idle
-meeting_free (Some byte) Free = Sent byte
-meeting_free (Some byte) (Hold since) = Cut
-meeting_free (Some byte) (Ask b since) = Cut
-meeting_free (Some byte) (Request b) = Cut
-meeting_free (Some byte) (Busy u) = Cut
-
--- what begins, by the link after offset 255, the byte offered, and the link after offset 287
+-- The meeting of a tick is known in two steps. What begins at offset 288: by the link after offset 255, the byte that
+-- the keyboard offers, and the link after offset 287. Here `Sent` says that the keyboard's byte begins
 abbrev pub meeting_of : Link UnderWay → Option ℕ → Link UnderWay → Meeting
-meeting_of Free offer later = meeting_free offer later
 meeting_of (Hold since) offer later = Inhibited
 meeting_of (Ask byte since) offer later = Inhibited
 meeting_of (Request byte) offer later = Got byte
 meeting_of (Busy u) offer later = Idle
+meeting_of Free None later = Idle
+meeting_of Free (Some byte) Free = Sent byte
+meeting_of Free (Some byte) (Hold since) = Cut
+meeting_of Free (Some byte) (Ask asked since) = Cut
+meeting_of Free (Some byte) (Request asked) = Cut
+meeting_of Free (Some byte) (Busy u) = Cut
 
--- the same, by whether the power-on test had ended at the tick's start; as long as it runs nothing passes
+-- what begins, by whether the power-on test had ended at the tick's start too: as long as it runs nothing passes
 abbrev pub meeting_by : Bool → Option ℕ → Link UnderWay → Link UnderWay → Meeting
 meeting_by true offer earlier later = meeting_of earlier offer later
 meeting_by false offer earlier later = Idle

@@ -10,7 +10,7 @@ use Rattle.board_lines.specs.Frame.{byte_of}
 use Rattle.ctl_wire.specs.declared.wire.Wire.TheVariants.{Recv}
 use Rattle.pc_wires.specs.Wires.{Pc}
 use Rattle.byte_time.specs.declared.UnderWay.{UnderWay}
-use Rattle.byte_time.specs.ByteTime.{quietly, carried, meeting_in, meeting_of, meeting_free, ended_as, sent_or_cut}
+use Rattle.byte_time.specs.ByteTime.{quietly, carried, meeting_in, meeting_of, ended_as, sent_or_cut}
 use Rattle.byte_time.specs.declared.meeting.Meeting.{Meeting}
 use Rattle.byte_time.specs.declared.meeting.Meeting.TheVariants.{Sent, Got, Cut}
 use Rattle.wires_agree.specs.Without.{seen_in_bytes, without_bits, link_by}
@@ -91,7 +91,7 @@ module _ (events : List HostEvent) (latch : ℕ → Lines) (start rest : ℕ) (a
     pub begins : (byte : ℕ) → at256.side.port.link ≡ Free → at288.side.port.link ≡ Free
         → meeting_of (link_by without_bits at256.side.port.link) (Some byte) (link_by without_bits at288.side.port.link) ≡ Sent byte
     begins byte earlier later =
-        ap (λ l. meeting_of (link_by without_bits l) (Some byte) (link_by without_bits at288.side.port.link)) earlier ∙ ap (λ l. meeting_free (Some byte) (link_by without_bits l)) later
+        ap (λ l. meeting_of (link_by without_bits l) (Some byte) (link_by without_bits at288.side.port.link)) earlier ∙ ap (λ l. meeting_of Free (Some byte) (link_by without_bits l)) later
 
     -- the keyboard sends, and its byte arrives, or comes wrong
     pub sent_tick : (byte more : ℕ) (bits : ℕ → Bool) → at256.side.port.link ≡ Free → at288.side.port.link ≡ Free → IsFlip at288.side.port.flip → (frame : IsFrame latch (288 + start) bits)

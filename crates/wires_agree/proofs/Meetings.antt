@@ -15,7 +15,7 @@ use Rattle.ctl_wire.specs.declared.wire.Wire.{Wire}
 use Rattle.ctl_wire.specs.Wire.{drive, is_breakable}
 use Rattle.pc_wires.specs.Wires.{Pc, board_cycle}
 use Rattle.byte_time.specs.declared.UnderWay.{UnderWay}
-use Rattle.byte_time.specs.ByteTime.{quietly, carried, ended_as, meeting_free}
+use Rattle.byte_time.specs.ByteTime.{quietly, carried, ended_as, meeting_of}
 use Rattle.byte_time.specs.declared.meeting.Meeting.{Meeting}
 use Rattle.byte_time.specs.declared.meeting.Meeting.TheVariants.{Sent, Got, Cut, Idle, Inhibited}
 use Rattle.wires_agree.specs.Without.{without_bits, link_by}
@@ -114,7 +114,7 @@ not_busy (Ask byte since) h e = refl
 not_busy (Request byte) h e = refl
 not_busy (Busy w) h e = absurd cc
 
-pub cut_of : (byte : ℕ) (l : Link Wire) (h : ℕ) → pulled l ≡ Some h → meeting_free (Some byte) (link_by without_bits l) ≡ Cut
+pub cut_of : (byte : ℕ) (l : Link Wire) (h : ℕ) → pulled l ≡ Some h → meeting_of Free (Some byte) (link_by without_bits l) ≡ Cut
 cut_of byte Free h e = absurd cc
 cut_of byte (Hold since) h e = refl
 cut_of byte (Ask b since) h e = refl

@@ -43,7 +43,7 @@ SentInBytes =
     → seen_in_bytes (board_cycles events latch (32 * k + suc n) now b).side
     ≡ up_to events true k n now (seen_in_bytes b.side)
 
--- the same in each cycle of a frame for the keyboard
+-- in each cycle of a frame for the keyboard, too, byte time is what the wires are with their bits left out
 abbrev pub GotInBytes : Type 0
 GotInBytes =
     (events : List HostEvent) (latch : ℕ → Lines) (now byte : ℕ) (bits : ℕ → Bool) (b : Pc)

@@ -30,7 +30,7 @@ BetweenFrames =
     → (seen_in_bytes (board_cycles events latch n now b).side ≡ quietly events n now (seen_in_bytes b.side))
     × (is_busy (board_cycles events latch n now b).side.port.link ≡ false)
 
--- the same while the controller pulls the clock, for less than 64 cycles, whatever the keyboard does
+-- while the controller pulls the clock, for less than 64 cycles, they are so whatever the keyboard does
 abbrev pub WhilePulled : Type 0
 WhilePulled =
     (events : List HostEvent) (latch : ℕ → Lines) (n now : ℕ) (b : Pc) (since : ℕ)

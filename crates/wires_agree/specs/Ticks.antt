@@ -67,8 +67,9 @@ SentTick =
     → ((i : ℕ) → i < 10 → leaves_clock events latch start b i ≡ true) → EndsFrame latch start rest
     → rest ≡ 15 + more → k ≡ 353 + rest → Ticked events latch start rest b true (Some byte) (Sent byte) k
 
--- the same, but the look in cell j is the first one at which the controller pulls the clock: up to there the keyboard
--- drives what it would in a right frame, and then it leaves the clock alone. The byte was broken off
+-- the link is free at both looks of the tick and the keyboard begins a frame, but at the look in cell j, and at none
+-- before it, the controller pulls the clock: up to there the keyboard drives what it would in a right frame, and then
+-- it leaves the clock alone. The byte was broken off
 abbrev pub BrokenTick : Type 0
 BrokenTick =
     (events : List HostEvent) (latch line : ℕ → Lines) (start rest byte j k : ℕ) (bits : ℕ → Bool) (b : Pc)
