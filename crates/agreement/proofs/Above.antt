@@ -3,7 +3,7 @@ use Rattle.std.proofs.Common.{◌≡◌, ◌<◌, ℕ, ◌+◌, ◌-◌, ◌*◌
 use Rattle.board_lines.specs.declared.event.Edge.{Edge}
 use Rattle.board_lines.specs.declared.event.HostEvent.{HostEvent}
 use Rattle.fw_keys.proofs.Begun.{columns_same}
-use Rattle.fw_keys.specs.Quiet.{changed_now, edges_now}
+use Rattle.fw_keys.specs.Frameless.{changed_now, edges_now}
 use Rattle.fw_logic.specs.Ticks.{column_read}
 use Rattle.fw_link.proofs.Over.{IsOver, under, ticks_over}
 use Rattle.fw_logic.specs.Scan.{in_tick}

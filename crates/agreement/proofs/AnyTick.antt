@@ -7,12 +7,12 @@ use Rattle.fw_kernel.specs.declared.labels.TheConstants.{TICK}
 use Rattle.fw_keys.proofs.Block.{Safe}
 use Rattle.fw_keys.proofs.Ended.{AtHead}
 use Rattle.fw_keys.proofs.Frames.{sent_works, cut_works, got_works}
-use Rattle.fw_keys.proofs.QuietTick.{late, soon, C, four, fine, inv, board3, H, k, Came, any_tick, works}
+use Rattle.fw_keys.proofs.FramelessTick.{late, soon, changed_in, four, fine, inv, board3, held_before, cpu_at_head, Came, any_tick, works}
 use Rattle.fw_keys.proofs.Scan.{edges_most}
 use Rattle.fw_keys.proofs.Serve.{Work, fit}
 use Rattle.fw_keys.specs.Edges.{image_keys, IsSilentAlike}
-use Rattle.fw_keys.specs.Quiet.{cells_in, shown_by, layers_by, IsStarted, IsRepeating, IsQuiet, edges_now, latch_now}
-use Rattle.fw_keys.specs.Quiet.{clock_now, data_now}
+use Rattle.fw_keys.specs.Frameless.{cells_in, shown_by, layers_by, IsStarted, IsRepeating, IsFrameless, edges_now, latch_now}
+use Rattle.fw_keys.specs.Frameless.{clock_now, data_now}
 use Rattle.fw_keys.specs.State.{Inv}
 use Rattle.fw_link.proofs.Latches.{driven}
 use Rattle.fw_link.proofs.TickLatch.{before_data, within, behind, without_frame}
@@ -59,10 +59,10 @@ module _ (d : Board) (bytes : List ℕ) (hk : HasKernel bytes) (alike : IsSilent
   ring = drop 112 w.cpu.ram
 
   abbrev held : List Bool
-  held = H d bytes hk alike small low w s few
+  held = held_before d bytes hk alike small low w s few
 
   abbrev first : Bool → Cpu
-  first l = k d bytes hk alike small low w s few l
+  first l = cpu_at_head d bytes hk alike small low w s few l
 
   abbrev third : d.State
   third = board3 d bytes hk alike small low w s few
@@ -216,7 +216,7 @@ module _ (d : Board) (bytes : List ℕ) (hk : HasKernel bytes) (alike : IsSilent
       (soon d bytes hk alike small low w s few) w.cpu.tf w.cpu.last_t1 f ring w.cpu w.board l meeting last_off (G l)
 
   abbrev most : ℕ
-  most = edges_most (C d bytes hk alike small low w s few)
+  most = edges_most (changed_in d bytes hk alike small low w s few)
 
   abbrev edges_few : most ≤ 728
   edges_few = four d bytes hk alike small low w s few
@@ -242,7 +242,7 @@ module _ (d : Board) (bytes : List ℕ) (hk : HasKernel bytes) (alike : IsSilent
       (fine d bytes hk alike small low w s few)
 
   -- without a frame
-  pub quiet : (meeting : Meeting) → IsQuiet d w meeting → Tick d TICK bytes w (So meeting NoFrame)
+  pub quiet : (meeting : Meeting) → IsFrameless d w meeting → Tick d TICK bytes w (So meeting NoFrame)
   quiet meeting q =
       let h : most ≤ 728 = edges_few in
       let a = works d bytes hk alike small low w s few meeting q in

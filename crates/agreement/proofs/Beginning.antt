@@ -14,7 +14,7 @@ use Rattle.fw_kernel.specs.declared.labels.TheConstants.{TICK}
 use Rattle.fw_keys.proofs.Kept.{Sound}
 use Rattle.fw_keys.proofs.PowerOn.{first_started}
 use Rattle.fw_keys.specs.Edges.{image_keys}
-use Rattle.fw_keys.specs.Quiet.{IsStarted, IsPressed, FromPowerOn, layers_by}
+use Rattle.fw_keys.specs.Frameless.{IsStarted, IsPressed, FromPowerOn, layers_by}
 use Rattle.fw_link.proofs.Outside.{still_wires}
 use Rattle.fw_link.proofs.Over.{IsOver}
 use Rattle.fw_link.proofs.Watching.{watching, bare, drives_by, ticks_stay_good}

@@ -14,7 +14,7 @@ use Rattle.board_lines.specs.Matrix.{all_up, column_rows, rows_of}
 use Rattle.bits.proofs.Every.{and-left, and-right}
 use Rattle.board_lines.proofs.Shown.{shown_from, edges_shown}
 use Rattle.fw_keys.specs.Edges.{row_edges, column_edges, tick_edges}
-use Rattle.fw_keys.specs.Quiet.{IsStarted, shown_by, edges_now}
+use Rattle.fw_keys.specs.Frameless.{IsStarted, shown_by, edges_now}
 use Rattle.fw_logic.specs.Ticks.{column_read}
 use Rattle.fw_keys.specs.State.{flags, down_at}
 use Rattle.bits.proofs.Every.{every_below, at_each, same, same_is, pair_tests}

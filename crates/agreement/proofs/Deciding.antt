@@ -21,7 +21,7 @@ use Rattle.fw_kernel.specs.declared.labels.TheConstants.{TICK}
 use Rattle.fw_keys.proofs.Carried.{SameKeys}
 use Rattle.fw_keys.proofs.Kept.{NoPrefix}
 use Rattle.fw_keys.specs.Edges.{image_keys, IsSilentAlike}
-use Rattle.fw_keys.specs.Quiet.{shown_by, edges_now, latch_now}
+use Rattle.fw_keys.specs.Frameless.{shown_by, edges_now, latch_now}
 use Rattle.fw_link.proofs.Lets.{pulled_look}
 use Rattle.fw_link.proofs.Over.{IsOver, under}
 use Rattle.fw_link.proofs.TickLatch.{lines_by}

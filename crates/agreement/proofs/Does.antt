@@ -5,7 +5,7 @@ use Rattle.fw_kernel.specs.declared.labels.TheConstants.{TICK}
 use Rattle.fw_keys.proofs.Carried.{edges_low}
 use Rattle.fw_keys.proofs.Kept.{Sound, tick_sound}
 use Rattle.fw_keys.specs.Edges.{image_keys, IsSilentAlike}
-use Rattle.fw_keys.specs.Quiet.{shown_by, layers_by, IsStarted, IsRepeating, edges_now, changed_now}
+use Rattle.fw_keys.specs.Frameless.{shown_by, layers_by, IsStarted, IsRepeating, edges_now, changed_now}
 use Rattle.fw_logic.specs.Ticks.{column_read}
 use Rattle.fw_link.specs.Latch.{Frame}
 use Rattle.fw_logic.proofs.Laws.{comes_as}

@@ -10,7 +10,7 @@ use Rattle.fw_keys.proofs.Carried.{SameKeys, ticks_same, layers_alike, edges_low
 use Rattle.fw_keys.proofs.Edges.{IsWide}
 use Rattle.fw_keys.proofs.Kept.{Sound, NoPrefix, pressed_low, met_sound, tested_sound, tick_sound}
 use Rattle.fw_keys.specs.Edges.{image_keys}
-use Rattle.fw_keys.specs.Quiet.{shown_by, layers_by, edges_now, changed_now, latch_now}
+use Rattle.fw_keys.specs.Frameless.{shown_by, layers_by, edges_now, changed_now, latch_now}
 use Rattle.fw_logic.specs.Ticks.{IsOnTime, column_read}
 use Rattle.fw_link.proofs.Over.{IsOver, under}
 use Rattle.fw_link.proofs.TickLatch.{lines_by}

@@ -5,7 +5,7 @@ use Rattle.board_lines.specs.declared.event.Edge.{Edge}
 use Rattle.board_lines.specs.declared.event.HostEvent.{HostEvent}
 use Rattle.board_lines.specs.declared.lines.Lines.{Lines}
 use Rattle.fw_keys.specs.Edges.{image_keys}
-use Rattle.fw_keys.specs.Quiet.{IsStarted, IsRepeating, shown_by, layers_by, edges_now, latch_now}
+use Rattle.fw_keys.specs.Frameless.{IsStarted, IsRepeating, shown_by, layers_by, edges_now, latch_now}
 use Rattle.fw_link.specs.Latch.{Frame, tick_latch}
 use Rattle.fw_link.proofs.Latches.{driven}
 use Rattle.host_turn.specs.Run.{says_lights}

@@ -8,7 +8,7 @@ use Rattle.std.proofs.lemmas.Bool.Decides.{nat_tests}
 use Rattle.std.proofs.lemmas.List.{get_or-set_same, get_or-set_other, length-set}
 use Rattle.board_lines.specs.Matrix.{turned}
 use Rattle.fw_keys.proofs.Fold.{turned_all}
-use Rattle.fw_keys.specs.Quiet.{shown_by}
+use Rattle.fw_keys.specs.Frameless.{shown_by}
 use Rattle.kbd_model.specs.declared.meeting.Meeting.{Meeting as KeyboardMeeting}
 use Rattle.kbd_model.specs.declared.meeting.Meeting.TheVariants.{Idle, Inhibited, Sent, Cut, Got}
 use Rattle.kbd_model.specs.declared.state.Mode.{Mode}

@@ -4,10 +4,10 @@ use Rattle.board_lines.specs.declared.event.Edge.{Edge}
 use Rattle.board_lines.specs.declared.event.HostEvent.{HostEvent}
 use Rattle.board_lines.specs.declared.lines.Lines.{Lines}
 use Rattle.fw_kernel.specs.Places.{HasKernel}
-use Rattle.fw_keys.proofs.QuietTick.{board3, H, k, shone_is}
+use Rattle.fw_keys.proofs.FramelessTick.{board3, held_before, cpu_at_head, shone_is}
 use Rattle.fw_keys.proofs.Tick.{shining}
 use Rattle.fw_keys.specs.Edges.{IsSilentAlike}
-use Rattle.fw_keys.specs.Quiet.{cells_in, IsStarted, edges_now, latch_now}
+use Rattle.fw_keys.specs.Frameless.{cells_in, IsStarted, edges_now, latch_now}
 use Rattle.fw_link.proofs.Outside.{still_wires, lit_wires}
 use Rattle.fw_link.proofs.Latches.{driven}
 use Rattle.fw_link.proofs.Over.{IsOver, under, ticks_over}
@@ -38,7 +38,7 @@ module _ (d : Board) (bytes : List ℕ) (hk : HasKernel bytes) (alike : IsSilent
   -- the board where the head of the tick ends, two cycles past the lights
   abbrev pub shine : Bool → d.State
   shine l =
-      shining d bytes hk alike small low (H d bytes hk alike small low w s few) (w.cycle + 3) (k d bytes hk alike small low w s few l)
+      shining d bytes hk alike small low (held_before d bytes hk alike small low w s few) (w.cycle + 3) (cpu_at_head d bytes hk alike small low w s few l)
       (board3 d bytes hk alike small low w s few) (stacked (cells_in w.cpu.ram)) (drop 112 w.cpu.ram)
 
   -- the board so many cycles later

@@ -6,7 +6,7 @@ use Rattle.std.proofs.lemmas.List.Elements.{All-get_or}
 use Rattle.board_lines.specs.declared.event.Edge.{Edge}
 use Rattle.board_lines.specs.declared.event.HostEvent.{HostEvent}
 use Rattle.fw_keys.proofs.Blocks.{ring-get}
-use Rattle.fw_keys.specs.Quiet.{IsStarted, cells_in, shown_by}
+use Rattle.fw_keys.specs.Frameless.{IsStarted, cells_in, shown_by}
 use Rattle.fw_keys.specs.State.{made}
 use Rattle.fw_link.proofs.Wired.{IsReleased, lights_leave}
 use Rattle.bits.proofs.Every.{by_below}

@@ -3,7 +3,7 @@ use Rattle.std.proofs.Common.{◌≡◌, ◌≤◌, ℕ, ◌+◌, ◌-◌, ◌*�
 use Rattle.board_lines.specs.declared.event.Edge.{Edge}
 use Rattle.board_lines.specs.declared.event.HostEvent.{HostEvent}
 use Rattle.board_lines.specs.declared.lines.Lines.{Lines}
-use Rattle.fw_keys.specs.Quiet.{latch_now}
+use Rattle.fw_keys.specs.Frameless.{latch_now}
 use Rattle.fw_link.proofs.Board.{at_wires}
 use Rattle.fw_link.specs.Latch.{Frame, tick_latch}
 use Rattle.fw_link.proofs.Latches.{driven}

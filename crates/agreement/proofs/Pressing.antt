@@ -2,7 +2,7 @@
 use Rattle.std.proofs.Common.{◌≡◌, ◌==◌, not, Some, None, refl, sym, ◌∙◌, subst}
 use Rattle.std.specs.declared.option.Option.{Option}
 use Rattle.fw_keys.proofs.Keyboard.{IsPressedAt}
-use Rattle.fw_keys.specs.Quiet.{IsPressed}
+use Rattle.fw_keys.specs.Frameless.{IsPressed}
 use Rattle.kbd_model.proofs.Known.{meets, counts}
 use Rattle.kbd_model.specs.Codes.{Keys}
 use Rattle.kbd_model.specs.Keyboard.{Keyboard}

@@ -3,7 +3,7 @@ use Rattle.std.proofs.Common.{◌≡◌, ◌≤◌, ◌<◌, ℕ, suc, ◌+◌, 
 use Rattle.std.proofs.lemmas.List.Elements.{All-replicate}
 use Rattle.fw_compile.specs.Image.{image_of}
 use Rattle.fw_kernel.specs.declared.labels.TheConstants.{TICK}
-use Rattle.fw_keys.specs.Quiet.{edges_now}
+use Rattle.fw_keys.specs.Frameless.{edges_now}
 use Rattle.fw_link.proofs.Over.{IsOver, itself, under}
 use Rattle.fw_link.proofs.Watching.{watching, watched, driven_good, drives_tick}
 use Rattle.fw_link.proofs.Wired.{IsReleased}

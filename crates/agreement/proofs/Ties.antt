@@ -2,7 +2,7 @@
 use Rattle.std.specs.Prelude.{◌≡◌, ℕ, List, false}
 use Rattle.ctl_link.specs.Link.{is_busy}
 use Rattle.fw_keys.proofs.Kept.{Sound}
-use Rattle.fw_keys.specs.Quiet.{IsStarted, IsRepeating, shown_by, layers_by}
+use Rattle.fw_keys.specs.Frameless.{IsStarted, IsRepeating, shown_by, layers_by}
 use Rattle.fw_link.proofs.Wired.{IsReleased}
 use Rattle.joint_run.specs.Joint.{Beside, lights_of}
 use Rattle.joint_run.specs.Run.{World}

@@ -10,7 +10,7 @@ use Rattle.ctl_link.specs.declared.link.Link.{Link}
 use Rattle.ctl_link.specs.declared.link.Link.TheVariants.{Free, Hold, Ask, Request, Busy}
 use Rattle.ctl_wire.specs.Wire.{drive}
 use Rattle.ctl_wire.specs.declared.wire.Wire.{Wire}
-use Rattle.fw_keys.specs.Quiet.{latch_now}
+use Rattle.fw_keys.specs.Frameless.{latch_now}
 use Rattle.fw_link.proofs.Outside.{sent_lines, received_lines}
 use Rattle.fw_link.proofs.Over.{itself}
 use Rattle.fw_link.proofs.TickLatch.{lines_by}

@@ -10,7 +10,7 @@ use Rattle.ctl_wire.specs.Wire.{drive}
 use Rattle.fw_kernel.specs.Places.{HasKernel}
 use Rattle.fw_kernel.specs.declared.labels.TheConstants.{TICK}
 use Rattle.fw_keys.specs.Edges.{IsSilentAlike}
-use Rattle.fw_keys.specs.Quiet.{shown_by, IsStarted, IsRepeating, edges_now, latch_now, clock_now, data_now}
+use Rattle.fw_keys.specs.Frameless.{shown_by, IsStarted, IsRepeating, edges_now, latch_now, clock_now, data_now}
 use Rattle.fw_link.proofs.Board.{clock_is, data_is}
 use Rattle.fw_link.proofs.Got.{frame_value, frame_parity}
 use Rattle.fw_link.proofs.Outside.{received_lines}

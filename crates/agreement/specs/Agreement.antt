@@ -44,7 +44,8 @@ switched_on edges events m = power_on (joint_board edges events) m beside_at_sta
 -- and whatever the part holds when it is switched on: any bytes in data memory, A and T, any carries and prescaler
 abbrev pub AnyMemoryLaw : Type 0
 AnyMemoryLaw =
-    (layout : KeyLayout) (history : KeyHistory) → IsKeyLayout layout → IsAcceptedFor layout history → (m : Cpu) → IsFine m
+    (layout : KeyLayout) (history : KeyHistory) → IsKeyLayout layout → IsAcceptedFor layout history
+    → (m : Cpu) → IsFine m
     → KeepsTimeFrom (switched_on history.edges history.host m) (image_of layout) history.edges history.host
     × AgreesFrom (switched_on history.edges history.host m) (image_of layout) (keyboard layout) history.edges
     history.host

@@ -5,8 +5,8 @@ use Rattle.mcs48_core.specs.declared.levels.Pins.{Pins}
 use Rattle.fw_kernel.specs.declared.labels.TheConstants.{TICK}
 use Rattle.fw_kernel.specs.Places.{HasKernel}
 use Rattle.fw_keys.specs.Edges.{image_code, IsSilentAlike}
-use Rattle.fw_keys.specs.Quiet.{IsStarted, IsRepeating, IsQuiet, GoesOn, shown_by, tests_in, edges_now}
-use Rattle.fw_keys.specs.Quiet.{latch_now, clock_now, data_now}
+use Rattle.fw_keys.specs.Frameless.{IsStarted, IsRepeating, IsFrameless, GoesOn, shown_by, tests_in, edges_now}
+use Rattle.fw_keys.specs.Frameless.{latch_now, clock_now, data_now}
 use Rattle.fw_link.specs.Latch.{Frame, NoFrame, SentFrame, CutFrame, ReceivedFrame, tick_latch}
 use Rattle.fw_link.specs.Reading.{byte_in, right_in}
 use Rattle.fw_logic.specs.Boards.{numbered}
@@ -48,7 +48,7 @@ Offers d w byte = IsOpen d w × (data_now d w ≡ true) × (offer (shown_by w.cp
 -- looks of all ten cells; it is cut in the cell whose look is the first that finds the clock low. A byte is received
 -- where the clock is high and data low: that of the first eight looks at data, right where the ninth is its parity
 abbrev pub Finds : (d : Board) → World d.State → Frame → Meeting → Type 0
-Finds d w NoFrame meeting = IsQuiet d w meeting
+Finds d w NoFrame meeting = IsFrameless d w meeting
 Finds d w (SentFrame byte) meeting =
     (meeting ≡ Sent) × Offers d w byte × ((k : ℕ) → k < 10 → clock_in d w byte k ≡ true)
 Finds d w (CutFrame byte cell) meeting =

@@ -43,7 +43,8 @@ IsFrameOf offered Idle frame = frame ≡ NoFrame
 
 -- what stands beside the processor so many cycles past a tick's start, where the latch of port 2 is this, by the offset
 abbrev pub beside_in : List Edge → List HostEvent → (ℕ → ℕ) → World Beside → ℕ → Beside
-beside_in edges events latch w n = after_cycles n 0 (λ o. (joint_board edges events).cycle (latch o) (w.cycle + o)) w.board
+beside_in edges events latch w n =
+    after_cycles n 0 (λ o. (joint_board edges events).cycle (latch o) (w.cycle + o)) w.board
 
 -- the offset of the look at the clock in front of that of a cell: the tick's own, or that of the cell before
 abbrev pub look_before : ℕ → ℕ
@@ -76,9 +77,9 @@ abbrev pub IsLetGo : ℕ → Type 0
 IsLetGo v = (v < 256) × (bit 0 v ≡ true) × (bit 1 v ≡ true)
 
 -- a tick of the joint run from its start: the run comes to the next start, and in each cycle on the way the latch of
--- port 2 is that of a tick with the meeting's frame; outside the frame it pulls neither wire. A frame that is cut is cut
--- in the cell whose look is the first that can see it; the controller goes with one that isn't. No byte is under way at
--- its start
+-- port 2 is that of a tick with the meeting's frame; outside the frame it pulls neither wire. A frame that is cut is
+-- cut in the cell whose look is the first that can see it; the controller goes with one that isn't. No byte is under
+-- way at its start
 pub record DrivesFrame (edges : List Edge) (events : List HostEvent) (bytes : List ℕ) (offered : Option ℕ)
     (meeting : Meeting) (w : World Beside) : Type 0 where
   pub frame : Frame
@@ -108,6 +109,7 @@ pub record DrivesWires {S : Type 0} (from : World Beside) (bytes : List ℕ) (kb
 -- for every layout and every history that is accepted for it, whatever a part holds when it is switched on
 abbrev pub WiresLaw : Type 0
 WiresLaw =
-    (layout : KeyLayout) (history : KeyHistory) → IsKeyLayout layout → IsAcceptedFor layout history → (m : Cpu) → IsFine m
+    (layout : KeyLayout) (history : KeyHistory) → IsKeyLayout layout → IsAcceptedFor layout history
+    → (m : Cpu) → IsFine m
     → DrivesWires (switched_on history.edges history.host m) (image_of layout) (keyboard layout) history.edges
     history.host

@@ -10,7 +10,7 @@ use Rattle.fw_logic.proofs.Service.{begun}
 use Rattle.fw_keys.proofs.Patch.{still}
 use Rattle.fw_keys.specs.State.{Inv}
 use Rattle.fw_keys.specs.Edges.{row_edges, column_edges}
-use Rattle.fw_keys.specs.Quiet.{cells_in, IsStarted}
+use Rattle.fw_keys.specs.Frameless.{cells_in, IsStarted}
 use Rattle.fw_keys.proofs.Rows.{marks}
 use Rattle.fw_keys.proofs.Step5.{all_edges}
 use Rattle.std.proofs.lemmas.Nat.{xor_of_8}

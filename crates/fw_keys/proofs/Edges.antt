@@ -20,7 +20,7 @@ use Rattle.kbd_model.specs.Tick.{edge_if, edges_if, ended_at, is_scanning, met, 
 use Rattle.kbd_model.specs.Tick.{scanned, repeated, repeated_if}
 use Rattle.kbd_model.specs.Typematic.{delay}
 use Rattle.fw_keys.specs.Edges.{tick_edges}
-use Rattle.fw_keys.specs.Quiet.{IsPressed}
+use Rattle.fw_keys.specs.Frameless.{IsPressed}
 use Rattle.fw_keys.proofs.Carried.{low_edges, edges_low}
 use Rattle.fw_keys.proofs.Typematic.{repeating}
 use Rattle.fw_keys.proofs.Scan.{keyed}

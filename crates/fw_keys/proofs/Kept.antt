@@ -17,7 +17,7 @@ use Rattle.kbd_model.specs.Tick.{edges_if, is_scanning, is_inhibited, ticked}
 use Rattle.kbd_model.proofs.Whole.{IsWhole, entered_whole, make_whole, release_whole, dropped_whole, cleared_whole}
 use Rattle.kbd_model.specs.declared.edge.TickEdge.{TickEdge}
 use Rattle.kbd_model.specs.Layers.{Layers, layered, all_layers_after}
-use Rattle.fw_keys.specs.Quiet.{IsPressed}
+use Rattle.fw_keys.specs.Frameless.{IsPressed}
 use Rattle.fw_keys.proofs.Edges.{IsWide, turns_by}
 use Rattle.fw_keys.proofs.Carried.{low_repeat, low_edges, low_ticks, low_layered}
 

@@ -8,7 +8,7 @@ use Rattle.kbd_model.specs.Keyboard.{Keyboard}
 use Rattle.kbd_model.specs.Layers.{Layers, layered, all_layers_after}
 use Rattle.kbd_model.specs.Tick.{met, tested_if, ticked}
 use Rattle.fw_keys.specs.State.{flags, down_at, kbd_of, held_by, keyboard_of, layers_of}
-use Rattle.fw_keys.specs.Quiet.{IsPressed, IsQuiet, shown_by, layers_by}
+use Rattle.fw_keys.specs.Frameless.{IsPressed, IsFrameless, shown_by, layers_by}
 use Rattle.joint_run.specs.Run.{Board, World}
 use Rattle.kbd_model.specs.declared.meeting.Meeting.TheVariants.{Idle, Inhibited, Sent, Cut, Got}
 use Rattle.fw_keys.specs.Edges.{tick_edges}
@@ -37,16 +37,16 @@ tested_pressed keys l k true h = h
 tested_pressed keys l k false h = h
 
 -- without a frame nothing changes what repeats before the keys' steps
-pub quiet_pressed : (d : Board) (w : World d.State) (keys : Keys) (meeting : Meeting) → IsQuiet d w meeting
+pub frameless_pressed : (d : Board) (w : World d.State) (keys : Keys) (meeting : Meeting) → IsFrameless d w meeting
     → IsPressed keys (layers_by w.cpu.ram) (shown_by w.cpu.ram).repeats
     → IsPressedAt keys meeting (layers_by w.cpu.ram) (shown_by w.cpu.ram)
-quiet_pressed d w keys Idle q h =
+frameless_pressed d w keys Idle q h =
     tested_pressed keys (layers_by w.cpu.ram) (shown_by w.cpu.ram) (not ((shown_by w.cpu.ram).test == 0)) h
-quiet_pressed d w keys Inhibited q h =
+frameless_pressed d w keys Inhibited q h =
     tested_pressed keys (layers_by w.cpu.ram) (shown_by w.cpu.ram) (not ((shown_by w.cpu.ram).test == 0)) h
-quiet_pressed d w keys (Got byte good) q h = elim q [ ]
-quiet_pressed d w keys Sent q h = elim q [ ]
-quiet_pressed d w keys Cut q h = elim q [ ]
+frameless_pressed d w keys (Got byte good) q h = elim q [ ]
+frameless_pressed d w keys Sent q h = elim q [ ]
+frameless_pressed d w keys Cut q h = elim q [ ]
 
 pub keyboard_goes : (keys : Keys) (meeting : Meeting) (s : ℕ → ℕ) (ring : List ℕ) (now : ℕ → ℕ) (last : List ℕ)
     (down : ℕ → ℕ)

@@ -30,7 +30,7 @@ pub mod Ended
 pub mod Frames
 pub mod Keyboard
 pub mod Serve
-pub mod QuietTick
+pub mod FramelessTick
 pub mod PowerOn
 pub mod Carried
 pub mod Kept

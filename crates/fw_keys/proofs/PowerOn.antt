@@ -12,7 +12,7 @@ use Rattle.fw_logic.proofs.Fine.{calm_fine}
 use Rattle.fw_logic.proofs.Service.{begun}
 use Rattle.fw_logic.proofs.Laws.{comes_as}
 use Rattle.fw_logic.proofs.Starting.{IsFirst, first_start, powered, empty_ring}
-use Rattle.fw_keys.specs.Quiet.{IsStarted, FromPowerOn, shown_by, layers_by}
+use Rattle.fw_keys.specs.Frameless.{IsStarted, FromPowerOn, shown_by, layers_by}
 use Rattle.fw_keys.proofs.Begun.{started_is}
 
 module _ (d : Board) (bytes : List ℕ) (hk : HasKernel bytes) (small : All IsByte bytes)

@@ -1,3 +1,3 @@
 pub mod State
 pub mod Edges
-pub mod Quiet
+pub mod Frameless

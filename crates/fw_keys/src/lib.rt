@@ -7,6 +7,6 @@
 //! functions here; the others are lemmas, which the layers above cite. Our own.
 #![tactic(auto)]
 
-mod quiet_ticks;
+mod frameless_ticks;
 
-pub use quiet_ticks::{bare_kernel, every_quiet_tick, power_on};
+pub use frameless_ticks::{bare_kernel, every_frameless_tick, power_on};

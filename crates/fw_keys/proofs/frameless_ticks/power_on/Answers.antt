@@ -1,6 +1,6 @@
 use Rattle.fw_logic.specs.Boards.{numbered}
 use Rattle.fw_keys.proofs.PowerOn.{starts}
-use Rattle.fw_keys.proofs.quiet_ticks.power_on.Goals as goal
+use Rattle.fw_keys.proofs.frameless_ticks.power_on.Goals as goal
 
 pub returns : goal.returns
 returns c = record {

@@ -68,14 +68,14 @@ data_now d w = (levels_in d (w.cycle + 232) 44 (latch_now d w) (in_tick d w 232)
 abbrev pub tests_in : (d : Board) → World d.State → Bool
 tests_in d w = (shown_by w.cpu.ram).test == 0
 
-abbrev pub IsQuiet : (d : Board) → World d.State → Meeting → Type 0
-IsQuiet d w Idle =
+abbrev pub IsFrameless : (d : Board) → World d.State → Meeting → Type 0
+IsFrameless d w Idle =
     (tests_in d w ≡ false)
     ⊎ ((tests_in d w ≡ true) × (clock_now d w ≡ true) × (data_now d w ≡ true) × (offer (shown_by w.cpu.ram) ≡ None))
-IsQuiet d w Inhibited = (tests_in d w ≡ true) × (clock_now d w ≡ false)
-IsQuiet d w Sent = ⊥
-IsQuiet d w Cut = ⊥
-IsQuiet d w (Got byte good) = ⊥
+IsFrameless d w Inhibited = (tests_in d w ≡ true) × (clock_now d w ≡ false)
+IsFrameless d w Sent = ⊥
+IsFrameless d w Cut = ⊥
+IsFrameless d w (Got byte good) = ⊥
 
 -- such a tick: the next start is 2,048 cycles later, give or take the one cycle; the keyboard and the layers that data
 -- memory shows are a tick of the model later; and the latch of port 2 shows the lights and pulls no wire
@@ -88,18 +88,18 @@ pub record GoesOn (d : Board) (bytes : List ℕ) (meeting : Meeting) (w v : Worl
   pub repeating : IsRepeating bytes v.cpu.ram
   pub latch : v.cpu.p2 ≡ latch_now d w
 
--- a program whose every quiet tick does so, whatever the pins show, where four edges are seen at most
-abbrev pub KeepsQuiet : List ℕ → Type 0
-KeepsQuiet bytes = (pins : ℕ → ℕ → ℕ → ℕ → Pins) (tick : ℕ → ℕ → ℕ → ℕ)
+-- a program whose every tick without a frame does so, whatever the pins show, where four edges are seen at most
+abbrev pub KeepsFrameless : List ℕ → Type 0
+KeepsFrameless bytes = (pins : ℕ → ℕ → ℕ → ℕ → Pins) (tick : ℕ → ℕ → ℕ → ℕ)
     → ((p1 p2 c s : ℕ) → (pins p1 p2 c s).bus < 256)
     → (w : World ℕ) → IsStarted w.cpu → IsRepeating bytes w.cpu.ram → length (edges_now (numbered pins tick) w) ≤ 4
-    → (meeting : Meeting) → IsQuiet (numbered pins tick) w meeting
+    → (meeting : Meeting) → IsFrameless (numbered pins tick) w meeting
     → Tick (numbered pins tick) TICK bytes w (GoesOn (numbered pins tick) bytes meeting w)
 
 -- every image that has the kernel's bytes outside the layout's tables is one, where a place has codes in both layers or
 -- in neither
-abbrev pub QuietLaw : Type 0
-QuietLaw = (bytes : List ℕ) → HasKernel bytes → IsSilentAlike bytes → All IsByte bytes → KeepsQuiet bytes
+abbrev pub FramelessLaw : Type 0
+FramelessLaw = (bytes : List ℕ) → HasKernel bytes → IsSilentAlike bytes → All IsByte bytes → KeepsFrameless bytes
 
 -- a tick start at which data memory shows the keyboard at power-on, before any press; no wire is pulled, and no light
 -- is lit

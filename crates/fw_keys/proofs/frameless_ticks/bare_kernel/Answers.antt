@@ -2,13 +2,13 @@ use Rattle.fw_kernel.specs.declared.bytes.TheConstants.{KERNEL}
 use Rattle.fw_logic.specs.Boards.{numbered}
 use Rattle.fw_keys.proofs.Bare.{itself, silent, small_kernel}
 use Rattle.fw_keys.proofs.PowerOn.{starts}
-use Rattle.fw_keys.proofs.QuietTick.{quiet_tick}
-use Rattle.fw_keys.proofs.quiet_ticks.bare_kernel.Goals as goal
+use Rattle.fw_keys.proofs.FramelessTick.{frameless_tick}
+use Rattle.fw_keys.proofs.frameless_ticks.bare_kernel.Goals as goal
 
 pub returns : goal.returns
 returns c = record {
   powers_on = λ pins tick m board fine low. starts (numbered pins tick) KERNEL itself small_kernel low m fine board;
-  quiet = λ pins tick low w s repeats few meeting q. quiet_tick (numbered pins tick) KERNEL itself silent
+  frameless = λ pins tick low w s repeats few meeting q. frameless_tick (numbered pins tick) KERNEL itself silent
       small_kernel low w
       s few repeats meeting q;
 }

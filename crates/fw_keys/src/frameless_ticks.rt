@@ -1,6 +1,6 @@
 //! Laws of power-on and of the ticks without a frame.
 
-ghost use Rattle.fw_keys.specs.Quiet.{KeepsQuiet, PowerOnLaw, PowersOn, QuietLaw};
+ghost use Rattle.fw_keys.specs.Frameless.{FramelessLaw, KeepsFrameless, PowerOnLaw, PowersOn};
 
 use fw_kernel::KERNEL;
 use mcs48_isa::Image;
@@ -17,14 +17,14 @@ pub fn power_on()
 /// one without is the Fn key's. Without a frame are the ticks of the power-on test, those at whose looks the clock is low,
 /// and those at whose looks both wires are high while nothing is offered. Nothing is done when it is called; the law is
 /// its contract.
-pub fn every_quiet_tick()
-    ensures quiet { QuietLaw }
+pub fn every_frameless_tick()
+    ensures frameless { FramelessLaw }
 {}
 
-/// The kernel with empty tables, as an image: it powers on as the model's keyboard, and keeps its quiet ticks.
+/// The kernel with empty tables, as an image: it powers on as the model's keyboard, and keeps its ticks without a frame.
 pub fn bare_kernel() -> Image
     ensures powers_on { PowersOn result.bytes }
-    ensures quiet { KeepsQuiet result.bytes }
+    ensures frameless { KeepsFrameless result.bytes }
 {
     let bytes = KERNEL;
     Image { bytes }

@@ -23,12 +23,12 @@ use Rattle.kbd_model.specs.declared.meeting.Meeting.TheVariants.{Idle, Inhibited
 use Rattle.kbd_model.specs.Codes.{Keys}
 use Rattle.kbd_model.specs.Layers.{layered, all_layers_after}
 use Rattle.kbd_model.specs.Tick.{ticked}
-use Rattle.fw_keys.proofs.Keyboard.{IsPressedAt, quiet_pressed}
+use Rattle.fw_keys.proofs.Keyboard.{IsPressedAt, frameless_pressed}
 use Rattle.fw_keys.proofs.Patch.{still}
 use Rattle.fw_keys.specs.State.{keyboard_of, layers_of, Inv}
 use Rattle.fw_keys.specs.Edges.{image_keys, tick_edges, IsSilentAlike}
-use Rattle.fw_keys.specs.Quiet.{cells_in, shown_by, IsStarted, changed_now, edges_now, latch_now}
-use Rattle.fw_keys.specs.Quiet.{IsQuiet, GoesOn, IsRepeating, layers_by}
+use Rattle.fw_keys.specs.Frameless.{cells_in, shown_by, IsStarted, changed_now, edges_now, latch_now}
+use Rattle.fw_keys.specs.Frameless.{IsFrameless, GoesOn, IsRepeating, layers_by}
 use Rattle.fw_keys.proofs.Step5.{all_edges}
 use Rattle.fw_keys.proofs.Scan.{edges_most}
 use Rattle.fw_keys.proofs.Ended.{AtHead, idle_works, inhibited_works, test_works}
@@ -57,11 +57,11 @@ module _ (d : Board) (bytes : List ℕ) (hk : HasKernel bytes) (alike : IsSilent
   pub soon : late ≤ 1
   soon = let l : m.pre ≤ 3 = s.entered.late in omega (arith, l)
 
-  abbrev pub D : ℕ → ℕ
-  D = down d bytes hk alike small low w.cycle late soon m.tf m.last_t1 f ring m w.board
+  abbrev pub down_in : ℕ → ℕ
+  down_in = down d bytes hk alike small low w.cycle late soon m.tf m.last_t1 f ring m w.board
 
-  abbrev pub C : ℕ → ℕ
-  C = changed d bytes hk alike small low w.cycle late soon m.tf m.last_t1 f ring m w.board
+  abbrev pub changed_in : ℕ → ℕ
+  changed_in = changed d bytes hk alike small low w.cycle late soon m.tf m.last_t1 f ring m w.board
 
   abbrev old : ℕ → d.State → d.State
   old = d.cycle m.p2
@@ -69,7 +69,7 @@ module _ (d : Board) (bytes : List ℕ) (hk : HasKernel bytes) (alike : IsSilent
   abbrev new : ℕ → d.State → d.State
   new = d.cycle (latch_now d w)
 
-  down_is : (c : ℕ) → D c ≡ column_read d w c
+  down_is : (c : ℕ) → down_in c ≡ column_read d w c
   down_is c =
       let x = w.cycle in
       let a : x + 3 + (13 + 16 * c) ≡ x + (16 + 16 * c) = omega arith in
@@ -80,22 +80,22 @@ module _ (d : Board) (bytes : List ℕ) (hk : HasKernel bytes) (alike : IsSilent
       ap (λ b. 255 - (d.pins (32 + c) m.p2 (x + 3 + (13 + 16 * c)) b).bus) state
       ∙ ap (λ k. 255 - (d.pins (32 + c) m.p2 k (in_tick d w (16 + 16 * c))).bus) a
 
-  changed_is : (c : ℕ) → C c ≡ changed_now d w c
-  changed_is c = ap (λ v. bit_xor v (D c)) (kept_on f c) ∙ ap (λ v. bit_xor (f (32 + c)) v) (down_is c)
+  changed_is : (c : ℕ) → changed_in c ≡ changed_now d w c
+  changed_is c = ap (λ v. bit_xor v (down_in c)) (kept_on f c) ∙ ap (λ v. bit_xor (f (32 + c)) v) (down_is c)
 
-  edges_is : tick_edges C D ≡ edges_now d w
-  edges_is = columns_same C (changed_now d w) D (column_read d w) 0 12 refl (λ i l. changed_is i) (λ i l. down_is i)
+  edges_is : tick_edges changed_in down_in ≡ edges_now d w
+  edges_is = columns_same changed_in (changed_now d w) down_in (column_read d w) 0 12 refl (λ i l. changed_is i) (λ i l. down_is i)
 
   -- a tick with four edges at most has its time
-  pub four : edges_most C ≤ 728
+  pub four : edges_most changed_in ≤ 728
   four =
-      let count : all_edges C 0 12 ≡ length (edges_now d w) = sym (columns_count C D 0 12) ∙ ap length edges_is in
+      let count : all_edges changed_in 0 12 ≡ length (edges_now d w) = sym (columns_count changed_in down_in 0 12) ∙ ap length edges_is in
       let most : length (edges_now d w) ≤ 4 = few in
-      four_edges C (λ i l.
+      four_edges changed_in (λ i l.
       let cell : f (32 + i) < 256 =
       All-get_or IsByte m.ram (32 + i) 0 (let n : length m.ram ≡ 128 = s.fine.long in omega (arith, n, l)) s.fine.ram in
-      let byte : D i < 256 = omega arith in
-      subst (λ v. v < 256) (sym (ap (λ v. bit_xor v (D i)) (kept_on f i))) (xor_small (f (32 + i)) (D i) cell byte))
+      let byte : down_in i < 256 = omega arith in
+      subst (λ v. v < 256) (sym (ap (λ v. bit_xor v (down_in i)) (kept_on f i))) (xor_small (f (32 + i)) (down_in i) cell byte))
       (omega (arith, count, most))
 
   is : m ≡ begun late m.tf m.last_t1 f ring m
@@ -110,14 +110,14 @@ module _ (d : Board) (bytes : List ℕ) (hk : HasKernel bytes) (alike : IsSilent
   abbrev pub board3 : d.State
   board3 = first_board d bytes hk alike small low w.cycle late soon m.tf m.last_t1 f ring m w.board
 
-  abbrev pub H : List Bool
-  H = held d bytes hk alike small low w.cycle late soon m.tf m.last_t1 f ring m w.board
+  abbrev pub held_before : List Bool
+  held_before = held d bytes hk alike small low w.cycle late soon m.tf m.last_t1 f ring m w.board
 
-  abbrev pub k : Bool → Cpu
-  k l = first d bytes hk alike small low w.cycle late soon m.tf m.last_t1 f ring m w.board l
+  abbrev pub cpu_at_head : Bool → Cpu
+  cpu_at_head l = first d bytes hk alike small low w.cycle late soon m.tf m.last_t1 f ring m w.board l
 
-  abbrev F : Bool → Stage d.State → Type 0
-  F l = AtHead d bytes hk alike small low H (w.cycle + 3) (k l) board3 (stacked f) ring
+  abbrev IsAtHead : Bool → Stage d.State → Type 0
+  IsAtHead l = AtHead d bytes hk alike small low held_before (w.cycle + 3) (cpu_at_head l) board3 (stacked f) ring
 
   abbrev shone : d.State
   shone = after_cycles 2 229 (λ o. new (w.cycle + 3 + o)) (after_cycles 229 0 (λ o. old (w.cycle + 3 + o)) board3)
@@ -141,19 +141,19 @@ module _ (d : Board) (bytes : List ℕ) (hk : HasKernel bytes) (alike : IsSilent
       ∙ joined 2 n (x + 232) (x + 3 + 231) new (in_tick d w 232) (omega arith))
       ∙ ap (λ c. d.pins 44 (latch_now d w) c (after_cycles (2 + n) (x + 232) new (in_tick d w 232))) a
 
-  pub works : (meeting : Meeting) → IsQuiet d w meeting
+  pub works : (meeting : Meeting) → IsFrameless d w meeting
       → (max : ℕ) × (max ≤ 36) × ((l : Bool) → Work d bytes hk alike small low w.cycle late soon m.tf m.last_t1 f ring m
-      w.board l meeting (231 + (max + (56 + (2 + edges_most C)))) (F l))
+      w.board l meeting (231 + (max + (56 + (2 + edges_most changed_in)))) (IsAtHead l))
   works Idle (inl runs) = (
     36,
     omega arith,
-    λ l. test_works d bytes hk alike small low H (w.cycle + 3) (k l) board3 (stacked f) ring inv runs
+    λ l. test_works d bytes hk alike small low held_before (w.cycle + 3) (cpu_at_head l) board3 (stacked f) ring inv runs
         (fit d bytes hk alike small low w.cycle late soon m.tf m.last_t1 f ring m w.board l fine),
   )
   works Idle (inr q) = (
     31,
     omega arith,
-    λ l. idle_works d bytes hk alike small low H (w.cycle + 3) (k l) board3 (stacked f) ring inv q.0 q.3 (
+    λ l. idle_works d bytes hk alike small low held_before (w.cycle + 3) (cpu_at_head l) board3 (stacked f) ring inv q.0 q.3 (
       ap (λ p. p.t0) (look_is 22) ∙ q.1,
       ap (λ p. p.t1) (look_is 24) ∙ q.2,
     ) (fit d bytes hk alike small low w.cycle late soon m.tf m.last_t1 f ring m w.board l fine),
@@ -161,7 +161,7 @@ module _ (d : Board) (bytes : List ℕ) (hk : HasKernel bytes) (alike : IsSilent
   works Inhibited q = (
     31,
     omega arith,
-    λ l. inhibited_works d bytes hk alike small low H (w.cycle + 3) (k l) board3 (stacked f) ring inv q.0
+    λ l. inhibited_works d bytes hk alike small low held_before (w.cycle + 3) (cpu_at_head l) board3 (stacked f) ring inv q.0
         (ap (λ p. p.t0) (look_is 22)
         ∙ q.1) (fit d bytes hk alike small low w.cycle late soon m.tf m.last_t1 f ring m w.board l fine),
   )
@@ -272,19 +272,19 @@ module _ (d : Board) (bytes : List ℕ) (hk : HasKernel bytes) (alike : IsSilent
       } in
       subst (λ u. Tick d TICK bytes u (Came meeting G)) same done
 
-  pub quiet_tick : IsRepeating bytes m.ram → (meeting : Meeting) → IsQuiet d w meeting → Tick d TICK bytes w
+  pub frameless_tick : IsRepeating bytes m.ram → (meeting : Meeting) → IsFrameless d w meeting → Tick d TICK bytes w
       (GoesOn d bytes meeting w)
-  quiet_tick repeats meeting q =
+  frameless_tick repeats meeting q =
       let a = works meeting q in
       let max : a.0 ≤ 36 = a.1 in
-      let edges : edges_most C ≤ 728 = four in
-      let t = any_tick meeting (231 + (a.0 + (56 + (2 + edges_most C)))) (quiet_pressed d w keys meeting q repeats)
-      (omega (arith, max, edges)) F a.2 in
+      let edges : edges_most changed_in ≤ 728 = four in
+      let t = any_tick meeting (231 + (a.0 + (56 + (2 + edges_most changed_in)))) (frameless_pressed d w keys meeting q repeats)
+      (omega (arith, max, edges)) IsAtHead a.2 in
       record {
         at = t.at;
         first = t.first;
         step = t.step;
-        rest = comes_as d TICK bytes (Came meeting F) (GoesOn d bytes meeting w) t.first
+        rest = comes_as d TICK bytes (Came meeting IsAtHead) (GoesOn d bytes meeting w) t.first
             (λ v c. record {
               started = c.started;
               time = c.time;
