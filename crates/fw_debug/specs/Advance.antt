@@ -18,11 +18,13 @@ pub record IsStateAt (s : Sitting) (m : Machine) : Type 0 where
 
 -- what is answered of a session is whether its run is over before its next step
 abbrev pub TellsOver : Sitting → Bool → Type 0
-TellsOver s answer = (w : World Beside) → state_at s.debuggee.story s.steps ≡ Some w → answer ≡ session_is_over s.debuggee w
+TellsOver s answer =
+    (w : World Beside) → state_at s.debuggee.story s.steps ≡ Some w → answer ≡ session_is_over s.debuggee w
 
 -- a step is made exactly where the run goes on
 abbrev pub IsAdvanced : Sitting → Bool → Sitting → Type 0
 IsAdvanced old false new = (new ≡ old) × (next_state old.debuggee old.steps ≡ None)
 IsAdvanced old true new =
     (new ≡ record { debuggee = old.debuggee; steps = suc old.steps })
-    × (w : World Beside) × (state_at old.debuggee.story (suc old.steps) ≡ Some w) × (next_state old.debuggee old.steps ≡ Some w)
+    × (w : World Beside) × (state_at old.debuggee.story (suc old.steps) ≡ Some w)
+    × (next_state old.debuggee old.steps ≡ Some w)

@@ -19,8 +19,8 @@ abbrev pub hears_if : ℕ → Option (World Beside) → Ear → Ear
 hears_if kind None ear = ear
 hears_if kind (Some w) ear = listening kind (sight_in w) ear
 
--- of so many steps from one on those whose state meets arms of a kind, in their order; each of them is looked at, so the
--- ear is at each as the steps before it left it
+-- of so many steps from one on those whose state meets arms of a kind, in their order; each of them is looked at, so
+-- the ear is at each as the steps before it left it
 abbrev pub met_from : Story → ℕ → Option Arms → ℕ → ℕ → Ear → List ℕ
 met_from s kind arms step zero ear = []
 met_from s kind arms step (suc more) ear =

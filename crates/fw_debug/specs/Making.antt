@@ -23,7 +23,7 @@ IsMade old before Missed new after =
 IsMade old before (Hit probe) new after =
     (m : IsMadeTo old before new after) × (first_met 0 (sight_in m.world) before ≡ Some probe)
 
--- the same without what was hit
+-- what came of one step more, where nobody asks what it hit: whether it was made
 abbrev pub IsMore : Sitting → List Watch → Bool → Sitting → List Watch → Type 0
 IsMore old before false new after = (next_state old.debuggee old.steps ≡ None) × (new ≡ old) × (after ≡ before)
 IsMore old before true new after = IsMadeTo old before new after

@@ -73,7 +73,7 @@ abbrev pub transfer_heard : Sight → Ear → Option Transfer
 transfer_heard sight ear =
     if is_behind sight.cycle ear.last then completed (sample sight.cycle sight.lines) ear else None
 
--- whether a transfer is what arms wait for: their byte, from the keyboard where `a` is 0 and from the host where it is 1
+-- whether a transfer is what arms wait for: their byte, from the keyboard where `a` is 0, from the host where it is 1
 abbrev pub is_awaited : Arms → Transfer → Bool
 is_awaited arms t = (arms.a == (if t.from_host then 1 else 0)) && (arms.b == t.byte)
 

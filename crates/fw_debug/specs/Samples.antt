@@ -1,4 +1,4 @@
--- The same of a list of samples: its falls, and the transfer that its last sample completes.
+-- What is heard in a list of samples: its falls, and the transfer that its last sample completes.
 use Rattle.std.specs.Prelude.{◌≡◌, ◌-◌, List, [], ◌∷◌, ◌++◌, length, drop, Some, None, if◌then◌else◌}
 use Rattle.std.specs.declared.option.Option.{Option}
 use Rattle.board_lines.specs.declared.lines.Lines.{Lines}

@@ -72,7 +72,7 @@ pub record Hunted : Type 0 where
   pub debug : Debug
   pub hit : Option ℕ
 
--- the same, but no step behind the first one whose state meets a probe
+-- so many steps, or as many as the run still has, but none behind the first one whose state meets a probe
 abbrev pub hunt : Debuggee → ℕ → Debug → Hunted
 hunt s zero d = record { debug = d; hit = None }
 hunt s (suc n) d =

@@ -106,7 +106,7 @@ impl Probe for AddressProbe {
         met
     }
 
-    fn rests(&self) -> bool {
+    fn rests(&self, _clk: bool) -> bool {
         self.counter.is_unarmed()
     }
 
@@ -139,7 +139,7 @@ impl Probe for RegisterProbe {
         met
     }
 
-    fn rests(&self) -> bool {
+    fn rests(&self, _clk: bool) -> bool {
         self.counter.is_unarmed()
     }
 
@@ -172,7 +172,7 @@ impl Probe for CellProbe {
         met
     }
 
-    fn rests(&self) -> bool {
+    fn rests(&self, _clk: bool) -> bool {
         self.counter.is_unarmed()
     }
 

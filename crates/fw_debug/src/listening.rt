@@ -82,8 +82,8 @@ impl Probe for LineProbe {
         self.listen(step, joint)
     }
 
-    fn rests(&self) -> bool {
-        self.decoder.lines().clk && self.counter.is_unarmed()
+    fn rests(&self, clk: bool) -> bool {
+        self.decoder.lines().clk == clk && self.counter.is_unarmed()
     }
 
     fn tell(&self) -> Tally {

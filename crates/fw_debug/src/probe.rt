@@ -25,10 +25,11 @@ pub trait Probe: Drop {
         ensures looked { watch self.new ≡ looked step (sight_of joint.now) (watch self.old) }
         ensures hit { result ≡ meets (sight_of joint.now) (watch self.old) };
 
-    /// Whether it rests: it isn't armed, and the clock was high at the last sample that it heard, if it heard one. Then it
-    /// needn't look at states in which nobody pulls a wire, as long as it looks at a later one.
-    fn rests(&self) -> bool
-        ensures rests { result ≡ rests (watch self.now) };
+    /// Whether it rests while the clock has this level: it isn't armed, and where it listens to the wires the clock had this
+    /// level at the last sample that it heard. Then it needn't look at states in which the clock has this level, as long as
+    /// it looks at a later one.
+    fn rests(&self, clk: bool) -> bool
+        ensures rests { result ≡ rests clk (watch self.now) };
 
     /// How many steps it counted, and the first of them; none exactly where it counted none.
     fn tell(&self) -> Tally

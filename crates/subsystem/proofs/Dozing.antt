@@ -1,5 +1,5 @@
 -- Steps that probes which rest needn't look at.
-use Rattle.std.proofs.Common.{◌≡◌, ◌<◌, ℕ, true, List, map, refl, ap, sym, subst, ◌∙◌}
+use Rattle.std.proofs.Common.{◌≡◌, ◌<◌, ℕ, Bool, true, List, map, refl, ap, sym, subst, ◌∙◌}
 use Rattle.fw_debug.proofs.AtRest.{all_rested}
 use Rattle.fw_debug.proofs.Over.{seen_map}
 use Rattle.fw_debug.specs.Probes.{Sight, Watch, looked, sight_of}
@@ -41,12 +41,12 @@ module _ (bytes : List ℕ) (h : KeyHistory) (old p new : Pace) (before : List W
         subst (λ (after : List Watch). IsOnward bytes h old new before after) made_good
         (then_onward bytes h old p new before d.between (looked_now new d.between) d.onward (onward d.between))
 
-    -- behind the next step nobody pulls a wire
-    pub dozes_on : all_rest before ≡ true → (sight_of new.course.joint).lines.clk ≡ true → HasDozed bytes h old new before
-    dozes_on at_rest up = record {
+    -- behind the next step the clock has the level at which they rest
+    pub dozes_on : (clk : Bool) → all_rest clk before ≡ true → (sight_of new.course.joint).lines.clk ≡ clk → HasDozed bytes h old new before
+    dozes_on clk at_rest level = record {
       between = looked_now new before;
       onward = wakes_onward;
-      same = λ n s more. all_rested new.course.joint.steps n (sight_of new.course.joint) s before more up at_rest;
+      same = λ n s more. all_rested clk new.course.joint.steps n (sight_of new.course.joint) s before more level at_rest;
     }
 
 -- stretches of steps, one after another

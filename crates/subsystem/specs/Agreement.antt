@@ -19,13 +19,14 @@ pub record IsAsExpected (layout : KeyLayout) (history : KeyHistory) (run : Outco
   pub quiet : IsQuiet history → run.log ≡ quiet_log layout history
   pub few : length run.log < 800000
 
--- the same of a run whose log is kept as a list
+-- a run whose log is kept as a list is as expected
 abbrev pub IsExpected : KeyLayout → KeyHistory → Run → Type 0
 IsExpected layout history run = IsAsExpected layout history (outcome run)
 
 -- so it is with each run of a layout's compiled image under a history that is accepted for it
 abbrev pub RunsAsExpected : Type 0
-RunsAsExpected = (layout : KeyLayout) (history : KeyHistory) (run : Outcome) → IsKeyLayout layout → IsAcceptedFor layout history
+RunsAsExpected =
+    (layout : KeyLayout) (history : KeyHistory) (run : Outcome) → IsKeyLayout layout → IsAcceptedFor layout history
     → IsOutcome (story (image_of layout) history) run → IsAsExpected layout history run
 
 -- two runs tell the same

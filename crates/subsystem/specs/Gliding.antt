@@ -33,7 +33,8 @@ pub record IsStepped (bytes : List ℕ) (h : KeyHistory) (old new : Pace) (befor
   pub looked : after
       ≡ looked_at (suc old.course.joint.steps) (state_at (story bytes h) (suc old.course.joint.steps)) before
 
--- steps were made, none of which took an event, said an item or led to a tick start; the probes are as after a look at each
+-- steps were made, none of which took an event, said an item or led to a tick start; the probes are as after a look at
+-- each
 pub record IsOnward (bytes : List ℕ) (h : KeyHistory) (old new : Pace) (before after : List Watch) : Type 0 where
   pub going : IsGoing bytes h new
   pub ahead : new.course.ahead ≡ old.course.ahead

@@ -1,5 +1,6 @@
 -- The run so far, as the loop keeps it.
-use Rattle.std.specs.Prelude.{◌≡◌, ◌≤◌, ◌<◌, ◌/◌, ℕ, suc, ◌+◌, ◌-◌, Bool, List, [], ◌∷◌, ◌++◌, length, map, vec_capacity, if◌then◌else◌}
+use Rattle.std.specs.Prelude.{◌≡◌, ◌≤◌, ◌<◌, ◌/◌, ℕ, suc, ◌+◌, ◌-◌, Bool, List, [], ◌∷◌, ◌++◌, length, map}
+use Rattle.std.specs.Prelude.{vec_capacity, if◌then◌else◌}
 use Rattle.board_lines.specs.Cadence.{begun, listed}
 use Rattle.fw_logic.specs.JointRun.{KeepsTime}
 use Rattle.host_turn.specs.declared.stamped.Stamped.{Stamped}

@@ -45,8 +45,8 @@ logged (Some w) = log_of w.board
 abbrev pub log_at : Story → ℕ → List Stamped
 log_at s k = logged (state_at s k)
 
--- what a run comes to: the log, the stamps of the tick starts, the processor at the last of them, and how many steps and
--- cycles were made
+-- what a run comes to: the log, the stamps of the tick starts, the processor at the last of them, and how many steps
+-- and cycles were made
 pub record Outcome : Type 0 where
   pub log : List LogLine
   pub starts : List ℕ
@@ -67,7 +67,7 @@ pub record IsOutcome (s : Story) (run : Outcome) : Type 0 where
   pub cycles : run.cycles ≡ world.cycle
   pub log : run.log ≡ lines_of run.starts (log_of world.board)
 
--- the same of a run whose log is kept as a list
+-- what a run comes to whose log is kept as a list
 abbrev pub outcome : Run → Outcome
 outcome run = record {
   log = run.log.items;

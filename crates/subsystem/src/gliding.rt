@@ -43,22 +43,33 @@ fn is_silent(seen: &Seen) -> bool
     seen.edges == 0 && seen.host == 0 && seen.items.is_empty()
 }
 
-/// Whether probes needn't look at this state, if they rest or not: they do, and nobody pulls a wire.
+/// The level of the clock wire.
 #[inline(always)]
-fn is_passed_over(rest: bool, joint: &Joint) -> bool
-    ensures rest { result ≡ true → rest ≡ true }
-    ensures high { result ≡ true → (sight_of joint.now).lines.clk ≡ true }
+fn clock_of(joint: &Joint) -> bool
+    ensures { result ≡ (sight_of joint.now).lines.clk }
 {
-    rest && joint.is_let_go()
+    joint.lines().clk
 }
 
-/// Whether probes rest that have looked at this state. Where a wire is pulled they are taken not to, since most often one
-/// that listens doesn't.
+/// Whether the clock has this level. Most often nobody pulls a wire, and then it is high; to know that costs less than to
+/// ask for the wires.
 #[inline(always)]
-fn may_rest(joint: &Joint, probes: &Vec<Box<dyn Probe>>) -> bool
-    ensures { result ≡ true → all_rest (map (λ b. watch b) probes.now.items) ≡ true }
+fn is_clock(joint: &Joint, clk: bool) -> bool
+    ensures { result ≡ true → (sight_of joint.now).lines.clk ≡ clk }
 {
-    joint.is_let_go() && all_rest(probes)
+    if joint.is_let_go() {
+        return clk;
+    }
+    clock_of(joint) == clk
+}
+
+/// Whether probes needn't look at this state, if they rest while the clock has this level or not: they do, and it has.
+#[inline(always)]
+fn is_passed_over(rest: bool, clk: bool, joint: &Joint) -> bool
+    ensures rest { result ≡ true → rest ≡ true }
+    ensures level { result ≡ true → (sight_of joint.now).lines.clk ≡ clk }
+{
+    rest && is_clock(joint, clk)
 }
 
 impl Pace {
@@ -86,20 +97,20 @@ impl Pace {
     }
 
     /// Makes joint steps up to one that probes must look at, and so answers for the last of them: the first step, if they
-    /// don't rest; else the first one behind which a wire is pulled or the next can't follow at once. A look at that state
-    /// comes to the same as one at each.
+    /// don't rest while the clock has this level; else the first one behind which it has the other, or the next can't
+    /// follow at once. A look at that state comes to the same as one at each.
     #[inline(always)]
-    fn goes_unseen(&mut self, image: &Image, rest: bool) -> bool
+    fn goes_unseen(&mut self, image: &Image, rest: bool, clk: bool) -> bool
         requires going { (h : KeyHistory) × IsGoing image.now.bytes h self.old }
-        ensures glided { (h : KeyHistory) → IsGoing image.now.bytes h self.old → (before : List Watch) → (rest ≡ true → all_rest before ≡ true)
+        ensures glided { (h : KeyHistory) → IsGoing image.now.bytes h self.old → (before : List Watch) → (rest ≡ true → all_rest clk before ≡ true)
             → HasGlided image.now.bytes h self.old self.new before (looked_now self.new before) }
         ensures onward { (h : KeyHistory) → IsGoing image.now.bytes h self.old → result ≡ true
-            → (before : List Watch) → (rest ≡ true → all_rest before ≡ true)
+            → (before : List Watch) → (rest ≡ true → all_rest clk before ≡ true)
             → IsOnward image.now.bytes h self.old self.new before (looked_now self.new before) }
         ensures later { self.old.course.joint.cycle < self.new.course.joint.cycle }
     {
         'steps: while self.goes_quietly(image) {
-            if !is_passed_over(rest, &self.course.joint) {
+            if !is_passed_over(rest, clk, &self.course.joint) {
                 return true;
             }
         }
@@ -117,8 +128,9 @@ impl Pace {
             → IsOnward image.now.bytes h self.old self.new (map (λ b. watch b) probes.old.items) (map (λ b. watch b) probes.new.items) }
         ensures later { self.old.course.joint.cycle < self.new.course.joint.cycle }
     {
-        let rest = may_rest(&self.course.joint, probes);
-        let onward = self.goes_unseen(image, rest);
+        let clk = clock_of(&self.course.joint);
+        let rest = all_rest(probes, clk);
+        let onward = self.goes_unseen(image, rest, clk);
         let steps = self.course.joint.steps();
         let _ = look_all(probes, steps, &self.course.joint);
         onward

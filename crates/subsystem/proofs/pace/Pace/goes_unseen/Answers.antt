@@ -17,7 +17,7 @@ steps-preserved c = λ h is before at_rest.
     let passed : c.is_passed_over.result ≡ true = cc c.if-not-is_passed_over.false in
     dozes_on c.args.image.now.bytes h c.args.self.now c.steps.self c.goes_quietly.new.self before so_far
     (c.goes_quietly.ensures.stepped h so_far.onward.going) (c.goes_quietly.ensures.onward h so_far.onward.going c.steps-test.true)
-    (at_rest (c.is_passed_over.ensures.rest passed)) (c.is_passed_over.ensures.high passed)
+    c.args.clk (at_rest (c.is_passed_over.ensures.rest passed)) (c.is_passed_over.ensures.level passed)
 
 pub steps-smaller : goal.steps-smaller
 steps-smaller c =

@@ -7,7 +7,7 @@ use Rattle.subsystem.proofs.Dozing.{HasDozed}
 use Rattle.subsystem.proofs.pace.Pace.goes_unseen.Given as goal
 
 abbrev pub invariant-steps : goal.invariant-steps
-invariant-steps l = (h : KeyHistory) → IsGoing l.image.bytes h l.fn.self → (before : List Watch) → (l.rest ≡ true → all_rest before ≡ true)
+invariant-steps l = (h : KeyHistory) → IsGoing l.image.bytes h l.fn.self → (before : List Watch) → (l.rest ≡ true → all_rest l.clk before ≡ true)
     → HasDozed l.image.bytes h l.fn.self l.self before
 
 abbrev pub decreases-steps : goal.decreases-steps
