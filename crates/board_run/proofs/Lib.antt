@@ -5,6 +5,7 @@ pub mod Going
 pub mod Lines
 pub mod Whole
 pub mod Loop
+pub mod Traced
 pub mod Ends
 pub mod Telling
 pub mod EndOf

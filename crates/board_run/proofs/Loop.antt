@@ -1,5 +1,5 @@
 -- One turn of a run's loop.
-use Rattle.std.proofs.Common.{◌≡◌, ◌<◌, ◌^◌, ℕ, suc, ◌+◌, Bool, true, List, ◌++◌, Err, ap, sym, subst, ◌∙◌, arith}
+use Rattle.std.proofs.Common.{◌≡◌, ◌<◌, ◌^◌, ℕ, suc, ◌+◌, Bool, true, List, [], ◌++◌, Err, ap, sym, subst, ◌∙◌, arith}
 use Rattle.std.specs.Prelude.{nat_le}
 use Rattle.board_run.specs.Advance.{HasAdvanced, IsAdvanced, IsStanding}
 use Rattle.board_run.specs.Ending.{IsEnding}
@@ -36,14 +36,13 @@ first_cycle s c h first =
     let same = h.on.in_run.cycle in
     omega (arith, zero, same)
 
-pub first_said : (s : Story) (c : Course) (x : Shown) → c.joint.steps ≡ 0 → IsSaid x x (log_text (log_at s c.joint.steps))
-first_said s c x first = subst (λ (k : ℕ). IsSaid x x (log_text (log_at s k))) (sym first) (none_said x)
+pub first_said : (text : ℕ → List ℕ) (c : Course) (x : Shown) → text 0 ≡ [] → c.joint.steps ≡ 0 → IsSaid x x (text c.joint.steps)
+first_said text c x none first = subst (λ (t : List ℕ). IsSaid x x t) (sym (ap text first ∙ none)) (none_said x)
 
 pub first_looked : (s : Story) (c : Course) (probes : List Watch) → c.joint.steps ≡ 0 → probes ≡ looks s c.joint.steps probes
 first_looked s c probes first = sym (ap (λ (k : ℕ). looks s k probes) first)
 
-module _ (s : Story) (old : Course) (first before : List Watch) (start now : Shown)
-    (said : IsSaid start now (log_text (log_at s old.joint.steps))) (so_far : before ≡ looks s old.joint.steps first) where
+module _ (s : Story) (old : Course) where
   -- the run is over there
   pub over_now : (cycle stop : ℕ) (over : Bool) → IsStanding s old → over ≡ nat_le (4096 + stop) cycle → stop ≡ s.stop → cycle ≡ old.joint.cycle → over ≡ true
       → IsEnding s old ends.Over
@@ -52,7 +51,7 @@ module _ (s : Story) (old : Course) (first before : List Watch) (start now : Sho
     ends = ap (nat_le (4096 + s.stop)) (sym (at_cycle ∙ h.on.in_run.cycle)) ∙ ap (λ (n : ℕ). nat_le (4096 + n) cycle) (sym at_stop) ∙ sym is ∙ true_so;
   }
 
-  module _ (new : Course) (after : List Watch) (a : HasAdvanced s old before new after) where
+  module _ (before : List Watch) (new : Course) (after : List Watch) (a : HasAdvanced s old before new after) where
     -- the items of the step
     pub items_near : (items : List Stamped) → items ≡ new.seen.items.items → AreIn 0 (2 ^ 32) items
     items_near items same =
@@ -64,34 +63,35 @@ module _ (s : Story) (old : Course) (first before : List Watch) (start now : Sho
     text_now items same =
         ap log_text (a.said ∙ ap (λ (l : List Stamped). log_at s old.joint.steps ++ l) (sym same)) ∙ log_text-append (log_at s old.joint.steps) items
 
-    pub looked_now : after ≡ looks s new.joint.steps first
-    looked_now =
-        a.looked ∙ ap (looked_at (suc old.joint.steps) (state_at s (suc old.joint.steps))) so_far
-        ∙ sym (ap (λ (k : ℕ). looks s k first) a.steps)
+    module _ (start now next : Shown) (said : IsSaid start now (log_text (log_at s old.joint.steps))) (items : List Stamped) (same : items ≡ new.seen.items.items) where
+      -- they are said
+      pub said_now : IsSaid now next (log_text items) → IsSaid start next (log_text (log_at s new.joint.steps))
+      said_now put =
+          let old_text = log_text (log_at s old.joint.steps) in
+          subst (λ (t : List ℕ). IsSaid start next t) (sym (text_now items same))
+          (said_then_said start now next old_text (log_text items) (are_lines (log_at s old.joint.steps)) said put)
 
-    -- they are said
-    pub said_now : (next : Shown) (items : List Stamped) → items ≡ new.seen.items.items → IsSaid now next (log_text items)
-        → IsSaid start next (log_text (log_at s new.joint.steps))
-    said_now next items same put =
-        let old_text = log_text (log_at s old.joint.steps) in
-        subst (λ (t : List ℕ). IsSaid start next t) (sym (text_now items same))
-        (said_then_said start now next old_text (log_text items) (are_lines (log_at s old.joint.steps)) said put)
+      -- or a put of them fails
+      pub broken_now : IsBrokenOff now next (log_text items) → IsLogBrokenOff s start next
+      broken_now put =
+          let old_text = log_text (log_at s old.joint.steps) in
+          let there = here s new a.standing.on in
+          let part : IsBrokenOff start next (log_text (log_at s new.joint.steps)) =
+          subst (λ (t : List ℕ). IsBrokenOff start next t) (sym (text_now items same))
+          (said_then_broken start now next old_text (log_text items) (are_lines (log_at s old.joint.steps)) said put) in
+          broken_off s new.joint.steps a.standing.on.world start next a.standing.goes_on there
+          (subst (λ (t : List ℕ). IsBrokenOff start next t) (ap (λ o. log_text (logged o)) there) part)
 
-    -- or a put of them fails
-    pub broken_now : (next : Shown) (items : List Stamped) → items ≡ new.seen.items.items → IsBrokenOff now next (log_text items) → IsLogBrokenOff s start next
-    broken_now next items same put =
-        let old_text = log_text (log_at s old.joint.steps) in
-        let there = here s new a.standing.on in
-        let part : IsBrokenOff start next (log_text (log_at s new.joint.steps)) =
-        subst (λ (t : List ℕ). IsBrokenOff start next t) (sym (text_now items same))
-        (said_then_broken start now next old_text (log_text items) (are_lines (log_at s old.joint.steps)) said put) in
-        broken_off s new.joint.steps a.standing.on.world start next a.standing.goes_on there
-        (subst (λ (t : List ℕ). IsBrokenOff start next t) (ap (λ o. log_text (logged o)) there) part)
+    module _ (first : List Watch) (so_far : before ≡ looks s old.joint.steps first) where
+      pub looked_now : after ≡ looks s new.joint.steps first
+      looked_now =
+          a.looked ∙ ap (looked_at (suc old.joint.steps) (state_at s (suc old.joint.steps))) so_far
+          ∙ sym (ap (λ (k : ℕ). looks s k first) a.steps)
 
-    pub looked_at_some : HaveLookedAtSome s first after
-    looked_at_some = record { steps = new.joint.steps; goes_on = a.standing.goes_on; looked = looked_now }
+      pub looked_at_some : HaveLookedAtSome s first after
+      looked_at_some = record { steps = new.joint.steps; goes_on = a.standing.goes_on; looked = looked_now }
 
-  module _ (new : Course) (after : List Watch) (stuck : Stuck) (h : IsAdvanced s old before (Err stuck) new after) where
+  module _ (before : List Watch) (new : Course) (after : List Watch) (stuck : Stuck) (h : IsAdvanced s old before (Err stuck) new after) where
     still : new.joint.steps ≡ old.joint.steps
     still = ap (λ (m : Machine). m.steps) h.2
 
@@ -99,11 +99,13 @@ module _ (s : Story) (old : Course) (first before : List Watch) (start now : Sho
     pub stuck_now : IsEnding s new (ends.Stuck stuck)
     stuck_now = record { standing = h.0; ends = h.1 }
 
-    pub said_still : IsSaid start now (log_text (log_at s new.joint.steps))
-    said_still = subst (λ (k : ℕ). IsSaid start now (log_text (log_at s k))) (sym still) said
+    -- what was said so far is all
+    pub said_still : (text : ℕ → List ℕ) (start now : Shown) → IsSaid start now (text old.joint.steps) → IsSaid start now (text new.joint.steps)
+    said_still text start now said = subst (λ (k : ℕ). IsSaid start now (text k)) (sym still) said
 
-    pub looked_still : after ≡ looks s new.joint.steps first
-    looked_still = h.3 ∙ so_far ∙ sym (ap (λ (k : ℕ). looks s k first) still)
+    module _ (first : List Watch) (so_far : before ≡ looks s old.joint.steps first) where
+      pub looked_still : after ≡ looks s new.joint.steps first
+      looked_still = h.3 ∙ so_far ∙ sym (ap (λ (k : ℕ). looks s k first) still)
 
-    pub looked_at_some_still : HaveLookedAtSome s first after
-    looked_at_some_still = record { steps = new.joint.steps; goes_on = h.0.goes_on; looked = looked_still }
+      pub looked_at_some_still : HaveLookedAtSome s first after
+      looked_at_some_still = record { steps = new.joint.steps; goes_on = h.0.goes_on; looked = looked_still }

@@ -17,6 +17,10 @@ use Rattle.subsystem.proofs.Agreed.{run_last, run_starts}
 use Rattle.subsystem.specs.Progress.{AreIn}
 use Rattle.subsystem.specs.Running.{lines_of, starts_among}
 use Rattle.subsystem.specs.Running as layout
+use Rattle.std.proofs.lemmas.List.{append_assoc}
+use Rattle.wire_trace.proofs.Whole.{later_changes}
+use Rattle.wire_trace.specs.Text.{header}
+use Rattle.wire_trace.specs.Trace.{changes_to}
 use Rattle.board_run.proofs.Steps.{on_at, said_between, step_later}
 
 module _ (s : Story) (t : KeepsTime s.bytes s.edges s.events) where
@@ -77,6 +81,7 @@ module _ (s : Story) (t : KeepsTime s.bytes s.edges s.events) where
       let more = (said_between s board.steps (run.steps - board.steps) p.world q.world p.reached (ap (state_at s) up ∙ q.reached)).1 in
       let all : board.steps + 0 ≡ board.steps = omega arith in
       let first = (said_between s 0 board.steps joint_start p.world refl (ap (state_at s) all ∙ p.reached)).1 in
+      let later = later_changes s board.steps run.steps steps in
       let near : p.world.cycle < 4096 + s.stop + 2 = soon board.steps p.world p.goes_on p.reached (omega (arith, reaches)) in
       record {
         over = over;
@@ -89,4 +94,6 @@ module _ (s : Story) (t : KeepsTime s.bytes s.edges s.events) where
         after = subst (λ (n : ℕ). AreIn n run.cycles more.more) (sym cycles)
             (subst (λ (n : ℕ). AreIn p.world.cycle n more.more) (sym q.cycles) more.each);
         log = q.log ∙ ap (lines_of run.starts) (more.behind ∙ ap (λ v. v ++ more.more) (sym p.log));
+        changes = later.0;
+        trace = ap (λ v. header ++ v) later.1 ∙ sym (append_assoc header (changes_to s board.steps) later.0);
       }

@@ -17,7 +17,7 @@ use Rattle.board_run.proofs.Stuck.{stuck_where_none}
 
 module _ (s : Story) where
   -- a run that ends behind the first k steps at least
-  abbrev EndsBehind : ℕ → Type 0
+  abbrev pub EndsBehind : ℕ → Type 0
   EndsBehind k = (run : Outcome) × (k ≤ run.steps) × IsOutcome s run
 
   ends_here : (k : ℕ) (w : World Beside) (end : End) → GoesOnTo s k → state_at s k ≡ Some w → EndsAt s k w end → EndsBehind k
@@ -34,7 +34,7 @@ module _ (s : Story) where
       (record { before_end = before; no_row = stuck_where_none s w step; none = none; at = refl })
 
   -- the run ends, since each step takes a cycle at least
-  ends_within : (most k : ℕ) (w : World Beside) → GoesOnTo s k → state_at s k ≡ Some w → 4096 + s.stop ≤ w.cycle + most → EndsBehind k
+  pub ends_within : (most k : ℕ) (w : World Beside) → GoesOnTo s k → state_at s k ≡ Some w → 4096 + s.stop ≤ w.cycle + most → EndsBehind k
   ends_within zero k w on there l =
       let over : is_over s w ≡ true = grind (arith, nat_tests, l) in
       ends_here k w Over on there over

@@ -28,7 +28,8 @@ pub record IsReady (fed : Fed) (c : Course) : Type 0 where
 
 -- one step more: what it said stands behind the log, in its own cycles, and the probes have looked at the state that
 -- it led to
-pub record HasAdvanced (s : Story) (old : Course) (before : List Watch) (new : Course) (after : List Watch) : Type 0 where
+pub record HasAdvanced (s : Story) (old : Course) (before : List Watch) (new : Course) (after : List Watch)
+    : Type 0 where
   pub standing : IsStanding s new
   pub steps : new.joint.steps ≡ suc old.joint.steps
   pub later : old.joint.cycle < new.joint.cycle

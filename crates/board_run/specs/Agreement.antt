@@ -1,5 +1,5 @@
 -- The laws of runs on the board.
-use Rattle.std.specs.Prelude.{◌≡◌, ◌≤◌, ◌<◌, ◌+◌, List, ◌++◌}
+use Rattle.std.specs.Prelude.{◌≡◌, ◌≤◌, ◌<◌, ℕ, ◌+◌, List, ◌++◌}
 use Rattle.board_run.specs.declared.ended.End.TheVariants.{Over}
 use Rattle.board_run.specs.Running.{IsOutcome, Outcome}
 use Rattle.fw_compile.specs.Image.{image_of}
@@ -11,6 +11,7 @@ use Rattle.layout_reader.specs.Layouts.{IsKeyLayout, KeyLayout}
 use Rattle.subsystem.specs.Progress.{AreIn}
 use Rattle.subsystem.specs.Running.{lines_of}
 use Rattle.subsystem.specs.Running as layout
+use Rattle.wire_trace.specs.Trace.{trace_to}
 
 -- what is run has one run on the board
 abbrev pub BoardsAreAlike : Type 0
@@ -18,7 +19,7 @@ BoardsAreAlike = (s : Story) (a b : Outcome) → IsOutcome s a → IsOutcome s b
 
 -- a run on the board tells the beginning of a layout's run: it ends at the end stamp or a cycle later; what it said
 -- was said before it ended, and the layout's run said the same, with the ticks in place of the cycles, and then what
--- it said from there on
+-- it said from there on; and its trace is the beginning of the trace of the layout's run
 pub record TellsRun (s : Story) (board : Outcome) (run : layout.Outcome) : Type 0 where
   pub over : board.end ≡ Over
   pub reaches : 4096 + s.stop ≤ board.cycles
@@ -28,6 +29,8 @@ pub record TellsRun (s : Story) (board : Outcome) (run : layout.Outcome) : Type 
   pub rest : List Stamped
   pub after : AreIn board.cycles run.cycles rest
   pub log : run.log ≡ lines_of run.starts (board.log ++ rest)
+  pub changes : List ℕ
+  pub trace : trace_to s run.steps ≡ trace_to s board.steps ++ changes
 
 -- so it is with each layout's compiled image under a history that is accepted for it
 abbrev pub BoardsTellRuns : Type 0

@@ -3,4 +3,5 @@ pub mod Texts
 pub mod Ending
 pub mod Advance
 pub mod Putting
+pub mod Tracing
 pub mod Agreement

@@ -6,6 +6,7 @@ ghost use Rattle.board_run.specs.Ending.{IsEnding, ending};
 ghost use Rattle.board_run.specs.Putting.{HaveLookedAtSome, IsLogBrokenOff};
 ghost use Rattle.board_run.specs.Running.{IsOutcome};
 ghost use Rattle.board_run.specs.Texts.{log_text};
+ghost use Rattle.board_run.specs.Tracing.{IsTraceBrokenOff};
 ghost use Rattle.fw_debug.specs.Looks.{looks};
 ghost use Rattle.io_edge.specs.Said.{IsSaid, shown};
 ghost use Rattle.joint_feed.specs.Ahead.{HasTaken};
@@ -14,9 +15,11 @@ ghost use Rattle.key_file.specs.Accepted.{IsAccepted};
 ghost use Rattle.key_file.specs.Feeds.{Fed};
 ghost use Rattle.subsystem.specs.Ending.{history_of};
 ghost use Rattle.subsystem.specs.Running.{log_at};
+ghost use Rattle.wire_trace.specs.Trace.{trace_to};
 
 use crate::ended::{End, Ended};
 use crate::line::put_items;
+use crate::tracing::sample_to_end;
 use fw_debug::{Probe, look_all};
 use int09::Bios;
 use io_edge::{Sink, SinkFault};
@@ -26,6 +29,7 @@ use mcs48_core::Stuck;
 use mcs48_isa::Image;
 use std::alloc::{AllocError, Global};
 use std::marker::Model;
+use wire_trace::put_header;
 
 /// The run of a program on the board under the history of a feed, at power-on, with all the memory that it takes. A
 /// clause sees what is run.
@@ -47,7 +51,7 @@ impl<F: Feed> Model for Board<F> {
 }
 
 /// Whether a run with this end stamp is over at a cycle.
-fn is_over(cycle: u64, stop: u64) -> bool
+pub(crate) fn is_over(cycle: u64, stop: u64) -> bool
     requires { stop ≤ 240000000 }
     ensures over { result ≡ nat_le (4096 + stop) cycle }
 {
@@ -56,7 +60,7 @@ fn is_over(cycle: u64, stop: u64) -> bool
 
 /// Makes one joint step, and then each probe looks at the state that it led to. Where the processor is stuck nothing
 /// is done.
-fn advance<F: Feed>(
+pub(crate) fn advance<F: Feed>(
     course: &mut Course,
     feed: &mut F,
     probes: &mut Vec<Box<dyn Probe>>,
@@ -153,6 +157,38 @@ impl<F: Feed> Board<F> {
         let mut feed = self.feed;
         let mut course = self.course;
         let end = go_to_end(&mut course, &mut feed, out, probes)?;
+        Ok(Ended {
+            end,
+            joint: course.joint,
+        })
+    }
+
+    /// Makes the same run, and in place of its log puts the two wires as a value change dump, each line whole. The wires
+    /// are sampled after each step, behind the probes' look; each change has its time, and a byte that passes over the
+    /// wires is a comment behind the change that completes it.
+    ///
+    /// On Ok the sink has taken the whole text, its count of faults is as it was, and the probes have looked at each
+    /// state. A failure comes only where a put failed: then the sink has a prefix of the text, and the probes have looked
+    /// at the states of some first steps.
+    pub fn trace_to<K: Sink>(
+        self,
+        out: &mut K,
+        probes: &mut Vec<Box<dyn Probe>>,
+    ) -> Result<Ended, SinkFault>
+        requires accepted { IsAccepted (history_of self) }
+        ensures run { IfOk result (λ ended. IsOutcome self (ending self ended)) }
+        ensures said { IfOk result (λ ended. IsSaid (shown (K.taken out.old) (K.told out.old) (K.faults out.old))
+            (shown (K.taken out.new) (K.told out.new) (K.faults out.new)) (trace_to self ended.joint.steps)) }
+        ensures broken { OnErr result (IsTraceBrokenOff self (shown (K.taken out.old) (K.told out.old) (K.faults out.old))
+            (shown (K.taken out.new) (K.told out.new) (K.faults out.new))) }
+        ensures looked { let before = map (λ b. watch b) probes.old.items in
+            IfOk result (λ ended. map (λ b. watch b) probes.new.items ≡ looks self ended.joint.steps before) }
+        ensures looked_so_far { HaveLookedAtSome self (map (λ b. watch b) probes.old.items) (map (λ b. watch b) probes.new.items) }
+    {
+        let mut feed = self.feed;
+        let mut course = self.course;
+        put_header(out)?;
+        let end = sample_to_end(&mut course, &mut feed, out, probes)?;
         Ok(Ended {
             end,
             joint: course.joint,

@@ -2,8 +2,9 @@
 //!
 //! This layer makes the one joint run with the image as it is, from power-on to the end stamp or to a byte that begins
 //! no instruction. It keeps no list of what is said: each line goes into a sink as it arises, with its cycle as a
-//! stamp, since a program of which nothing is known has no ticks. No model stands behind such a run: what is said of
-//! it is said of the machine alone. It knows no instruction, no wire and no rule of the keyboard. Source: our own.
+//! stamp, since a program of which nothing is known has no ticks; or in place of the log the two wires are put as they
+//! change, in the lines of `wire_trace`. No model stands behind such a run: what is said of it is said of the machine
+//! alone. It knows no instruction and no rule of the keyboard. Source: our own.
 #![tactic(auto)]
 
 mod board;
@@ -12,6 +13,7 @@ mod law;
 mod line;
 #[cfg(test)]
 mod tests;
+mod tracing;
 
 pub use board::Board;
 pub use ended::{End, Ended};

@@ -1,5 +1,5 @@
 -- What a sink has behind the header and the changes of a run.
-use Rattle.std.proofs.Common.{◌≡◌, ℕ, true, Ok, Err, OnOk, OnErr, subst}
+use Rattle.std.proofs.Common.{◌≡◌, true, Ok, Err, OnOk, OnErr, subst}
 use Rattle.std.specs.declared.result.Result.{Result}
 use Rattle.fw_logic.specs.JointRun.{KeepsTime}
 use Rattle.io_edge.specs.Said.{IsBrokenOff, IsSaid, Shown}

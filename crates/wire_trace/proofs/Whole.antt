@@ -26,7 +26,7 @@ more_changes s (suc m) k =
     let new = text_in (state_at s (suc (m + k))) (heard_to s (m + k)) in
     (before.0 ++ new, ap (changes_to s) e ∙ ap (λ v. v ++ new) before.1 ∙ append_assoc (changes_to s k) before.0 new)
 
-later_changes : (s : Story) (k n : ℕ) → k ≤ n → (rest : List ℕ) × (changes_to s n ≡ changes_to s k ++ rest)
+pub later_changes : (s : Story) (k n : ℕ) → k ≤ n → (rest : List ℕ) × (changes_to s n ≡ changes_to s k ++ rest)
 later_changes s k n l =
     let m = n - k in
     let e : m + k ≡ n = omega (arith, l) in

@@ -2,9 +2,9 @@
 //! them as a comment.
 //!
 //! This layer makes the run of a layout's compiled image under a history, as `subsystem` does, and looks at the wires
-//! after each step. It knows how a change of the wires is written. What a transfer is, is told by `fw_debug`'s decoder. It
-//! knows no instruction and no rule of the keyboard, the controller or the host. Source: the format is that of IEEE 1364,
-//! value change dump; what is written in it is our own.
+//! after each step. It knows how a change of the wires is written, which it lends to whoever makes another run. What a
+//! transfer is, is told by `fw_debug`'s decoder. It knows no instruction and no rule of the keyboard, the controller or
+//! the host. Source: the format is that of IEEE 1364, value change dump; what is written in it is our own.
 #![tactic(auto)]
 
 mod change;
@@ -13,4 +13,5 @@ mod sampling;
 mod tracing;
 
 pub use fault::TraceFault;
-pub use tracing::trace;
+pub use sampling::put_sample;
+pub use tracing::{put_header, trace};

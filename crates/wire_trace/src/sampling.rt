@@ -10,9 +10,10 @@ use board_lines::Lines;
 use fw_debug::LineDecoder;
 use io_edge::{Sink, SinkFault, say};
 
-/// The decoder hears the wires as they are after so many cycles; and where they differ from those of the last sample, the
-/// lines of the change are put, each whole.
-pub(crate) fn put_sample<K: Sink>(
+/// The decoder hears the wires as they are after so many cycles, which are more than at its last sample; and where they
+/// differ from those of that sample, the lines of the change are put, each whole: the time, in units of 100 ns, of which
+/// a cycle has 25, the wires that turned, and the transfer that it completes, as a comment.
+pub fn put_sample<K: Sink>(
     out: &mut K,
     decoder: &mut LineDecoder,
     cycle: u64,

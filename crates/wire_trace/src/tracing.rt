@@ -29,8 +29,9 @@ use wires_heard::wires_are_heard;
 const HEADER: &[u8] =
     b"$timescale 100 ns $end\n$scope module kbd $end\n$var wire 1 c clock $end\n$var wire 1 d data $end\n$upscope $end\n$enddefinitions $end\n#0\n1c\n1d\n";
 
-/// Puts what stands before the first sample.
-fn put_header<K: Sink>(out: &mut K) -> Result<(), SinkFault>
+/// Puts what stands before the first sample: the unit of time, the two wires with their letters, and that both are high
+/// at time 0.
+pub fn put_header<K: Sink>(out: &mut K) -> Result<(), SinkFault>
     ensures said { OnOk result (IsSaid (shown (K.taken out.old) (K.told out.old) (K.faults out.old))
         (shown (K.taken out.new) (K.told out.new) (K.faults out.new)) header) }
     ensures broken { OnErr result (IsBrokenOff (shown (K.taken out.old) (K.told out.old) (K.faults out.old))

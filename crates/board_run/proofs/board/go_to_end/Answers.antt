@@ -3,9 +3,11 @@ use Rattle.io_edge.specs.Said.{shown}
 use Rattle.joint_feed.specs.Stories.{Story, story}
 use Rattle.key_file.specs.Accepted.{IsAccepted}
 use Rattle.board_run.specs.Advance.{HasAdvanced, IsAdvanced, IsStanding}
+use Rattle.board_run.specs.Texts.{log_text}
 use Rattle.board_run.proofs.Going.{by_name}
 use Rattle.board_run.proofs.Loop.{broken_now, first_cycle, first_looked, first_said, items_near, looked_at_some, looked_at_some_still, looked_now, looked_still, over_now, said_now, said_still, same_story, stuck_now}
 use Rattle.subsystem.proofs.Looking.{on_err}
+use Rattle.subsystem.specs.Running.{log_at}
 use Rattle.board_run.proofs.board.go_to_end.Goals as goal
 
 pub steps-init : goal.steps-init
@@ -18,7 +20,7 @@ steps-init g c =
       standing = ready.standing;
       taken = ready.taken;
       near = first_cycle s it ready.standing ready.steps;
-      said = first_said s it _ ready.steps;
+      said = first_said (λ k. log_text (log_at s k)) it _ refl ready.steps;
       looked = first_looked s it _ ready.steps;
     }
 
@@ -55,8 +57,8 @@ steps-preserved g c =
       standing = a.standing;
       taken = c.advance.ensures.taken;
       near = a.near;
-      said = said_now s old (map (λ b. (goal.Probe-dyn g (b.vtable, b.value)).watch b.value) c.args.probes.now.items) (map (λ b. (goal.Probe-dyn g (b.vtable, b.value)).watch b.value) c.steps.probes.items) start now inv.said inv.looked new (map (λ b. (goal.Probe-dyn g (b.vtable, b.value)).watch b.value) c.advance.new.probes.items) a next c.as_slice.result.now c.as_slice.ensures.value c.in_ok-put_items.ensures.said;
-      looked = looked_now s old (map (λ b. (goal.Probe-dyn g (b.vtable, b.value)).watch b.value) c.args.probes.now.items) (map (λ b. (goal.Probe-dyn g (b.vtable, b.value)).watch b.value) c.steps.probes.items) start now inv.said inv.looked new (map (λ b. (goal.Probe-dyn g (b.vtable, b.value)).watch b.value) c.advance.new.probes.items) a;
+      said = said_now s old (map (λ b. (goal.Probe-dyn g (b.vtable, b.value)).watch b.value) c.steps.probes.items) new (map (λ b. (goal.Probe-dyn g (b.vtable, b.value)).watch b.value) c.advance.new.probes.items) a start now next inv.said c.as_slice.result.now c.as_slice.ensures.value c.in_ok-put_items.ensures.said;
+      looked = looked_now s old (map (λ b. (goal.Probe-dyn g (b.vtable, b.value)).watch b.value) c.steps.probes.items) new (map (λ b. (goal.Probe-dyn g (b.vtable, b.value)).watch b.value) c.advance.new.probes.items) a (map (λ b. (goal.Probe-dyn g (b.vtable, b.value)).watch b.value) c.args.probes.now.items) inv.looked;
     }
 
 pub steps-smaller : goal.steps-smaller
@@ -66,8 +68,6 @@ steps-smaller g c =
     let same = same_story c.steps.course.joint.image.bytes c.args.course.now.joint.image.bytes (g.F.Feed.told c.steps.feed).history (g.F.Feed.told c.args.feed.now).history inv.standing.on.image inv.history in
     let old = c.steps.course in
     let new = c.advance.new.course in
-    let start = shown (g.K.Sink.taken c.args.out.now) (g.K.Sink.told c.args.out.now) (g.K.Sink.faults c.args.out.now) in
-    let now = shown (g.K.Sink.taken c.steps.out) (g.K.Sink.told c.steps.out) (g.K.Sink.faults c.steps.out) in
     let a : HasAdvanced s old (map (λ b. (goal.Probe-dyn g (b.vtable, b.value)).watch b.value) c.steps.probes.items) new (map (λ b. (goal.Probe-dyn g (b.vtable, b.value)).watch b.value) c.advance.new.probes.items) =
     by_name _ s old new _ _ (Ok tt) same c.in-Ok.ensures.advanced in
     let near = inv.near in
@@ -81,11 +81,9 @@ put_items-requires g c =
     let same = same_story c.steps.course.joint.image.bytes c.args.course.now.joint.image.bytes (g.F.Feed.told c.steps.feed).history (g.F.Feed.told c.args.feed.now).history inv.standing.on.image inv.history in
     let old = c.steps.course in
     let new = c.advance.new.course in
-    let start = shown (g.K.Sink.taken c.args.out.now) (g.K.Sink.told c.args.out.now) (g.K.Sink.faults c.args.out.now) in
-    let now = shown (g.K.Sink.taken c.steps.out) (g.K.Sink.told c.steps.out) (g.K.Sink.faults c.steps.out) in
     let a : HasAdvanced s old (map (λ b. (goal.Probe-dyn g (b.vtable, b.value)).watch b.value) c.steps.probes.items) new (map (λ b. (goal.Probe-dyn g (b.vtable, b.value)).watch b.value) c.advance.new.probes.items) =
     by_name _ s old new _ _ (Ok tt) same c.in-Ok.ensures.advanced in
-    record { near = items_near s old (map (λ b. (goal.Probe-dyn g (b.vtable, b.value)).watch b.value) c.args.probes.now.items) (map (λ b. (goal.Probe-dyn g (b.vtable, b.value)).watch b.value) c.steps.probes.items) start now inv.said inv.looked new (map (λ b. (goal.Probe-dyn g (b.vtable, b.value)).watch b.value) c.advance.new.probes.items) a c.as_slice.result.now c.as_slice.ensures.value }
+    record { near = items_near s old (map (λ b. (goal.Probe-dyn g (b.vtable, b.value)).watch b.value) c.steps.probes.items) new (map (λ b. (goal.Probe-dyn g (b.vtable, b.value)).watch b.value) c.advance.new.probes.items) a c.as_slice.result.now c.as_slice.ensures.value }
 
 pub returns-in_err-put_items-clause-broken : goal.returns-in_err-put_items-clause-broken
 returns-in_err-put_items-clause-broken g c =
@@ -99,7 +97,7 @@ returns-in_err-put_items-clause-broken g c =
     let next = shown (g.K.Sink.taken c.put_items.new.out) (g.K.Sink.told c.put_items.new.out) (g.K.Sink.faults c.put_items.new.out) in
     let a : HasAdvanced s old (map (λ b. (goal.Probe-dyn g (b.vtable, b.value)).watch b.value) c.steps.probes.items) new (map (λ b. (goal.Probe-dyn g (b.vtable, b.value)).watch b.value) c.advance.new.probes.items) =
     by_name _ s old new _ _ (Ok tt) same c.in-Ok.ensures.advanced in
-    on_err c.from_residual.result (broken_now s old (map (λ b. (goal.Probe-dyn g (b.vtable, b.value)).watch b.value) c.args.probes.now.items) (map (λ b. (goal.Probe-dyn g (b.vtable, b.value)).watch b.value) c.steps.probes.items) start now inv.said inv.looked new (map (λ b. (goal.Probe-dyn g (b.vtable, b.value)).watch b.value) c.advance.new.probes.items) a next c.as_slice.result.now c.as_slice.ensures.value c.in_err-put_items.ensures.broken)
+    on_err c.from_residual.result (broken_now s old (map (λ b. (goal.Probe-dyn g (b.vtable, b.value)).watch b.value) c.steps.probes.items) new (map (λ b. (goal.Probe-dyn g (b.vtable, b.value)).watch b.value) c.advance.new.probes.items) a start now next inv.said c.as_slice.result.now c.as_slice.ensures.value c.in_err-put_items.ensures.broken)
 
 pub returns-in_err-put_items-clause-looked_so_far : goal.returns-in_err-put_items-clause-looked_so_far
 returns-in_err-put_items-clause-looked_so_far g c =
@@ -108,11 +106,9 @@ returns-in_err-put_items-clause-looked_so_far g c =
     let same = same_story c.steps.course.joint.image.bytes c.args.course.now.joint.image.bytes (g.F.Feed.told c.steps.feed).history (g.F.Feed.told c.args.feed.now).history inv.standing.on.image inv.history in
     let old = c.steps.course in
     let new = c.advance.new.course in
-    let start = shown (g.K.Sink.taken c.args.out.now) (g.K.Sink.told c.args.out.now) (g.K.Sink.faults c.args.out.now) in
-    let now = shown (g.K.Sink.taken c.steps.out) (g.K.Sink.told c.steps.out) (g.K.Sink.faults c.steps.out) in
     let a : HasAdvanced s old (map (λ b. (goal.Probe-dyn g (b.vtable, b.value)).watch b.value) c.steps.probes.items) new (map (λ b. (goal.Probe-dyn g (b.vtable, b.value)).watch b.value) c.advance.new.probes.items) =
     by_name _ s old new _ _ (Ok tt) same c.in-Ok.ensures.advanced in
-    looked_at_some s old (map (λ b. (goal.Probe-dyn g (b.vtable, b.value)).watch b.value) c.args.probes.now.items) (map (λ b. (goal.Probe-dyn g (b.vtable, b.value)).watch b.value) c.steps.probes.items) start now inv.said inv.looked new (map (λ b. (goal.Probe-dyn g (b.vtable, b.value)).watch b.value) c.advance.new.probes.items) a
+    looked_at_some s old (map (λ b. (goal.Probe-dyn g (b.vtable, b.value)).watch b.value) c.steps.probes.items) new (map (λ b. (goal.Probe-dyn g (b.vtable, b.value)).watch b.value) c.advance.new.probes.items) a (map (λ b. (goal.Probe-dyn g (b.vtable, b.value)).watch b.value) c.args.probes.now.items) inv.looked
 
 pub returns-in-Err-clause-ended : goal.returns-in-Err-clause-ended
 returns-in-Err-clause-ended g c =
@@ -121,11 +117,9 @@ returns-in-Err-clause-ended g c =
     let same = same_story c.steps.course.joint.image.bytes c.args.course.now.joint.image.bytes (g.F.Feed.told c.steps.feed).history (g.F.Feed.told c.args.feed.now).history inv.standing.on.image inv.history in
     let old = c.steps.course in
     let new = c.advance.new.course in
-    let start = shown (g.K.Sink.taken c.args.out.now) (g.K.Sink.told c.args.out.now) (g.K.Sink.faults c.args.out.now) in
-    let now = shown (g.K.Sink.taken c.steps.out) (g.K.Sink.told c.steps.out) (g.K.Sink.faults c.steps.out) in
     let e : IsAdvanced s old (map (λ b. (goal.Probe-dyn g (b.vtable, b.value)).watch b.value) c.steps.probes.items) (Err c.in-Err.stuck) new (map (λ b. (goal.Probe-dyn g (b.vtable, b.value)).watch b.value) c.advance.new.probes.items) =
     by_name _ s old new _ _ (Err c.in-Err.stuck) same c.in-Err.ensures.advanced in
-    stuck_now s old (map (λ b. (goal.Probe-dyn g (b.vtable, b.value)).watch b.value) c.args.probes.now.items) (map (λ b. (goal.Probe-dyn g (b.vtable, b.value)).watch b.value) c.steps.probes.items) start now inv.said inv.looked new (map (λ b. (goal.Probe-dyn g (b.vtable, b.value)).watch b.value) c.advance.new.probes.items) c.in-Err.stuck e
+    stuck_now s old (map (λ b. (goal.Probe-dyn g (b.vtable, b.value)).watch b.value) c.steps.probes.items) new (map (λ b. (goal.Probe-dyn g (b.vtable, b.value)).watch b.value) c.advance.new.probes.items) c.in-Err.stuck e
 
 pub returns-in-Err-clause-said : goal.returns-in-Err-clause-said
 returns-in-Err-clause-said g c =
@@ -138,7 +132,7 @@ returns-in-Err-clause-said g c =
     let now = shown (g.K.Sink.taken c.steps.out) (g.K.Sink.told c.steps.out) (g.K.Sink.faults c.steps.out) in
     let e : IsAdvanced s old (map (λ b. (goal.Probe-dyn g (b.vtable, b.value)).watch b.value) c.steps.probes.items) (Err c.in-Err.stuck) new (map (λ b. (goal.Probe-dyn g (b.vtable, b.value)).watch b.value) c.advance.new.probes.items) =
     by_name _ s old new _ _ (Err c.in-Err.stuck) same c.in-Err.ensures.advanced in
-    said_still s old (map (λ b. (goal.Probe-dyn g (b.vtable, b.value)).watch b.value) c.args.probes.now.items) (map (λ b. (goal.Probe-dyn g (b.vtable, b.value)).watch b.value) c.steps.probes.items) start now inv.said inv.looked new (map (λ b. (goal.Probe-dyn g (b.vtable, b.value)).watch b.value) c.advance.new.probes.items) c.in-Err.stuck e
+    said_still s old (map (λ b. (goal.Probe-dyn g (b.vtable, b.value)).watch b.value) c.steps.probes.items) new (map (λ b. (goal.Probe-dyn g (b.vtable, b.value)).watch b.value) c.advance.new.probes.items) c.in-Err.stuck e (λ k. log_text (log_at s k)) start now inv.said
 
 pub returns-in-Err-clause-looked : goal.returns-in-Err-clause-looked
 returns-in-Err-clause-looked g c =
@@ -147,11 +141,9 @@ returns-in-Err-clause-looked g c =
     let same = same_story c.steps.course.joint.image.bytes c.args.course.now.joint.image.bytes (g.F.Feed.told c.steps.feed).history (g.F.Feed.told c.args.feed.now).history inv.standing.on.image inv.history in
     let old = c.steps.course in
     let new = c.advance.new.course in
-    let start = shown (g.K.Sink.taken c.args.out.now) (g.K.Sink.told c.args.out.now) (g.K.Sink.faults c.args.out.now) in
-    let now = shown (g.K.Sink.taken c.steps.out) (g.K.Sink.told c.steps.out) (g.K.Sink.faults c.steps.out) in
     let e : IsAdvanced s old (map (λ b. (goal.Probe-dyn g (b.vtable, b.value)).watch b.value) c.steps.probes.items) (Err c.in-Err.stuck) new (map (λ b. (goal.Probe-dyn g (b.vtable, b.value)).watch b.value) c.advance.new.probes.items) =
     by_name _ s old new _ _ (Err c.in-Err.stuck) same c.in-Err.ensures.advanced in
-    looked_still s old (map (λ b. (goal.Probe-dyn g (b.vtable, b.value)).watch b.value) c.args.probes.now.items) (map (λ b. (goal.Probe-dyn g (b.vtable, b.value)).watch b.value) c.steps.probes.items) start now inv.said inv.looked new (map (λ b. (goal.Probe-dyn g (b.vtable, b.value)).watch b.value) c.advance.new.probes.items) c.in-Err.stuck e
+    looked_still s old (map (λ b. (goal.Probe-dyn g (b.vtable, b.value)).watch b.value) c.steps.probes.items) new (map (λ b. (goal.Probe-dyn g (b.vtable, b.value)).watch b.value) c.advance.new.probes.items) c.in-Err.stuck e (map (λ b. (goal.Probe-dyn g (b.vtable, b.value)).watch b.value) c.args.probes.now.items) inv.looked
 
 pub returns-in-Err-clause-looked_so_far : goal.returns-in-Err-clause-looked_so_far
 returns-in-Err-clause-looked_so_far g c =
@@ -160,17 +152,13 @@ returns-in-Err-clause-looked_so_far g c =
     let same = same_story c.steps.course.joint.image.bytes c.args.course.now.joint.image.bytes (g.F.Feed.told c.steps.feed).history (g.F.Feed.told c.args.feed.now).history inv.standing.on.image inv.history in
     let old = c.steps.course in
     let new = c.advance.new.course in
-    let start = shown (g.K.Sink.taken c.args.out.now) (g.K.Sink.told c.args.out.now) (g.K.Sink.faults c.args.out.now) in
-    let now = shown (g.K.Sink.taken c.steps.out) (g.K.Sink.told c.steps.out) (g.K.Sink.faults c.steps.out) in
     let e : IsAdvanced s old (map (λ b. (goal.Probe-dyn g (b.vtable, b.value)).watch b.value) c.steps.probes.items) (Err c.in-Err.stuck) new (map (λ b. (goal.Probe-dyn g (b.vtable, b.value)).watch b.value) c.advance.new.probes.items) =
     by_name _ s old new _ _ (Err c.in-Err.stuck) same c.in-Err.ensures.advanced in
-    looked_at_some_still s old (map (λ b. (goal.Probe-dyn g (b.vtable, b.value)).watch b.value) c.args.probes.now.items) (map (λ b. (goal.Probe-dyn g (b.vtable, b.value)).watch b.value) c.steps.probes.items) start now inv.said inv.looked new (map (λ b. (goal.Probe-dyn g (b.vtable, b.value)).watch b.value) c.advance.new.probes.items) c.in-Err.stuck e
+    looked_at_some_still s old (map (λ b. (goal.Probe-dyn g (b.vtable, b.value)).watch b.value) c.steps.probes.items) new (map (λ b. (goal.Probe-dyn g (b.vtable, b.value)).watch b.value) c.advance.new.probes.items) c.in-Err.stuck e (map (λ b. (goal.Probe-dyn g (b.vtable, b.value)).watch b.value) c.args.probes.now.items) inv.looked
 
 pub returns-clause-ended : goal.returns-clause-ended
 returns-clause-ended g c =
     let inv = c.steps.invariant in
     let s = story c.args.course.now.joint.image.bytes (g.F.Feed.told c.args.feed.now).history in
-    let start = shown (g.K.Sink.taken c.args.out.now) (g.K.Sink.told c.args.out.now) (g.K.Sink.faults c.args.out.now) in
-    let now = shown (g.K.Sink.taken c.steps.out) (g.K.Sink.told c.steps.out) (g.K.Sink.faults c.steps.out) in
-    over_now s c.steps.course (map (λ b. (goal.Probe-dyn g (b.vtable, b.value)).watch b.value) c.args.probes.now.items) (map (λ b. (goal.Probe-dyn g (b.vtable, b.value)).watch b.value) c.steps.probes.items) start now inv.said inv.looked c.cycle.result c.end.result c.is_over.result inv.standing
+    over_now s c.steps.course c.cycle.result c.end.result c.is_over.result inv.standing
     c.is_over.ensures.over (c.end.ensures.end ∙ ap (λ k. k.end) inv.history) c.cycle.ensures.cycle (cc c.steps-test.false)

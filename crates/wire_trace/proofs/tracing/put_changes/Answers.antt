@@ -1,4 +1,4 @@
-use Rattle.std.proofs.Common.{◌≡◌, ◌≤◌, suc, length, vec_capacity, false, ap, sym, subst, ◌∙◌, arith}
+use Rattle.std.proofs.Common.{◌≡◌, suc, vec_capacity, ap, sym, subst, ◌∙◌, arith}
 use Rattle.io_edge.specs.Said.{IsBrokenOff, shown}
 use Rattle.joint_feed.specs.Stories.{story}
 use Rattle.subsystem.proofs.Advancing.{goes_on_here}
