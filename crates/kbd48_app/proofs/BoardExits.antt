@@ -1,5 +1,5 @@
 -- The exits of `board`.
-use Rattle.std.proofs.Common.{◌≡◌, ℕ, Bool, List, None, Some, Ok, inr, refl, ap, ◌∙◌}
+use Rattle.std.proofs.Common.{◌≡◌, ℕ, List, None, Some, Ok, inr, refl, ap, ◌∙◌}
 use Rattle.std.specs.declared.option.Option.{Option}
 use Rattle.board_run.proofs.EndOf.{end_found, end_of, outcome_of}
 use Rattle.board_run.specs.Running.{IsOutcome, Outcome}
@@ -15,6 +15,7 @@ use Rattle.layout_reader.specs.Layouts.{KeyLayout}
 use Rattle.mcs48_core.specs.declared.stepping.Stuck.{Stuck as Place}
 use Rattle.kbd48_app.specs.declared.exit.Exit.TheVariants as exits
 use Rattle.kbd48_app.specs.declared.kind.Kind.TheVariants as kinds
+use Rattle.kbd48_app.specs.declared.words.BoardCommand.{BoardCommand}
 use Rattle.kbd48_app.specs.declared.words.Command.TheVariants.{Board}
 use Rattle.kbd48_app.specs.Kinds.{limit_of}
 use Rattle.kbd48_app.specs.Plans.{Plan, Boards, program_plan}
@@ -28,59 +29,59 @@ use Rattle.kbd48_app.proofs.RunExits.{ReadsBoth}
 use Rattle.kbd48_app.proofs.Runs.{HistoryOutcome, IsReadThird, IsScriptLed, first_found, history_exit, second_found}
 
 -- no file is read behind the key file
-none_third : (steps : Bool) (image : List ℕ) → IsReadThird (λ layout. Boards steps image)
-none_third steps image read file layout history after h = absurd h
+none_third : (wanted : BoardCommand) (image : List ℕ) → IsReadThird (λ layout. Boards wanted image)
+none_third wanted image read file layout history after h = absurd h
 
-no_script : (n : ℕ) (steps : Bool) (image : List ℕ) → IsScriptLed n (λ layout. Boards steps image)
-no_script n steps image script at layout history after h is = absurd h
+no_script : (n : ℕ) (wanted : BoardCommand) (image : List ℕ) → IsScriptLed n (λ layout. Boards wanted image)
+no_script n wanted image script at layout history after h is = absurd h
 
-module _ (n : ℕ) (steps : Bool) (first second last : List ℕ) (shelf : Told) where
-  pub fault_led_by_board : (fault : Fault) → HasFault n fault (program_plan (Boards steps) first second last) shelf
-      → leads n (program_plan (Boards steps) first second last) shelf ≡ exit_at fault
+module _ (n : ℕ) (wanted : BoardCommand) (first second last : List ℕ) (shelf : Told) where
+  pub fault_led_by_board : (fault : Fault) → HasFault n fault (program_plan (Boards wanted) first second last) shelf
+      → leads n (program_plan (Boards wanted) first second last) shelf ≡ exit_at fault
   fault_led_by_board fault h =
-      fault_led_by_program (Boards steps) first second last shelf n (none_third steps) (no_script n steps) fault h
+      fault_led_by_program (Boards wanted) first second last shelf n (none_third wanted) (no_script n wanted) fault h
 
   -- where three files lead that are found and have no fault
   pub board_leads : (bytes image document text : List ℕ) (layout : KeyLayout) (history : KeyHistory)
       → fetched shelf first (limit_of kinds.Hex) ≡ Found bytes → hex_of bytes ≡ Ok image
       → fetched (after_fetch shelf) second (limit_of kinds.Layout) ≡ Found document → layout_of_document document ≡ Ok layout
       → fetched (after_fetch (after_fetch shelf)) last (limit_of kinds.Keys) ≡ Found text → history_of layout text ≡ Ok history
-      → leads n (program_plan (Boards steps) first second last) shelf ≡ board_exit (end_of (story image history))
+      → leads n (program_plan (Boards wanted) first second last) shelf ≡ board_exit (end_of (story image history))
   board_leads bytes image document text layout history found is then has at reads =
-      leads_all (Boards steps) first second last shelf image (bytes, found, is) n document text layout then has at
-      ∙ ap (λ (o : HistoryOutcome). history_exit n (λ of. Boards steps image) layout (after_fetch (after_fetch (after_fetch shelf))) o) reads
+      leads_all (Boards wanted) first second last shelf image (bytes, found, is) n document text layout then has at
+      ∙ ap (λ (o : HistoryOutcome). history_exit n (λ of. Boards wanted image) layout (after_fetch (after_fetch (after_fetch shelf))) o) reads
 
   -- a run that is stuck
   pub board_stuck : (bytes image document text : List ℕ) (layout : KeyLayout) (history : KeyHistory) (run : Outcome) (place : Place)
-      → Reads kinds.Hex bytes (program_plan (Boards steps) first second last) shelf → hex_of bytes ≡ Ok image
-      → Reads kinds.Layout document (program_plan (Boards steps) first second last) shelf → layout_of_document document ≡ Ok layout
-      → Reads kinds.Keys text (program_plan (Boards steps) first second last) shelf → history_of layout text ≡ Ok history
+      → Reads kinds.Hex bytes (program_plan (Boards wanted) first second last) shelf → hex_of bytes ≡ Ok image
+      → Reads kinds.Layout document (program_plan (Boards wanted) first second last) shelf → layout_of_document document ≡ Ok layout
+      → Reads kinds.Keys text (program_plan (Boards wanted) first second last) shelf → history_of layout text ≡ Ok history
       → IsOutcome (story image history) run → run.end ≡ Stuck place
-      → leads n (program_plan (Boards steps) first second last) shelf ≡ exits.Stuck
+      → leads n (program_plan (Boards wanted) first second last) shelf ≡ exits.Stuck
   board_stuck bytes image document text layout history run place hex is doc has keys reads made stuck =
-      let found = image_found (Boards steps) first second last shelf n (none_third steps) (no_script n steps) bytes hex in
-      let doc' = read_behind (Boards steps) first second last shelf image (bytes, found, is) kinds.Layout document (λ e. cc) doc in
-      let keys' = read_behind (Boards steps) first second last shelf image (bytes, found, is) kinds.Keys text (λ e. cc) keys in
-      let then = first_found n (λ of. Boards steps image) (none_third steps image) (no_script n steps image) second last (after_fetch shelf) document doc' in
-      let at = second_found n (λ of. Boards steps image) (none_third steps image) (no_script n steps image) second last (after_fetch shelf) text keys' in
+      let found = image_found (Boards wanted) first second last shelf n (none_third wanted) (no_script n wanted) bytes hex in
+      let doc' = read_behind (Boards wanted) first second last shelf image (bytes, found, is) kinds.Layout document (λ e. cc) doc in
+      let keys' = read_behind (Boards wanted) first second last shelf image (bytes, found, is) kinds.Keys text (λ e. cc) keys in
+      let then = first_found n (λ of. Boards wanted image) (none_third wanted image) (no_script n wanted image) second last (after_fetch shelf) document doc' in
+      let at = second_found n (λ of. Boards wanted image) (none_third wanted image) (no_script n wanted image) second last (after_fetch shelf) text keys' in
       board_leads bytes image document text layout history found is then has at reads
       ∙ ap board_exit (end_found (story image history) run made) ∙ ap (λ (e : End). board_exit (Some e)) stuck
 
 -- the exit of a run has its cause
-end_caused : (n : ℕ) (steps : Bool) (plan : Plan) (shelf : Told) (bytes image : List ℕ) (layout : KeyLayout) (history : KeyHistory)
-    → Reads kinds.Hex bytes plan shelf → hex_of bytes ≡ Ok image → ReadsBoth n (Some (Board steps)) plan shelf layout history
-    → (end : Option End) → end_of (story image history) ≡ end → IsCaused n (Some (Board steps)) plan shelf (board_exit end)
-end_caused n steps plan shelf bytes image layout history hex is both None e = tt
-end_caused n steps plan shelf bytes image layout history hex is both (Some Over) e = tt
-end_caused n steps plan shelf bytes image layout history hex is both (Some (Stuck place)) e =
+end_caused : (n : ℕ) (wanted : BoardCommand) (plan : Plan) (shelf : Told) (bytes image : List ℕ) (layout : KeyLayout) (history : KeyHistory)
+    → Reads kinds.Hex bytes plan shelf → hex_of bytes ≡ Ok image → ReadsBoth n (Some (Board wanted)) plan shelf layout history
+    → (end : Option End) → end_of (story image history) ≡ end → IsCaused n (Some (Board wanted)) plan shelf (board_exit end)
+end_caused n wanted plan shelf bytes image layout history hex is both None e = tt
+end_caused n wanted plan shelf bytes image layout history hex is both (Some Over) e = tt
+end_caused n wanted plan shelf bytes image layout history hex is both (Some (Stuck place)) e =
     let run = outcome_of (story image history) (Stuck place) e in
-    inr (steps, refl, bytes, hex, image, is, both.0, both.1, layout, both.2, both.3, both.4, history, both.5, run.0, run.1, place, run.2)
+    inr (wanted, refl, bytes, hex, image, is, both.0, both.1, layout, both.2, both.3, both.4, history, both.5, run.0, run.1, place, run.2)
 
-pub board_caused : (n : ℕ) (steps : Bool) (first second last : List ℕ) (shelf : Told)
-    → IsCaused n (Some (Board steps)) (program_plan (Boards steps) first second last) shelf
-    (leads n (program_plan (Boards steps) first second last) shelf)
-board_caused n steps first second last shelf =
-    let plan = program_plan (Boards steps) first second last in
-    program_caused n (Some (Board steps)) (Boards steps) first second last shelf
+pub board_caused : (n : ℕ) (wanted : BoardCommand) (first second last : List ℕ) (shelf : Told)
+    → IsCaused n (Some (Board wanted)) (program_plan (Boards wanted) first second last) shelf
+    (leads n (program_plan (Boards wanted) first second last) shelf)
+board_caused n wanted first second last shelf =
+    let plan = program_plan (Boards wanted) first second last in
+    program_caused n (Some (Board wanted)) (Boards wanted) first second last shelf
     (λ bytes image read is layout history after both within.
-    end_caused n steps plan shelf bytes image layout history read is both (end_of (story image history)) refl)
+    end_caused n wanted plan shelf bytes image layout history read is both (end_of (story image history)) refl)

@@ -75,7 +75,7 @@ module _ (n : ℕ) where
   unserved (Certifies image text) shelf h = absurd h
   unserved (Spells layout text) shelf h = absurd h
   unserved (Runs command layout history) shelf h = absurd h
-  unserved (Boards steps image history) shelf h = absurd h
+  unserved (Boards wanted image history) shelf h = absurd h
   unserved (Samples count) shelf h = absurd h
   unserved (Debugs s script) shelf h = absurd h
   unserved (Fetches kind name next) shelf h =
@@ -88,7 +88,7 @@ module _ (n : ℕ) where
   too_long long (Certifies image text) shelf h = absurd h
   too_long long (Spells layout text) shelf h = absurd h
   too_long long (Runs command layout history) shelf h = absurd h
-  too_long long (Boards steps image history) shelf h = absurd h
+  too_long long (Boards wanted image history) shelf h = absurd h
   too_long long (Samples count) shelf h = absurd h
   too_long long (Debugs s script) shelf h = absurd h
   too_long long (Fetches kind name next) shelf h =
@@ -174,8 +174,8 @@ module _ (n : ℕ) where
   fault_led fault (Some (OverPair (OverRun command))) words shelf h =
       fault_led_by_run n (Runs command) (λ read file layout history after third. absurd third)
       (λ script at layout history after third is. absurd third) (name_in words) (second_in words) shelf fault h
-  fault_led fault (Some (Board steps)) words shelf h =
-      fault_led_by_board n steps (name_in words) (second_in words) (third_in words) shelf fault h
+  fault_led fault (Some (Board wanted)) words shelf h =
+      fault_led_by_board n wanted (name_in words) (second_in words) (third_in words) shelf fault h
   fault_led fault (Some Debug) words shelf h =
       fault_led_by_run n (debug_next (third_in words)) (debug_read (third_in words)) (debug_led (third_in words))
       (name_in words) (second_in words) shelf fault h

@@ -20,6 +20,7 @@ use Rattle.io_edge.specs.Shelf.{Told, Fetched, Found, after_fetch, fetched}
 use Rattle.mcs48_isa.specs.Listing.{listing_of}
 use Rattle.kbd48_app.specs.declared.exit.Exit.{Exit}
 use Rattle.kbd48_app.specs.declared.exit.Exit.TheVariants as exits
+use Rattle.kbd48_app.specs.declared.words.BoardCommand.{BoardCommand}
 use Rattle.kbd48_app.specs.declared.words.Command.{Command}
 use Rattle.kbd48_app.specs.declared.words.Command.TheVariants.{OverFile, OverPair, Debug, Probe, Board, Feed, Sample}
 use Rattle.kbd48_app.specs.declared.words.PairCommand.TheVariants.{Certify, OverRun, Spell}
@@ -58,10 +59,10 @@ sound_left Assemble bytes sound = inl (ap (λ (o : Result (List ℕ) (ℕ × ℕ
 sound_left Compile bytes sound = inl (ap (λ (o : Result KeyLayout LayoutRefusal). exit_said (compiled o)) sound.1)
 
 -- the exits of a run on the board
-board_left : (steps : Bool) (end : Option End) → IsLeft (Some (Board steps)) (board_exit end)
-board_left steps None = inl refl
-board_left steps (Some Over) = inl refl
-board_left steps (Some (Stuck place)) = inr (inr refl)
+board_left : (wanted : BoardCommand) (end : Option End) → IsLeft (Some (Board wanted)) (board_exit end)
+board_left wanted None = inl refl
+board_left wanted (Some Over) = inl refl
+board_left wanted (Some (Stuck place)) = inr (inr refl)
 
 -- want of memory is always left
 memory_left : (command : Command) → IsLeft (Some command) exits.Memory
@@ -74,7 +75,7 @@ memory_left (OverFile Compile) = inr refl
 memory_left (OverPair Certify) = inr refl
 memory_left (OverPair Spell) = inr refl
 memory_left (OverPair (OverRun command)) = inr refl
-memory_left (Board steps) = inr (inl refl)
+memory_left (Board wanted) = inr (inl refl)
 memory_left Debug = inr refl
 memory_left Probe = inr refl
 
@@ -128,14 +129,14 @@ answers_left words (Some (OverPair (OverRun command))) (Some shelf) after answer
     answer_left (OverPair (OverRun command)) (leads (length probes) p shelf) answer (may_lack p shelf)
     (inl (leads_both (length probes) (Runs command) (name_in words) (second_in words) h.0 h.4 h.2 shelf h.1 h.3 h.5 ∙ ap (history_exit (length probes) (Runs command) h.2 on) h.7))
     (ends_so p shelf answer after probes left may)
-answers_left words (Some (Board steps)) None after answer probes left faultless may = absurd faultless
-answers_left words (Some (Board steps)) (Some shelf) after answer probes left faultless may =
-    let p = plan_of (Some (Board steps)) words in
+answers_left words (Some (Board wanted)) None after answer probes left faultless may = absurd faultless
+answers_left words (Some (Board wanted)) (Some shelf) after answer probes left faultless may =
+    let p = plan_of (Some (Board wanted)) words in
     let h = faultless in
-    answer_left (Board steps) (leads (length probes) p shelf) answer (may_lack p shelf)
-    (subst (IsLeft (Some (Board steps)))
-    (sym (board_leads (length probes) steps (name_in words) (second_in words) (third_in words) shelf h.0 h.2 h.4 h.8 h.6 h.10 h.1 h.3 h.5 h.7 h.9 h.11))
-    (board_left steps (end_of (story h.2 h.10))))
+    answer_left (Board wanted) (leads (length probes) p shelf) answer (may_lack p shelf)
+    (subst (IsLeft (Some (Board wanted)))
+    (sym (board_leads (length probes) wanted (name_in words) (second_in words) (third_in words) shelf h.0 h.2 h.4 h.8 h.6 h.10 h.1 h.3 h.5 h.7 h.9 h.11))
+    (board_left wanted (end_of (story h.2 h.10))))
     (ends_so p shelf answer after probes left may)
 answers_left words (Some Debug) None after answer probes left faultless may = absurd faultless
 answers_left words (Some Debug) (Some shelf) after answer probes left faultless may =

@@ -16,6 +16,7 @@ use Rattle.kbd48_app.specs.declared.exit.Exit.{Exit}
 use Rattle.kbd48_app.specs.declared.exit.Exit.TheVariants as exits
 use Rattle.kbd48_app.specs.declared.kind.Kind.{Kind}
 use Rattle.kbd48_app.specs.declared.refusal.Refusal.TheVariants.{Read, TooLong, Memory}
+use Rattle.kbd48_app.specs.declared.words.BoardCommand.{BoardCommand}
 use Rattle.kbd48_app.specs.declared.words.Command.{Command}
 use Rattle.kbd48_app.specs.Answers.{OnFetched, MayAnswerOf, MayAnswerSession, MayEnd, MayEndAs, MayAnswer, Left, MayAnswerText}
 use Rattle.kbd48_app.specs.BoardTexts.{board_said}
@@ -38,9 +39,9 @@ board_exit (Some Over) = exits.Done
 board_exit (Some (Stuck place)) = exits.Stuck
 board_exit None = exits.Done
 
-board_led : (steps : Bool) (run : Outcome) (end : End) → exit_said (board_said steps run end) ≡ board_exit (Some end)
-board_led steps run Over = refl
-board_led steps run (Stuck place) = refl
+board_led : (wanted : BoardCommand) (run : Outcome) (end : End) → exit_said (board_said wanted run end) ≡ board_exit (Some end)
+board_led wanted run Over = refl
+board_led wanted run (Stuck place) = refl
 
 -- the exit where memory isn't wanting, and there are so many probes
 abbrev pub leads : ℕ → Plan → Told → Exit
@@ -48,7 +49,7 @@ leads n (Gives said) shelf = exit_said said
 leads n (Certifies image text) shelf = exit_said (cert_said image text)
 leads n (Spells layout text) shelf = exit_by (first_without layout text)
 leads n (Runs command layout history) shelf = exits.Done
-leads n (Boards steps image history) shelf = board_exit (end_of (story image history))
+leads n (Boards wanted image history) shelf = board_exit (end_of (story image history))
 leads n (Samples count) shelf = exits.Done
 leads n (Debugs s script) shelf = exit_by (script_fault n script)
 leads n (Fetches kind name next) shelf =
@@ -89,12 +90,12 @@ ends_so (Certifies image text) shelf answer after probes left h = said_led (cert
 ends_so (Spells layout text) shelf answer after probes left h = text_led layout text answer h.0
 ends_so (Runs command layout history) shelf answer after probes left h =
     elim h.0 [ inl memory ↦ inr (memory.0, refl) | inr said ↦ inl (ap exit_said said.3) ]
-ends_so (Boards steps image history) shelf answer after probes left h =
+ends_so (Boards wanted image history) shelf answer after probes left h =
     elim h.0 [
       | inl memory ↦ inr (memory.0, refl)
       | inr told ↦
           let led = ap board_exit (end_found (story image history) told.0 told.1) in
-          inl (ap exit_said told.3 ∙ board_led steps told.0 told.0.end ∙ sym led)
+          inl (ap exit_said told.3 ∙ board_led wanted told.0 told.0.end ∙ sym led)
     ]
 ends_so (Samples count) shelf answer after probes left h =
     elim h.0 [ inl memory ↦ inr (memory.0, refl) | inr said ↦ inl (ap exit_said said.3) ]

@@ -79,8 +79,8 @@ module _ (n : ℕ) where
       text_caused n (Some (OverPair Spell)) (name_in words) (second_in words) shelf
   caused (Some (OverPair (OverRun command))) words shelf =
       run_caused n (Some (OverPair (OverRun command))) command (name_in words) (second_in words) shelf
-  caused (Some (Board steps)) words shelf =
-      board_caused n steps (name_in words) (second_in words) (third_in words) shelf
+  caused (Some (Board wanted)) words shelf =
+      board_caused n wanted (name_in words) (second_in words) (third_in words) shelf
   caused (Some Debug) words shelf =
       debug_caused n (Some Debug) (third_in words) (name_in words) (second_in words) shelf
   caused (Some Probe) words shelf =

@@ -1,6 +1,6 @@
 -- Commands that take all their memory before the first step: where it is wanting, no probe has looked, and nothing was
 -- said.
-use Rattle.std.proofs.Common.{◌≡◌, ◌⊎◌, ℕ, Bool, true, List, [], ◌++◌, None, Some, Ok, Err, inl, inr, sym, subst, ◌∙◌}
+use Rattle.std.proofs.Common.{◌≡◌, ◌⊎◌, ℕ, true, List, [], ◌++◌, None, Some, Ok, Err, inl, inr, sym, subst, ◌∙◌}
 use Rattle.std.specs.Option.{option_map}
 use Rattle.std.specs.declared.option.Option.{Option}
 use Rattle.board_run.specs.Running.{Outcome}
@@ -19,6 +19,7 @@ use Rattle.kbd48_app.specs.declared.exit.Exit.TheVariants as exits
 use Rattle.kbd48_app.specs.declared.kind.Kind.{Kind}
 use Rattle.kbd48_app.specs.declared.kind.Kind.TheVariants as kinds
 use Rattle.kbd48_app.specs.declared.refusal.Refusal.TheVariants.{Read, TooLong, Memory}
+use Rattle.kbd48_app.specs.declared.words.BoardCommand.{BoardCommand}
 use Rattle.kbd48_app.specs.declared.words.Command.{Command}
 use Rattle.kbd48_app.specs.declared.words.Command.TheVariants.{OverFile, OverPair, Debug, Probe, Board, Feed, Sample}
 use Rattle.kbd48_app.specs.declared.words.PairCommand.TheVariants.{Certify, Spell, OverRun}
@@ -80,33 +81,33 @@ sample_keeps : (count : ℕ) → KeepsFirst (Samples count)
 sample_keeps count shelf answer after probes left h is =
     elim h.0 [ inl memory ↦ (memory.1, h.2) | inr said ↦ absurd (no_refusal said.0 Memory (sym said.3 ∙ is)) ]
 
-not_memory : (steps : Bool) (run : Outcome) (end : End) → board_said steps run end ≡ Err Memory → ⊥
-not_memory steps run Over is = cc
-not_memory steps run (Stuck place) is = cc
+not_memory : (wanted : BoardCommand) (run : Outcome) (end : End) → board_said wanted run end ≡ Err Memory → ⊥
+not_memory wanted run Over is = cc
+not_memory wanted run (Stuck place) is = cc
 
 -- the run of a program on the board
-board_keeps : (steps : Bool) (image : List ℕ) (history : KeyHistory) → KeepsFirst (Boards steps image history)
-board_keeps steps image history shelf answer after probes left h is =
-    elim h.0 [ inl memory ↦ (memory.2, memory.1) | inr told ↦ absurd (not_memory steps told.0 told.0.end (sym told.3 ∙ is)) ]
+board_keeps : (wanted : BoardCommand) (image : List ℕ) (history : KeyHistory) → KeepsFirst (Boards wanted image history)
+board_keeps wanted image history shelf answer after probes left h is =
+    elim h.0 [ inl memory ↦ (memory.2, memory.1) | inr told ↦ absurd (not_memory wanted told.0 told.0.end (sym told.3 ∙ is)) ]
 
-program_history_keeps : (steps : Bool) (image : List ℕ) (outcome : HistoryOutcome) → KeepsFirst (with_history (Boards steps image) outcome)
-program_history_keeps steps image (Ok history) = board_keeps steps image history
-program_history_keeps steps image (Err fault) = λ shelf answer after probes left h is. (h.1.1, h.1.2)
+program_history_keeps : (wanted : BoardCommand) (image : List ℕ) (outcome : HistoryOutcome) → KeepsFirst (with_history (Boards wanted image) outcome)
+program_history_keeps wanted image (Ok history) = board_keeps wanted image history
+program_history_keeps wanted image (Err fault) = λ shelf answer after probes left h is. (h.1.1, h.1.2)
 
-program_layout_keeps : (steps : Bool) (image keys : List ℕ) (outcome : LayoutOutcome) → KeepsFirst (with_layout (keys_next (λ layout. Boards steps image) keys) outcome)
-program_layout_keeps steps image keys (Ok layout) =
-    fetch_keeps kinds.Keys keys (λ text. with_history (Boards steps image) (history_of layout text)) (λ text. program_history_keeps steps image (history_of layout text))
-program_layout_keeps steps image keys (Err fault) = λ shelf answer after probes left h is. (h.1.1, h.1.2)
+program_layout_keeps : (wanted : BoardCommand) (image keys : List ℕ) (outcome : LayoutOutcome) → KeepsFirst (with_layout (keys_next (λ layout. Boards wanted image) keys) outcome)
+program_layout_keeps wanted image keys (Ok layout) =
+    fetch_keeps kinds.Keys keys (λ text. with_history (Boards wanted image) (history_of layout text)) (λ text. program_history_keeps wanted image (history_of layout text))
+program_layout_keeps wanted image keys (Err fault) = λ shelf answer after probes left h is. (h.1.1, h.1.2)
 
-program_image_keeps : (steps : Bool) (layout keys : List ℕ) (outcome : HexOutcome) → KeepsFirst (with_image (λ image. history_plan (λ of. Boards steps image) layout keys) outcome)
-program_image_keeps steps layout keys (Ok image) =
-    fetch_keeps kinds.Layout layout (plan_from (λ of. Boards steps image) keys) (λ bytes. program_layout_keeps steps image keys (layout_of_document bytes))
-program_image_keeps steps layout keys (Err fault) = λ shelf answer after probes left h is. (h.1.1, h.1.2)
+program_image_keeps : (wanted : BoardCommand) (layout keys : List ℕ) (outcome : HexOutcome) → KeepsFirst (with_image (λ image. history_plan (λ of. Boards wanted image) layout keys) outcome)
+program_image_keeps wanted layout keys (Ok image) =
+    fetch_keeps kinds.Layout layout (plan_from (λ of. Boards wanted image) keys) (λ bytes. program_layout_keeps wanted image keys (layout_of_document bytes))
+program_image_keeps wanted layout keys (Err fault) = λ shelf answer after probes left h is. (h.1.1, h.1.2)
 
-program_keeps : (steps : Bool) (image layout keys : List ℕ) → KeepsFirst (program_plan (Boards steps) image layout keys)
-program_keeps steps image layout keys =
-    fetch_keeps kinds.Hex image (λ bytes. with_image (λ read. history_plan (λ of. Boards steps read) layout keys) (hex_of bytes))
-    (λ bytes. program_image_keeps steps layout keys (hex_of bytes))
+program_keeps : (wanted : BoardCommand) (image layout keys : List ℕ) → KeepsFirst (program_plan (Boards wanted) image layout keys)
+program_keeps wanted image layout keys =
+    fetch_keeps kinds.Hex image (λ bytes. with_image (λ read. history_plan (λ of. Boards wanted read) layout keys) (hex_of bytes))
+    (λ bytes. program_image_keeps wanted layout keys (hex_of bytes))
 
 keeps_as : (command : Option Command) (words : List (List ℕ)) (shelf : Option Told) (answer : Answer) (after : Option Told) (probes : List Watch) (left : Left)
     → takes_memory_first command ≡ true → MayEndAs command words shelf answer after probes left → answer ≡ Err Memory → AreFirst probes left
@@ -121,8 +122,8 @@ keeps_as (Some (OverPair (OverRun (Log ticks steps)))) words shelf answer after 
     both_keep (Log ticks steps) (λ layout history before now so. so) words shelf answer after probes left h is
 keeps_as (Some (OverPair (OverRun Trace))) words shelf answer after probes left first h is =
     both_keep Trace (λ layout history before now so. so) words shelf answer after probes left h is
-keeps_as (Some (Board steps)) words shelf answer after probes left first h is =
-    program_keeps steps (name_in words) (second_in words) (third_in words) shelf answer after probes left h is
+keeps_as (Some (Board wanted)) words shelf answer after probes left first h is =
+    program_keeps wanted (name_in words) (second_in words) (third_in words) shelf answer after probes left h is
 keeps_as (Some Debug) words shelf answer after probes left first h is = absurd cc
 keeps_as (Some Probe) words shelf answer after probes left first h is = absurd cc
 

@@ -31,7 +31,6 @@ pub mod Caused
 pub mod CertExits
 pub mod Texts
 pub mod TextExits
-pub mod Received
 pub mod First
 pub mod Sampled
 pub mod Starts

@@ -2,16 +2,17 @@
 use Rattle.std.proofs.Common.{◌≡◌, ◌⊎◌, ℕ, List, None, Some, Err, inl, inr, sym, subst}
 use Rattle.std.specs.Option.{option_map}
 use Rattle.std.specs.declared.option.Option.{Option}
-use Rattle.board_run.proofs.Lines.{are_lines}
 use Rattle.fw_debug.specs.Probes.{Watch}
 use Rattle.io_edge.proofs.Pieces.{AreLines}
 use Rattle.io_edge.specs.Shelf.{Told, Fetched, Fails, Long, Found, after_fetch}
+use Rattle.joint_feed.specs.Stories.{story}
 use Rattle.kbd48_app.specs.declared.kind.Kind.{Kind}
 use Rattle.kbd48_app.specs.declared.refusal.Refusal.TheVariants.{Read, TooLong, Memory}
 use Rattle.kbd48_app.specs.declared.words.Command.{Command}
 use Rattle.kbd48_app.specs.Answers.{IsKept, Left, MayAnswer, MayEnd, MayEndAs, OnFetched}
 use Rattle.kbd48_app.specs.Plans.{Answer, Plan, Gives, Certifies, Runs, Boards, Samples, Debugs, Fetches, plan_of, Spells}
 use Rattle.kbd48_app.specs.Words.{command_of}
+use Rattle.kbd48_app.proofs.Boarded.{log_is_lines}
 
 fetch_lines : (kind : Kind) (answer : Answer) (on after : Option Told) (probes : List Watch) (left : Left) (more : List ℕ → Type 0)
     → ((bytes : List ℕ) → more bytes → AreLines left.log) → (outcome : Fetched)
@@ -27,8 +28,8 @@ lines_by (Gives said) shelf answer after probes left h = inl h.1.2
 lines_by (Certifies image text) shelf answer after probes left h = inl h.1.2
 lines_by (Spells layout text) shelf answer after probes left h = inl h.1.2
 lines_by (Runs command layout history) shelf answer after probes left h = inl h.2
-lines_by (Boards steps image history) shelf answer after probes left h =
-    elim h.0 [ inl memory ↦ inl memory.1 | inr told ↦ subst AreLines (sym told.2) (are_lines told.0.log) ]
+lines_by (Boards wanted image history) shelf answer after probes left h =
+    elim h.0 [ inl memory ↦ inl memory.1 | inr told ↦ subst AreLines (sym told.2) (log_is_lines wanted (story image history) told.0) ]
 lines_by (Samples count) shelf answer after probes left h = inl h.2
 lines_by (Debugs s script) shelf answer after probes left h = inl h.2
 lines_by (Fetches kind name next) shelf answer after probes left h =

@@ -1,8 +1,9 @@
 -- The words behind a command's own.
-use Rattle.std.proofs.Common.{◌≡◌, ℕ, Bool, ◌<◌, List, [], ◌∷◌, length, map, string_bytes, slice_index_or, String, Global, Some, ap, sym, subst, ◌∙◌, arith}
+use Rattle.std.proofs.Common.{◌≡◌, ℕ, ◌<◌, List, [], ◌∷◌, length, map, string_bytes, slice_index_or, String, Global, Some, ap, sym, subst, ◌∙◌, arith}
 use Rattle.std.specs.declared.option.Option.{Option}
 use Rattle.fw_debug.specs.Probes.{Watch}
 use Rattle.io_edge.specs.Shelf.{Told}
+use Rattle.kbd48_app.specs.declared.words.BoardCommand.{BoardCommand}
 use Rattle.kbd48_app.specs.declared.words.Command.{Command}
 use Rattle.kbd48_app.specs.declared.words.Command.TheVariants.{OverFile, OverPair, Debug, Probe, Board}
 use Rattle.kbd48_app.specs.declared.words.PairCommand.{PairCommand}
@@ -69,16 +70,16 @@ ends_over_debug words word word' word'' name name' name'' shelf after answer pro
     subst (λ (c : Option Command). MayEndAs c texts shelf answer after probes left) (sym is) named
 
 -- `board`, whose names are the words behind its own
-pub ends_over_board : (words : List (String Global)) (steps : Bool) (word word' word'' : String Global) (name name' name'' : List ℕ) (shelf after : Option Told) (answer : Answer) (probes : List Watch) (left : Left) → command_of (map string_bytes words) ≡ Some (Board steps) → 3 < length words → word ≡ slice_index_or words 1 word → word' ≡ slice_index_or words 2 word' → word'' ≡ slice_index_or words 3 word'' → name ≡ string_bytes word → name' ≡ string_bytes word' → name'' ≡ string_bytes word'' → MayEnd (program_plan (Boards steps) name name' name'') shelf answer after probes left → MayAnswer (map string_bytes words) shelf answer after probes left
-ends_over_board words steps word word' word'' name name' name'' shelf after answer probes left is more at at' at'' same same' same'' h =
+pub ends_over_board : (words : List (String Global)) (wanted : BoardCommand) (word word' word'' : String Global) (name name' name'' : List ℕ) (shelf after : Option Told) (answer : Answer) (probes : List Watch) (left : Left) → command_of (map string_bytes words) ≡ Some (Board wanted) → 3 < length words → word ≡ slice_index_or words 1 word → word' ≡ slice_index_or words 2 word' → word'' ≡ slice_index_or words 3 word'' → name ≡ string_bytes word → name' ≡ string_bytes word' → name'' ≡ string_bytes word'' → MayEnd (program_plan (Boards wanted) name name' name'') shelf answer after probes left → MayAnswer (map string_bytes words) shelf answer after probes left
+ends_over_board words wanted word word' word'' name name' name'' shelf after answer probes left is more at at' at'' same same' same'' h =
     let texts = map string_bytes words in
     let first : name ≡ name_in texts = same ∙ name_is words word (omega (arith, more)) at in
     let second : name' ≡ second_in texts = same' ∙ second_name words word' (omega (arith, more)) at' in
     let third : name'' ≡ third_in texts = same'' ∙ third_name words word'' more at'' in
-    let named : MayEnd (program_plan (Boards steps) (name_in texts) (second_in texts) (third_in texts)) shelf answer after probes left =
-    subst (λ (n : List ℕ). MayEnd (program_plan (Boards steps) (name_in texts) (second_in texts) n) shelf answer after probes left) third
-    (subst (λ (n : List ℕ). MayEnd (program_plan (Boards steps) (name_in texts) n name'') shelf answer after probes left) second
-    (subst (λ (n : List ℕ). MayEnd (program_plan (Boards steps) n name' name'') shelf answer after probes left) first h)) in
+    let named : MayEnd (program_plan (Boards wanted) (name_in texts) (second_in texts) (third_in texts)) shelf answer after probes left =
+    subst (λ (n : List ℕ). MayEnd (program_plan (Boards wanted) (name_in texts) (second_in texts) n) shelf answer after probes left) third
+    (subst (λ (n : List ℕ). MayEnd (program_plan (Boards wanted) (name_in texts) n name'') shelf answer after probes left) second
+    (subst (λ (n : List ℕ). MayEnd (program_plan (Boards wanted) n name' name'') shelf answer after probes left) first h)) in
     subst (λ (c : Option Command). MayEndAs c (map string_bytes words) shelf answer after probes left) (sym is) named
 
 -- the fifth word is the fourth name

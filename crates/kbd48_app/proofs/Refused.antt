@@ -1,5 +1,5 @@
 -- Words outside the forms, over any shelf.
-use Rattle.std.proofs.Common.{◌≡◌, ℕ, Bool, List, [], length, Some, None, Ok, Err, inl, inr, refl, ap, sym, ◌∙◌, ◌⊎◌}
+use Rattle.std.proofs.Common.{◌≡◌, ℕ, List, [], length, Some, None, Ok, Err, inl, inr, refl, ap, sym, ◌∙◌, ◌⊎◌}
 use Rattle.std.specs.declared.option.Option.{Option}
 use Rattle.std.specs.declared.result.Result.{Result}
 use Rattle.board_run.specs.Running.{Outcome}
@@ -20,6 +20,7 @@ use Rattle.io_edge.specs.Shelf.{Told, Fetched, Fails, Long, Found, after_fetch}
 use Rattle.kbd48_app.specs.declared.exit.Exit.{Exit}
 use Rattle.kbd48_app.specs.declared.exit.Exit.TheVariants as exits
 use Rattle.kbd48_app.specs.declared.refusal.Refusal.TheVariants.{Words, Read, TooLong, Memory}
+use Rattle.kbd48_app.specs.declared.words.BoardCommand.{BoardCommand}
 use Rattle.kbd48_app.specs.declared.words.Command.{Command}
 use Rattle.kbd48_app.specs.declared.words.Command.TheVariants.{OverFile, OverPair, Debug, Probe, Board, Feed, Sample}
 use Rattle.kbd48_app.specs.declared.words.PairCommand.TheVariants.{Certify, OverRun, Spell}
@@ -61,7 +62,7 @@ Never (Gives said) = exit_said said ≡ exits.Words → ⊥
 Never (Certifies image text) = Unit {0}
 Never (Spells layout text) = Unit {0}
 Never (Runs command layout history) = Unit {0}
-Never (Boards steps image history) = Unit {0}
+Never (Boards wanted image history) = Unit {0}
 Never (Samples count) = Unit {0}
 Never (Debugs s script) = Unit {0}
 Never (Fetches kind name next) = (bytes : List ℕ) → Never (next bytes)
@@ -75,9 +76,9 @@ never_by kind answer end on goes (Found bytes) h is =
       | inr more ↦ goes bytes more is
     ]
 
-never_board : (steps : Bool) (run : Outcome) (end : End) → exit_said (board_said steps run end) ≡ exits.Words → ⊥
-never_board steps run Over is = cc
-never_board steps run (Stuck place) is = cc
+never_board : (wanted : BoardCommand) (run : Outcome) (end : End) → exit_said (board_said wanted run end) ≡ exits.Words → ⊥
+never_board wanted run Over is = cc
+never_board wanted run (Stuck place) is = cc
 
 never_session : (first : Option (ℕ × ℕ)) (s : Debuggee) (script : List ℕ) (answer : Answer) (probes : List Watch) (left : Left) → MayAnswerSession first s script answer probes left → exit_said answer ≡ exits.Words → ⊥
 never_session (Some fault) s script answer probes left h is = let e : exits.Input ≡ exits.Words = sym (ap exit_said h.0) ∙ is in cc
@@ -104,10 +105,10 @@ never_ends (Runs command layout history) never shelf after answer probes left h 
       | inl memory ↦ let e : exits.Memory ≡ exits.Words = sym (ap exit_said memory.0) ∙ is in cc
       | inr said ↦ let e : exits.Done ≡ exits.Words = sym (ap exit_said said.3) ∙ is in cc
     ]
-never_ends (Boards steps image history) never shelf after answer probes left h is =
+never_ends (Boards wanted image history) never shelf after answer probes left h is =
     elim h.0 [
       | inl memory ↦ let e : exits.Memory ≡ exits.Words = sym (ap exit_said memory.0) ∙ is in cc
-      | inr told ↦ never_board steps told.0 told.0.end (sym (ap exit_said told.3) ∙ is)
+      | inr told ↦ never_board wanted told.0 told.0.end (sym (ap exit_said told.3) ∙ is)
     ]
 never_ends (Samples count) never shelf after answer probes left h is =
     elim h.0 [
@@ -145,9 +146,9 @@ never_command (OverFile command) words = λ bytes. never_file command bytes (fil
 never_command (OverPair Certify) words = λ bytes. never_image (cert_next (second_in words)) (λ image text. tt) (hex_of bytes)
 never_command (OverPair Spell) words = λ bytes. never_text (second_in words) (layout_of_document bytes)
 never_command (OverPair (OverRun command)) words = λ bytes. never_layout (Runs command) (λ layout history. tt) (second_in words) (layout_of_document bytes)
-never_command (Board steps) words = λ bytes.
-    never_image (program_next (Boards steps) (second_in words) (third_in words))
-    (λ image document. never_layout (λ layout. Boards steps image) (λ layout history. tt) (third_in words) (layout_of_document document))
+never_command (Board wanted) words = λ bytes.
+    never_image (program_next (Boards wanted) (second_in words) (third_in words))
+    (λ image document. never_layout (λ layout. Boards wanted image) (λ layout history. tt) (third_in words) (layout_of_document document))
     (hex_of bytes)
 never_command Debug words = λ bytes. never_layout (debug_next (third_in words)) (λ layout history script. tt) (second_in words) (layout_of_document bytes)
 never_command Probe words = λ bytes.

@@ -1,11 +1,12 @@
--- What `board` says of a layout's image beside what `run` says.
-use Rattle.std.proofs.Common.{◌≡◌, false, [], ◌++◌, inl, inr, ap, ◌∙◌}
+-- What `board` says of a layout's image beside what `run` and `trace` say.
+use Rattle.std.proofs.Common.{◌≡◌, false, [], ◌++◌, inl, inr, ap, sym, ◌∙◌}
 use Rattle.std.proofs.lemmas.List.{append-nil}
 use Rattle.board_run.specs.Agreement.{BoardsTellRuns}
 use Rattle.subsystem.specs.Running.{Outcome}
 use Rattle.subsystem.specs.Texts.{log_text}
 use Rattle.kbd48_app.specs.declared.refusal.Refusal.TheVariants.{Memory}
-use Rattle.kbd48_app.specs.BoardTells.{BoardTellsRun}
+use Rattle.kbd48_app.specs.declared.words.BoardCommand.TheVariants.{Log, Trace}
+use Rattle.kbd48_app.specs.BoardTells.{BoardTellsRun, BoardTracesRun}
 use Rattle.kbd48_app.specs.BoardTexts.{board_said}
 use Rattle.kbd48_app.specs.RunTexts.{run_text}
 use Rattle.kbd48_app.proofs.OneText.{no_refusal}
@@ -20,6 +21,18 @@ board_tells_run law of history text answer probes others left kept sound accepte
     let tells = law of history told.0 h.1 sound accepted told.1 h.2.0 in
     let same : text ≡ h.0 = cc h.3 in
     inr (
-      told.3 ∙ ap (board_said false told.0) tells.over,
+      told.3 ∙ ap (board_said (Log false) told.0) tells.over,
       record { run = h.1; board = told.0; tells = tells; text = same ∙ h.2.2 ∙ alone h.1; log = told.2 },
+    )
+
+pub board_traces_run : BoardsTellRuns → BoardTracesRun
+board_traces_run law of history text answer probes others left kept sound accepted (inl none) k = absurd (no_refusal text Memory none.0)
+board_traces_run law of history text answer probes others left kept sound accepted (inr h) (inl none) = inl none.0
+board_traces_run law of history text answer probes others left kept sound accepted (inr h) (inr told) =
+    let tells = law of history told.0 h.1 sound accepted told.1 h.2.0 in
+    let same : text ≡ h.0 = cc h.3 in
+    inr (
+      told.3 ∙ ap (board_said Trace told.0) tells.over,
+      tells.changes,
+      same ∙ h.2.2 ∙ tells.trace ∙ ap (λ v. v ++ tells.changes) (sym told.2),
     )

@@ -1,4 +1,5 @@
--- How a plan ends over a shelf: with which answer, after which fetches, and how it leaves the probes that are handed in.
+-- How a plan ends over a shelf: with which answer, after which fetches, and how it leaves the probes that are handed
+-- in.
 use Rattle.std.specs.Prelude.{◌≡◌, ◌⊎◌, ℕ, ◌≤◌, Bool, List, [], length, None, Some, Ok, Err, IfOk}
 use Rattle.std.specs.Option.{option_map}
 use Rattle.std.specs.declared.alloc.Global.{Global}
@@ -6,7 +7,6 @@ use Rattle.std.specs.declared.option.Option.{Option}
 use Rattle.std.specs.declared.result.Result.{Result}
 use Rattle.std.specs.declared.vec.Vec.{Vec}
 use Rattle.board_run.specs.Running as board
-use Rattle.board_run.specs.Texts.{log_text}
 use Rattle.fw_debug.specs.Probes.{Watch}
 use Rattle.fw_debug.specs.Sessions.{Debuggee}
 use Rattle.joint_feed.specs.Stories.{Story, story}
@@ -14,17 +14,19 @@ use Rattle.subsystem.specs.Running.{Outcome}
 use Rattle.io_edge.specs.Shelf.{Told, Fetched, Fails, Long, Found, after_fetch, fetched}
 use Rattle.kbd48_app.specs.declared.refusal.Refusal.{Refusal}
 use Rattle.kbd48_app.specs.declared.refusal.Refusal.TheVariants.{Words, Read, TooLong, Script, Text, Memory}
+use Rattle.kbd48_app.specs.declared.words.BoardCommand.{BoardCommand}
 use Rattle.kbd48_app.specs.declared.words.Command.{Command}
 use Rattle.kbd48_app.specs.declared.words.RunCommand.{RunCommand}
 use Rattle.key_file.specs.Histories.{KeyHistory}
 use Rattle.layout_reader.specs.Layouts.{KeyLayout}
 use Rattle.typed_log.specs.Typing.{first_without}
 use Rattle.fw_debug.specs.Obeyed.{IsObeyed, IsObeyedInPart}
-use Rattle.kbd48_app.specs.BoardTexts.{AreLeftOnBoard, board_said}
+use Rattle.kbd48_app.specs.BoardTexts.{AreLeftOnBoard, board_log, board_said}
 use Rattle.kbd48_app.specs.CertTexts.{cert_said, IsCertText}
 use Rattle.kbd48_app.specs.Debugging.{script_fault}
 use Rattle.kbd48_app.specs.Kinds.{limit_of}
-use Rattle.kbd48_app.specs.Plans.{Answer, Plan, Gives, Certifies, Runs, Boards, Samples, Debugs, Fetches, plan_of, Spells}
+use Rattle.kbd48_app.specs.Plans.{Answer, Plan, plan_of}
+use Rattle.kbd48_app.specs.Plans.{Gives, Certifies, Spells, Runs, Boards, Samples, Debugs, Fetches}
 use Rattle.kbd48_app.specs.RunTexts.{AreLeft, AreLeftWanting, HaveLookedAtAll, IsRunText}
 use Rattle.kbd48_app.specs.Sampling.{IsSampleText, sample_story}
 use Rattle.kbd48_app.specs.TextPlans.{IsPlanText}
@@ -45,52 +47,53 @@ MayFetch None name limit outcome = IsWithin limit outcome
 abbrev pub MayAnswerOf : Answer → Answer → Type 0
 MayAnswerOf said answer = (answer ≡ Err Memory) ⊎ (answer ≡ said)
 
--- the same of a certificate for an image; where it is found right, its places keep their bounds
+-- what may be answered of a certificate for an image; where it is found right, its places keep their bounds
 abbrev pub MayAnswerCert : List ℕ → List ℕ → Answer → Type 0
 MayAnswerCert image text answer = MayAnswerOf (cert_said image text) answer × IfOk answer (IsCertText image text)
 
 -- what a call leaves behind: the probes, whether the sink has taken all that it had to say, and what it said before its
--- answer, which is the log of a run on the board, and else nothing
+-- answer, which is the log of a run on the board, or its trace, and else nothing
 pub record Left : Type 0 where
   pub probes : List Watch
   pub whole : Bool
   pub log : List ℕ
 
--- the same of a text for a layout: its plan, or the number of its first byte without a key, from 1
+-- what may be answered of a text for a layout: its plan, or the number of its first byte without a key, from 1
 abbrev pub MayAnswerText : KeyLayout → List ℕ → Answer → Type 0
 MayAnswerText layout text answer =
     (answer ≡ Err Memory)
     ⊎ ((first : ℕ × ℕ) × (first_without layout text ≡ Some first) × (answer ≡ Err (Text first.0)))
     ⊎ ((said : List ℕ) × IsPlanText layout text said × (answer ≡ Ok said))
 
--- the same of the run of a layout under a history, at which the probes look
+-- what may be answered of the run of a layout under a history, at which the probes look
 abbrev pub MayAnswerRun : RunCommand → KeyLayout → KeyHistory → Answer → List Watch → Left → Type 0
 MayAnswerRun command layout history answer probes left =
     ((answer ≡ Err Memory) × AreLeftWanting command layout history probes left.probes)
     ⊎ ((text : List ℕ) × (run : Outcome) × IsRunText command layout history text run × (answer ≡ Ok text)
     × AreLeft command layout history run.steps left.whole probes left.probes)
 
--- the run of a program on the board is told: its log is said before the answer
-abbrev pub IsBoardTold : Bool → Story → Answer → List Watch → Left → Type 0
-IsBoardTold steps s answer probes left =
-    (run : board.Outcome) × board.IsOutcome s run × (left.log ≡ log_text run.log)
-    × (answer ≡ board_said steps run run.end) × AreLeftOnBoard s run.steps left.whole probes left.probes
+-- the run of a program on the board is told: its log, or its trace, is said before the answer
+abbrev pub IsBoardTold : BoardCommand → Story → Answer → List Watch → Left → Type 0
+IsBoardTold wanted s answer probes left =
+    (run : board.Outcome) × board.IsOutcome s run × (left.log ≡ board_log wanted s run)
+    × (answer ≡ board_said wanted run run.end) × AreLeftOnBoard s run.steps left.whole probes left.probes
 
--- the same of such a run under a history; no memory is wanting once it has begun
-abbrev pub MayAnswerBoard : Bool → List ℕ → KeyHistory → Answer → List Watch → Left → Type 0
-MayAnswerBoard steps image history answer probes left =
+-- what may be answered of such a run under a history; no memory is wanting once it has begun
+abbrev pub MayAnswerBoard : BoardCommand → List ℕ → KeyHistory → Answer → List Watch → Left → Type 0
+MayAnswerBoard wanted image history answer probes left =
     ((answer ≡ Err Memory) × (left.log ≡ []) × (left.probes ≡ probes))
-    ⊎ IsBoardTold steps (story image history) answer probes left
+    ⊎ IsBoardTold wanted (story image history) answer probes left
 
--- the same of the run of so many strokes; no memory is wanting once it has begun
+-- what may be answered of the run of so many strokes; no memory is wanting once it has begun
 abbrev pub MayAnswerSample : ℕ → Answer → List Watch → List Watch → Type 0
 MayAnswerSample count answer probes left =
     ((answer ≡ Err Memory) × (left ≡ probes))
     ⊎ ((text : List ℕ) × (run : Outcome) × IsSampleText count text run × (answer ≡ Ok text)
     × HaveLookedAtAll (sample_story count) run.steps probes left)
 
--- the same of a script over the run of what is debugged: one with a fault is refused before a line of it is obeyed; of
--- any other the lines are obeyed, or, where memory was wanting, the first ones, however many
+-- what may be answered of a script over the run of what is debugged, by its first fault: one with a fault is refused
+-- before a line of it is obeyed; of any other the lines are obeyed, or, where memory was wanting, the first ones,
+-- however many
 abbrev pub MayAnswerSession : Option (ℕ × ℕ) → Debuggee → List ℕ → Answer → List Watch → Left → Type 0
 MayAnswerSession (Some fault) s script answer probes left =
     (answer ≡ Err (Script fault.0 fault.1)) × (left.probes ≡ probes)
@@ -98,7 +101,7 @@ MayAnswerSession None s script answer probes left =
     ((answer ≡ Err Memory) × IsObeyedInPart s script probes left.probes)
     ⊎ ((text : List ℕ) × IsObeyed s script probes text left.probes × (answer ≡ Ok text))
 
--- the same, by the first fault that the script has for these probes
+-- what may be answered of a script for these probes, by the first fault that it has for as many
 abbrev pub MayAnswerDebug : Debuggee → List ℕ → Answer → List Watch → Left → Type 0
 MayAnswerDebug s script answer probes left =
     MayAnswerSession (script_fault (length probes) script) s script answer probes left
@@ -114,8 +117,8 @@ abbrev pub IsKept : Option Told → Option Told → List Watch → Left → Type
 IsKept on after probes left = (after ≡ on) × (left.probes ≡ probes) × (left.log ≡ [])
 
 -- how a plan may end over a shelf, which tells `after` when it has ended, and with probes, which are `left` then: a
--- fetch that fails, or finds too many bytes, ends it; where one finds a file, memory may be wanting for it, and else the
--- plan goes on. The probes are left as they are, but by a run and a session
+-- fetch that fails, or finds too many bytes, ends it; where one finds a file, memory may be wanting for it, and else
+-- the plan goes on. The probes are left as they are, but by a run and a session
 abbrev pub MayEnd : Plan → Option Told → Answer → Option Told → List Watch → Left → Type 0
 MayEnd (Gives said) shelf answer after probes left = MayAnswerOf said answer × IsKept shelf after probes left
 MayEnd (Certifies image text) shelf answer after probes left =
@@ -124,8 +127,8 @@ MayEnd (Spells layout text) shelf answer after probes left =
     MayAnswerText layout text answer × IsKept shelf after probes left
 MayEnd (Runs command layout history) shelf answer after probes left =
     MayAnswerRun command layout history answer probes left × (after ≡ shelf) × (left.log ≡ [])
-MayEnd (Boards steps image history) shelf answer after probes left =
-    MayAnswerBoard steps image history answer probes left × (after ≡ shelf)
+MayEnd (Boards wanted image history) shelf answer after probes left =
+    MayAnswerBoard wanted image history answer probes left × (after ≡ shelf)
 MayEnd (Samples count) shelf answer after probes left =
     MayAnswerSample count answer probes left.probes × (after ≡ shelf) × (left.log ≡ [])
 MayEnd (Debugs s script) shelf answer after probes left =
@@ -139,7 +142,7 @@ MayEnd (Fetches kind name next) shelf answer after probes left =
     (λ bytes. ((answer ≡ Err Memory) × IsKept on after probes left) ⊎ MayEnd (next bytes) on answer after probes left)
     outcome
 
--- the same of words, which are refused where they have no form
+-- how a call with these words may end: words without a form are refused
 abbrev pub MayEndAs : Option Command → List (List ℕ) → Option Told → Answer → Option Told → List Watch → Left → Type 0
 MayEndAs None words shelf answer after probes left = (answer ≡ Err Words) × IsKept shelf after probes left
 MayEndAs (Some command) words shelf answer after probes left =

@@ -1,5 +1,5 @@
--- `board`, of the image that `compile` makes of a layout, beside `run` of the layout.
-use Rattle.std.specs.Prelude.{◌≡◌, ◌⊎◌, ℕ, false, List, [], Ok, Err}
+-- `board`, of the image that `compile` makes of a layout, beside `run` and `trace` of the layout.
+use Rattle.std.specs.Prelude.{◌≡◌, ◌⊎◌, ℕ, false, List, [], ◌++◌, Ok, Err}
 use Rattle.board_run.specs.Agreement.{TellsRun}
 use Rattle.board_run.specs.Running as board
 use Rattle.board_run.specs.Texts.{log_text as stamped_text}
@@ -12,7 +12,8 @@ use Rattle.layout_reader.specs.Layouts.{IsKeyLayout, KeyLayout}
 use Rattle.subsystem.specs.Running.{Outcome}
 use Rattle.subsystem.specs.Texts.{log_text}
 use Rattle.kbd48_app.specs.declared.refusal.Refusal.TheVariants.{Memory}
-use Rattle.kbd48_app.specs.declared.words.RunCommand.TheVariants.{Log}
+use Rattle.kbd48_app.specs.declared.words.BoardCommand.TheVariants as board_commands
+use Rattle.kbd48_app.specs.declared.words.RunCommand.TheVariants.{Log, Trace}
 use Rattle.kbd48_app.specs.Answers.{Left, MayAnswerBoard, MayAnswerRun}
 use Rattle.kbd48_app.specs.Plans.{Answer}
 
@@ -31,6 +32,14 @@ abbrev pub BoardTellsRun : Type 0
 BoardTellsRun = (of : KeyLayout) (history : KeyHistory) (text : List ℕ) (answer : Answer) (probes others : List Watch)
     (left kept : Left) → IsKeyLayout of → IsAcceptedFor of history
     → MayAnswerRun (Log false false) of history (Ok text) probes left
-    → MayAnswerBoard false (image_of of) history answer others kept
+    → MayAnswerBoard (board_commands.Log false) (image_of of) history answer others kept
     → (answer ≡ Err Memory)
     ⊎ ((answer ≡ Ok []) × TellsText (story (image_of of) history) text kept.log)
+
+-- and the text of `trace` begins with that of `board --trace`
+abbrev pub BoardTracesRun : Type 0
+BoardTracesRun = (of : KeyLayout) (history : KeyHistory) (text : List ℕ) (answer : Answer) (probes others : List Watch)
+    (left kept : Left) → IsKeyLayout of → IsAcceptedFor of history
+    → MayAnswerRun Trace of history (Ok text) probes left
+    → MayAnswerBoard board_commands.Trace (image_of of) history answer others kept
+    → (answer ≡ Err Memory) ⊎ ((answer ≡ Ok []) × (more : List ℕ) × (text ≡ kept.log ++ more))

@@ -1,5 +1,5 @@
 -- What causes each exit, of a shelf that tells its files: one definition a cause.
-use Rattle.std.specs.Prelude.{◌≡◌, ◌⊎◌, ℕ, Bool, List, Some, Ok, Err}
+use Rattle.std.specs.Prelude.{◌≡◌, ◌⊎◌, ℕ, List, Some, Ok, Err}
 use Rattle.std.specs.declared.option.Option.{Option}
 use Rattle.board_run.specs.Running.{IsOutcome, Outcome}
 use Rattle.board_run.specs.declared.ended.End.TheVariants.{Stuck as BoardStuck}
@@ -22,6 +22,7 @@ use Rattle.kbd48_app.specs.declared.exit.Exit.TheVariants.{Memory, Write}
 use Rattle.kbd48_app.specs.declared.kind.Kind.{Kind}
 use Rattle.kbd48_app.specs.declared.kind.Kind.TheVariants.{Hex, Asm, Layout, Keys, Cert, Script, Text}
 use Rattle.kbd48_app.specs.declared.refusal.Refusal.TheVariants as refusals
+use Rattle.kbd48_app.specs.declared.words.BoardCommand.{BoardCommand}
 use Rattle.kbd48_app.specs.declared.words.Command.{Command}
 use Rattle.kbd48_app.specs.declared.words.Command.TheVariants.{OverFile, Board}
 use Rattle.kbd48_app.specs.declared.words.FileCommand.TheVariants.{Step}
@@ -98,10 +99,11 @@ StepIsStuck command plan shelf =
     × (image : List ℕ) × (hex_of bytes ≡ Ok image)
     × (stuck : Stuck) × (after_steps image count ≡ Stopped stuck)
 
--- the run of `board`, of the image of the HEX file under the history of the key file for the layout, ends at such a byte
+-- the run of `board`, of the image of the HEX file under the history of the key file for the layout, ends at such a
+-- byte
 abbrev pub BoardIsStuck : Option Command → Plan → Told → Type 0
 BoardIsStuck command plan shelf =
-    (steps : Bool) × (command ≡ Some (Board steps))
+    (wanted : BoardCommand) × (command ≡ Some (Board wanted))
     × (bytes : List ℕ) × Reads Hex bytes plan shelf
     × (image : List ℕ) × (hex_of bytes ≡ Ok image)
     × (document : List ℕ) × Reads Layout document plan shelf

@@ -38,7 +38,7 @@ IsServed command name None = ⊥
 IsServed command name (Some shelf) =
     (bytes : List ℕ) × (fetched shelf name (limit_of (kind_of command)) ≡ Found bytes) × IsSound command bytes
 
--- the same of two files: each is there, and neither has a fault
+-- two files are served so: each is there, and neither has a fault
 abbrev pub AreServed : PairCommand → List ℕ → List ℕ → Option Told → Type 0
 AreServed command first second None = ⊥
 AreServed Certify first second (Some shelf) =
@@ -57,12 +57,12 @@ AreServed (OverRun command) first second (Some shelf) =
     × (text : List ℕ) × (fetched (after_fetch shelf) second (limit_of Keys) ≡ Found text)
     × (history : KeyHistory) × (history_of layout text ≡ Ok history)
 
--- the same of a script, where there are so many probes
+-- a script is there, and has no fault where there are so many probes
 abbrev pub ScriptServed : ℕ → List ℕ → Told → Type 0
 ScriptServed probes name shelf =
     (script : List ℕ) × (fetched shelf name (limit_of Script) ≡ Found script) × (script_fault probes script ≡ None)
 
--- the same of the three files of `debug`, where there are so many probes
+-- the three files of `debug` are there, and none has a fault where there are so many probes
 abbrev pub AllServed : ℕ → List ℕ → List ℕ → List ℕ → Option Told → Type 0
 AllServed probes first second third None = ⊥
 AllServed probes first second third (Some shelf) =
@@ -72,7 +72,7 @@ AllServed probes first second third (Some shelf) =
     × (history : KeyHistory) × (history_of layout text ≡ Ok history)
     × ScriptServed probes third (after_fetch (after_fetch shelf))
 
--- the same of an image, and of a layout and a key file for it, and so much of what the shelf tells behind them
+-- an image, a layout and a key file for it are there without a fault, and so much is told of the shelf behind them
 abbrev pub ProgramServed : List ℕ → List ℕ → List ℕ → (Told → Type 0) → Option Told → Type 0
 ProgramServed first second third behind None = ⊥
 ProgramServed first second third behind (Some shelf) =
@@ -91,7 +91,7 @@ IsFaultlessAs probes (Some (Feed bytes)) words shelf = Unit {0}
 IsFaultlessAs probes (Some (Sample count)) words shelf = Unit {0}
 IsFaultlessAs probes (Some (OverFile command)) words shelf = IsServed command (name_in words) shelf
 IsFaultlessAs probes (Some (OverPair command)) words shelf = AreServed command (name_in words) (second_in words) shelf
-IsFaultlessAs probes (Some (Board steps)) words shelf =
+IsFaultlessAs probes (Some (Board wanted)) words shelf =
     ProgramServed (name_in words) (second_in words) (third_in words) (λ shelf. Unit {0}) shelf
 IsFaultlessAs probes (Some Debug) words shelf =
     AllServed probes (name_in words) (second_in words) (third_in words) shelf
@@ -105,5 +105,5 @@ IsFaultless probes words shelf = IsFaultlessAs probes (command_of words) words s
 -- instruction was met
 abbrev pub IsLeft : Option Command → Exit → Type 0
 IsLeft (Some (OverFile (Step count))) exit = (exit ≡ Done) ⊎ (exit ≡ Memory) ⊎ (exit ≡ Stuck)
-IsLeft (Some (Board steps)) exit = (exit ≡ Done) ⊎ (exit ≡ Memory) ⊎ (exit ≡ Stuck)
+IsLeft (Some (Board wanted)) exit = (exit ≡ Done) ⊎ (exit ≡ Memory) ⊎ (exit ≡ Stuck)
 IsLeft command exit = (exit ≡ Done) ⊎ (exit ≡ Memory)

@@ -17,7 +17,7 @@ IsGiven kind Fails result = MatchResult result (λ file. ⊥) (λ refusal. refus
 IsGiven kind Long result = MatchResult result (λ file. ⊥) (λ refusal. refusal ≡ TooLong kind)
 IsGiven kind (Found bytes) result = MatchResult result (λ file. file.items ≡ bytes) (λ refusal. refusal ≡ Memory)
 
--- the same of a file by its kind and name
+-- what a file of this kind and name may be given as
 abbrev pub MayGive : Kind → List ℕ → Option Told → Result (Vec ℕ Global) Refusal → Type 0
 MayGive kind name shelf result =
     (outcome : Fetched) × MayFetch shelf name (limit_of kind) outcome × IsGiven kind outcome result

@@ -1,5 +1,5 @@
 -- What a command does with files: which it asks for, in what order, and what it says of their bytes.
-use Rattle.std.specs.Prelude.{ℕ, Bool, List, Ok, Err, None, Some}
+use Rattle.std.specs.Prelude.{ℕ, List, Ok, Err, None, Some}
 use Rattle.std.specs.declared.option.Option.{Option}
 use Rattle.std.specs.declared.result.Result.{Result}
 use Rattle.hexfile.specs.Hex.{HexOutcome, hex_of}
@@ -22,6 +22,7 @@ use Rattle.kbd48_app.specs.declared.kind.Kind.TheVariants as kinds
 use Rattle.kbd48_app.specs.declared.refusal.Refusal.{Refusal}
 use Rattle.kbd48_app.specs.declared.refusal.Refusal.TheVariants.{Words, Hex, Asm, Layout, Keys, Timing}
 use Rattle.kbd48_app.specs.declared.refusal.Refusal.TheVariants.{Stuck, Memory}
+use Rattle.kbd48_app.specs.declared.words.BoardCommand.{BoardCommand}
 use Rattle.kbd48_app.specs.declared.words.Command.{Command}
 use Rattle.kbd48_app.specs.declared.words.Command.TheVariants.{OverFile, OverPair, Debug, Probe, Board, Feed, Sample}
 use Rattle.kbd48_app.specs.declared.words.FileCommand.{FileCommand}
@@ -39,16 +40,15 @@ abbrev pub Answer : Type 0
 Answer = Result (List ℕ) Refusal
 
 -- a plan says something, or what is found of a certificate for an image, or with which keys of a layout a text is
--- typed, or what a command says of the run of a layout under a history, or what the run of an image on the board under a
--- history says, with the state at its end or without, or what is counted in the run of so many strokes, or what a script
--- says in a session over the run of what is debugged, or it fetches the file of this kind and name, and goes on with the
--- file's bytes
+-- typed, or what a command says of the run of a layout under a history, or what is wanted of the run of an image on the
+-- board under a history, or what is counted in the run of so many strokes, or what a script says in a session over the
+-- run of what is debugged, or it fetches the file of this kind and name, and goes on with the file's bytes
 pub data Plan : Type 0 where
   Gives : Answer → Plan
   Certifies : List ℕ → List ℕ → Plan
   Spells : KeyLayout → List ℕ → Plan
   Runs : RunCommand → KeyLayout → KeyHistory → Plan
-  Boards : Bool → List ℕ → KeyHistory → Plan
+  Boards : BoardCommand → List ℕ → KeyHistory → Plan
   Samples : ℕ → Plan
   Debugs : Debuggee → List ℕ → Plan
   Fetches : Kind → List ℕ → (List ℕ → Plan) → Plan
@@ -148,7 +148,8 @@ probe_plan first second third fourth = program_plan (probe_next fourth) first se
 -- a command over two files, by their names
 abbrev pub pair_plan : PairCommand → List ℕ → List ℕ → Plan
 pair_plan Certify first second = Fetches kinds.Hex first (λ bytes. with_image (cert_next second) (hex_of bytes))
-pair_plan Spell first second = Fetches kinds.Layout first (λ bytes. with_layout (text_next second) (layout_of_document bytes))
+pair_plan Spell first second =
+    Fetches kinds.Layout first (λ bytes. with_layout (text_next second) (layout_of_document bytes))
 pair_plan (OverRun command) first second = history_plan (Runs command) first second
 
 -- a command's plan, with the words that it came from; words without a command are refused
@@ -159,7 +160,7 @@ plan_of (Some (Sample count)) words = Samples count
 plan_of (Some (OverFile command)) words =
     Fetches (kind_of command) (name_in words) (λ bytes. Gives (file_said command bytes))
 plan_of (Some (OverPair command)) words = pair_plan command (name_in words) (second_in words)
-plan_of (Some (Board steps)) words = program_plan (Boards steps) (name_in words) (second_in words) (third_in words)
+plan_of (Some (Board wanted)) words = program_plan (Boards wanted) (name_in words) (second_in words) (third_in words)
 plan_of (Some Debug) words = debug_plan (name_in words) (second_in words) (third_in words)
 plan_of (Some Probe) words = probe_plan (name_in words) (second_in words) (third_in words) (fourth_in words)
 

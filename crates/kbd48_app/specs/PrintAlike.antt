@@ -18,9 +18,9 @@ expect_words layout keys = codes "expect" ∷ layout ∷ keys ∷ []
 abbrev pub leaving : List Watch → Left
 leaving probes = record { probes = probes; whole = true; log = [] }
 
--- what one of them may answer, over any shelf and with any probes, the other may; an answer with a text leaves the probes
--- alike. Where memory is wanting, `run` leaves them as they were, and `expect` after the first steps of its run. Over a
--- shelf that tells its files both print one text, whether all of it was taken or not
+-- what one of them may answer, over any shelf and with any probes, the other may; an answer with a text leaves the
+-- probes alike. Where memory is wanting, `run` leaves them as they were, and `expect` after the first steps of its run.
+-- Over a shelf that tells its files both print one text, whether all of it was taken or not
 pub record AnswerAlike (layout keys : List ℕ) : Type 0 where
   pub expected : (shelf : Option Told) (answer : Answer) (after : Option Told) (probes left : List Watch)
       → MayAnswer (run_words layout keys) shelf answer after probes (leaving left)
@@ -29,7 +29,8 @@ pub record AnswerAlike (layout keys : List ℕ) : Type 0 where
       → MayAnswer (expect_words layout keys) shelf answer after probes (leaving left)
       → (kept : List Watch) × MayAnswer (run_words layout keys) shelf answer after probes (leaving kept)
       × ((kept ≡ left) ⊎ (answer ≡ Err Memory))
-  pub one : (shelf : Told) (ran expected : List ℕ) (after later : Option Told) (probes : List Watch) (left others : Left)
+  pub one : (shelf : Told) (ran expected : List ℕ) (after later : Option Told) (probes : List Watch)
+      (left others : Left)
       → MayAnswer (run_words layout keys) (Some shelf) (Ok ran) after probes left
       → MayAnswer (expect_words layout keys) (Some shelf) (Ok expected) later probes others → ran ≡ expected
 

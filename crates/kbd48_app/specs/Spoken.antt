@@ -27,8 +27,8 @@ May = Answer → Bool → List ℕ → Type 0
 abbrev pub IsUnsaid : May → Answer → Shown → Shown → Type 0
 IsUnsaid may answer before after = ((whole : Bool) → may answer whole []) × (after ≡ before)
 
--- a refusal and a text are still to be said; any other text was said behind its log, whole or up to a put that failed; of
--- a run that is stuck the log was said
+-- a refusal and a text are still to be said; any other text was said behind its log, whole or up to a put that failed;
+-- of a run that is stuck the log was said
 abbrev pub IsSpoken : May → Result Spoken Refusal → Shown → Shown → Type 0
 IsSpoken may (Err refusal) before after = IsUnsaid may (Err refusal) before after
 IsSpoken may (Ok (Text text)) before after = IsUnsaid may (Ok text.items) before after

@@ -1,7 +1,6 @@
 -- The accepted forms of the words that follow the program's name.
 use Rattle.std.specs.Prelude.{ℕ, ◌+◌, ◌*◌, Bool, not, true, ◌&&◌, ◌||◌, nat_eq, nat_lt, nat_le, false, List, []}
-use Rattle.std.specs.Prelude.{◌∷◌, length, None, Some, codes, is_some}
-use Rattle.std.specs.Prelude.{if◌then◌else◌}
+use Rattle.std.specs.Prelude.{◌∷◌, length, None, Some, codes, is_some, if◌then◌else◌}
 use Rattle.std.specs.Char.{is_ascii_digit}
 use Rattle.std.specs.List.{list_all}
 use Rattle.std.specs.Option.{option_map, option_and_then}
@@ -9,6 +8,8 @@ use Rattle.std.specs.Str.{bytes_eq}
 use Rattle.std.specs.Str.Parse.{digits_value}
 use Rattle.std.specs.declared.option.Option.{Option}
 use Rattle.hex_text.specs.Digits.{digit_value}
+use Rattle.kbd48_app.specs.declared.words.BoardCommand.{BoardCommand}
+use Rattle.kbd48_app.specs.declared.words.BoardCommand.TheVariants as board
 use Rattle.kbd48_app.specs.declared.words.Command.{Command}
 use Rattle.kbd48_app.specs.declared.words.Command.TheVariants.{OverFile, OverPair, Debug, Probe, Board, Feed, Sample}
 use Rattle.kbd48_app.specs.declared.words.FileCommand.{FileCommand}
@@ -85,13 +86,16 @@ log_of words = None
 -- `run` NAME NAME, and its options
 abbrev pub run_of : List (List ℕ) → Option Command
 run_of (first ∷ second ∷ options) =
-    if is_name first && is_name second then option_map (λ command. OverPair (OverRun command)) (log_of options) else None
+    if is_name first && is_name second
+    then option_map (λ command. OverPair (OverRun command)) (log_of options) else None
 run_of words = None
 
--- the option of `board`: `--steps`, at most once
-abbrev pub board_option_of : List (List ℕ) → Option Bool
-board_option_of [] = Some false
-board_option_of (option ∷ []) = if bytes_eq option (codes "--steps") then Some true else None
+-- the option of `board`: `--steps` or `--trace`, one of them at most
+abbrev pub board_option_of : List (List ℕ) → Option BoardCommand
+board_option_of [] = Some (board.Log false)
+board_option_of (option ∷ []) =
+    if bytes_eq option (codes "--steps") then Some (board.Log true)
+    else (if bytes_eq option (codes "--trace") then Some board.Trace else None)
 board_option_of words = None
 
 -- `board` NAME NAME NAME, and its option
@@ -146,13 +150,13 @@ is_trace (Log ticks steps) = false
 is_trace Expect = false
 is_trace Trace = true
 
--- words that leave the probes as they are: those without a form, and the commands but `run`, `expect`, `sample`, `board`,
--- `debug` and `probe`
+-- words that leave the probes as they are: those without a form, and the commands but `run`, `expect`, `sample`,
+-- `board`, `debug` and `probe`
 abbrev pub leaves_probes : Option Command → Bool
 leaves_probes (Some (OverPair (OverRun command))) = is_trace command
 leaves_probes (Some Debug) = false
 leaves_probes (Some Probe) = false
-leaves_probes (Some (Board steps)) = false
+leaves_probes (Some (Board wanted)) = false
 leaves_probes (Some (Sample count)) = false
 leaves_probes command = true
 
@@ -160,7 +164,7 @@ leaves_probes command = true
 abbrev pub takes_memory_first : Option Command → Bool
 takes_memory_first (Some (OverPair (OverRun (Log ticks steps)))) = true
 takes_memory_first (Some (OverPair (OverRun Trace))) = true
-takes_memory_first (Some (Board steps)) = true
+takes_memory_first (Some (Board wanted)) = true
 takes_memory_first (Some (Sample count)) = true
 takes_memory_first command = false
 
@@ -190,6 +194,6 @@ files_in (OverFile command) = 1
 files_in (OverPair command) = 2
 files_in Debug = 3
 files_in Probe = 4
-files_in (Board steps) = 3
+files_in (Board wanted) = 3
 files_in (Feed bytes) = 0
 files_in (Sample count) = 0

@@ -270,8 +270,8 @@ pub fn answer<F: Shelf, K: Sink>(
         Some(Command::Probe) => to_say(over_probe(
             alloc, &words[1], &words[2], &words[3], &words[4], shelf, probes,
         )),
-        Some(Command::Board { steps }) => over_board(
-            alloc, steps, &words[1], &words[2], &words[3], shelf, out, probes,
+        Some(Command::Board(wanted)) => over_board(
+            alloc, wanted, &words[1], &words[2], &words[3], shelf, out, probes,
         ),
         Some(Command::Sample(strokes)) => sample(alloc, strokes.count(), out, probes),
     }

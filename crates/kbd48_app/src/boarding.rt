@@ -1,4 +1,5 @@
-//! `board`: the log of the run of any program on the board under a key file, said line by line as it arises.
+//! `board`: the log of the run of any program on the board under a key file, or its two wires, said line by line as it
+//! arises.
 
 ghost use Rattle.std.specs.Prelude.{◌≡◌, ◌⊎◌, ◌≤◌, Err, length, map, Ok};
 ghost use Rattle.io_edge.specs.Faults.{Rose};
@@ -18,6 +19,7 @@ use crate::kind::Kind;
 use crate::refusal::Refusal;
 use crate::spoken::Spoken;
 use crate::streaming::refusal_of;
+use crate::words::BoardCommand;
 use board_run::{Board, End};
 use fw_debug::Probe;
 use io_edge::{Shelf, Sink};
@@ -28,7 +30,7 @@ use std::alloc::Global;
 
 /// Makes a run on the board and puts its log as it arises, and then, where the run is over, the state at its end where
 /// that is wanted. It takes no memory.
-fn put_board<F: Feed, K: Sink>(
+fn put_log<F: Feed, K: Sink>(
     board: Board<F>,
     steps: bool,
     out: &mut K,
@@ -37,7 +39,7 @@ fn put_board<F: Feed, K: Sink>(
     requires accepted { IsAccepted (history_of board) }
     ensures says { let before = map (λ b. watch b) probes.old.items in
         let after = map (λ b. watch b) probes.new.items in
-        IsSpoken (λ answer whole log. IsBoardTold steps board answer before
+        IsSpoken (λ answer whole log. IsBoardTold (BoardCommand.Log steps) board answer before
         (record { probes = after; whole = whole; log = log }))
         (Ok result) (shown (K.taken out.old) (K.told out.old) (K.faults out.old))
         (shown (K.taken out.new) (K.told out.new) (K.faults out.new)) }
@@ -57,11 +59,55 @@ fn put_board<F: Feed, K: Sink>(
     }
 }
 
+/// Makes a run on the board and puts its two wires as they change. It takes no memory.
+fn put_trace<F: Feed, K: Sink>(
+    board: Board<F>,
+    out: &mut K,
+    probes: &mut Vec<Box<dyn Probe>>,
+) -> Spoken
+    requires accepted { IsAccepted (history_of board) }
+    ensures says { let before = map (λ b. watch b) probes.old.items in
+        let after = map (λ b. watch b) probes.new.items in
+        IsSpoken (λ answer whole log. IsBoardTold BoardCommand.Trace board answer before
+        (record { probes = after; whole = whole; log = log }))
+        (Ok result) (shown (K.taken out.old) (K.told out.old) (K.faults out.old))
+        (shown (K.taken out.new) (K.told out.new) (K.faults out.new)) }
+{
+    match board.trace_to(out, probes) {
+        Err(fault) => Spoken::Said(Err(fault)),
+        Ok(ended) => match ended.end() {
+            End::Over => Spoken::Said(Ok(())),
+            End::Stuck(stuck) => Spoken::Stuck(stuck),
+        },
+    }
+}
+
+/// Makes a run on the board and puts what is wanted of it as it arises. It takes no memory.
+fn put_board<F: Feed, K: Sink>(
+    board: Board<F>,
+    wanted: BoardCommand,
+    out: &mut K,
+    probes: &mut Vec<Box<dyn Probe>>,
+) -> Spoken
+    requires accepted { IsAccepted (history_of board) }
+    ensures says { let before = map (λ b. watch b) probes.old.items in
+        let after = map (λ b. watch b) probes.new.items in
+        IsSpoken (λ answer whole log. IsBoardTold wanted board answer before
+        (record { probes = after; whole = whole; log = log }))
+        (Ok result) (shown (K.taken out.old) (K.told out.old) (K.faults out.old))
+        (shown (K.taken out.new) (K.told out.new) (K.faults out.new)) }
+{
+    match wanted {
+        BoardCommand::Log { steps } => put_log(board, steps, out, probes),
+        BoardCommand::Trace => put_trace(board, out, probes),
+    }
+}
+
 /// `board`, of an image, a layout and the text of a key file. The text is judged in one pass, all memory is taken, and then
 /// each line is put as it arises in the run.
 fn run_board<K: Sink>(
     alloc: Global,
-    steps: bool,
+    wanted: BoardCommand,
     image: &Image,
     layout: &Layout,
     text: &[u8],
@@ -71,7 +117,7 @@ fn run_board<K: Sink>(
     requires within { length text.now ≤ limit_of Kind.Keys }
     ensures says { let before = map (λ b. watch b) probes.old.items in
         let after = map (λ b. watch b) probes.new.items in
-        IsSpoken (λ answer whole log. MayTellBoard steps image.now.bytes layout.now text.now answer before
+        IsSpoken (λ answer whole log. MayTellBoard wanted image.now.bytes layout.now text.now answer before
         (record { probes = after; whole = whole; log = log }))
         result (shown (K.taken out.old) (K.told out.old) (K.faults out.old))
         (shown (K.taken out.new) (K.told out.new) (K.faults out.new)) }
@@ -81,7 +127,7 @@ fn run_board<K: Sink>(
         Err(fault) => Err(refusal_of(fault)),
         Ok(feed) => match Board::new(alloc, image, feed) {
             Err(_) => Err(Refusal::Memory),
-            Ok(board) => Ok(put_board(board, steps, out, probes)),
+            Ok(board) => Ok(put_board(board, wanted, out, probes)),
         },
     }
 }
@@ -90,7 +136,7 @@ fn run_board<K: Sink>(
 /// run.
 pub fn over_board<F: Shelf, K: Sink>(
     alloc: Global,
-    steps: bool,
+    wanted: BoardCommand,
     image: &str,
     layout: &str,
     keys: &str,
@@ -100,7 +146,7 @@ pub fn over_board<F: Shelf, K: Sink>(
 ) -> Result<Spoken, Refusal>
     ensures ends { let before = map (λ b. watch b) probes.old.items in
         let after = map (λ b. watch b) probes.new.items in
-        IsSpoken (λ answer whole log. MayEnd (program_plan (Boards steps) image.now layout.now keys.now) (F.told shelf.old)
+        IsSpoken (λ answer whole log. MayEnd (program_plan (Boards wanted) image.now layout.now keys.now) (F.told shelf.old)
         answer (F.told shelf.new) before (record { probes = after; whole = whole; log = log }))
         result (shown (K.taken out.old) (K.told out.old) (K.faults out.old))
         (shown (K.taken out.new) (K.told out.new) (K.faults out.new)) }
@@ -112,5 +158,5 @@ pub fn over_board<F: Shelf, K: Sink>(
     let document = fetch_file(alloc, shelf, layout, Kind::Layout)?;
     let layout = layout_in(alloc, &document)?;
     let text = fetch_file(alloc, shelf, keys, Kind::Keys)?;
-    run_board(alloc, steps, &image, &layout, &text, out, probes)
+    run_board(alloc, wanted, &image, &layout, &text, out, probes)
 }

@@ -6,7 +6,7 @@ ghost use Rattle.kbd48_app.specs.Answers.{answer_of, MayAnswerOf};
 ghost use Rattle.kbd48_app.specs.Feeding.{desk_after_read, said_of_read, items_of, line_of_item, lines_of, fed_text};
 
 use crate::refusal::Refusal;
-use ctl_core::{Controller, Received};
+use ctl_core::Controller;
 use int09::Bios;
 use pc_tables::{Item, push_item};
 use std::alloc::{AllocError, Global};
@@ -32,7 +32,6 @@ fn push_lines(text: &mut Vec<u8>, items: &[Item]) -> Result<(), AllocError>
 
 /// The controller receives a byte of the keyboard; where it puts one out, INT 09h reads it, and what is said is
 /// appended.
-#[tactic(auto, using(crate::proofs::Received::is_put, crate::proofs::Received::is_marked))]
 fn hear(
     text: &mut Vec<u8>,
     controller: &mut Controller,
@@ -46,9 +45,9 @@ fn hear(
     ensures said { OnOk result (text.new.items
         ≡ text.old.items ++ lines_of (said_of_read (after_received controller.old byte true) bios.old)) }
 {
-    match controller.receive(byte, true) {
-        Received::Put => {}
-        Received::Marked | Received::Bad | Received::GaveUp => return Ok(()),
+    controller.receive(byte, true);
+    if !controller.output_full() {
+        return Ok(());
     }
     let code = controller.host_read60();
     let items = bios.feed(code);

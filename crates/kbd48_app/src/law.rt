@@ -1,6 +1,6 @@
 //! Laws over layers below that don't know each other.
 
-ghost use Rattle.kbd48_app.specs.BoardTells.{BoardTellsRun};
+ghost use Rattle.kbd48_app.specs.BoardTells.{BoardTellsRun, BoardTracesRun};
 ghost use Rattle.kbd48_app.specs.ListingLaw.{ListAndAsmAreInverse};
 ghost use Rattle.kbd48_app.specs.PrintAlike.{RunAndExpectPrintAlike};
 ghost use Rattle.kbd48_app.specs.TranslationLaw.{EachKeyGivesItsScanCode};
@@ -27,9 +27,11 @@ pub fn run_and_expect_print_alike()
 
 /// `board` of the image that `compile` makes of a layout, and `run` of the layout without options, under a history that is
 /// accepted for it: the log of `board` has a line for each item that `run` says up to the end stamp, in the same order, with
-/// its stamp in place of its tick, and nothing follows it. Nothing is done when it is called; the law is its contract.
+/// its stamp in place of its tick, and nothing follows it. And the text of `trace` begins with that of `board --trace`.
+/// Nothing is done when it is called; the law is its contract.
 pub fn board_tells_run()
     ensures tell { BoardTellsRun }
+    ensures trace { BoardTracesRun }
 {
     boards_tell_runs();
 }

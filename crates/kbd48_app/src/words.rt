@@ -50,6 +50,15 @@ pub enum PairCommand {
     OverRun(RunCommand),
 }
 
+/// What is told of a run on the board.
+#[derive(Clone, Copy, Debug, PartialEq, Eq, Drop)]
+pub enum BoardCommand {
+    /// Its log, and then with `--steps` the state at its end.
+    Log { steps: bool },
+    /// With `--trace`: the two wires, as they change.
+    Trace,
+}
+
 /// A command, as the words give it.
 #[derive(Debug, Drop)]
 pub enum Command {
@@ -64,7 +73,7 @@ pub enum Command {
     Probe,
     /// `board` NAME NAME NAME and its option: a HEX image, a layout, and a key file for it. They are the three words behind
     /// the command.
-    Board { steps: bool },
+    Board(BoardCommand),
     /// `words` BYTE ..
     Feed(KeyboardBytes),
     /// `sample` COUNT
@@ -201,6 +210,13 @@ fn is_steps(word: &str) -> bool
     word == "--steps"
 }
 
+/// Whether the word is the option for the two wires.
+fn is_trace(word: &str) -> bool
+    ensures { result ≡ bytes_eq word.now (codes "--trace") }
+{
+    word == "--trace"
+}
+
 /// Whether two words are both options of `run`, in either order.
 fn are_both(first: &str, second: &str) -> bool
     ensures { result ≡ are_both first.now second.now }
@@ -247,13 +263,14 @@ fn read_run(words: &[String]) -> Option<Command>
     }
 }
 
-/// The option of `board`, at most once: whether the state at the run's end is wanted.
-fn read_board_option(words: &[String]) -> Option<bool>
+/// The options of `board`, of which there is one at most.
+fn read_board_option(words: &[String]) -> Option<BoardCommand>
     ensures { result ≡ board_option_of (map string_bytes words.now) }
 {
     match words {
-        [] => Some(false),
-        [option] if is_steps(option) => Some(true),
+        [] => Some(BoardCommand::Log { steps: false }),
+        [option] if is_steps(option) => Some(BoardCommand::Log { steps: true }),
+        [option] if is_trace(option) => Some(BoardCommand::Trace),
         _ => None,
     }
 }
@@ -266,8 +283,8 @@ fn read_board(words: &[String]) -> Option<Command>
     match words {
         [image, layout, keys, options @ ..] if is_name(image) && is_name(layout) && is_name(keys) =>
             {
-                let steps = read_board_option(options)?;
-                Some(Command::Board { steps })
+                let wanted = read_board_option(options)?;
+                Some(Command::Board(wanted))
             }
         _ => None,
     }

@@ -36,6 +36,6 @@ returns-in-Some-Sample-clause-ends g c =
 
 pub returns-in-Some-Board-clause-ends : goal.returns-in-Some-Board-clause-ends
 returns-in-Some-Board-clause-ends g c =
-    board_spoken c.args.words.now (g.F.Shelf.told c.args.shelf.now) _ c.in-Some-Board.steps c.index-words-1-in-Some-Board.result c.index-words-2-in-Some-Board.result c.index-words-3-in-Some-Board.result _ _ _ _ _ c.over_board.result
+    board_spoken c.args.words.now (g.F.Shelf.told c.args.shelf.now) _ c.in-Some-Board.wanted c.index-words-1-in-Some-Board.result c.index-words-2-in-Some-Board.result c.index-words-3-in-Some-Board.result _ _ _ _ _ c.over_board.result
     (shown (g.K.Sink.taken c.args.out.now) (g.K.Sink.told c.args.out.now) (g.K.Sink.faults c.args.out.now)) (shown (g.K.Sink.taken c.over_board.new.out) (g.K.Sink.told c.over_board.new.out) (g.K.Sink.faults c.over_board.new.out))
     (sym c.read_command.ensures.command ∙ (c.in-Some-Board.is ∙ ap (λ f. Some f) c.in-Some-Board.field-0-is)) (rw c.in-Some-Board.field-0-is at c.in-Some-Board.ensures.named) c.index-words-1-in-Some-Board.is c.index-words-2-in-Some-Board.is c.index-words-3-in-Some-Board.is c.deref-in-Some-Board.ensures c.deref-in-Some-Board-2.ensures c.deref-in-Some-Board-3.ensures c.over_board.ensures.ends
