@@ -9,6 +9,8 @@ mod any_memory;
 #[cfg(test)]
 mod assembling;
 #[cfg(test)]
+mod boarding;
+#[cfg(test)]
 mod certifying;
 #[cfg(test)]
 mod compiling;
@@ -36,6 +38,8 @@ mod rows;
 mod runs;
 #[cfg(test)]
 mod sampling;
+#[cfg(test)]
+mod sessions;
 #[cfg(test)]
 mod step;
 #[cfg(test)]

@@ -7,7 +7,7 @@ use std::alloc::{AllocError, Global};
 use std::test::Fail;
 
 /// What stands before the first change.
-const HEADER: &str =
+pub const HEADER: &str =
     "$timescale 100 ns $end\n$scope module kbd $end\n$var wire 1 c clock $end\n$var wire 1 d data $end\n$upscope $end\n$enddefinitions $end\n#0\n1c\n1d\n";
 
 /// Key files, and the bytes on the wires.
