@@ -55,9 +55,6 @@ pub falls_where_open : (p : Passage) (first second : ℕ) → is_open p first se
     → falls_at p first second ≡ leb (cycles_at p.after (heaviest p.op p.after.register second) + p.cycles) (cycles_at p.before first)
 falls_where_open p first second e = rw e (by_heaviest p first second)
 
-pub falls_where_closed : (p : Passage) (first second : ℕ) → is_open p first second ≡ false → falls_at p first second ≡ true
-falls_where_closed p first second e = rw e refl
-
 list_all_same : (p q : ℕ → Bool) → ((v : ℕ) → p v ≡ q v) → (xs : List ℕ) → list_all p xs ≡ list_all q xs
 list_all_same p q h [] = refl
 list_all_same p q h (x ∷ xs) = let a = h x in let b = list_all_same p q h xs in rw (a, b) refl

@@ -31,10 +31,6 @@ use Rattle.cycle_cert.specs.Rows.{is_certifiable, writes}
 other_cell : (xs : List ℕ) (b r q v : ℕ) → (r == q) ≡ false → get_or (set xs (b + q) v) (b + r) 0 ≡ get_or xs (b + r) 0
 other_cell xs b r q v e = let ne : b + r ≢ b + q = grind (arith, nat_tests, e) in rw get_or-set_other
 
--- the register that is written
-same_cell : (xs : List ℕ) (b r v : ℕ) → length xs ≡ 128 → b + r < 128 → get_or (set xs (b + r) v) (b + r) 0 ≡ v
-same_cell xs b r v l h = let lt : b + r < length xs = omega (arith, l, h) in rw get_or-set_same
-
 -- the stack lies above the registers of bank 0
 below_stack : (xs : List ℕ) (r s v w : ℕ) → r < 8 → get_or (set (set xs (8 + 2 * s) v) (9 + 2 * s) w) (0 + r) 0 ≡ get_or xs (0 + r) 0
 below_stack xs r s v w h =

@@ -1,5 +1,4 @@
 pub mod Periods
-pub mod Silent
 pub mod Known
 pub mod Edges
 pub mod Order

@@ -56,12 +56,6 @@ latest-push xs e =
     ∙ ap (λ a. from_end 3 xs ∷ from_end 2 xs ∷ a ∷ from_end 1 (xs ++ e ∷ []) ∷ []) (from_end-more 1 2 xs e (omega arith) refl)
     ∙ ap (λ a. from_end 3 xs ∷ from_end 2 xs ∷ from_end 1 xs ∷ a ∷ []) (from_end-one xs e)
 
--- an event is judged by what the rules ask of the events before it
-pub judged-alike : (before : Before) (kept : Kept) (event : Event) → IsBriefOf before kept → judgements (asked kept) event ≡ judgements (brief_of before) event
-judged-alike before kept (EdgeOf e) h = rw (h.last e.place, h.latest, h.count, h.stamp, h.end) refl
-judged-alike before kept (HostOf e) h = rw (h.count, h.stamp, h.end) refl
-judged-alike before kept (End stamp) h = rw (h.stamp, h.end) refl
-
 -- where no key has an edge, none has a last one
 pub none_at : (n place : ℕ) → get_or (replicate n None) place None ≡ last_edge place []
 none_at zero place = refl

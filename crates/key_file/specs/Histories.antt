@@ -40,7 +40,3 @@ with_event before (End stamp) = record before { stamp = stamp; end = Some stamp 
 -- the last edge of the key at a place
 abbrev pub last_edge : ℕ → List Edge → Option Edge
 last_edge place edges = last_or None (of_place place edges)
-
--- the fourth edge from the end
-abbrev pub fourth_last : List Edge → Option Edge
-fourth_last edges = if nat_le 4 (length edges) then slice_get edges (length edges - 4) else None

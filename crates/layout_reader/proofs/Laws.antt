@@ -17,11 +17,6 @@ use Rattle.layout_reader.specs.declared.entry.Entry.{Entry}
 use Rattle.layout_reader.specs.Entries.{IsEntry, is_fn, is_place_taken, is_key_named, has_fn}
 use Rattle.layout_reader.specs.Layouts.{AreEntries, places_of, keys_of, sample_entry}
 
--- a key that has a name is one of the 84
-pub key_range : (name : List ℕ) (key : ℕ) → key_with_name name ≡ Some key → key < 84
-key_range name key h =
-    let found = position-Some (λ (k : Row). bytes_eq k.name name) keys key (row [] 0 0) h in omega (arith, found.0, key_count)
-
 pub eqb-swap : (a b : ℕ) → eqb a b ≡ eqb b a
 eqb-swap a b = grind (arith, nat_tests)
 
@@ -80,12 +75,6 @@ key-below (e ∷ es) each q h =
 length-map_entries : (entries : List Entry) → length (keys_of entries) ≡ length entries
 length-map_entries [] = refl
 length-map_entries (e ∷ es) = ap suc (length-map_entries es)
-
--- no key stands twice, so there are 84 entries at most
-pub entries_limit : (entries : List Entry) → AreEntries entries → length entries ≤ 84
-entries_limit entries sound =
-    let few = length-le_from_distinct_below (keys_of entries) 84 sound.own_keys (key-below entries sound.each) in
-    subst (λ n. n ≤ 84) (length-map_entries entries) few
 
 -- in the sample layout no number below n has the place or the key n
 apart : (f : Entry → ℕ) → ((k : ℕ) → f (sample_entry k) ≡ k) → (a n q : ℕ) → a + n ≤ q → list_any (λ entry. f entry == q) (map sample_entry (range_with_len a n)) ≡ false

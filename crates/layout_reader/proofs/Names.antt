@@ -17,8 +17,3 @@ other_names level (e ∷ es) = ap (λ b. not (is_field level (string_bytes e.0))
 
 not_zero : (n : ℕ) → false ≡ eqb (suc n) 0
 not_zero n = grind (arith, nat_tests)
-
--- a list of elements is empty where its length is 0
-pub is_empty_view : (elements : List Value) → is_empty (items_view elements) ≡ eqb (length elements) 0
-is_empty_view [] = refl
-is_empty_view (e ∷ es) = not_zero (length es)

@@ -21,12 +21,6 @@ pub entries_step : (format : Format) (earlier : List Entry) (elements rest : Lis
     → entries_from format earlier (items_view (drop i elements)) ≡ entries_from format (earlier ++ entry ∷ []) (items_view rest)
 entries_step format earlier elements rest i element entry here gives = rw (here, gives) refl
 
--- an element with a fault
-pub entries_stop : (format : Format) (earlier : List Entry) (elements rest : List Value) (i : ℕ) (element : Value) (cause : Cause)
-    → drop i elements ≡ element ∷ rest → entry_from format earlier (view element) ≡ Err cause
-    → entries_from format earlier (items_view (drop i elements)) ≡ Err (record { entry = length earlier + 1; number = number_of cause })
-entries_stop format earlier elements rest i element cause here gives = rw (here, gives) refl
-
 -- bytes that `toml` reads
 pub document_read : (bytes : List ℕ) (top : Members) → IsUtf8 bytes → parse_document bytes ≡ Some top → layout_of_document bytes ≡ layout_of top
 unfolding layout_of_document tree_of

@@ -120,13 +120,6 @@ module _ (q : Edge → Bool) (p : ℕ) where
       ∙ ap (λ v. map change_of v) (sym (seen_apart q p (take i es) (e ∷ [])))
       ∙ ap (λ v. map change_of (filter q (of_place p v))) (sym t))
 
--- one place more
-pub places_next : (f : ℕ → List Edge) (k : ℕ) (before after : List (ℕ × Bool)) → before ≡ map change_of (by_place f k) → after ≡ before ++ map change_of (f k)
-    → after ≡ map change_of (by_place f (k + 1))
-places_next f k before after so_far next =
-    next ∙ ap (λ v. v ++ map change_of (f k)) so_far ∙ sym (map-append change_of (by_place f k) (f k))
-    ∙ ap (λ v. map change_of v) (rw add-one refl)
-
 -- what the program judges by is what sees the edge
 pub sees_so : (starts : ℕ → ℕ) (n : ℕ) → KeepsCadenceTo starts n → (e : Edge) → is_seen starts n e ≡ sees (start_before starts n) (starts n) e
 sees_so starts zero cadence e = seen_so starts 0 cadence 0 (omega arith) e

@@ -24,7 +24,3 @@ none-first [] all name long = refl
 none-first (form ∷ forms) all name long =
     let both = and_parts (nat_le (length form.word) 5) (list_all (λ form. nat_le (length form.word) 5) forms) all in
     ap (λ b. b || list_any (λ form. bytes_eq form.word name) forms) (other-length form.word name both.0 long) ∙ none-first forms both.1 name long
-
-pub reserved_long : (name : List ℕ) → nat_le (length name) 5 ≡ false → is_reserved name ≡ false
-unfolding is_reserved reserved is_instruction instructions
-reserved_long name long = ap (λ b. b || is_instruction name) (none-held reserved refl name long) ∙ none-first instructions refl name long

@@ -9,21 +9,10 @@ use Rattle.text_lines.specs.Numbers.{number_after}
 pub room : (base i most : ℕ) → 0 < base → i ≤ most → base ^ i ≤ base ^ most
 room base i most some within = pow-le-pow_right some within
 
--- a number with one more digit
-pub with_digit : (base i n d : ℕ) → n < base ^ i → d < base → base * n + d < base ^ (i + 1)
-with_digit base i n d below digit =
-    let power : base ^ (i + 1) ≡ base ^ i * base = ap (λ k. base ^ k) (add-one i) ∙ pow-suc base i in
-    rw power (grind arith)
-
 -- a digit more
 pub number_after-next : (base : ℕ) (digit : ℕ → Option ℕ) (n i d : ℕ) (text : List ℕ) → i < length text → digit (get_or text i 0) ≡ Some d
     → number_after base digit n (drop i text) ≡ number_after base digit (base * n + d) (drop (i + 1) text)
 number_after-next base digit n i d text within is = rw (add-one, drop-cons text i 0) (rw is refl)
-
--- a character that is no digit
-pub number_after-none : (base : ℕ) (digit : ℕ → Option ℕ) (n i : ℕ) (text : List ℕ) → i < length text → digit (get_or text i 0) ≡ None
-    → number_after base digit n (drop i text) ≡ None
-number_after-none base digit n i text within is = rw (drop-cons text i 0) (rw is refl)
 
 -- fewer digits write a number that more digits write
 pub below_more : (number : Option ℕ) (digits most : ℕ) → digits ≤ most → IfSome number (λ n. n < 10 ^ digits) → IfSome number (λ n. n < 10 ^ most)

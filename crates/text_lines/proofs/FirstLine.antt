@@ -27,12 +27,3 @@ pub lines-first : (text front rest : List ℕ) → slice_split (λ c. c == 10) t
 lines-first text front rest split =
     let parts = split-is_cons (λ c. c == 10) rest in
     ap lines_of_parts (split ∙ ap (λ more. front ∷ more) parts.is) ∙ sym (ap (λ more. strip_carriage_return front ∷ lines_of_parts more) parts.is)
-
--- a text without LF is one line, where it isn't empty
-pub lines-last : (text : List ℕ) → 0 < length text → slice_split (λ c. c == 10) text ≡ text ∷ [] → lines text ≡ text ∷ []
-lines-last [] h split = absurd (omega arith)
-lines-last (x ∷ text) h split = ap lines_of_parts split ∙ grind arith
-
-pub lines-empty : (text : List ℕ) → length text ≡ 0 → lines text ≡ []
-lines-empty [] h = refl
-lines-empty (x ∷ text) h = absurd (omega arith)

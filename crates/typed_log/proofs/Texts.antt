@@ -30,12 +30,6 @@ use Rattle.typed_log.proofs.Start.{at_rest}
 use Rattle.typed_log.proofs.PlainStroke.{plain_stroke}
 use Rattle.typed_log.proofs.ShiftedStroke.{shifted_stroke}
 
--- the key that an entry sends
-pub record SendsKey (e : Entry) : Type 0 where
-  pub key : ℕ
-  pub is : e.sends ≡ Some key
-  pub below : key < 84
-
 -- and the word that it enters for a character
 pub record SendsWord (column : Column) (c : ℕ) (e : Entry) : Type 0 where
   pub key : ℕ
