@@ -26,11 +26,14 @@ shown_from (e ∷ es) keys place n l =
     let m : length after ≡ 96 = length-set keys e.place e.down ∙ n in
     let less : place < length keys = omega (arith, n, l) in
     let rest = shown_from es after place m l in
-    elim (e.place == place) as (λ b. (e.place == place) ≡ b → get_or (turned_by es after) place false ≡ last_of (get_or keys place false) (of_place place (e ∷ es))) [
+    elim (e.place == place) as (λ b. (e.place == place) ≡ b
+        → get_or (turned_by es after) place false ≡ last_of (get_or keys place false) (of_place place (e ∷ es))) [
       | true ↦ λ h.
           let at : e.place ≡ place = eqb-true e.place place h in
-          let here : get_or after place false ≡ e.down = ap (λ k. get_or (set keys k e.down) place false) at ∙ get_or-set_same keys place e.down false less in
-          rest ∙ ap (λ b. last_of b (of_place place es)) here ∙ ap (λ v. last_of (get_or keys place false) v) (sym (keep (λ (x : Edge). x.place == place) e es h))
+          let here : get_or after place false ≡ e.down = ap (λ k. get_or (set keys k e.down) place false) at
+              ∙ get_or-set_same keys place e.down false less in
+          rest ∙ ap (λ b. last_of b (of_place place es)) here
+              ∙ ap (λ v. last_of (get_or keys place false) v) (sym (keep (λ (x : Edge). x.place == place) e es h))
       | false ↦ λ h.
           let apart : place ≢ e.place = grind (arith, nat_tests, h) in
           rest ∙ ap (λ b. last_of b (of_place place es)) (get_or-set_other keys e.place place e.down false apart)
@@ -50,15 +53,18 @@ edges_shown edges at place l =
 not_made : (cycle place : ℕ) (e : Edge) (es : List Edge) → is_made cycle e ≡ false
     → filter (is_made cycle) (of_place place (e ∷ es)) ≡ filter (is_made cycle) (of_place place es)
 not_made cycle place e es h =
-    elim (e.place == place) as (λ b. filter (is_made cycle) (if b then e ∷ of_place place es else of_place place es) ≡ filter (is_made cycle) (of_place place es)) [
+    elim (e.place == place) as (λ b. filter (is_made cycle) (if b then e ∷ of_place place es else of_place place es)
+        ≡ filter (is_made cycle) (of_place place es)) [
       | true ↦ skip (is_made cycle) e (of_place place es) h
       | false ↦ refl
     ]
 
-is_one : (cycle place : ℕ) (e : Edge) (es firsts : List Edge) → is_made cycle e ≡ true → of_place place firsts ≡ filter (is_made cycle) (of_place place es)
+is_one : (cycle place : ℕ) (e : Edge) (es firsts : List Edge) → is_made cycle e ≡ true
+    → of_place place firsts ≡ filter (is_made cycle) (of_place place es)
     → of_place place (e ∷ firsts) ≡ filter (is_made cycle) (of_place place (e ∷ es))
 is_one cycle place e es firsts h same =
-    elim (e.place == place) as (λ b. (if b then e ∷ of_place place firsts else of_place place firsts) ≡ filter (is_made cycle) (if b then e ∷ of_place place es else of_place place es)) [
+    elim (e.place == place) as (λ b. (if b then e ∷ of_place place firsts else of_place place firsts)
+        ≡ filter (is_made cycle) (if b then e ∷ of_place place es else of_place place es)) [
       | true ↦ ap (λ v. e ∷ v) same ∙ sym (keep (is_made cycle) e (of_place place es) h)
       | false ↦ same
     ]
@@ -85,7 +91,8 @@ firsts [] cycle (suc count) place order first = refl
 firsts (e ∷ es) cycle zero place order first = sym (none_made cycle place e es order (first.left e refl))
 firsts (e ∷ es) cycle (suc count) place order first =
     is_one cycle place e es (take count es) (first.made 0 e (omega arith) refl)
-    (firsts es cycle count place (tail_in_order e es order) (record { made = λ i x l g. first.made (suc i) x (omega (arith, l)) g; left = λ x g. first.left x g }))
+    (firsts es cycle count place (tail_in_order e es order)
+        (record { made = λ i x l g. first.made (suc i) x (omega (arith, l)) g; left = λ x g. first.left x g }))
 
 pub first_edges_shown : FirstEdgesShown
 first_edges_shown edges cycle count place order at first l =

@@ -39,25 +39,29 @@ commanded_empty WriteOutputPort s = refl
 commanded_empty (PulseOutput lines) s = refl
 commanded_empty Unlisted s = refl
 
-passed_empty : (o : Option Parameter) (byte : ℕ) (s : ControllerState) → s.output_full ≡ false → (asks (passed o byte s).did && (passed o byte s).state.output_full) ≡ false
+passed_empty : (o : Option Parameter) (byte : ℕ) (s : ControllerState) → s.output_full ≡ false
+    → (asks (passed o byte s).did && (passed o byte s).state.output_full) ≡ false
 passed_empty None byte s e = e
 passed_empty (Some CommandByte) byte s e = refl
 passed_empty (Some OutputPort) byte s e = refl
 
-by_empty : (port : HostPort) (byte : ℕ) (s : ControllerState) → s.output_full ≡ false → (asks (taken_by port byte s).did && (taken_by port byte s).state.output_full) ≡ false
+by_empty : (port : HostPort) (byte : ℕ) (s : ControllerState) → s.output_full ≡ false
+    → (asks (taken_by port byte s).did && (taken_by port byte s).state.output_full) ≡ false
 by_empty P60 byte s e = passed_empty s.awaited byte (record s { input = None; awaited = None }) e
 by_empty P64 byte s e = commanded_empty (command_of byte) (record s { input = None; awaited = None })
 
 module _ {F : Type 0} where
   -- what follows a taking, from a link that is held or free while nothing is awaited
-  after_free : (now : ℕ) (full off : Bool) (d : Did) (l : Link F) → l ≡ Free → (asks d && full) ≡ false → fits full (link_after now (full || off) false (asking now d l)) ≡ true
+  after_free : (now : ℕ) (full off : Bool) (d : Did) (l : Link F) → l ≡ Free → (asks d && full) ≡ false
+      → fits full (link_after now (full || off) false (asking now d l)) ≡ true
   after_free now false off d l e h = refl
   after_free now true off Nothing l e h = ap (λ k. fits true (link_after now true false k)) e
   after_free now true off (ToKeyboard byte) l e h = absurd cc
   after_free now true off (Output byte) l e h = ap (λ k. fits true (link_after now true false k)) e
   after_free now true off (Pulse lines) l e h = ap (λ k. fits true (link_after now true false k)) e
 
-  after_hold : (now since : ℕ) (full off awaits : Bool) (d : Did) (l : Link F) → l ≡ Hold since → (asks d && full) ≡ false → fits full (link_after now (full || off) awaits (asking since d l)) ≡ true
+  after_hold : (now since : ℕ) (full off awaits : Bool) (d : Did) (l : Link F) → l ≡ Hold since
+      → (asks d && full) ≡ false → fits full (link_after now (full || off) awaits (asking since d l)) ≡ true
   after_hold now since false off awaits d l e h = refl
   after_hold now since true off awaits Nothing l e h = ap (λ k. fits true (link_after now true awaits k)) e
   after_hold now since true off awaits (ToKeyboard byte) l e h = absurd cc
@@ -84,7 +88,8 @@ module _ {F : Type 0} where
   nothing now p None h = alone now p.core.output_full (is_disabled p.core) p.awaits p.link h
   nothing now p (Some since) h = alone now p.core.output_full (is_disabled p.core) p.awaits p.link h
 
-  settles : (now : ℕ) (p : Port F) (full : Bool) (i : Option Input) (l : Link F) (awaits : Bool) → p.core.output_full ≡ full → p.link ≡ l → p.awaits ≡ awaits → Fits p
+  settles : (now : ℕ) (p : Port F) (full : Bool) (i : Option Input) (l : Link F) (awaits : Bool)
+      → p.core.output_full ≡ full → p.link ≡ l → p.awaits ≡ awaits → Fits p
       → Fits (moved now (took_where now (held_since now awaits l) (if full then None else taken_from i p.core) p).port)
   unfolding moved
   settles now p true i l awaits ef el ea h = nothing now p (held_since now awaits l) h
@@ -107,6 +112,7 @@ module _ {F : Type 0} where
   settles now p false (Some i) (Busy x) awaits ef el ea h = alone now p.core.output_full (is_disabled p.core) p.awaits p.link h
 
   -- settling keeps it
-  pub keeps_empty : (now : ℕ) (p : Port F) → fits p.core.output_full p.link ≡ true → fits (settled now p).port.core.output_full (settled now p).port.link ≡ true
+  pub keeps_empty : (now : ℕ) (p : Port F) → fits p.core.output_full p.link ≡ true
+      → fits (settled now p).port.core.output_full (settled now p).port.link ≡ true
   unfolding moved
   keeps_empty now p h = settles now p p.core.output_full p.core.input p.link p.awaits refl refl refl h

@@ -44,7 +44,8 @@ module _ (F : Type 0) where
   took_pulled now awaits input p (Request byte) h e = absurd cc
   took_pulled now awaits input p (Busy x) h e = absurd cc
 
-  after_pulled : (now : ℕ) (stop awaits : Bool) (l : Link F) (h : ℕ) → pulled l ≡ Some h → nat_le (h + 64) now ≡ false → pulled (link_after now stop awaits l) ≡ Some h
+  after_pulled : (now : ℕ) (stop awaits : Bool) (l : Link F) (h : ℕ) → pulled l ≡ Some h → nat_le (h + 64) now ≡ false
+      → pulled (link_after now stop awaits l) ≡ Some h
   after_pulled now stop awaits Free h e early = absurd cc
   after_pulled now true awaits (Hold since) h e early = e
   after_pulled now false awaits (Hold since) h e early =
@@ -92,5 +93,9 @@ module _ (F : Type 0) where
       let same : t.link ≡ (took_where now (held_since now p.awaits free) input (record p { link = Free })).port.link =
       ap (λ l. (took_where now (held_since now p.awaits l) input (record p { link = l })).port.link) e in
       let stop : Bool = t.core.output_full || is_disabled t.core in
-      subst (Begins now) (sym (ap (λ l. link_after now stop t.awaits l) same ∙ ap (λ a. link_after now stop a (took_where now (held_since now p.awaits free) input (record p { link = Free })).port.link) (took_awaits now (held_since now p.awaits p.link) input p)))
+      subst (Begins now) (sym
+          (ap (λ l. link_after now stop t.awaits l) same
+          ∙ ap (λ a. link_after now stop a
+          (took_where now (held_since now p.awaits free) input (record p { link = Free })).port.link)
+          (took_awaits now (held_since now p.awaits p.link) input p)))
       (settling_begins now p.awaits input p stop refl)

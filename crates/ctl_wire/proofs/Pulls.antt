@@ -52,7 +52,8 @@ abbrev pub OrNow : ℕ → Link Wire → Type 0
 OrNow now l = (pulled l ≡ None) ⊎ (pulled l ≡ Some now)
 
 -- a look leaves a pull as it is
-pub look_keeps : (c : Bool) (now : ℕ) (dat : Bool) (p : Port Wire) (l : Link Wire) (h : ℕ) → pulled l ≡ Some h → (if c then edge_at now dat l p else p) ≡ p
+pub look_keeps : (c : Bool) (now : ℕ) (dat : Bool) (p : Port Wire) (l : Link Wire) (h : ℕ) → pulled l ≡ Some h
+    → (if c then edge_at now dat l p else p) ≡ p
 look_keeps true now dat p Free h e = absurd cc
 look_keeps true now dat p (Hold since) h e = refl
 look_keeps true now dat p (Ask byte since) h e = refl
@@ -86,7 +87,8 @@ edge_begins now dat p (Busy (Recv flip bits)) e h =
 edge_begins now dat p (Busy (Send byte edges)) e h =
     choice (edges == 10) now (handed_over p) (record p { link = Busy (Send byte (edges + 1)) }) (inl refl) (inl refl)
 
-pub look_begins : (c : Bool) (now : ℕ) (dat : Bool) (p : Port Wire) → pulled p.link ≡ None → OrNow now (if c then edge_at now dat p.link p else p).link
+pub look_begins : (c : Bool) (now : ℕ) (dat : Bool) (p : Port Wire) → pulled p.link ≡ None
+    → OrNow now (if c then edge_at now dat p.link p else p).link
 look_begins c now dat p h = choice c now (edge_at now dat p.link p) p (edge_begins now dat p p.link refl h) (inl h)
 
 -- settling keeps what it finds under way, and begins a pull now
@@ -105,11 +107,14 @@ not_taken now p l e none =
     ap (λ k. (took_where now (held_since now p.awaits k) input p).port.link) e
     ∙ ap (λ (s : Option ℕ). (took_where now s input p).port.link) none ∙ e
 
-settled_link : (now : ℕ) (p : Port Wire) → (settled now p).port.link ≡ link_after now ((took now p).core.output_full || is_disabled (took now p).core) (took now p).awaits (took now p).link
+settled_link : (now : ℕ) (p : Port Wire)
+    → (settled now p).port.link
+    ≡ link_after now ((took now p).core.output_full || is_disabled (took now p).core) (took now p).awaits (took now p).link
 unfolding took
 settled_link now p = refl
 
-settles_still : (now : ℕ) (p : Port Wire) (l : Link Wire) → p.link ≡ l → held_since now p.awaits l ≡ None → ((stop awaits : Bool) → link_after now stop awaits l ≡ l)
+settles_still : (now : ℕ) (p : Port Wire) (l : Link Wire) → p.link ≡ l → held_since now p.awaits l ≡ None
+    → ((stop awaits : Bool) → link_after now stop awaits l ≡ l)
     → (settled now p).port.link ≡ l
 settles_still now p l e none fixed =
     let q : Port Wire = took now p in
@@ -128,12 +133,14 @@ settles_once : (now : ℕ) (p : Port Wire) → OrNow now p.link → OrNow now (s
 settles_once now p (inl h) = settles_none now p p.link refl h
 settles_once now p (inr h) = inr (keeps_pull Wire now p now h (omega arith))
 
-unbroken_once : (now : ℕ) (p : Port Wire) → is_busy p.link ≡ false → OrNow now p.link → OrNow now (settled now (broken_off is_breakable now p)).port.link
+unbroken_once : (now : ℕ) (p : Port Wire) → is_busy p.link ≡ false → OrNow now p.link
+    → OrNow now (settled now (broken_off is_breakable now p)).port.link
 unbroken_once now p idle h =
     subst (λ (q : Port Wire). OrNow now (settled now q).port.link) (sym (unbroken is_breakable now p idle)) (settles_once now p h)
 
 -- the break of a byte under way, and the settling: a pull begins now, or none
-pub breaks_once : (now : ℕ) (p : Port Wire) (l : Link Wire) → p.link ≡ l → OrNow now l → OrNow now (settled now (broken_off is_breakable now p)).port.link
+pub breaks_once : (now : ℕ) (p : Port Wire) (l : Link Wire) → p.link ≡ l → OrNow now l
+    → OrNow now (settled now (broken_off is_breakable now p)).port.link
 breaks_once now p (Busy wire) e h =
     elim (breaks_or_not is_breakable now p wire e) [
       | inl stays ↦ inl (ap (λ k. pulled k) stays)
@@ -162,27 +169,33 @@ cycle_begins now h w e =
     let seen : WireState = looked now h.line early in
     let none : pulled early.port.link ≡ None = ap (λ k. pulled k) (calls_leave h.before w) ∙ e in
     let once : OrNow now (acts h.calls seen).port.link =
-    subst (λ k. OrNow now k) (sym (calls_leave h.calls seen)) (look_begins (early.clock && not h.line.clk) now h.line.dat early.port none) in
+    subst (λ k. OrNow now k) (sym (calls_leave h.calls seen))
+        (look_begins (early.clock && not h.line.clk) now h.line.dat early.port none) in
     breaks_once now (acts h.calls seen).port (acts h.calls seen).port.link refl once
 
 -- and keeps one for 64 cycles
-cycle_keeps : (now since : ℕ) (h : Happening) (w : WireState) → pulled w.port.link ≡ Some since → now < since + 64 → pulled (wire_cycle now h w).port.link ≡ Some since
+cycle_keeps : (now since : ℕ) (h : Happening) (w : WireState) → pulled w.port.link ≡ Some since → now < since + 64
+    → pulled (wire_cycle now h w).port.link ≡ Some since
 unfolding wire_cycle
 cycle_keeps now since h w e soon =
     let early : WireState = acts h.before w in
     let seen : WireState = looked now h.line early in
     let late : WireState = acts h.calls seen in
     let held : pulled early.port.link ≡ Some since = ap (λ k. pulled k) (calls_leave h.before w) ∙ e in
-    let same : port_looked now early.clock h.line early.port ≡ early.port = look_keeps (early.clock && not h.line.clk) now h.line.dat early.port early.port.link since held in
-    let still : pulled late.port.link ≡ Some since = ap (λ k. pulled k) (calls_leave h.calls seen) ∙ ap (λ (q : Port Wire). pulled q.link) same ∙ held in
-    ap (λ (q : Port Wire). pulled (settled now q).port.link) (unbroken is_breakable now late.port (pulled_idle is_breakable late.port.link since still))
+    let same : port_looked now early.clock h.line early.port
+        ≡ early.port = look_keeps (early.clock && not h.line.clk) now h.line.dat early.port early.port.link since held in
+    let still : pulled late.port.link ≡ Some since = ap (λ k. pulled k) (calls_leave h.calls seen)
+        ∙ ap (λ (q : Port Wire). pulled q.link) same ∙ held in
+    ap (λ (q : Port Wire). pulled (settled now q).port.link)
+        (unbroken is_breakable now late.port (pulled_idle is_breakable late.port.link since still))
     ∙ keeps_pull Wire now late.port since still soon
 
 cycles_keep : (happens : ℕ → Happening) (n now since : ℕ) (w : WireState) → pulled w.port.link ≡ Some since → now + n ≤ since + 64
     → pulled (wire_cycles happens n now w).port.link ≡ Some since
 cycles_keep happens zero now since w e l = e
 cycles_keep happens (suc n) now since w e l =
-    cycles_keep happens n (suc now) since (wire_cycle now (happens now) w) (cycle_keeps now since (happens now) w e (omega (arith, l))) (omega (arith, l))
+    cycles_keep happens n (suc now) since (wire_cycle now (happens now) w)
+        (cycle_keeps now since (happens now) w e (omega (arith, l))) (omega (arith, l))
 
 -- a link that was pulled by this cycle is pulled since now
 pub since_now : (now : ℕ) (l : Link Wire) → OrNow now l → (drive l).clk ≡ false → pulled l ≡ Some now
@@ -192,5 +205,6 @@ since_now now l (inl e) low = let p = low_is_pulled l low in let q : pulled l �
 pub pulls_last : PullsLast
 pulls_last happens now n w high low l =
     let next : WireState = wire_cycle now (happens now) w in
-    let start : pulled next.port.link ≡ Some now = since_now now next.port.link (cycle_begins now (happens now) w (high_is_none w.port.link high)) low in
+    let start : pulled next.port.link
+        ≡ Some now = since_now now next.port.link (cycle_begins now (happens now) w (high_is_none w.port.link high)) low in
     pulled_is_low (wire_cycles happens n (suc now) next).port.link now (cycles_keep happens n (suc now) now next start (omega (arith, l)))

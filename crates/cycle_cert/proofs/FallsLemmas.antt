@@ -70,8 +70,10 @@ list_all_weaker p q h (x ∷ xs) e =
 -- where both registers are one
 one_by : (p : Passage) (b : Bool)
     → list_all (λ first. list_all (falls_at p first) (if b then first ∷ [] else byte_values)) byte_values
-    ≡ (if b then list_all (λ value. falls_at p value value) byte_values else list_all (λ first. list_all (falls_at p first) byte_values) byte_values)
-one_by p true = list_all_same (λ first. list_all (falls_at p first) (first ∷ [])) (λ value. falls_at p value value) (λ v. and_true (falls_at p v v)) byte_values
+    ≡ (if b then list_all (λ value. falls_at p value value) byte_values else list_all
+        (λ first. list_all (falls_at p first) byte_values) byte_values)
+one_by p true = list_all_same (λ first. list_all (falls_at p first) (first ∷ [])) (λ value. falls_at p value value)
+    (λ v. and_true (falls_at p v v)) byte_values
 one_by p false = refl
 
 pub falls_on_one : (p : Passage) → p.before.register ≡ p.after.register → list_all (λ value. falls_at p value value) byte_values ≡ falls p
@@ -79,7 +81,8 @@ unfolding falls
 falls_on_one p e =
     let t : (p.before.register == p.after.register) ≡ true = grind (arith, nat_tests, e) in
     let k = one_by p (p.before.register == p.after.register) in
-    sym (k ∙ ap (λ b. if b then list_all (λ value. falls_at p value value) byte_values else list_all (λ first. list_all (falls_at p first) byte_values) byte_values) t)
+    sym (k ∙ ap (λ b. if b then list_all (λ value. falls_at p value value) byte_values else list_all
+        (λ first. list_all (falls_at p first) byte_values) byte_values) t)
 
 -- the lightest value is open, and no open one is lighter
 lightest_by : (r c : ℕ) (b : Bool) (first : ℕ) → (r == c) ≡ b → (if b then not (first == 1) else true) ≡ true
@@ -101,7 +104,8 @@ one_is_open : (b : Bool) → (if b then 1 == 1 else true) ≡ true
 one_is_open true = refl
 one_is_open false = refl
 
-lightest_open : (r : ℕ) (w : When) → fits w r (elim w as (λ x. ℕ) [ Always ↦ 1 | NotAtOne c ↦ if r == c then 2 else 1 | AtOne c ↦ 1 ]) ≡ true
+lightest_open : (r : ℕ) (w : When)
+    → fits w r (elim w as (λ x. ℕ) [ Always ↦ 1 | NotAtOne c ↦ if r == c then 2 else 1 | AtOne c ↦ 1 ]) ≡ true
 lightest_open r Always = refl
 lightest_open r (NotAtOne c) = two_is_open (r == c)
 lightest_open r (AtOne c) = one_is_open (r == c)
@@ -119,7 +123,8 @@ rises b u v t l h =
     grind (arith, nat_tests, g)
 
 -- where the bound falls at the lightest value it falls at any
-falls_by : (p : Passage) (first second : ℕ) (o : Bool) (x : Bool) → fits p.when p.before.register first ≡ o → fits p.when p.after.register second ≡ x
+falls_by : (p : Passage) (first second : ℕ) (o : Bool) (x : Bool) → fits p.when p.before.register first ≡ o
+    → fits p.when p.after.register second ≡ x
     → falls_at p (lightest p) second ≡ true → falls_at p first second ≡ true
 falls_by p first second false x e f h = rw e refl
 falls_by p first second true false e f h = rw (e, f) refl
@@ -129,7 +134,8 @@ falls_by p first second true true e f h =
     let test' = λ (left : ℕ). leb (cycles_at p.after left + p.cycles) (cycles_at p.before first) in
     let k : list_all test (values_after p.op p.after.register second) ≡ true = rw (open_too, f) at h in
     let g : list_all test' (values_after p.op p.after.register second) ≡ true =
-    list_all_weaker test test' (λ v y. rises p.before (lightest p) first (cycles_at p.after v + p.cycles) (lightest_weight p.before.register p.when first e) y)
+    list_all_weaker test test'
+        (λ v y. rises p.before (lightest p) first (cycles_at p.after v + p.cycles) (lightest_weight p.before.register p.when first e) y)
     (values_after p.op p.after.register second) k in
     rw (e, f, g) refl
 
@@ -141,6 +147,10 @@ falls_beside p ne =
     let each = λ (first : ℕ). list_all (falls_at p first) byte_values in
     let both_ways : list_all each byte_values ≡ each (lightest p) =
     true_or_false (list_all each byte_values ≡ each (lightest p)) (each (lightest p))
-    (λ y. each_value each (λ v l. each_value (falls_at p v) (λ z m. falls_by p v z (fits p.when p.before.register v) (fits p.when p.after.register z) refl refl (at_value (falls_at p (lightest p)) z y m))) ∙ sym y)
+    (λ y. each_value each
+        (λ v l. each_value (falls_at p v)
+        (λ z m. falls_by p v z (fits p.when p.before.register v) (fits p.when p.after.register z) refl refl
+        (at_value (falls_at p (lightest p)) z y m))) ∙ sym y)
     (λ n. not_each each (lightest p) (lightest_small p.before.register p.when) n ∙ sym n) in
-    sym (k ∙ ap (λ b. if b then list_all (λ value. falls_at p value value) byte_values else list_all (λ first. list_all (falls_at p first) byte_values) byte_values) f ∙ both_ways)
+    sym (k ∙ ap (λ b. if b then list_all (λ value. falls_at p value value) byte_values else list_all
+        (λ first. list_all (falls_at p first) byte_values) byte_values) f ∙ both_ways)

@@ -21,7 +21,8 @@ by_length true o e = refl
 by_length false o e = e
 
 -- a text whose digits so far are past the limit writes no number
-pub number_past : (limit n : ℕ) (text rest : List ℕ) → number_after 10 decimal_digit 0 text ≡ number_after 10 decimal_digit n rest → limit < n
+pub number_past : (limit n : ℕ) (text rest : List ℕ)
+    → number_after 10 decimal_digit 0 text ≡ number_after 10 decimal_digit n rest → limit < n
     → number_in limit text ≡ None
 number_past limit n text rest e l =
     by_length (length text == 0) (at_most limit (number_after 10 decimal_digit 0 text)) (ap (at_most limit) e ∙ grows limit n rest l)

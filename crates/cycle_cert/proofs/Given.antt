@@ -82,7 +82,8 @@ given (Control op) bytes pins m r v o l e = absurd cc
 
 -- what holds of all values that a row allows a register holds of the one that it leaves
 module _ (op : Op) (bytes : List ℕ) (pins : Pins) (m : Cpu) (r : ℕ) (p : ℕ → Bool) where
-  left_by : gives_low op ≡ true → is_certifiable op ≡ true → m.rb ≡ false → length m.ram ≡ 128 → r < 8 → register r (effect op bytes pins m) < 256
+  left_by : gives_low op ≡ true → is_certifiable op ≡ true → m.rb ≡ false → length m.ram ≡ 128 → r < 8
+      → register r (effect op bytes pins m) < 256
       → (g : Option ℕ) (w : Bool) → value_given op r (register r m) ≡ g → writes op r ≡ w
       → list_all p (elim g as (λ x. List ℕ) [ Some v ↦ v ∷ [] | None ↦ if w then byte_values else register r m ∷ [] ]) ≡ true
       → p (register r (effect op bytes pins m)) ≡ true
@@ -94,6 +95,7 @@ module _ (op : Op) (bytes : List ℕ) (pins : Pins) (m : Cpu) (r : ℕ) (p : ℕ
       let is : register r (effect op bytes pins m) ≡ register r m = keeps op bytes pins m r a b h f in
       rw is (both (p (register r m)) true t).0
 
-  pub value_left : gives_low op ≡ true → is_certifiable op ≡ true → m.rb ≡ false → length m.ram ≡ 128 → r < 8 → register r (effect op bytes pins m) < 256
+  pub value_left : gives_low op ≡ true → is_certifiable op ≡ true → m.rb ≡ false → length m.ram ≡ 128 → r < 8
+      → register r (effect op bytes pins m) < 256
       → list_all p (values_after op r (register r m)) ≡ true → p (register r (effect op bytes pins m)) ≡ true
   value_left o a b l h small t = left_by o a b l h small (value_given op r (register r m)) (writes op r) refl refl t

@@ -84,14 +84,16 @@ module _ (test : Way → Bool) (value : ℕ → ℕ) where
       let next = way (place_after (pc % 2048) 2) in
       only (place_after (pc % 2048) 2) (counted (counted pc) % 2048) (both (test jump) (test next && true) h).1 (after_two pc)
 
-  jump_allowed : (c : ℕ) → not ((value c + 255) % 256 == 0) ≡ true → (r : ℕ) (b : Bool) → (r == c) ≡ b → (if b then not (value r == 1) else true) ≡ true
+  jump_allowed : (c : ℕ) → not ((value c + 255) % 256 == 0) ≡ true → (r : ℕ) (b : Bool) → (r == c) ≡ b
+      → (if b then not (value r == 1) else true) ≡ true
   jump_allowed c e r true h =
       let s : r ≡ c = grind (arith, nat_tests, h) in
       let v : value r ≡ value c = ap value s in
       rw v (not_one (value c) e)
   jump_allowed c e r false h = refl
 
-  next_allowed : (c : ℕ) → value c < 256 → not ((value c + 255) % 256 == 0) ≡ false → (r : ℕ) (b : Bool) → (r == c) ≡ b → (if b then value r == 1 else true) ≡ true
+  next_allowed : (c : ℕ) → value c < 256 → not ((value c + 255) % 256 == 0) ≡ false → (r : ℕ) (b : Bool)
+      → (r == c) ≡ b → (if b then value r == 1 else true) ≡ true
   next_allowed c l e r true h =
       let s : r ≡ c = grind (arith, nat_tests, h) in
       let v : value r ≡ value c = ap value s in
@@ -104,7 +106,8 @@ module _ (test : Way → Bool) (value : ℕ → ℕ) where
   counting c n pc true e l v h =
       let jump : Way = record { to = target (pc % 2048) n; when = NotAtOne c } in
       let next : Way = record { to = place_after (pc % 2048) 2; when = AtOne c } in
-      record { out = jump; passes = (both (test jump) (test next && true) h).0; to = in_target pc n l; allowed = λ r. jump_allowed c e r (r == c) refl }
+      record { out = jump; passes =
+          (both (test jump) (test next && true) h).0; to = in_target pc n l; allowed = λ r. jump_allowed c e r (r == c) refl }
   counting c n pc false e l v h =
       let jump : Way = record { to = target (pc % 2048) n; when = NotAtOne c } in
       let next : Way = record { to = place_after (pc % 2048) 2; when = AtOne c } in
@@ -155,15 +158,19 @@ module _ (test : Way → Bool) (value : ℕ → ℕ) where
 abbrev pub values_of : Cpu → ℕ → ℕ
 values_of m r = register r m
 
-flow_takes : (test : Way → Bool) (op : FlowOp) (bytes : List ℕ) (pins : Pins) (m : Cpu) → is_certifiable (Flow op) ≡ true → small (Flow op) ≡ true
+flow_takes : (test : Way → Bool) (op : FlowOp) (bytes : List ℕ) (pins : Pins) (m : Cpu)
+    → is_certifiable (Flow op) ≡ true → small (Flow op) ≡ true
     → ((r : ℕ) → register r m < 256) → list_all test (ways (Flow op) (size (Flow op)) (m.pc % 2048)) ≡ true
     → Takes test ((flow op bytes pins (past m)).pc % 2048) (values_of m)
-flow_takes test (Jmp to) bytes pins m a s v h = only test (values_of m) to ((2048 * bank_bit (past m) + to) % 2048) h (far_target (bank_bit (past m)) to (below to 2048 s))
-flow_takes test (Call to) bytes pins m a s v h = only test (values_of m) to ((2048 * bank_bit (past m) + to) % 2048) h (far_target (bank_bit (past m)) to (below to 2048 s))
+flow_takes test (Jmp to) bytes pins m a s v h =
+    only test (values_of m) to ((2048 * bank_bit (past m) + to) % 2048) h (far_target (bank_bit (past m)) to (below to 2048 s))
+flow_takes test (Call to) bytes pins m a s v h =
+    only test (values_of m) to ((2048 * bank_bit (past m) + to) % 2048) h (far_target (bank_bit (past m)) to (below to 2048 s))
 flow_takes test Ret bytes pins m a s v h = absurd cc
 flow_takes test Retr bytes pins m a s v h = absurd cc
 flow_takes test Jmpp bytes pins m a s v h = absurd cc
-flow_takes test (Djnz r n) bytes pins m a s v h = counting test (values_of m) r n m.pc (not ((register r m + 255) % 256 == 0)) refl (below n 256 s) (v r) h
+flow_takes test (Djnz r n) bytes pins m a s v h =
+    counting test (values_of m) r n m.pc (not ((register r m + 255) % 256 == 0)) refl (below n 256 s) (v r) h
 flow_takes test (Jb k n) bytes pins m a s v h = either test (values_of m) (bit k m.a) n m.pc (below n 256 s) h
 flow_takes test (Jc n) bytes pins m a s v h = either test (values_of m) m.c n m.pc (below n 256 s) h
 flow_takes test (Jnc n) bytes pins m a s v h = either test (values_of m) (not m.c) n m.pc (below n 256 s) h

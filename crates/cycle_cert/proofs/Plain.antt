@@ -38,7 +38,8 @@ unary_plain : (op : UnaryOp) (m : Cpu) → IsPlain m → IsPlain (unary op m)
 unary_plain IncA m h = h
 unary_plain op m h = h
 
-flow_plain : (op : FlowOp) (bytes : List ℕ) (pins : Pins) (m : Cpu) → is_certifiable (Flow op) ≡ true → IsPlain m → IsPlain (flow op bytes pins m)
+flow_plain : (op : FlowOp) (bytes : List ℕ) (pins : Pins) (m : Cpu) → is_certifiable (Flow op) ≡ true → IsPlain m
+    → IsPlain (flow op bytes pins m)
 flow_plain Retr bytes pins m a h = absurd cc
 flow_plain op bytes pins m a h = h
 
@@ -55,7 +56,8 @@ control_plain DisI m a h = (h.0, refl, h.2)
 control_plain DisTcnti m a h = (h.0, h.1, refl)
 control_plain op m a h = h
 
-pub effect_plain : (op : Op) (bytes : List ℕ) (pins : Pins) (m : Cpu) → is_certifiable op ≡ true → IsPlain m → IsPlain (effect op bytes pins m)
+pub effect_plain : (op : Op) (bytes : List ℕ) (pins : Pins) (m : Cpu) → is_certifiable op ≡ true → IsPlain m
+    → IsPlain (effect op bytes pins m)
 effect_plain (Moves op) bytes pins m a h = move_plain op bytes m a h
 effect_plain (Alu op) bytes pins m a h = alu_plain op m h
 effect_plain (Unary op) bytes pins m a h = unary_plain op m h
@@ -68,7 +70,9 @@ masked true b = refl
 masked false b = refl
 
 step_by : (bytes : List ℕ) (pins : Pins) (m : Cpu) (x y : Bool) → x ≡ false → y ≡ false
-    → (elim x as (λ v. Option Stepped) [ true ↦ Some (entered 3 pins m) | false ↦ elim y as (λ v. Option Stepped) [ true ↦ Some (entered 7 pins (record m { rq = false })) | false ↦ executed (row_at bytes m.pc) bytes pins m ] ])
+    → (elim x as (λ v. Option Stepped)
+        [ true ↦ Some (entered 3 pins m) | false ↦ elim y as (λ v. Option Stepped)
+        [ true ↦ Some (entered 7 pins (record m { rq = false })) | false ↦ executed (row_at bytes m.pc) bytes pins m ] ])
     ≡ executed (row_at bytes m.pc) bytes pins m
 step_by bytes pins m true y e f = absurd cc
 step_by bytes pins m false true e f = absurd cc

@@ -60,10 +60,12 @@ unary_keeps (DecR q) m r w = other_cell m.ram (bank_start m.rb) r q ((register q
 unary_keeps (IncI i) m r w = absurd cc
 unary_keeps op m r w = refl
 
-flow_keeps : (op : FlowOp) (bytes : List ℕ) (pins : Pins) (m : Cpu) (r : ℕ) → is_certifiable (Flow op) ≡ true → r < 8 → writes (Flow op) r ≡ false
+flow_keeps : (op : FlowOp) (bytes : List ℕ) (pins : Pins) (m : Cpu) (r : ℕ) → is_certifiable (Flow op) ≡ true → r < 8
+    → writes (Flow op) r ≡ false
     → register r (flow op bytes pins (record m { rb = false })) ≡ register r (record m { rb = false })
 flow_keeps (Djnz q to) bytes pins m r a h w = other_cell m.ram 0 r q ((get_or m.ram (0 + q) 0 + 255) % 256) w
-flow_keeps (Call to) bytes pins m r a h w = below_stack m.ram r m.sp ((past m).pc % 256) (16 * high_status (record m { rb = false }) + (past m).pc / 256) h
+flow_keeps (Call to) bytes pins m r a h w =
+    below_stack m.ram r m.sp ((past m).pc % 256) (16 * high_status (record m { rb = false }) + (past m).pc / 256) h
 flow_keeps Ret bytes pins m r a h w = absurd cc
 flow_keeps Retr bytes pins m r a h w = absurd cc
 flow_keeps op bytes pins m r a h w = refl
@@ -83,7 +85,8 @@ in_bank_0 : (m : Cpu) → m.rb ≡ false → m ≡ record m { rb = false }
 in_bank_0 m e = ap (λ b. let n : Cpu = record m { rb = b } in n) e
 
 -- a row that can't write a register leaves it
-pub keeps : (op : Op) (bytes : List ℕ) (pins : Pins) (m : Cpu) (r : ℕ) → is_certifiable op ≡ true → m.rb ≡ false → r < 8 → writes op r ≡ false
+pub keeps : (op : Op) (bytes : List ℕ) (pins : Pins) (m : Cpu) (r : ℕ) → is_certifiable op ≡ true → m.rb ≡ false
+    → r < 8 → writes op r ≡ false
     → register r (effect op bytes pins m) ≡ register r m
 keeps (Moves op) bytes pins m r a b h w = move_keeps op bytes m r a w
 keeps (Alu op) bytes pins m r a b h w = alu_keeps op m r

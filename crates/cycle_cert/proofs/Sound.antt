@@ -61,7 +61,8 @@ same_row : (bytes : List ℕ) (pc : ℕ) → row_at bytes (pc % 2048) ≡ row_at
 same_row bytes pc =
     let a : pc % 2048 % 2048 ≡ pc % 2048 = omega arith in
     let b : (pc % 2048 + 1) % 2048 ≡ (pc + 1) % 2048 = omega arith in
-    ap (λ k. row_of (get_or bytes k 0) (get_or bytes ((pc % 2048 + 1) % 2048) 0)) a ∙ ap (λ k. row_of (get_or bytes (pc % 2048) 0) (get_or bytes k 0)) b
+    ap (λ k. row_of (get_or bytes k 0) (get_or bytes ((pc % 2048 + 1) % 2048) 0)) a
+        ∙ ap (λ k. row_of (get_or bytes (pc % 2048) 0) (get_or bytes k 0)) b
 
 ways_clear : (a b : Bool) (x y : Rule) → (if a then (if b then None else Some x) else Some y) ≡ None → (a ≡ true) × (b ≡ true)
 ways_clear true true x y e = (refl, refl)
@@ -85,7 +86,8 @@ all_both p q (x ∷ xs) a b =
 found_by : (bytes : List ℕ) (cert : Certificate) (x : Entry) (es : List Entry) (p : ℕ) (b : Bound)
     → (first_fault bytes cert es ≡ None → bound_in es p ≡ Some b → place_fault bytes cert p b ≡ None)
     → (o : Option Rule) (k : Bool) → place_fault bytes cert x.place x.bound ≡ o → (x.place == p) ≡ k
-    → (elim o as (λ v. Option (Fault Rule)) [ Some rule ↦ Some (record { item = x.line; rule = rule }) | None ↦ first_fault bytes cert es ]) ≡ None
+    → (elim o as (λ v. Option (Fault Rule))
+        [ Some rule ↦ Some (record { item = x.line; rule = rule }) | None ↦ first_fault bytes cert es ]) ≡ None
     → (if k then Some x.bound else bound_in es p) ≡ Some b → place_fault bytes cert p b ≡ None
 found_by bytes cert x es p b rest (Some rule) k f h c e = absurd cc
 found_by bytes cert x es p b rest None true f h c e =
@@ -136,11 +138,14 @@ module _ (bytes : List ℕ) (cert : Certificate) (program : All IsByte bytes) (c
     falls = falls_here way (register before.register m) (register after.register m) (register after.register done) fall
         (register_byte before.register m range) (register_byte after.register m range) (λ e. ap (λ r. register r m) e)
         (took.allowed before.register) (took.allowed after.register)
-        (λ test t. value_left d.op bytes pins (past m) after.register test regular.register certified plain.0 range.long after_low (register_byte after.register done done_range) t);
+        (λ test t. value_left d.op bytes pins
+            (past m) after.register test regular.register certified plain.0 range.long after_low
+            (register_byte after.register done done_range) t);
   }
     where
       regular : Regular d
-      regular = row_regular (get_or bytes (m.pc % 2048) 0) (get_or bytes ((m.pc + 1) % 2048) 0) d (read_byte bytes ((m.pc + 1) % 2048) program) row
+      regular = row_regular (get_or bytes (m.pc % 2048) 0) (get_or bytes ((m.pc + 1) % 2048) 0) d
+          (read_byte bytes ((m.pc + 1) % 2048) program) row
 
       done : Cpu
       done = effect d.op bytes pins (past m)
@@ -157,7 +162,8 @@ module _ (bytes : List ℕ) (cert : Certificate) (program : All IsByte bytes) (c
       certified : is_certifiable d.op ≡ true
       certified = clear_row.0
 
-      clear_ways : (list_all (is_known cert) (ways d.op d.len (m.pc % 2048)) ≡ true) × (list_all (way_falls cert d before) (ways d.op d.len (m.pc % 2048)) ≡ true)
+      clear_ways : (list_all (is_known cert) (ways d.op d.len (m.pc % 2048)) ≡ true)
+          × (list_all (way_falls cert d before) (ways d.op d.len (m.pc % 2048)) ≡ true)
       clear_ways = ways_clear _ _ _ _ clear_row.1
 
       test : Way → Bool
@@ -189,17 +195,20 @@ module _ (bytes : List ℕ) (cert : Certificate) (program : All IsByte bytes) (c
   moved : (pins : Pins) (m : Cpu) (before : Bound) → IsFine m → IsPlain m → ArePins pins → bound_in cert.entries (m.pc % 2048) ≡ Some before
       → Moved pins m before
   moved pins m before range plain levels here =
-      let f : row_fault cert (row_at bytes (m.pc % 2048)) (m.pc % 2048) before ≡ None = found bytes cert cert.entries (m.pc % 2048) before clear here in
+      let f : row_fault cert (row_at bytes (m.pc % 2048)) (m.pc % 2048) before
+          ≡ None = found bytes cert cert.entries (m.pc % 2048) before clear here in
       moved_by pins m before range plain levels (low (m.pc % 2048) before here) (row_at bytes m.pc) refl
       (subst (λ o. row_fault cert o (m.pc % 2048) before ≡ None) (same_row bytes m.pc) f)
 
   -- a step, and what follows it
-  first_then : (pins : ℕ → Pins) (m : Cpu) (next : Stepped) (limit rest : ℕ) → stepped bytes (pins 0) m ≡ Some next → rest + next.cycles ≤ limit
+  first_then : (pins : ℕ → Pins) (m : Cpu) (next : Stepped) (limit rest : ℕ) → stepped bytes (pins 0) m ≡ Some next
+      → rest + next.cycles ≤ limit
       → ComesTo bytes (λ i. pins (suc i)) next.cpu cert.target rest → ComesTo bytes pins m cert.target limit
   first_then pins m next limit rest is l come =
       let within : come.end.cycles ≤ rest = come.within in
       let run_is : run (suc (suc come.more)) bytes pins m ≡ later next.cycles (run (suc come.more) bytes (λ i. pins (suc i)) next.cpu) =
-      ap (λ o. elim o as (λ v. Option Stepped) [ None ↦ None | Some n ↦ later n.cycles (run (suc come.more) bytes (λ i. pins (suc i)) n.cpu) ]) is in
+      ap (λ o. elim o as (λ v. Option Stepped)
+          [ None ↦ None | Some n ↦ later n.cycles (run (suc come.more) bytes (λ i. pins (suc i)) n.cpu) ]) is in
       record {
         more = suc come.more;
         end = record { cpu = come.end.cpu; cycles = next.cycles + come.end.cycles };
@@ -211,28 +220,33 @@ module _ (bytes : List ℕ) (cert : Certificate) (program : All IsByte bytes) (c
       }
 
   -- one step to the target
-  at_once : (pins : ℕ → Pins) (m : Cpu) (next : Stepped) (limit rest : ℕ) → stepped bytes (pins 0) m ≡ Some next → rest + next.cycles ≤ limit
+  at_once : (pins : ℕ → Pins) (m : Cpu) (next : Stepped) (limit rest : ℕ) → stepped bytes (pins 0) m ≡ Some next
+      → rest + next.cycles ≤ limit
       → next.cpu.pc % 2048 ≡ cert.target → IsPlain next.cpu → IsFine next.cpu → ComesTo bytes pins m cert.target limit
   at_once pins m next limit rest is l there plain range = record {
     more = zero;
     end = record { cpu = next.cpu; cycles = next.cycles + 0 };
-    comes = ap (λ o. elim o as (λ v. Option Stepped) [ None ↦ None | Some n ↦ later n.cycles (run zero bytes (λ i. pins (suc i)) n.cpu) ]) is;
+    comes = ap (λ o. elim o as (λ v. Option Stepped)
+        [ None ↦ None | Some n ↦ later n.cycles (run zero bytes (λ i. pins (suc i)) n.cpu) ]) is;
     there = there;
     within = omega (arith, l);
     plain = plain;
     fine = range;
   }
 
-  goes_on : (pins : ℕ → Pins) (m : Cpu) (before : Bound) (s : Moved (pins 0) m before) (k : Bool) → (s.next.cpu.pc % 2048 == cert.target) ≡ k
+  goes_on : (pins : ℕ → Pins) (m : Cpu) (before : Bound) (s : Moved (pins 0) m before) (k : Bool)
+      → (s.next.cpu.pc % 2048 == cert.target) ≡ k
       → (if k then Some nothing_left else bound_in cert.entries (s.next.cpu.pc % 2048)) ≡ Some s.after
       → (bound_in cert.entries (s.next.cpu.pc % 2048) ≡ Some s.after
       → ComesTo bytes (λ i. pins (suc i)) s.next.cpu cert.target (cycles_at s.after (register s.after.register s.next.cpu)))
       → ComesTo bytes pins m cert.target (cycles_at before (register before.register m))
   goes_on pins m before s true e f rest =
       let there : s.next.cpu.pc % 2048 ≡ cert.target = grind (arith, nat_tests, e) in
-      at_once pins m s.next (cycles_at before (register before.register m)) (cycles_at s.after (register s.after.register s.next.cpu)) s.is s.falls there s.plain s.range
+      at_once pins m s.next (cycles_at before (register before.register m))
+          (cycles_at s.after (register s.after.register s.next.cpu)) s.is s.falls there s.plain s.range
   goes_on pins m before s false e f rest =
-      first_then pins m s.next (cycles_at before (register before.register m)) (cycles_at s.after (register s.after.register s.next.cpu)) s.is s.falls (rest f)
+      first_then pins m s.next (cycles_at before (register before.register m))
+          (cycles_at s.after (register s.after.register s.next.cpu)) s.is s.falls (rest f)
 
   keeps_by : (n : ℕ) (pins : ℕ → Pins) (m : Cpu) (before : Bound) → IsFine m → IsPlain m → ((i : ℕ) → ArePins (pins i))
       → bound_in cert.entries (m.pc % 2048) ≡ Some before → cycles_at before (register before.register m) < n
@@ -241,7 +255,8 @@ module _ (bytes : List ℕ) (cert : Certificate) (program : All IsByte bytes) (c
   keeps_by (suc n) pins m before range plain levels here l =
       let s = moved (pins 0) m before range plain (levels 0) here in
       let some : 0 < s.next.cycles = s.some in
-      let fall : cycles_at s.after (register s.after.register s.next.cpu) + s.next.cycles ≤ cycles_at before (register before.register m) = s.falls in
+      let fall : cycles_at s.after (register s.after.register s.next.cpu) + s.next.cycles ≤ cycles_at before
+          (register before.register m) = s.falls in
       goes_on pins m before s (s.next.cpu.pc % 2048 == cert.target) refl s.known
       (λ f. keeps_by n (λ i. pins (suc i)) s.next.cpu s.after s.range s.plain (λ i. levels (suc i)) f (omega (arith, some, fall, l)))
 

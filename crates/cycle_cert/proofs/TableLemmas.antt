@@ -17,17 +17,21 @@ or_none : (o : Option Bound) → or_else o None ≡ o
 or_none (Some b) = refl
 or_none None = refl
 
-one_more_by : (k : Bool) (b : Bound) (x y o : Option Bound) → x ≡ or_else y o → (if k then Some b else x) ≡ or_else (if k then Some b else y) o
+one_more_by : (k : Bool) (b : Bound) (x y o : Option Bound) → x ≡ or_else y o
+    → (if k then Some b else x) ≡ or_else (if k then Some b else y) o
 one_more_by true b x y o e = refl
 one_more_by false b x y o e = e
 
 -- the bounds with one more entry behind the others
-one_more : (es : List Entry) (e : Entry) (p : ℕ) → bound_in (es ++ e ∷ []) p ≡ or_else (bound_in es p) (if e.place == p then Some e.bound else None)
+one_more : (es : List Entry) (e : Entry) (p : ℕ)
+    → bound_in (es ++ e ∷ []) p ≡ or_else (bound_in es p) (if e.place == p then Some e.bound else None)
 one_more [] e p = refl
 one_more (x ∷ es) e p =
-    one_more_by (x.place == p) x.bound (bound_in (es ++ e ∷ []) p) (bound_in es p) (if e.place == p then Some e.bound else None) (one_more es e p)
+    one_more_by (x.place == p) x.bound (bound_in (es ++ e ∷ []) p) (bound_in es p)
+        (if e.place == p then Some e.bound else None) (one_more es e p)
 
-low_by : (o : Option Bound) (k : Bool) (e b : Bound) → or_else o (if k then Some e else None) ≡ Some b → (o ≡ Some b → b.register < 8) → e.register < 8 → b.register < 8
+low_by : (o : Option Bound) (k : Bool) (e b : Bound) → or_else o (if k then Some e else None) ≡ Some b
+    → (o ≡ Some b → b.register < 8) → e.register < 8 → b.register < 8
 low_by (Some a) k e b is earlier l = earlier is
 low_by None true e b is earlier l = let s : e ≡ b = cc in subst (λ v. v.register < 8) s l
 low_by None false e b is earlier l = absurd cc

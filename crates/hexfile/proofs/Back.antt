@@ -21,7 +21,8 @@ AllBytes bytes = All (λ byte. byte < 256) bytes
 digit_back : (n : ℕ) → n < 16 → digit_value (hex_digit n) ≡ Some n
 digit_back n h = grind (arith, nat_tests)
 
-pair_back : (high low : Option ℕ) (rest : Option (List ℕ)) (a b : ℕ) (bytes : List ℕ) → high ≡ Some a → low ≡ Some b → rest ≡ Some bytes → pair_onto high low rest ≡ Some ((16 * a + b) ∷ bytes)
+pair_back : (high low : Option ℕ) (rest : Option (List ℕ)) (a b : ℕ) (bytes : List ℕ) → high ≡ Some a → low ≡ Some b
+    → rest ≡ Some bytes → pair_onto high low rest ≡ Some ((16 * a + b) ∷ bytes)
 pair_back high low rest a b bytes p q r =
     ap (λ h. pair_onto h low rest) p ∙ ap (λ l. pair_onto (Some a) l rest) q ∙ ap (λ more. pair_onto (Some a) (Some b) more) r
 
@@ -31,7 +32,8 @@ bytes_back [] h = refl
 bytes_back (byte ∷ bytes) h =
     let below : byte < 256 = All-head (λ b. b < 256) byte bytes h in
     let whole : 16 * (byte / 16) + byte % 16 ≡ byte = omega arith in
-    pair_back (digit_value (hex_digit (byte / 16))) (digit_value (hex_digit (byte % 16))) (bytes_of (flat_map hex_byte bytes)) (byte / 16) (byte % 16) bytes
+    pair_back (digit_value (hex_digit (byte / 16))) (digit_value (hex_digit (byte % 16)))
+        (bytes_of (flat_map hex_byte bytes)) (byte / 16) (byte % 16) bytes
     (digit_back (byte / 16) (omega arith)) (digit_back (byte % 16) (omega arith)) (bytes_back bytes (All-tail (λ b. b < 256) byte bytes h))
     ∙ ap (λ b. Some (b ∷ bytes)) whole
 
@@ -59,7 +61,8 @@ sum_back bytes =
 pub take_whole : {X : Type 0} (n : ℕ) (xs ys : List X) → length xs ≡ n → take n (xs ++ ys) ≡ xs
 take_whole n xs ys h = take-append-le n xs ys (omega arith) ∙ take_all n xs (omega arith)
 
-record_back : (place : ℕ) (row : List ℕ) → length row ≡ 16 → record_of (row_bytes place row ++ sum_byte (row_bytes place row) ∷ []) ≡ Some (row_record place row)
+record_back : (place : ℕ) (row : List ℕ) → length row ≡ 16
+    → record_of (row_bytes place row ++ sum_byte (row_bytes place row) ∷ []) ≡ Some (row_record place row)
 record_back place row long =
     let check = sum_byte (row_bytes place row) in
     let count : (length (row ++ check ∷ []) == 17) ≡ true = grind (arith, nat_tests, common_steps) in
@@ -68,13 +71,16 @@ record_back place row long =
     rw (count, address, bytes, sum_back (row_bytes place row)) refl
 
 -- a row's line says what the row says
-pub line_back : (place : ℕ) (row : List ℕ) → place < 65536 → length row ≡ 16 → AllBytes row → record_in (row_line place row) ≡ Some (row_record place row)
+pub line_back : (place : ℕ) (row : List ℕ) → place < 65536 → length row ≡ 16 → AllBytes row
+    → record_in (row_line place row) ≡ Some (row_record place row)
 line_back place row fits long all =
     let head = All-cons (λ b. b < 256) 16 (place / 256 ∷ place % 256 ∷ 0 ∷ row) (omega arith)
     (All-cons (λ b. b < 256) (place / 256) (place % 256 ∷ 0 ∷ row) (omega arith)
     (All-cons (λ b. b < 256) (place % 256) (0 ∷ row) (omega arith) (All-cons (λ b. b < 256) 0 row (omega arith) all))) in
     let check = All-cons (λ b. b < 256) (sum_byte (row_bytes place row)) [] (omega arith) (All-nil (λ b. b < 256)) in
-    ap (option_and_then record_of) (bytes_back (row_bytes place row ++ sum_byte (row_bytes place row) ∷ []) (All-append (λ b. b < 256) (row_bytes place row) (sum_byte (row_bytes place row) ∷ []) head check))
+    ap (option_and_then record_of)
+        (bytes_back (row_bytes place row ++ sum_byte (row_bytes place row) ∷ [])
+        (All-append (λ b. b < 256) (row_bytes place row) (sum_byte (row_bytes place row) ∷ []) head check))
     ∙ record_back place row long
 
 -- each of these is past the control characters
@@ -88,7 +94,9 @@ digits_plain (byte ∷ bytes) =
     (All-cons (λ c. 47 < c) (hex_digit (byte % 16)) (flat_map hex_byte bytes) (grind (arith, nat_tests)) (digits_plain bytes))
 
 pub line_plain : (place : ℕ) (row : List ℕ) → AllPlain (row_line place row)
-line_plain place row = All-cons (λ c. 47 < c) 58 (flat_map hex_byte (row_bytes place row ++ sum_byte (row_bytes place row) ∷ [])) (omega arith) (digits_plain (row_bytes place row ++ sum_byte (row_bytes place row) ∷ []))
+line_plain place row =
+    All-cons (λ c. 47 < c) 58 (flat_map hex_byte (row_bytes place row ++ sum_byte (row_bytes place row) ∷ []))
+    (omega arith) (digits_plain (row_bytes place row ++ sum_byte (row_bytes place row) ∷ []))
 
 no_return : (line : List ℕ) → 0 < length line → AllPlain line → strip_carriage_return line ≡ line
 no_return line h all =

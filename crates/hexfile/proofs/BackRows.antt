@@ -27,38 +27,46 @@ drop_whole : {X : Type 0} (n : ℕ) (xs ys : List X) → length xs ≡ n → dro
 drop_whole n xs ys h = drop-append-le n xs ys (omega arith) ∙ ap (λ t. t ++ ys) (drop_all n xs (omega arith))
 
 -- the memory with a row's data behind what stands before it
-with_row : (front rest : List (Option ℕ)) (place : ℕ) (row : List ℕ) → length front ≡ place → length row ≡ 16 → with_data (front ++ (blank ++ rest)) (row_record place row) ≡ (front ++ map Some row) ++ rest
+with_row : (front rest : List (Option ℕ)) (place : ℕ) (row : List ℕ) → length front ≡ place → length row ≡ 16
+    → with_data (front ++ (blank ++ rest)) (row_record place row) ≡ (front ++ map Some row) ++ rest
 with_row front rest place row at long =
     let before : take place (front ++ (blank ++ rest)) ≡ front = take_whole place front (blank ++ rest) at in
     let end : length (front ++ blank) ≡ place + length row = omega (arith, length-append front blank, length-replicate 16 (none_of)) in
-    let after : drop (place + length row) (front ++ (blank ++ rest)) ≡ rest = ap (drop (place + length row)) (sym (append_assoc front blank rest)) ∙ drop_whole (place + length row) (front ++ blank) rest end in
+    let after : drop (place + length row) (front ++ (blank ++ rest))
+        ≡ rest = ap (drop (place + length row)) (sym (append_assoc front blank rest))
+        ∙ drop_whole (place + length row) (front ++ blank) rest end in
     rw (before, after) refl
   where
     none_of : Option ℕ
     none_of = None
 
 -- no place of the row was given
-row_free : (front rest : List (Option ℕ)) (place : ℕ) (row : List ℕ) → length front ≡ place → length row ≡ 16 → is_given_twice (front ++ (blank ++ rest)) (row_record place row) ≡ false
+row_free : (front rest : List (Option ℕ)) (place : ℕ) (row : List ℕ) → length front ≡ place → length row ≡ 16
+    → is_given_twice (front ++ (blank ++ rest)) (row_record place row) ≡ false
 row_free front rest place row at long =
     let here : drop place (front ++ (blank ++ rest)) ≡ blank ++ rest = drop_whole place front (blank ++ rest) at in
     let count : place + length row - place ≡ 16 = omega arith in
-    ap (λ cells. list_any is_some (take (place + length row - place) cells)) here ∙ ap (λ n. list_any is_some (take n (blank ++ rest))) count
+    ap (λ cells. list_any is_some (take (place + length row - place) cells)) here
+        ∙ ap (λ n. list_any is_some (take n (blank ++ rest))) count
 
 row_within : (place : ℕ) (row : List ℕ) → place + length row ≤ 2048 → is_past (row_record place row) ≡ false
 row_within place row h = grind (arith, nat_tests)
 
-none_broken : (past twice : Bool) → past ≡ false → twice ≡ false → first_broken ((Sum, false) ∷ (Kind, false) ∷ (Address, past) ∷ (Overlap, twice) ∷ (AfterEnd, false) ∷ []) ≡ None
+none_broken : (past twice : Bool) → past ≡ false → twice ≡ false
+    → first_broken ((Sum, false) ∷ (Kind, false) ∷ (Address, past) ∷ (Overlap, twice) ∷ (AfterEnd, false) ∷ []) ≡ None
 none_broken true twice p t = absurd cc
 none_broken false true p t = absurd cc
 none_broken false false p t = refl
 
 -- a row's line does what the row says
-line_obeyed : (front rest : List (Option ℕ)) (place : ℕ) (row : List ℕ) → length front ≡ place → length row ≡ 16 → place + 16 ≤ 2048 → AllBytes row
+line_obeyed : (front rest : List (Option ℕ)) (place : ℕ) (row : List ℕ) → length front ≡ place → length row ≡ 16
+    → place + 16 ≤ 2048 → AllBytes row
     → after_line (going (front ++ (blank ++ rest))) (row_line place row) ≡ Ok (going ((front ++ map Some row) ++ rest))
 line_obeyed front rest place row at long fits all =
     let memory = front ++ (blank ++ rest) in
     let said = line_back place row (omega arith) long all in
-    let whole = none_broken (is_past (row_record place row)) (is_given_twice memory (row_record place row)) (row_within place row (omega arith)) (row_free front rest place row at long) in
+    let whole = none_broken (is_past (row_record place row)) (is_given_twice memory (row_record place row))
+        (row_within place row (omega arith)) (row_free front rest place row at long) in
     ap (λ found. after_form found (going memory)) said
     ∙ ap (λ broken. after_rules broken (going memory) (row_record place row)) whole
     ∙ ap (λ filled. let done : Result Progress Rule = Ok (going filled) in done) (with_row front rest place row at long)
@@ -79,7 +87,8 @@ zeros (suc n) (byte ∷ row) h z =
     rw first (ap (λ bytes. 0 ∷ bytes) (zeros n row (omega arith) others))
 
 -- the bytes up to the end of a row are those before it and the row
-take_row : (bytes : List ℕ) (place : ℕ) → place + 16 ≤ length bytes → take (place + 16) bytes ≡ take place bytes ++ slice_range bytes place (place + 16)
+take_row : (bytes : List ℕ) (place : ℕ) → place + 16 ≤ length bytes
+    → take (place + 16) bytes ≡ take place bytes ++ slice_range bytes place (place + 16)
 take_row bytes place h =
     let count : 16 ≡ place + 16 - place = omega arith in
     take-add place 16 bytes ∙ ap (λ n. take place bytes ++ take n (drop place bytes)) count
@@ -87,25 +96,38 @@ take_row bytes place h =
 -- what the rows behind this one come to
 abbrev pub ComesBack : List ℕ → ℕ → List (Option ℕ) → List ℕ → Type 0
 ComesBack bytes place rest text =
-    (line : ℕ) (front : List (Option ℕ)) → length front ≡ place → image_of front ≡ take place bytes → hex_from line (going (front ++ rest)) (lines text) ≡ Ok bytes
+    (line : ℕ) (front : List (Option ℕ)) → length front ≡ place → image_of front ≡ take place bytes
+        → hex_from line (going (front ++ rest)) (lines text) ≡ Ok bytes
 
 module _ (bytes : List ℕ) (place line : ℕ) (front rest : List (Option ℕ)) (more : List ℕ) where
   -- one row, and the rows behind it
-  row_step : place + 16 ≤ 2048 → length bytes ≡ 2048 → AllBytes bytes → length front ≡ place → image_of front ≡ take place bytes → ComesBack bytes (place + 16) rest more → (b : Bool)
+  row_step : place + 16 ≤ 2048 → length bytes ≡ 2048 → AllBytes bytes → length front ≡ place
+      → image_of front ≡ take place bytes → ComesBack bytes (place + 16) rest more → (b : Bool)
       → list_all (λ byte. byte == 0) (slice_range bytes place (place + 16)) ≡ b
-      → hex_from line (going (front ++ (blank ++ rest))) (lines ((if b then [] else line_text (row_bytes place (slice_range bytes place (place + 16)))) ++ more)) ≡ Ok bytes
+      → hex_from line (going (front ++ (blank ++ rest)))
+          (lines ((if b then [] else line_text (row_bytes place (slice_range bytes place (place + 16)))) ++ more)) ≡ Ok bytes
   row_step fits long all at so_far ih true z =
       let row = slice_range bytes place (place + 16) in
       let row_long : length row ≡ 16 = omega (arith, length-take (place + 16 - place) (drop place bytes), length-drop place bytes) in
-      let here : image_of (front ++ blank) ≡ take (place + 16) bytes = map-append (λ cell. unwrap_or cell 0) front blank ∙ ap (λ b. b ++ image_of blank) so_far ∙ ap (λ b. take place bytes ++ b) (zeros 16 row row_long z) ∙ sym (take_row bytes place (omega arith)) in
-      ap (λ memory. hex_from line (going memory) (lines more)) (sym (append_assoc front blank rest)) ∙ ih line (front ++ blank) (omega (arith, length-append front blank)) here
+      let here : image_of (front ++ blank)
+          ≡ take (place + 16) bytes = map-append (λ cell. unwrap_or cell 0) front blank
+          ∙ ap (λ b. b ++ image_of blank) so_far ∙ ap (λ b. take place bytes ++ b) (zeros 16 row row_long z)
+          ∙ sym (take_row bytes place (omega arith)) in
+      ap (λ memory. hex_from line (going memory) (lines more)) (sym (append_assoc front blank rest))
+          ∙ ih line (front ++ blank) (omega (arith, length-append front blank)) here
   row_step fits long all at so_far ih false z =
       let row = slice_range bytes place (place + 16) in
       let row_long : length row ≡ 16 = omega (arith, length-take (place + 16 - place) (drop place bytes), length-drop place bytes) in
-      let row_all : AllBytes row = All-take (λ b. b < 256) (place + 16 - place) (drop place bytes) (All-drop (λ b. b < 256) place bytes all) in
-      let here : image_of (front ++ map Some row) ≡ take (place + 16) bytes = map-append (λ cell. unwrap_or cell 0) front (map Some row) ∙ ap (λ b. b ++ image_of (map Some row)) so_far ∙ ap (λ b. take place bytes ++ b) (image_of-given row) ∙ sym (take_row bytes place (omega arith)) in
-      ap (λ text. hex_from line (going (front ++ (blank ++ rest))) text) (first_line (row_line place row) more (omega arith) (line_plain place row))
-      ∙ ap (λ said. and_then_at line said (λ after. hex_from (line + 1) after (lines more))) (line_obeyed front rest place row at row_long fits row_all)
+      let row_all : AllBytes row =
+          All-take (λ b. b < 256) (place + 16 - place) (drop place bytes) (All-drop (λ b. b < 256) place bytes all) in
+      let here : image_of (front ++ map Some row)
+          ≡ take (place + 16) bytes = map-append (λ cell. unwrap_or cell 0) front (map Some row)
+          ∙ ap (λ b. b ++ image_of (map Some row)) so_far ∙ ap (λ b. take place bytes ++ b) (image_of-given row)
+          ∙ sym (take_row bytes place (omega arith)) in
+      ap (λ text. hex_from line (going (front ++ (blank ++ rest))) text)
+          (first_line (row_line place row) more (omega arith) (line_plain place row))
+      ∙ ap (λ said. and_then_at line said (λ after. hex_from (line + 1) after (lines more)))
+          (line_obeyed front rest place row at row_long fits row_all)
       ∙ ih (line + 1) (front ++ map Some row) (omega (arith, length-append front (map Some row), length-map row Some)) here
 
 -- the rows from one on, and the end
@@ -117,12 +139,17 @@ rows_back bytes zero number long all sum line front at so_far =
 rows_back bytes (suc count) number long all sum line front at so_far =
     let rest = replicate (16 * count) None in
     let more = flat_map (row_at bytes) (range_with_len (number + 1) count) ++ end_text in
-    let places : replicate (16 * suc count) None ≡ blank ++ rest = ap (λ n. replicate n None) (times16 count) ∙ sym (replicate-append-replicate 16 (16 * count) None) in
+    let places : replicate (16 * suc count) None ≡ blank ++ rest = ap (λ n. replicate n None) (times16 count)
+        ∙ sym (replicate-append-replicate 16 (16 * count) None) in
     let next : 16 * (number + 1) ≡ 16 * number + 16 = omega arith in
-    let ih : ComesBack bytes (16 * number + 16) rest more = subst (λ place. ComesBack bytes place rest more) next (rows_back bytes count (number + 1) long all (omega arith)) in
-    ap (λ cells. hex_from line (going (front ++ cells)) (lines ((row_at bytes number ++ flat_map (row_at bytes) (range_with_len (number + 1) count)) ++ end_text))) places
-    ∙ ap (λ text. hex_from line (going (front ++ (blank ++ rest))) (lines text)) (append_assoc (row_at bytes number) (flat_map (row_at bytes) (range_with_len (number + 1) count)) end_text)
-    ∙ row_step bytes (16 * number) line front rest more (omega arith) long all at so_far ih (list_all (λ byte. byte == 0) (slice_range bytes (16 * number) (16 * number + 16))) refl
+    let ih : ComesBack bytes (16 * number + 16) rest more =
+        subst (λ place. ComesBack bytes place rest more) next (rows_back bytes count (number + 1) long all (omega arith)) in
+    ap (λ cells. hex_from line (going (front ++ cells))
+        (lines ((row_at bytes number ++ flat_map (row_at bytes) (range_with_len (number + 1) count)) ++ end_text))) places
+    ∙ ap (λ text. hex_from line (going (front ++ (blank ++ rest))) (lines text))
+        (append_assoc (row_at bytes number) (flat_map (row_at bytes) (range_with_len (number + 1) count)) end_text)
+    ∙ row_step bytes (16 * number) line front rest more (omega arith) long all at so_far ih
+        (list_all (λ byte. byte == 0) (slice_range bytes (16 * number) (16 * number + 16))) refl
   where
     times16 : (count : ℕ) → 16 * suc count ≡ 16 + 16 * count
     times16 count = omega arith

@@ -19,16 +19,20 @@ pair_onto-some front (Some x) (Some y) (Some bytes) a b p q =
     rw (e, d, append_assoc) refl
 
 -- two digits in front are one byte more
-pub bytes_of_more : (front digits : List ℕ) (a b : ℕ) → 2 ≤ length digits → digit_value (get_or digits 0 0) ≡ Some a → digit_value (get_or digits 1 0) ≡ Some b
-    → option_map (λ more. front ++ more) (bytes_of digits) ≡ option_map (λ more. (front ++ (16 * a + b) ∷ []) ++ more) (bytes_of (drop 2 digits))
+pub bytes_of_more : (front digits : List ℕ) (a b : ℕ) → 2 ≤ length digits → digit_value (get_or digits 0 0) ≡ Some a
+    → digit_value (get_or digits 1 0) ≡ Some b
+    → option_map (λ more. front ++ more) (bytes_of digits)
+        ≡ option_map (λ more. (front ++ (16 * a + b) ∷ []) ++ more) (bytes_of (drop 2 digits))
 bytes_of_more front [] a b h p q = absurd (omega arith)
 bytes_of_more front (x ∷ []) a b h p q = absurd (omega arith)
 bytes_of_more front (x ∷ y ∷ digits) a b h p q = pair_onto-some front (digit_value x) (digit_value y) (bytes_of digits) a b p q
 
 -- the same, where the bytes so far and the digits that are left have names of their own
-pub bytes_of_kept : (whole front digits next left : List ℕ) (a b : ℕ) → 2 ≤ length digits → digit_value (get_or digits 0 0) ≡ Some a → digit_value (get_or digits 1 0) ≡ Some b
+pub bytes_of_kept : (whole front digits next left : List ℕ) (a b : ℕ) → 2 ≤ length digits
+    → digit_value (get_or digits 0 0) ≡ Some a → digit_value (get_or digits 1 0) ≡ Some b
     → next ≡ front ++ (16 * a + b) ∷ [] → left ≡ drop 2 digits
-    → bytes_of whole ≡ option_map (λ more. front ++ more) (bytes_of digits) → bytes_of whole ≡ option_map (λ more. next ++ more) (bytes_of left)
+    → bytes_of whole ≡ option_map (λ more. front ++ more) (bytes_of digits)
+        → bytes_of whole ≡ option_map (λ more. next ++ more) (bytes_of left)
 bytes_of_kept whole front digits next left a b h p q e d is = rw (e, d) (is ∙ bytes_of_more front digits a b h p q)
 
 -- a digit is below 16
@@ -39,7 +43,9 @@ digit_value-below character = grind (arith, nat_tests)
 abbrev pub IsDecoded : List ℕ → Option (List ℕ) → Type 0
 IsDecoded digits found = MatchOption found (Unit {0}) (λ bytes. (2 * length bytes ≡ length digits) × (get_or bytes 0 0 < 256))
 
-IsDecoded-pair : (x y : ℕ) (digits : List ℕ) (high low : Option ℕ) (rest : Option (List ℕ)) → MatchOption high (Unit {0}) (λ value. value < 16) → MatchOption low (Unit {0}) (λ value. value < 16) → IsDecoded digits rest → IsDecoded (x ∷ y ∷ digits) (pair_onto high low rest)
+IsDecoded-pair : (x y : ℕ) (digits : List ℕ) (high low : Option ℕ) (rest : Option (List ℕ))
+    → MatchOption high (Unit {0}) (λ value. value < 16) → MatchOption low (Unit {0}) (λ value. value < 16)
+    → IsDecoded digits rest → IsDecoded (x ∷ y ∷ digits) (pair_onto high low rest)
 IsDecoded-pair x y digits None low rest h l r = tt
 IsDecoded-pair x y digits (Some a) None rest h l r = tt
 IsDecoded-pair x y digits (Some a) (Some b) None h l r = tt
@@ -49,7 +55,8 @@ IsDecoded-bytes_of : (digits : List ℕ) → IsDecoded digits (bytes_of digits)
 IsDecoded-bytes_of [] = (refl, omega arith)
 IsDecoded-bytes_of (x ∷ []) = tt
 IsDecoded-bytes_of (x ∷ y ∷ digits) =
-    IsDecoded-pair x y digits (digit_value x) (digit_value y) (bytes_of digits) (digit_value-below x) (digit_value-below y) (IsDecoded-bytes_of digits)
+    IsDecoded-pair x y digits (digit_value x) (digit_value y) (bytes_of digits) (digit_value-below x)
+        (digit_value-below y) (IsDecoded-bytes_of digits)
 
 -- the count is one byte, so more than 260 bytes are no record
 record_of-long : (bytes : List ℕ) → 260 < length bytes → get_or bytes 0 0 < 256 → record_of bytes ≡ None

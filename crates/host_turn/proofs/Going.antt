@@ -10,7 +10,8 @@ use Rattle.host_turn.specs.declared.desk.Desk.{Desk}
 use Rattle.host_turn.specs.Host.{Host, event_turn, bios_turn}
 use Rattle.host_turn.specs.Cycle.{cycled, host_of, said_of, with_host}
 
-module _ {F : Type 0} (breaks : F → Bool) (now : ℕ) (next : Option HostEvent) (d d1 d2 : Desk F) (e1 : d1 ≡ with_host (event_turn now next (host_of d)).host d)
+module _ {F : Type 0} (breaks : F → Bool) (now : ℕ) (next : Option HostEvent) (d d1 d2 : Desk F)
+    (e1 : d1 ≡ with_host (event_turn now next (host_of d)).host d)
     (e2 : d2 ≡ with_host (bios_turn now d1.port.filled (host_of d1)).host d1) (q : Port F) (e3 : q ≡ broken_off breaks now d2.port) where
   h1 : Host
   h1 = (event_turn now next (host_of d)).host
@@ -23,13 +24,18 @@ module _ {F : Type 0} (breaks : F → Bool) (now : ℕ) (next : Option HostEvent
       ap (λ r. record d2 { port = r }) (e ∙ ap (λ r. (settled now r).port) e3)
       ∙ ap (λ (x : Desk F). record x { port = (settled now (broken_off breaks now x.port)).port }) both
 
-  pub going_items : (i0 i1 i2 i3 : List Item) (did : Did) → i1 ≡ i0 ++ (event_turn now next (host_of d)).items → i2 ≡ i1 ++ (bios_turn now d1.port.filled (host_of d1)).items
+  pub going_items : (i0 i1 i2 i3 : List Item) (did : Did) → i1 ≡ i0 ++ (event_turn now next (host_of d)).items
+      → i2 ≡ i1 ++ (bios_turn now d1.port.filled (host_of d1)).items
       → did ≡ (settled now q).did → i3 ≡ i2 ++ said_of did → i3 ≡ i0 ++ (cycled breaks now next d).items
   going_items i0 i1 i2 i3 did a b c e =
       let x : List Item = (event_turn now next (host_of d)).items in
       let y : List Item = (bios_turn now d.port.filled (event_turn now next (host_of d)).host).items in
-      let z : List Item = said_of (settled now (broken_off breaks now (with_host (bios_turn now d.port.filled (event_turn now next (host_of d)).host).host d).port)).did in
-      let b' : i2 ≡ (i0 ++ x) ++ y = b ∙ ap (λ (v : Desk F). i1 ++ (bios_turn now v.port.filled (host_of v)).items) e1 ∙ ap (λ v. v ++ y) a in
-      let z' : said_of did ≡ z = ap said_of (c ∙ ap (λ r. (settled now r).did) e3) ∙ ap (λ (v : Desk F). said_of (settled now (broken_off breaks now v.port)).did) both in
+      let z : List Item = said_of
+          (settled now (broken_off breaks now
+          (with_host (bios_turn now d.port.filled (event_turn now next (host_of d)).host).host d).port)).did in
+      let b' : i2 ≡ (i0 ++ x) ++ y = b ∙ ap (λ (v : Desk F). i1 ++ (bios_turn now v.port.filled (host_of v)).items) e1
+          ∙ ap (λ v. v ++ y) a in
+      let z' : said_of did ≡ z = ap said_of (c ∙ ap (λ r. (settled now r).did) e3)
+          ∙ ap (λ (v : Desk F). said_of (settled now (broken_off breaks now v.port)).did) both in
       let last : ((i0 ++ x) ++ y) ++ z ≡ i0 ++ ((x ++ y) ++ z) = simp append_assoc in
       e ∙ ap (λ v. v ++ said_of did) b' ∙ ap (λ v. ((i0 ++ x) ++ y) ++ v) z' ∙ last

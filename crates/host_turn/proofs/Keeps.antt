@@ -26,15 +26,18 @@ module _ (F : Type 0) (l : Link F) where
   acted_fits Status h f = f
   acted_fits (Flip bit) h f = f
 
-  where_fits : (done : Bool) (act : HostAct) (h : Host) → fits h.core.output_full l ≡ true → fits (acted_where done act h).host.core.output_full l ≡ true
+  where_fits : (done : Bool) (act : HostAct) (h : Host) → fits h.core.output_full l ≡ true
+      → fits (acted_where done act h).host.core.output_full l ≡ true
   where_fits true act h f = acted_fits act h f
   where_fits false act h f = f
 
-  event_fits : (now : ℕ) (next : Option HostEvent) (h : Host) → fits h.core.output_full l ≡ true → fits (event_turn now next h).host.core.output_full l ≡ true
+  event_fits : (now : ℕ) (next : Option HostEvent) (h : Host) → fits h.core.output_full l ≡ true
+      → fits (event_turn now next h).host.core.output_full l ≡ true
   event_fits now None h f = f
   event_fits now (Some event) h f = where_fits (is_done now (Some event) h.core) event.act h f
 
-  read_fits : (reads : Bool) (h : Host) → fits h.core.output_full l ≡ true → fits (if reads then read_by_bios h else in_silence h).host.core.output_full l ≡ true
+  read_fits : (reads : Bool) (h : Host) → fits h.core.output_full l ≡ true
+      → fits (if reads then read_by_bios h else in_silence h).host.core.output_full l ≡ true
   read_fits true h f = refl
   read_fits false h f = f
 
@@ -49,7 +52,8 @@ module _ (F : Type 0) (now : ℕ) (next : Option HostEvent) (d d1 d2 : Desk F) (
   -- the host's turn fills nothing
   pub host_fits : IsEmptyUnlessHeld d.port → IsEmptyUnlessHeld d2.port
   host_fits f =
-      let after : IsEmptyUnlessHeld d1.port = subst (λ (x : Desk F). IsEmptyUnlessHeld x.port) (sym e1) (event_fits F d.port.link now next (host_of d) f) in
+      let after : IsEmptyUnlessHeld d1.port =
+          subst (λ (x : Desk F). IsEmptyUnlessHeld x.port) (sym e1) (event_fits F d.port.link now next (host_of d) f) in
       subst (λ (x : Desk F). IsEmptyUnlessHeld x.port) (sym e2) (bios_fits F d1.port.link now d1.port.filled (host_of d1) after)
 
   module _ (breaks : F → Bool) (q : Port F) (e3 : q ≡ broken_off breaks now d2.port) where

@@ -14,7 +14,8 @@ is_lf byte = byte == 10
 abbrev EndsAt : ℕ → ℕ → ℕ → Type 0
 EndsAt place all line = (place < all → line ≡ place + 1) × (all ≤ place → line ≡ all)
 
-ends_on : (lf : Bool) (place all line : ℕ) → EndsAt place all line → EndsAt (cond (not lf) (1 + place) 0) (suc all) (if lf then 1 else 1 + line)
+ends_on : (lf : Bool) (place all line : ℕ) → EndsAt place all line
+    → EndsAt (cond (not lf) (1 + place) 0) (suc all) (if lf then 1 else 1 + line)
 ends_on true place all line h = (λ below. refl, λ above. absurd (omega arith))
 ends_on false place all line h = (λ below. omega (arith, h.0), λ above. omega (arith, h.1))
 
@@ -36,12 +37,15 @@ length_none text h = (ends_at text).1 (none_passes is_lf text h)
 abbrev IsParted : List ℕ → List (List ℕ) → ℕ → Type 0
 IsParted text lines n = lines ≡ take n text ∷ lines_in (drop n text)
 
-parted_on : (lf : Bool) (byte : ℕ) (text : List ℕ) (n : ℕ) → (0 < length text → IsParted text (lines_in text) n) → (length text ≡ 0 → n ≡ 0) → IsParted (byte ∷ text) (if lf then (byte ∷ []) ∷ lines_in text else onto_first byte (lines_in text)) (if lf then 1 else 1 + n)
+parted_on : (lf : Bool) (byte : ℕ) (text : List ℕ) (n : ℕ) → (0 < length text → IsParted text (lines_in text) n)
+    → (length text ≡ 0 → n ≡ 0)
+    → IsParted (byte ∷ text) (if lf then (byte ∷ []) ∷ lines_in text else onto_first byte (lines_in text)) (if lf then 1 else 1 + n)
 parted_on true byte text n h none = refl
 parted_on false byte [] n h none = subst (λ (k : ℕ). IsParted (byte ∷ []) ((byte ∷ []) ∷ []) (1 + k)) (sym (none refl)) refl
 parted_on false byte (next ∷ text) n h none =
     let first : 1 + n ≡ suc n = omega arith in
-    subst (λ (k : ℕ). IsParted (byte ∷ next ∷ text) (onto_first byte (lines_in (next ∷ text))) k) (sym first) (ap (onto_first byte) (h (omega arith)))
+    subst (λ (k : ℕ). IsParted (byte ∷ next ∷ text) (onto_first byte (lines_in (next ∷ text))) k) (sym first)
+        (ap (onto_first byte) (h (omega arith)))
 
 no_line : (text : List ℕ) → length text ≡ 0 → line_length text ≡ 0
 no_line [] none = refl
@@ -55,12 +59,16 @@ parted (byte ∷ text) some = parted_on (byte == 10) byte text (line_length text
 whole_rest : (text : List ℕ) (start : ℕ) → take (length text - start) (drop start text) ≡ drop start text
 whole_rest text start = take_all (length text - start) (drop start text) (omega (arith, length-drop start text))
 
-pub end_some : (text : List ℕ) (start i : ℕ) → position is_lf (take (length text - start) (drop start text)) ≡ Some i → start + i + 1 ≡ start + line_length (drop start text)
+pub end_some : (text : List ℕ) (start i : ℕ) → position is_lf (take (length text - start) (drop start text)) ≡ Some i
+    → start + i + 1 ≡ start + line_length (drop start text)
 end_some text start i h =
-    let ends : line_length (drop start text) ≡ i + 1 = length_some (drop start text) i (ap (position is_lf) (sym (whole_rest text start)) ∙ h) in
+    let ends : line_length (drop start text)
+        ≡ i + 1 = length_some (drop start text) i (ap (position is_lf) (sym (whole_rest text start)) ∙ h) in
     omega (arith, ends)
 
-pub end_none : (text : List ℕ) (start : ℕ) → start < length text → position is_lf (take (length text - start) (drop start text)) ≡ None → length text ≡ start + line_length (drop start text)
+pub end_none : (text : List ℕ) (start : ℕ) → start < length text
+    → position is_lf (take (length text - start) (drop start text)) ≡ None → length text ≡ start + line_length (drop start text)
 end_none text start below h =
-    let ends : line_length (drop start text) ≡ length (drop start text) = length_none (drop start text) (ap (position is_lf) (sym (whole_rest text start)) ∙ h) in
+    let ends : line_length (drop start text)
+        ≡ length (drop start text) = length_none (drop start text) (ap (position is_lf) (sym (whole_rest text start)) ∙ h) in
     omega (arith, ends, below, length-drop start text)

@@ -24,7 +24,8 @@ lines_behind a b first (inr second) = inr (ends_behind a b second)
 lines_behind a b first (inl none) = subst AreLines (sym (ap (λ v. a ++ v) none ∙ append-nil a)) first
 
 -- a text that ends with LF has a line
-by_first : (byte : ℕ) (lf : Bool) (lines : List (List ℕ)) → (l : List ℕ) × (ls : List (List ℕ)) × ((if lf then (byte ∷ []) ∷ lines else onto_first byte lines) ≡ l ∷ ls)
+by_first : (byte : ℕ) (lf : Bool) (lines : List (List ℕ)) → (l : List ℕ) × (ls : List (List ℕ))
+    × ((if lf then (byte ∷ []) ∷ lines else onto_first byte lines) ≡ l ∷ ls)
 by_first byte true lines = (byte ∷ [], lines, refl)
 by_first byte false [] = (byte ∷ [], [], refl)
 by_first byte false (line ∷ lines) = (byte ∷ line, lines, refl)
@@ -33,12 +34,14 @@ has_line : (front : List ℕ) → (l : List ℕ) × (ls : List (List ℕ)) × (l
 has_line [] = (10 ∷ [], [], refl)
 has_line (byte ∷ front) = by_first byte (byte == 10) (lines_in (front ++ 10 ∷ []))
 
-onto_more : (byte : ℕ) (all l : List (List ℕ)) (more : List (List ℕ)) (first : List ℕ) → all ≡ first ∷ l → onto_first byte (all ++ more) ≡ onto_first byte all ++ more
+onto_more : (byte : ℕ) (all l : List (List ℕ)) (more : List (List ℕ)) (first : List ℕ) → all ≡ first ∷ l
+    → onto_first byte (all ++ more) ≡ onto_first byte all ++ more
 onto_more byte all l more first h =
     ap (λ v. onto_first byte (v ++ more)) h ∙ ap (λ v. onto_first byte v ++ more) (sym h)
 
 -- the lines of both are the lines of one and then those of the other
-parts_on : (byte : ℕ) (lf : Bool) (here more both : List (List ℕ)) → ((first : List ℕ) × (l : List (List ℕ)) × (here ≡ first ∷ l)) → both ≡ here ++ more
+parts_on : (byte : ℕ) (lf : Bool) (here more both : List (List ℕ))
+    → ((first : List ℕ) × (l : List (List ℕ)) × (here ≡ first ∷ l)) → both ≡ here ++ more
     → (if lf then (byte ∷ []) ∷ both else onto_first byte both) ≡ (if lf then (byte ∷ []) ∷ here else onto_first byte here) ++ more
 parts_on byte true here more both some h = ap (λ v. (byte ∷ []) ∷ v) h
 parts_on byte false here more both some h = ap (onto_first byte) h ∙ onto_more byte here some.1 more some.0 some.2
@@ -46,7 +49,8 @@ parts_on byte false here more both some h = ap (onto_first byte) h ∙ onto_more
 parts : (front b : List ℕ) → lines_in ((front ++ 10 ∷ []) ++ b) ≡ lines_in (front ++ 10 ∷ []) ++ lines_in b
 parts [] b = refl
 parts (byte ∷ front) b =
-    parts_on byte (byte == 10) (lines_in (front ++ 10 ∷ [])) (lines_in b) (lines_in ((front ++ 10 ∷ []) ++ b)) (has_line front) (parts front b)
+    parts_on byte (byte == 10) (lines_in (front ++ 10 ∷ [])) (lines_in b) (lines_in ((front ++ 10 ∷ []) ++ b))
+        (has_line front) (parts front b)
 
 lines_of_both : (a b : List ℕ) → AreLines a → lines_in (a ++ b) ≡ lines_in a ++ lines_in b
 lines_of_both a b (inl none) = ap (λ v. lines_in (v ++ b)) none ∙ sym (ap (λ v. lines_in v ++ lines_in b) none)
@@ -82,7 +86,8 @@ abbrev pub Stands : Bool → Option HeldBytes → Option HeldBytes → List ℕ 
 Stands failed before after text =
     IfSome before (λ sink. (after ≡ Some (said text sink).sink) × ((said text sink).failed ≡ failed))
 
-stands_then : (failed : Bool) (x y z : Option HeldBytes) (a b : List ℕ) → AreLines a → Stands false x y a → Stands failed y z b → Stands failed x z (a ++ b)
+stands_then : (failed : Bool) (x y z : Option HeldBytes) (a b : List ℕ) → AreLines a → Stands false x y a
+    → Stands failed y z b → Stands failed x z (a ++ b)
 stands_then failed None y z a b lines first second = tt
 stands_then failed (Some sink) y z a b lines first second =
     let next = (said a sink).sink in
@@ -107,12 +112,16 @@ both_told failed (Some sink) after text h k = (k, h)
 
 -- what `say` answers
 pub is_said : (before after : Shown) (text : List ℕ) → TakesAll before.taken after.taken text → after.faults ≡ before.faults
-    → IfSome before.told (λ sink. (said text sink).failed ≡ false) → IfSome before.told (λ sink. after.told ≡ Some (said text sink).sink) → IsSaid before after text
-is_said before after text all steady stood so = record { all = all; steady = steady; lines = both_told false before.told after.told text stood so }
+    → IfSome before.told (λ sink. (said text sink).failed ≡ false)
+        → IfSome before.told (λ sink. after.told ≡ Some (said text sink).sink) → IsSaid before after text
+is_said before after text all steady stood so =
+    record { all = all; steady = steady; lines = both_told false before.told after.told text stood so }
 
 pub is_broken : (before after : Shown) (text : List ℕ) → TakesPart before.taken after.taken text → Rose before.faults after.faults
-    → IfSome before.told (λ sink. (said text sink).failed ≡ true) → IfSome before.told (λ sink. after.told ≡ Some (said text sink).sink) → IsBrokenOff before after text
-is_broken before after text part rose failed so = record { part = part; failed = rose; lines = both_told true before.told after.told text failed so }
+    → IfSome before.told (λ sink. (said text sink).failed ≡ true)
+        → IfSome before.told (λ sink. after.told ≡ Some (said text sink).sink) → IsBrokenOff before after text
+is_broken before after text part rose failed so =
+    record { part = part; failed = rose; lines = both_told true before.told after.told text failed so }
 
 -- nothing is said
 pub none_said : (x : Shown) → IsSaid x x []

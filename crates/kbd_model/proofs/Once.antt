@@ -30,14 +30,16 @@ pub offers_first : (k : Keyboard) → offer k ≡ slice_get (waiting k) 0
 offers_first k = offered_is k.reply k.aa_due k.queue
 
 -- what is sent goes
-dropped_is : (bytes : List ℕ) (overrun : Bool) (q : KeyQueue) (byte : ℕ) → q.bytes ≡ bytes → q.overrun ≡ overrun → first_of bytes overrun ≡ Some byte
+dropped_is : (bytes : List ℕ) (overrun : Bool) (q : KeyQueue) (byte : ℕ) → q.bytes ≡ bytes → q.overrun ≡ overrun
+    → first_of bytes overrun ≡ Some byte
     → bytes ++ byte_if overrun 0x00 ≡ byte ∷ queued (without_first bytes q)
 dropped_is [] true q byte eb eo h = let e : 0x00 ≡ byte = cc in rw (eb, e) refl
 dropped_is [] false q byte eb eo h = absurd cc
 dropped_is (b ∷ rest) overrun q byte eb eo h = let e : b ≡ byte = cc in rw (eo, e) refl
 
 -- whatever is done to the last byte sent
-went_by : (keys : Keys) (k : Keyboard) (r : Option Reply) (aa : Bool) (byte : ℕ) → k.reply ≡ r → k.aa_due ≡ aa → offered r aa k.queue ≡ Some byte
+went_by : (keys : Keys) (k : Keyboard) (r : Option Reply) (aa : Bool) (byte : ℕ) → k.reply ≡ r → k.aa_due ≡ aa
+    → offered r aa k.queue ≡ Some byte
     → is_reset_due r ≡ false → reply_bytes r ++ (byte_if aa 0xaa ++ queued k.queue) ≡ byte ∷ waiting (without_offered r keys k)
 went_by keys k (Some r) aa byte er ea h n = let e : r.byte ≡ byte = cc in rw (n, ea, e) refl
 went_by keys k None true byte er ea h n = let e : 0xaa ≡ byte = cc in rw (ea, er, e) refl
@@ -110,7 +112,8 @@ module _ (keys : Keys) (byte : ℕ) where
       either (Keeps byte k) (nat_le 0xef byte) _ _ (λ e. off k _ (none a b c) refl refl refl) (λ _.
       off k _ (none a b c) refl refl refl)))))))))
 
-  parameter_keeps : (k with_it : Keyboard) → with_it.queue ≡ k.queue → with_it.aa_due ≡ k.aa_due → Keeps byte k (parameter keys byte with_it k)
+  parameter_keeps : (k with_it : Keyboard) → with_it.queue ≡ k.queue → with_it.aa_due ≡ k.aa_due
+      → Keeps byte k (parameter keys byte with_it k)
   parameter_keeps k with_it q a =
       either (Keeps byte k) (nat_lt byte 0x80) _ _ (λ h. off k _ (low (grind (arith, nat_tests, h))) q a refl) (λ _.
       either (Keeps byte k) (nat_lt byte 0xed) _ _ (λ h. off k _ (low h) refl refl refl) (λ _.

@@ -45,13 +45,17 @@ fn_one entries entry few h = rw (filter-append is_fn entries (entry ∷ [])) (by
     by false g = rw (append-nil (filter is_fn entries)) few
 
 -- one more entry, whose place and key are new, and which is no second Fn key
-pub AreEntries-push : (entries : List Entry) (entry : Entry) → AreEntries entries → IsEntry entry → is_place_taken entries entry.place ≡ false
+pub AreEntries-push : (entries : List Entry) (entry : Entry) → AreEntries entries → IsEntry entry
+    → is_place_taken entries entry.place ≡ false
     → is_key_named entries entry.key ≡ false → (is_fn entry && has_fn entries) ≡ false → AreEntries (entries ++ entry ∷ [])
 unfolding is_place_taken is_key_named has_fn
 AreEntries-push entries entry before sound place key one = record {
   each = All-push IsEntry entries entry before.each sound;
-  own_places = rw (map-append (λ (e : Entry). e.place) entries (entry ∷ [])) (IsDistinct-push nat_eq_equiv (places_of entries) entry.place before.own_places (among (λ (e : Entry). e.place) entry.place entries ∙ place));
-  own_keys = rw (map-append (λ (e : Entry). e.key) entries (entry ∷ [])) (IsDistinct-push nat_eq_equiv (keys_of entries) entry.key before.own_keys (among (λ (e : Entry). e.key) entry.key entries ∙ key));
+  own_places = rw (map-append (λ (e : Entry). e.place) entries (entry ∷ []))
+      (IsDistinct-push nat_eq_equiv (places_of entries) entry.place before.own_places
+      (among (λ (e : Entry). e.place) entry.place entries ∙ place));
+  own_keys = rw (map-append (λ (e : Entry). e.key) entries (entry ∷ []))
+      (IsDistinct-push nat_eq_equiv (keys_of entries) entry.key before.own_keys (among (λ (e : Entry). e.key) entry.key entries ∙ key));
   one_fn = fn_one entries entry before.one_fn one;
 }
 
@@ -77,7 +81,8 @@ length-map_entries [] = refl
 length-map_entries (e ∷ es) = ap suc (length-map_entries es)
 
 -- in the sample layout no number below n has the place or the key n
-apart : (f : Entry → ℕ) → ((k : ℕ) → f (sample_entry k) ≡ k) → (a n q : ℕ) → a + n ≤ q → list_any (λ entry. f entry == q) (map sample_entry (range_with_len a n)) ≡ false
+apart : (f : Entry → ℕ) → ((k : ℕ) → f (sample_entry k) ≡ k) → (a n q : ℕ) → a + n ≤ q
+    → list_any (λ entry. f entry == q) (map sample_entry (range_with_len a n)) ≡ false
 apart f own a zero q h = refl
 apart f own a (suc n) q h =
     let other : eqb (f (sample_entry a)) q ≡ false = rw (own a) (grind (arith, nat_tests)) in
@@ -92,5 +97,6 @@ sample-sound (suc n) h =
     let next : n + 1 ≡ suc n = omega arith in
     subst (λ m. AreEntries (map sample_entry (range_with_len 0 m))) next
     (rw (map-range_with_len_more sample_entry 0 n n (omega arith))
-    (AreEntries-push _ (sample_entry n) before (record { place = omega arith; key = omega arith; sends = omega arith; fn_sends = omega arith; both = refl; of_fn = refl })
+    (AreEntries-push _ (sample_entry n) before
+        (record { place = omega arith; key = omega arith; sends = omega arith; fn_sends = omega arith; both = refl; of_fn = refl })
     (apart (λ (e : Entry). e.place) (λ k. refl) 0 n n (omega arith)) (apart (λ (e : Entry). e.key) (λ k. refl) 0 n n (omega arith)) refl))

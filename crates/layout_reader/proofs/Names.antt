@@ -11,7 +11,8 @@ use Rattle.layout_reader.specs.TopLevel.{is_empty}
 abbrev pub is_other : Level → String Global → Bool
 is_other level name = not (is_field level (string_bytes name))
 
-pub other_names : (level : Level) (es : List (String Global × Value)) → list_any (is_other level) (map (λ e. e.0) es) ≡ has_other_field level (members_view es)
+pub other_names : (level : Level) (es : List (String Global × Value))
+    → list_any (is_other level) (map (λ e. e.0) es) ≡ has_other_field level (members_view es)
 other_names level [] = refl
 other_names level (e ∷ es) = ap (λ b. not (is_field level (string_bytes e.0)) || b) (other_names level es)
 

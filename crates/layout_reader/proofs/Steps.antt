@@ -22,7 +22,8 @@ pub entries_step : (format : Format) (earlier : List Entry) (elements rest : Lis
 entries_step format earlier elements rest i element entry here gives = rw (here, gives) refl
 
 -- bytes that `toml` reads
-pub document_read : (bytes : List ℕ) (top : Members) → IsUtf8 bytes → parse_document bytes ≡ Some top → layout_of_document bytes ≡ layout_of top
+pub document_read : (bytes : List ℕ) (top : Members) → IsUtf8 bytes → parse_document bytes ≡ Some top
+    → layout_of_document bytes ≡ layout_of top
 unfolding layout_of_document tree_of
 document_read bytes top text reads = rw (is_utf8-from_IsUtf8 bytes text, reads) refl
 
@@ -35,7 +36,8 @@ tree_refused bytes refused =
     ] refl
 
 -- bytes that it refuses
-pub document_refused : (bytes : List ℕ) → (IsUtf8 bytes → parse_document bytes ≡ None) → layout_of_document bytes ≡ Err (record { entry = 0; number = number_of NotToml })
+pub document_refused : (bytes : List ℕ) → (IsUtf8 bytes → parse_document bytes ≡ None)
+    → layout_of_document bytes ≡ Err (record { entry = 0; number = number_of NotToml })
 unfolding layout_of_document
 document_refused bytes refused = rw (tree_refused bytes refused) refl
 

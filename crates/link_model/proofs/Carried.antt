@@ -105,7 +105,8 @@ module _ (events : List HostEvent) where
       ej et a e3 e4
 
 -- a meeting in which a byte passes finds a link that isn't held
-pub may_begin : (tested : Bool) (offer : Option ℕ) (earlier later : Link UnderWay) → ((byte : ℕ) → earlier ≡ Request byte → later ≡ Request byte)
+pub may_begin : (tested : Bool) (offer : Option ℕ) (earlier later : Link UnderWay)
+    → ((byte : ℕ) → earlier ≡ Request byte → later ≡ Request byte)
     → MayBegin (meeting_by tested offer earlier later) later
 may_begin false offer earlier later h = tt
 may_begin true None Free later h = tt

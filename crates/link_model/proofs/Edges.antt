@@ -23,13 +23,15 @@ are_at p (e ∷ es) =
       | false ↦ λ h. subst (λ v. AreAt p v) (sym (skip (λ (x : Edge). x.place == p) e es h)) (are_at p es)
     ] refl
 
-pub filter_same : (p : ℕ) (q r : Edge → Bool) → ((e : Edge) → e.place ≡ p → q e ≡ r e) → (es : List Edge) → AreAt p es → filter q es ≡ filter r es
+pub filter_same : (p : ℕ) (q r : Edge → Bool) → ((e : Edge) → e.place ≡ p → q e ≡ r e) → (es : List Edge) → AreAt p es
+    → filter q es ≡ filter r es
 filter_same p q r h [] at = refl
 filter_same p q r h (e ∷ es) at =
     ap (λ c. if c then e ∷ filter q es else filter q es) (h e at.0) ∙ ap (λ v. if r e then e ∷ v else v) (filter_same p q r h es at.1)
 
 -- the key at one place: an edge in the window is the only one, and turns its state
-module _ (pa pb : Edge → Bool) (sub : (e : Edge) → pb e ≡ false → pa e ≡ false) (far : (e f : Edge) → pa e ≡ false → e.stamp + 2240 ≤ f.stamp → pb f ≡ false) where
+module _ (pa pb : Edge → Bool) (sub : (e : Edge) → pb e ≡ false → pa e ≡ false)
+    (far : (e f : Edge) → pa e ≡ false → e.stamp + 2240 ≤ f.stamp → pb f ≡ false) where
   abbrev win : Edge → Bool
   win e = pb e && not (pa e)
 
@@ -66,10 +68,14 @@ module _ (pa pb : Edge → Bool) (sub : (e : Edge) → pb e ≡ false → pa e �
       → map change_of (filter win es) ≡ change_at p (last_of before (filter pa es)) (last_of before (filter pb es))
   one p before [] at alt d = stays_so p before
   one p before (e ∷ es) at alt d =
-      elim (pa e) as (λ c. pa e ≡ c → map change_of (filter win (e ∷ es)) ≡ change_at p (last_of before (filter pa (e ∷ es))) (last_of before (filter pb (e ∷ es)))) [
-        | true ↦ λ h. elim (pb e) as (λ c. pb e ≡ c → map change_of (filter win (e ∷ es)) ≡ change_at p (last_of before (filter pa (e ∷ es))) (last_of before (filter pb (e ∷ es)))) [
+      elim (pa e) as (λ c. pa e ≡ c
+          → map change_of (filter win (e ∷ es)) ≡ change_at p (last_of before (filter pa (e ∷ es))) (last_of before (filter pb (e ∷ es)))) [
+        | true ↦ λ h. elim (pb e) as (λ c. pb e ≡ c
+            → map change_of (filter win (e ∷ es))
+            ≡ change_at p (last_of before (filter pa (e ∷ es))) (last_of before (filter pb (e ∷ es)))) [
           | true ↦ λ g.
-              ap (λ v. map change_of v) (skip win e es (ap (λ c. c && not (pa e)) g ∙ ap not h)) ∙ one p e.down es at.1 alt.1 (tail_dwells e es d)
+              ap (λ v. map change_of v) (skip win e es (ap (λ c. c && not (pa e)) g ∙ ap not h))
+                  ∙ one p e.down es at.1 alt.1 (tail_dwells e es d)
               ∙ ap (λ v. change_at p (last_of before v) (last_of e.down (filter pb es))) (sym (keep pa e es h))
               ∙ ap (λ v. change_at p (last_of before (filter pa (e ∷ es))) (last_of before v)) (sym (keep pb e es g))
           | false ↦ λ g. let k : pa e ≡ false = sub e g in absurd (cc (h, k))
@@ -77,18 +83,22 @@ module _ (pa pb : Edge → Bool) (sub : (e : Edge) → pb e ≡ false → pa e �
         | false ↦ λ h.
             let rest : Nothing es = none e es h d in
             let a : filter pa (e ∷ es) ≡ [] = skip pa e es h ∙ rest.a in
-            elim (pb e) as (λ c. pb e ≡ c → map change_of (filter win (e ∷ es)) ≡ change_at p (last_of before (filter pa (e ∷ es))) (last_of before (filter pb (e ∷ es)))) [
+            elim (pb e) as (λ c. pb e ≡ c
+                → map change_of (filter win (e ∷ es))
+                ≡ change_at p (last_of before (filter pa (e ∷ es))) (last_of before (filter pb (e ∷ es)))) [
               | true ↦ λ g.
                   let b : filter pb (e ∷ es) ≡ e ∷ [] = keep pb e es g ∙ ap (λ v. e ∷ v) rest.b in
                   let w : filter win (e ∷ es) ≡ e ∷ [] = keep win e es (ap (λ c. c && not (pa e)) g ∙ ap not h) ∙ ap (λ v. e ∷ v) rest.w in
                   ap (λ v. map change_of v) w ∙ ap (λ (q : ℕ). (q, e.down) ∷ []) at.0 ∙ ap (λ (v : Bool). (p, v) ∷ []) alt.0
                   ∙ turns p before ∙ ap (λ v. change_at p before v) (sym alt.0)
-                  ∙ ap (λ v. change_at p (last_of before v) e.down) (sym a) ∙ ap (λ v. change_at p (last_of before (filter pa (e ∷ es))) (last_of before v)) (sym b)
+                  ∙ ap (λ v. change_at p (last_of before v) e.down) (sym a)
+                      ∙ ap (λ v. change_at p (last_of before (filter pa (e ∷ es))) (last_of before v)) (sym b)
               | false ↦ λ g.
                   let b : filter pb (e ∷ es) ≡ [] = skip pb e es g ∙ rest.b in
                   let w : filter win (e ∷ es) ≡ [] = skip win e es (ap (λ c. c && not (pa e)) g) ∙ rest.w in
                   ap (λ v. map change_of v) w ∙ stays_so p before
-                  ∙ ap (λ v. change_at p (last_of before v) before) (sym a) ∙ ap (λ v. change_at p (last_of before (filter pa (e ∷ es))) (last_of before v)) (sym b)
+                  ∙ ap (λ v. change_at p (last_of before v) before) (sym a)
+                      ∙ ap (λ v. change_at p (last_of before (filter pa (e ∷ es))) (last_of before v)) (sym b)
             ] refl
       ] refl
 
@@ -129,7 +139,8 @@ rises_less : (from k : ℕ) (ys : List (ℕ × Bool)) → from ≤ k → RisesFr
 rises_less from k [] l h = tt
 rises_less from k (y ∷ ys) l h = (omega (arith, l, h.0), h.1)
 
-rises_more : (from k : ℕ) (xs ys : List (ℕ × Bool)) → from ≤ k → RisesFrom from xs → AreBelow k xs → RisesFrom k ys → RisesFrom from (xs ++ ys)
+rises_more : (from k : ℕ) (xs ys : List (ℕ × Bool)) → from ≤ k → RisesFrom from xs → AreBelow k xs → RisesFrom k ys
+    → RisesFrom from (xs ++ ys)
 rises_more from k [] ys l h b g = rises_less from k ys l g
 rises_more from k (x ∷ xs) ys l h b g = (h.0, rises_more (suc x.0) k xs ys (omega (arith, b.0)) h.1 b.1 g)
 
@@ -145,7 +156,8 @@ change_rises k true false = (omega arith, tt)
 change_rises k false true = (omega arith, tt)
 change_rises k false false = tt
 
-pub shown_rises : (held now : ℕ → Bool) (k : ℕ) → (RisesFrom 0 (by_place (shown_at held now) k)) × (AreBelow k (by_place (shown_at held now) k))
+pub shown_rises : (held now : ℕ → Bool) (k : ℕ) → (RisesFrom 0 (by_place (shown_at held now) k))
+    × (AreBelow k (by_place (shown_at held now) k))
 shown_rises held now zero = (tt, tt)
 shown_rises held now (suc k) =
     let h = shown_rises held now k in (

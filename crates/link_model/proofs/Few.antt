@@ -23,8 +23,10 @@ digit b = if b then 1 else 0
 counts : {X : Type 0} (q : X → Bool) (x : X) (xs : List X) → length (filter q (x ∷ xs)) ≡ digit (q x) + length (filter q xs)
 counts q x xs =
     elim (q x) as (λ c. q x ≡ c → length (filter q (x ∷ xs)) ≡ digit (q x) + length (filter q xs)) [
-      | true ↦ λ h. let k : length (filter q (x ∷ xs)) ≡ length (x ∷ filter q xs) = ap length (keep q x xs h) in let d : digit (q x) ≡ 1 = ap digit h in omega (arith, k, d)
-      | false ↦ λ h. let k : length (filter q (x ∷ xs)) ≡ length (filter q xs) = ap length (skip q x xs h) in let d : digit (q x) ≡ 0 = ap digit h in omega (arith, k, d)
+      | true ↦ λ h. let k : length (filter q (x ∷ xs)) ≡ length (x ∷ filter q xs) = ap length (keep q x xs h) in
+          let d : digit (q x) ≡ 1 = ap digit h in omega (arith, k, d)
+      | false ↦ λ h. let k : length (filter q (x ∷ xs)) ≡ length (filter q xs) = ap length (skip q x xs h) in
+          let d : digit (q x) ≡ 0 = ap digit h in omega (arith, k, d)
     ] refl
 
 digit_most : (b : Bool) → digit b ≤ 1
@@ -38,34 +40,51 @@ module _ (q : Edge → Bool) where
 
   nothing_parted : (k : ℕ) → length (parted [] k) ≡ 0
   nothing_parted zero = refl
-  nothing_parted (suc k) = let h : length (parted [] k ++ []) ≡ length (parted [] k) + 0 = length-append (parted [] k) [] in let g = nothing_parted k in omega (arith, h, g)
+  nothing_parted (suc k) = let h : length (parted [] k ++ [])
+      ≡ length (parted [] k) + 0 = length-append (parted [] k) [] in let g = nothing_parted k in omega (arith, h, g)
 
   -- a place's part grows where the edge is of this place
-  grows : (e : Edge) (es : List Edge) (p : ℕ) → length (filter q (of_place p (e ∷ es))) ≤ (if e.place == p then digit (q e) else 0) + length (filter q (of_place p es))
+  grows : (e : Edge) (es : List Edge) (p : ℕ)
+      → length (filter q (of_place p (e ∷ es))) ≤ (if e.place == p then digit (q e) else 0) + length (filter q (of_place p es))
   grows e es p =
-      elim (e.place == p) as (λ c. (e.place == p) ≡ c → length (filter q (of_place p (e ∷ es))) ≤ (if c then digit (q e) else 0) + length (filter q (of_place p es))) [
-        | true ↦ λ h. let k : length (filter q (of_place p (e ∷ es))) ≡ length (filter q (e ∷ of_place p es)) = ap (λ v. length (filter q v)) (keep (λ (x : Edge). x.place == p) e es h) in let c = counts q e (of_place p es) in omega (arith, k, c)
-        | false ↦ λ h. let k : length (filter q (of_place p (e ∷ es))) ≡ length (filter q (of_place p es)) = ap (λ v. length (filter q v)) (skip (λ (x : Edge). x.place == p) e es h) in omega (arith, k)
+      elim (e.place == p) as (λ c. (e.place == p) ≡ c
+          → length (filter q (of_place p (e ∷ es))) ≤ (if c then digit (q e) else 0) + length (filter q (of_place p es))) [
+        | true ↦ λ h. let k : length (filter q (of_place p (e ∷ es)))
+            ≡ length (filter q (e ∷ of_place p es)) =
+            ap (λ v. length (filter q v)) (keep (λ (x : Edge). x.place == p) e es h) in
+            let c = counts q e (of_place p es) in omega (arith, k, c)
+        | false ↦ λ h. let k : length (filter q (of_place p (e ∷ es)))
+            ≡ length (filter q (of_place p es)) =
+            ap (λ v. length (filter q v)) (skip (λ (x : Edge). x.place == p) e es h) in omega (arith, k)
       ] refl
 
-  hit : (e : Edge) (k : ℕ) (d : ℕ) → (if nat_lt e.place k then d else 0) + (if e.place == k then d else 0) ≤ (if nat_lt e.place (suc k) then d else 0)
+  hit : (e : Edge) (k : ℕ) (d : ℕ)
+      → (if nat_lt e.place k then d else 0) + (if e.place == k then d else 0) ≤ (if nat_lt e.place (suc k) then d else 0)
   hit e k d =
-      elim (nat_lt e.place k) as (λ a. nat_lt e.place k ≡ a → (if a then d else 0) + (if e.place == k then d else 0) ≤ (if nat_lt e.place (suc k) then d else 0)) [
+      elim (nat_lt e.place k) as (λ a. nat_lt e.place k ≡ a
+          → (if a then d else 0) + (if e.place == k then d else 0) ≤ (if nat_lt e.place (suc k) then d else 0)) [
         | true ↦ λ h.
             let s : nat_lt e.place (suc k) ≡ true = grind (arith, nat_tests, h) in
             let n : (e.place == k) ≡ false = grind (arith, nat_tests, h) in
-            subst (λ b. d + (if e.place == k then d else 0) ≤ (if b then d else 0)) (sym s) (subst (λ b. d + (if b then d else 0) ≤ d) (sym n) (omega arith))
-        | false ↦ λ h. elim (e.place == k) as (λ a. (e.place == k) ≡ a → 0 + (if a then d else 0) ≤ (if nat_lt e.place (suc k) then d else 0)) [
-          | true ↦ λ g. let s : nat_lt e.place (suc k) ≡ true = grind (arith, nat_tests, g) in subst (λ b. 0 + d ≤ (if b then d else 0)) (sym s) (omega arith)
+            subst (λ b. d + (if e.place == k then d else 0) ≤ (if b then d else 0)) (sym s)
+                (subst (λ b. d + (if b then d else 0) ≤ d) (sym n) (omega arith))
+        | false ↦ λ h. elim (e.place == k) as (λ a. (e.place == k) ≡ a
+            → 0 + (if a then d else 0) ≤ (if nat_lt e.place (suc k) then d else 0)) [
+          | true ↦ λ g. let s : nat_lt e.place (suc k) ≡ true = grind (arith, nat_tests, g) in
+              subst (λ b. 0 + d ≤ (if b then d else 0)) (sym s) (omega arith)
           | false ↦ λ g. omega arith
         ] refl
       ] refl
 
-  parted_more : (e : Edge) (es : List Edge) (k : ℕ) → length (parted (e ∷ es) k) ≤ (if nat_lt e.place k then digit (q e) else 0) + length (parted es k)
+  parted_more : (e : Edge) (es : List Edge) (k : ℕ)
+      → length (parted (e ∷ es) k) ≤ (if nat_lt e.place k then digit (q e) else 0) + length (parted es k)
   parted_more e es zero = omega arith
   parted_more e es (suc k) =
-      let a : length (parted (e ∷ es) k ++ filter q (of_place k (e ∷ es))) ≡ length (parted (e ∷ es) k) + length (filter q (of_place k (e ∷ es))) = length-append (parted (e ∷ es) k) (filter q (of_place k (e ∷ es))) in
-      let b : length (parted es k ++ filter q (of_place k es)) ≡ length (parted es k) + length (filter q (of_place k es)) = length-append (parted es k) (filter q (of_place k es)) in
+      let a : length (parted (e ∷ es) k ++ filter q (of_place k (e ∷ es)))
+          ≡ length (parted (e ∷ es) k) + length (filter q (of_place k (e ∷ es))) =
+          length-append (parted (e ∷ es) k) (filter q (of_place k (e ∷ es))) in
+      let b : length (parted es k ++ filter q (of_place k es))
+          ≡ length (parted es k) + length (filter q (of_place k es)) = length-append (parted es k) (filter q (of_place k es)) in
       let ih = parted_more e es k in
       let g = grows e es k in
       let h = hit e k (digit (q e)) in
@@ -85,7 +104,8 @@ module _ (q : Edge → Bool) where
       omega (arith, a, b, c, d)
 
   -- edges within less than 2,240 cycles are at most four
-  module _ (base : ℕ) (above : (e : Edge) → q e ≡ true → base ≤ e.stamp) (under : (e : Edge) → e.place < 96 → q e ≡ true → e.stamp < base + 2240) where
+  module _ (base : ℕ) (above : (e : Edge) → q e ≡ true → base ≤ e.stamp)
+      (under : (e : Edge) → e.place < 96 → q e ≡ true → e.stamp < base + 2240) where
     off : (e : Edge) → e.place < 96 → base + 2240 ≤ e.stamp → q e ≡ false
     off e at l = elim (q e) as (λ c. q e ≡ c → q e ≡ false) [
       | true ↦ λ h. let u = under e at h in absurd (omega (arith, u, l))
@@ -108,7 +128,8 @@ module _ (q : Edge → Bool) where
     three a [] l r ps t = omega arith
     three a (b ∷ []) l r ps t = let x = at_most b [] in omega (arith, x)
     three a (b ∷ c ∷ []) l r ps t = let x = at_most b (c ∷ []) in let y = at_most c [] in omega (arith, x, y)
-    three a (b ∷ c ∷ d ∷ []) l r ps t = let x = at_most b (c ∷ d ∷ []) in let y = at_most c (d ∷ []) in let z = at_most d [] in omega (arith, x, y, z)
+    three a (b ∷ c ∷ d ∷ []) l r ps t = let x = at_most b (c ∷ d ∷ []) in let y = at_most c (d ∷ []) in
+        let z = at_most d [] in omega (arith, x, y, z)
     three a (b ∷ c ∷ d ∷ e ∷ es) l r ps t =
         let x = at_most b (c ∷ d ∷ e ∷ es) in
         let y = at_most c (d ∷ e ∷ es) in
@@ -133,7 +154,8 @@ nothing (e ∷ es) = nothing es
 
 module _ (starts : ℕ → ℕ) (last : ℕ) (cadence : KeepsCadenceTo starts last) where
   -- a read that is in time stays so
-  pub in_time : (stamp place j : ℕ) → j < last → nat_le stamp (read_at starts place (suc j)) ≡ false → nat_le stamp (read_at starts place j) ≡ false
+  pub in_time : (stamp place j : ℕ) → j < last → nat_le stamp (read_at starts place (suc j)) ≡ false
+      → nat_le stamp (read_at starts place j) ≡ false
   in_time stamp place j b h =
       let a = (cadence j (omega (arith, b))).most in
       let c = (cadence (suc j) (omega (arith, b))).least in
@@ -212,9 +234,11 @@ module _ (starts : ℕ → ℕ) (last : ℕ) (cadence : KeepsCadenceTo starts la
       let at_place : (p : ℕ) → p < 96 → map change_of (each p) ≡ shown_at held now p = λ p l.
       ap (λ v. map change_of v) (filter_same p (is_seen starts n) (λ e. read_now p n e && not (read_before p n e))
       (λ e at. seen_so n b e ∙ ap (λ r. read_now r n e && not (read_before r n e)) at) (of_place p edges) (are_at p edges))
-      ∙ one (read_before p n) (read_now p n) (sub p n b) (far p n b l) p false (of_place p edges) (are_at p edges) (ok.alternate p) (ok.dwell p)
+      ∙ one (read_before p n) (read_now p n) (sub p n b) (far p n b l) p false (of_place p edges) (are_at p edges)
+          (ok.alternate p) (ok.dwell p)
       ∙ ap (λ v. change_at p v (now p)) (downs_so edges n p) in
-      let same : tick_edges starts edges n ≡ shown held now = map_by_place change_of each 96 ∙ same_by_place (λ p. map change_of (each p)) (shown_at held now) at_place 96 (omega arith) in
+      let same : tick_edges starts edges n ≡ shown held now = map_by_place change_of each 96
+          ∙ same_by_place (λ p. map change_of (each p)) (shown_at held now) at_place 96 (omega arith) in
       let a : length (tick_edges starts edges n) ≡ length (by_place each 96) = length-map (by_place each 96) change_of in
       let c = no_longer (is_seen starts n) edges 96 in
       let d = four (is_seen starts n) (base n) (above n b) (under n b) edges ok.edges_in_order ok.thin ok.in_matrix in

@@ -28,12 +28,14 @@ tick_edges_known Q starts edges n h =
 
 -- one tick more
 pub whole_next : {S : Type 0} (kb : Machine S) (edges : List Edge) (host : List HostEvent) (starts : ℕ → ℕ) (n : ℕ) (before after : Whole S)
-    → before ≡ whole_at kb edges host starts n → after ≡ next_tick kb edges host starts n before → after ≡ whole_at kb edges host starts (n + 1)
+    → before ≡ whole_at kb edges host starts n → after ≡ next_tick kb edges host starts n before
+        → after ≡ whole_at kb edges host starts (n + 1)
 whole_next kb edges host starts n before after so_far next =
     next ∙ ap (λ w. next_tick kb edges host starts n w) so_far ∙ ap (λ k. whole_at kb edges host starts k) (sym (add-one n))
 
 -- the edges with their layers are at the same places
-pub layered_known : (Q : ℕ → Type 0) (is_fn : ℕ → Bool) (changes : List (ℕ × Bool)) (layers : Layers) → All (λ (c : ℕ × Bool). Q c.0) changes
+pub layered_known : (Q : ℕ → Type 0) (is_fn : ℕ → Bool) (changes : List (ℕ × Bool)) (layers : Layers)
+    → All (λ (c : ℕ × Bool). Q c.0) changes
     → All (λ (e : TickEdge). Q e.place) (layered is_fn changes layers)
 layered_known Q is_fn [] layers h = All-nil (λ (e : TickEdge). Q e.place)
 layered_known Q is_fn (c ∷ cs) layers h =
@@ -41,7 +43,8 @@ layered_known Q is_fn (c ∷ cs) layers h =
     (h 0 c (omega arith)) (layered_known Q is_fn cs (layers_after is_fn c layers) (λ k d l. h (suc k) d (omega (arith, l))))
 
 -- the starts of a run are few
-pub few_starts : (starts : ℕ → ℕ) (stop count : ℕ) → stop ≤ 240000000 → 0 < count → KeepsCadenceTo starts (count - 1) → IsLast starts stop (count - 1) → count < 2 ^ 32
+pub few_starts : (starts : ℕ → ℕ) (stop count : ℕ) → stop ≤ 240000000 → 0 < count → KeepsCadenceTo starts (count - 1)
+    → IsLast starts stop (count - 1) → count < 2 ^ 32
 few_starts starts stop zero e s c l = absurd (omega (arith, s))
 few_starts starts stop (suc zero) e s c l = omega arith
 few_starts starts stop (suc (suc n)) e s c l =

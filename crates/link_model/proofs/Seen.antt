@@ -87,15 +87,18 @@ same_place k false false h = refl
 held_by : (held now : ℕ → Bool) (p k : ℕ) → last_change (by_place (shown_at held now) k) p (held p) ≡ (if nat_lt p k then now p else held p)
 held_by held now p zero = let z : nat_lt p 0 ≡ false = grind (arith, nat_tests) in ap (λ c. if c then now p else held p) (sym z)
 held_by held now p (suc k) =
-    let all = last_more (by_place (shown_at held now) k) (shown_at held now k) p (held p) ∙ ap (λ v. last_change (shown_at held now k) p v) (held_by held now p k) in
-    elim (k == p) as (λ b. (k == p) ≡ b → last_change (by_place (shown_at held now) (suc k)) p (held p) ≡ (if nat_lt p (suc k) then now p else held p)) [
+    let all = last_more (by_place (shown_at held now) k) (shown_at held now k) p (held p)
+        ∙ ap (λ v. last_change (shown_at held now k) p v) (held_by held now p k) in
+    elim (k == p) as (λ b. (k == p) ≡ b
+        → last_change (by_place (shown_at held now) (suc k)) p (held p) ≡ (if nat_lt p (suc k) then now p else held p)) [
       | true ↦ λ h.
           let s : k ≡ p = eqb-true k p h in
           let off : nat_lt p k ≡ false = grind (arith, nat_tests, s) in
           let on : nat_lt p (suc k) ≡ true = grind (arith, nat_tests, s) in
           let y : (p == p) ≡ true = grind (arith, nat_tests) in
           all ∙ ap (λ c. last_change (shown_at held now k) p (if c then now p else held p)) off
-          ∙ ap (λ j. last_change (shown_at held now j) p (held p)) s ∙ same_place p (held p) (now p) y ∙ ap (λ c. if c then now p else held p) (sym on)
+          ∙ ap (λ j. last_change (shown_at held now j) p (held p)) s ∙ same_place p (held p) (now p) y
+              ∙ ap (λ c. if c then now p else held p) (sym on)
       | false ↦ λ h.
           let t : nat_lt p k ≡ nat_lt p (suc k) = elim (nat_lt p k) as (λ c. nat_lt p k ≡ c → c ≡ nat_lt p (suc k)) [
             | true ↦ λ g. let n : nat_lt p (suc k) ≡ true = grind (arith, nat_tests, g) in sym n
@@ -105,4 +108,5 @@ held_by held now p (suc k) =
     ] refl
 
 pub held_is_now : (held now : ℕ → Bool) (p : ℕ) → p < 96 → last_change (shown held now) p (held p) ≡ now p
-held_is_now held now p l = let t : nat_lt p 96 ≡ true = grind (arith, nat_tests, l) in held_by held now p 96 ∙ ap (λ c. if c then now p else held p) t
+held_is_now held now p l = let t : nat_lt p 96 ≡ true = grind (arith, nat_tests, l) in held_by held now p 96
+    ∙ ap (λ c. if c then now p else held p) t

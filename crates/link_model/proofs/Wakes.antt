@@ -35,7 +35,8 @@ no_event y (Some e) s end l =
 
 no_read : (y filled : ℕ) (h : Host) (end : ℕ) → y < read_wake filled h.masked h.core end → interrupts y filled h ≡ false
 no_read y filled h end l =
-    elim (h.core.output_full && interrupt_enabled h.core && not h.masked) as (λ g. y < (if g then filled + 64 else end) → (g && nat_le (filled + 64) y) ≡ false) [
+    elim (h.core.output_full && interrupt_enabled h.core && not h.masked) as (λ g. y <
+        (if g then filled + 64 else end) → (g && nat_le (filled + 64) y) ≡ false) [
       | true ↦ λ k. grind (arith, nat_tests, k)
       | false ↦ λ k. refl
     ] l
@@ -45,7 +46,8 @@ silent y None h e = refl
 silent y (Some event) h e = ap (λ c. acted_where c event.act h) e
 
 module _ {F : Type 0} where
-  no_take : (y : ℕ) (l : Link F) (awaits full : Bool) (input : Option Input) (core : ControllerState) (p : Port F) (end : ℕ) (nothing : Option Taken) → nothing ≡ None
+  no_take : (y : ℕ) (l : Link F) (awaits full : Bool) (input : Option Input) (core : ControllerState) (p : Port F)
+      (end : ℕ) (nothing : Option Taken) → nothing ≡ None
       → y < take_wake l awaits full (is_some input) end
       → took_where y (held_since y awaits l) (if full then nothing else taken_from input core) p ≡ record { port = p; did = Nothing }
   no_take y Free true full input core p end nothing n l = refl
@@ -64,8 +66,10 @@ module _ {F : Type 0} where
   no_move y Free false true end l = absurd (omega (arith, l))
   no_move y Free false false end l = refl
   no_move y (Hold since) awaits true end l = refl
-  no_move y (Hold since) awaits false end l = let g : nat_le (since + 64) y ≡ false = grind (arith, nat_tests, l) in ap (λ c. if c then Free else Hold since) g
-  no_move y (Ask byte since) awaits stop end l = let g : nat_le (since + 64) y ≡ false = grind (arith, nat_tests, l) in ap (λ c. if c then Request byte else Ask byte since) g
+  no_move y (Hold since) awaits false end l = let g : nat_le (since + 64) y ≡ false = grind (arith, nat_tests, l) in
+      ap (λ c. if c then Free else Hold since) g
+  no_move y (Ask byte since) awaits stop end l = let g : nat_le (since + 64) y
+      ≡ false = grind (arith, nat_tests, l) in ap (λ c. if c then Request byte else Ask byte since) g
   no_move y (Request byte) awaits stop end l = refl
   no_move y (Busy u) awaits stop end l = refl
 

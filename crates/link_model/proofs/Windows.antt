@@ -18,7 +18,8 @@ use Rattle.link_model.proofs.Edges.{are_at, filter_same, same_by_place}
 use Rattle.link_model.proofs.Few.{seen_so}
 
 -- the stamps of a list in order don't fall
-head_least : (e : Edge) (es : List Edge) → AreInOrder (e ∷ es) → (j : ℕ) (d : Edge) → j < length (e ∷ es) → e.stamp ≤ (get_or (e ∷ es) j d).stamp
+head_least : (e : Edge) (es : List Edge) → AreInOrder (e ∷ es) → (j : ℕ) (d : Edge) → j < length (e ∷ es)
+    → e.stamp ≤ (get_or (e ∷ es) j d).stamp
 head_least e es h zero d l = omega arith
 head_least e [] h (suc j) d l = absurd (omega (arith, l))
 head_least e (f ∷ fs) h (suc j) d l =
@@ -30,7 +31,8 @@ tail_order : (e : Edge) (es : List Edge) → AreInOrder (e ∷ es) → AreInOrde
 tail_order e [] h = tt
 tail_order e (f ∷ fs) h = h.1
 
-pub in_order : (es : List Edge) → AreInOrder es → (i j : ℕ) (d : Edge) → i ≤ j → j < length es → (get_or es i d).stamp ≤ (get_or es j d).stamp
+pub in_order : (es : List Edge) → AreInOrder es → (i j : ℕ) (d : Edge) → i ≤ j → j < length es
+    → (get_or es i d).stamp ≤ (get_or es j d).stamp
 in_order [] h i j d l m = absurd (omega (arith, m))
 in_order (e ∷ es) h zero j d l m = head_least e es h j d m
 in_order (e ∷ es) h (suc i) zero d l m = absurd (omega (arith, l))
@@ -38,7 +40,8 @@ in_order (e ∷ es) h (suc i) (suc j) d l m = in_order es (tail_order e es h) i 
 
 -- what is seen of a place, among edges none of which is seen
 module _ (q : Edge → Bool) (p : ℕ) where
-  pub nothing_seen : (es : List Edge) → ((k : ℕ) (d : Edge) → k < length es → (get_or es k d).place ≡ p → q (get_or es k d) ≡ false) → filter q (of_place p es) ≡ []
+  pub nothing_seen : (es : List Edge)
+      → ((k : ℕ) (d : Edge) → k < length es → (get_or es k d).place ≡ p → q (get_or es k d) ≡ false) → filter q (of_place p es) ≡ []
   nothing_seen [] h = refl
   nothing_seen (e ∷ es) h =
       let rest : filter q (of_place p es) ≡ [] = nothing_seen es (λ k d l at. h (suc k) d (omega (arith, l)) at) in
@@ -108,10 +111,12 @@ module _ (q : Edge → Bool) (p : ℕ) where
   one_of e false = refl
 
   pub seen_next : (es : List Edge) (i : ℕ) (e : Edge) (s0 before after : List (ℕ × Bool)) → i < length es → e ≡ get_or es i e
-      → before ≡ s0 ++ map change_of (filter q (of_place p (take i es))) → after ≡ before ++ (if (e.place == p) && q e then change_of e ∷ [] else [])
+      → before ≡ s0 ++ map change_of (filter q (of_place p (take i es)))
+          → after ≡ before ++ (if (e.place == p) && q e then change_of e ∷ [] else [])
       → after ≡ s0 ++ map change_of (filter q (of_place p (take (i + 1) es)))
   seen_next es i e s0 before after within is so_far next =
-      let t : take (i + 1) es ≡ take i es ++ e ∷ [] = rw add-one (take-suc es i e within ∙ ap (λ (v : Edge). take i es ++ v ∷ []) (sym is)) in
+      let t : take (i + 1) es
+          ≡ take i es ++ e ∷ [] = rw add-one (take-suc es i e within ∙ ap (λ (v : Edge). take i es ++ v ∷ []) (sym is)) in
       let f : List (ℕ × Bool) = map change_of (filter q (of_place p (take i es))) in
       let o : List (ℕ × Bool) = if (e.place == p) && q e then change_of e ∷ [] else [] in
       next ∙ ap (λ v. v ++ o) so_far ∙ append_assoc s0 f o ∙ ap (λ v. s0 ++ v)
@@ -121,17 +126,21 @@ module _ (q : Edge → Bool) (p : ℕ) where
       ∙ ap (λ v. map change_of (filter q (of_place p v))) (sym t))
 
 -- what the program judges by is what sees the edge
-pub sees_so : (starts : ℕ → ℕ) (n : ℕ) → KeepsCadenceTo starts n → (e : Edge) → is_seen starts n e ≡ sees (start_before starts n) (starts n) e
+pub sees_so : (starts : ℕ → ℕ) (n : ℕ) → KeepsCadenceTo starts n → (e : Edge)
+    → is_seen starts n e ≡ sees (start_before starts n) (starts n) e
 sees_so starts zero cadence e = seen_so starts 0 cadence 0 (omega arith) e
 sees_so starts (suc n) cadence e = seen_so starts (suc n) cadence (suc n) (omega arith) e
 
-pub tick_edges_so : (starts : ℕ → ℕ) (n : ℕ) (edges some : List Edge) → KeepsCadenceTo starts n → HasSeen (start_before starts n) (starts n) some edges
+pub tick_edges_so : (starts : ℕ → ℕ) (n : ℕ) (edges some : List Edge) → KeepsCadenceTo starts n
+    → HasSeen (start_before starts n) (starts n) some edges
     → map change_of (by_place (λ p. filter (sees (start_before starts n) (starts n)) (of_place p some)) 96) ≡ tick_edges starts edges n
 tick_edges_so starts n edges some cadence has =
     ap (λ v. map change_of v) (same_by_place
     (λ p. filter (sees (start_before starts n) (starts n)) (of_place p some))
     (λ p. filter (is_seen starts n) (of_place p edges))
-    (λ p l. has p l ∙ sym (filter_same p (is_seen starts n) (sees (start_before starts n) (starts n)) (λ e at. sees_so starts n cadence e) (of_place p edges) (are_at p edges)))
+    (λ p l. has p l ∙ sym
+        (filter_same p (is_seen starts n) (sees (start_before starts n) (starts n))
+        (λ e at. sees_so starts n cadence e) (of_place p edges) (are_at p edges)))
     96 (omega arith))
 
 -- an edge before one up to a stamp is up to it too

@@ -64,7 +64,8 @@ placed-capped p [] = refl
 placed-capped p (line ∷ lines) =
     let s = start_of p line.statement in
     let more = map line_capped lines in
-    ap (λ s. record { start = s; line = line_capped line } ∷ kept_places (capped (s + count_of (statement_capped line.statement))) more) (start-capped p line.statement)
+    ap (λ s. record { start = s; line = line_capped line } ∷ kept_places
+        (capped (s + count_of (statement_capped line.statement))) more) (start-capped p line.statement)
     ∙ ap (λ c. at_capped (record { start = s; line = line }) ∷ kept_places (capped (capped s + c)) more) (count-capped line.statement)
     ∙ ap (λ n. at_capped (record { start = s; line = line }) ∷ kept_places n more) (capped-add s (count_of line.statement))
     ∙ ap (λ ps. at_capped (record { start = s; line = line }) ∷ ps) (placed-capped (s + count_of line.statement) lines)
@@ -74,7 +75,8 @@ labelled-capped : (at : Placed) → labelled (at_capped at) ≡ map def_capped (
 labelled-capped at = label at.start at.line.flaw at.line.statement at.line.label
   where
     label : (start : ℕ) (flaw : Option Flaw) (s : Statement) (l : Option (List ℕ))
-        → labelled (at_capped (record { start = start; line = record { flaw = flaw; label = l; statement = s } })) ≡ map def_capped (labelled (record { start = start; line = record { flaw = flaw; label = l; statement = s } }))
+        → labelled (at_capped (record { start = start; line = record { flaw = flaw; label = l; statement = s } }))
+            ≡ map def_capped (labelled (record { start = start; line = record { flaw = flaw; label = l; statement = s } }))
     label start flaw s None = refl
     label start flaw s (Some q) = refl
 
@@ -92,7 +94,8 @@ filter-capped : (ds : List Definition) → filter free (map def_capped ds) ≡ m
 filter-capped [] = refl
 filter-capped (d ∷ ds) = push (free d) d (filter free (map def_capped ds)) (filter free ds) (filter-capped ds)
   where
-    push : (b : Bool) (d : Definition) (xs ys : List Definition) → xs ≡ map def_capped ys → cond b (def_capped d ∷ xs) xs ≡ map def_capped (cond b (d ∷ ys) ys)
+    push : (b : Bool) (d : Definition) (xs ys : List Definition) → xs ≡ map def_capped ys
+        → cond b (def_capped d ∷ xs) xs ≡ map def_capped (cond b (d ∷ ys) ys)
     push true d xs ys h = ap (λ zs. def_capped d ∷ zs) h
     push false d xs ys h = h
 
@@ -114,8 +117,10 @@ value-capped : (ds : List Definition) (q : List ℕ) → value_named (map def_ca
 value-capped [] q = refl
 value-capped (d ∷ ds) q = found (bytes_eq q d.name) d ds q (value-capped ds q)
   where
-    found : (t : Bool) (d : Definition) (ds : List Definition) (q : List ℕ) → value_named (map def_capped ds) q ≡ option_map capped (value_named ds q)
-        → option_map (λ d. d.value) (cond t (Some (def_capped d)) (find (λ d. bytes_eq q d.name) (map def_capped ds))) ≡ option_map capped (option_map (λ d. d.value) (cond t (Some d) (find (λ d. bytes_eq q d.name) ds)))
+    found : (t : Bool) (d : Definition) (ds : List Definition) (q : List ℕ)
+        → value_named (map def_capped ds) q ≡ option_map capped (value_named ds q)
+        → option_map (λ d. d.value) (cond t (Some (def_capped d)) (find (λ d. bytes_eq q d.name) (map def_capped ds)))
+            ≡ option_map capped (option_map (λ d. d.value) (cond t (Some d) (find (λ d. bytes_eq q d.name) ds)))
     found true d ds q h = refl
     found false d ds q h = h
 
@@ -126,7 +131,8 @@ names-capped ps =
     λ i q. each q i
 
 -- faults
-any-map : {X Y : Type 0} (p : Y → Bool) (r : X → Bool) (f : X → Y) (xs : List X) → ((x : X) → p (f x) ≡ r x) → list_any p (map f xs) ≡ list_any r xs
+any-map : {X Y : Type 0} (p : Y → Bool) (r : X → Bool) (f : X → Y) (xs : List X) → ((x : X) → p (f x) ≡ r x)
+    → list_any p (map f xs) ≡ list_any r xs
 any-map p r f [] h = refl
 any-map p r f (x ∷ xs) h = rw (h x) (ap (λ b. r x || b) (any-map p r f xs h))
 
@@ -142,16 +148,19 @@ arguments-capped (Origin n) = refl
 arguments-capped (Data vs) = arguments-data vs
 arguments-capped (Equate q n) = refl
 
-above-some : (limit : ℕ) (o : Option ℕ) → limit < 65536 → option_map_or (λ n. nat_lt limit n) (option_map capped o) false ≡ option_map_or (λ n. nat_lt limit n) o false
+above-some : (limit : ℕ) (o : Option ℕ) → limit < 65536
+    → option_map_or (λ n. nat_lt limit n) (option_map capped o) false ≡ option_map_or (λ n. nat_lt limit n) o false
 above-some limit None h = refl
 above-some limit (Some n) h = lt-capped limit n h
 
 above-low : (limit : ℕ) (o : Option ℕ) → 255 ≤ limit
-    → option_map_or (λ n. nat_lt limit n) (option_map (λ v. v % 256) (option_map capped o)) false ≡ option_map_or (λ n. nat_lt limit n) (option_map (λ v. v % 256) o) false
+    → option_map_or (λ n. nat_lt limit n) (option_map (λ v. v % 256) (option_map capped o)) false
+        ≡ option_map_or (λ n. nat_lt limit n) (option_map (λ v. v % 256) o) false
 above-low limit None h = refl
 above-low limit (Some n) h = low-small limit (capped n) h ∙ sym (low-small limit n h)
 
-above-capped : (names : Meanings) (limit : ℕ) (v : Value) → 255 ≤ limit → limit < 65536 → is_above (names_capped names) limit (value_capped v) ≡ is_above names limit v
+above-capped : (names : Meanings) (limit : ℕ) (v : Value) → 255 ≤ limit → limit < 65536
+    → is_above (names_capped names) limit (value_capped v) ≡ is_above names limit v
 above-capped names limit (Number n) l h = lt-capped limit n h
 above-capped names limit (Named q) l h = above-some limit (names q) h
 above-capped names limit (Low q) l h = above-low limit (names q) l
@@ -186,9 +195,11 @@ reserved d = is_reserved d.name
 refused-capped : (names : Meanings) (at : Placed) → is_refused (names_capped names) (at_capped at) ≡ is_refused names at
 refused-capped names at =
     let large = ap (list_any (is_too_large (names_capped names))) (arguments-capped at.line.statement)
-    ∙ any-map (is_too_large (names_capped names)) (is_too_large names) argument_capped (arguments at.line.statement) (λ a. past-capped names a.role a.value) in
+    ∙ any-map (is_too_large (names_capped names)) (is_too_large names) argument_capped (arguments at.line.statement)
+        (λ a. past-capped names a.role a.value) in
     let label = ap (list_any reserved) (labelled-capped at) ∙ any-map reserved reserved def_capped (labelled at) (λ d. refl) in
-    let equate = ap (list_any reserved) (equated-capped at.line.statement) ∙ any-map reserved reserved def_capped (equated at.line.statement) (λ d. refl) in
+    let equate = ap (list_any reserved) (equated-capped at.line.statement)
+        ∙ any-map reserved reserved def_capped (equated at.line.statement) (λ d. refl) in
     let both = ap (λ b. is_some at.line.label && b) (equate-capped at.line.statement) in
     cc (large, wrong-capped at.line.statement, label, equate, both)
 
@@ -203,12 +214,14 @@ some-map (Some n) = refl
 none-capped : (names : Meanings) (v : Value) → is_none (meaning (names_capped names) (value_capped v)) ≡ is_none (meaning names v)
 none-capped names (Number n) = refl
 none-capped names (Named q) = none-map capped (names q)
-none-capped names (Low q) = none-map (λ v. v % 256) (option_map capped (names q)) ∙ none-map capped (names q) ∙ sym (none-map (λ v. v % 256) (names q))
+none-capped names (Low q) = none-map (λ v. v % 256) (option_map capped (names q)) ∙ none-map capped (names q)
+    ∙ sym (none-map (λ v. v % 256) (names q))
 
 unknown-capped : (names : Meanings) (at : Placed) → has_unknown_name (names_capped names) (at_capped at) ≡ has_unknown_name names at
 unknown-capped names at =
     ap (list_any (λ a. is_none (meaning (names_capped names) a.value))) (arguments-capped at.line.statement)
-    ∙ any-map (λ a. is_none (meaning (names_capped names) a.value)) (λ a. is_none (meaning names a.value)) argument_capped (arguments at.line.statement) (λ a. none-capped names a.value)
+    ∙ any-map (λ a. is_none (meaning (names_capped names) a.value))
+        (λ a. is_none (meaning names a.value)) argument_capped (arguments at.line.statement) (λ a. none-capped names a.value)
 
 again-capped : (seen : Meanings) (at : Placed) → is_defined_again (names_capped seen) (at_capped at) ≡ is_defined_again seen at
 again-capped seen at =
@@ -238,18 +251,23 @@ outside-number n start h =
     let near : (start + 1) / 256 ≤ 8 = omega arith in
     ap (λ s. not (capped n / 256 == (s + 1) / 256)) (small-capped start (omega arith)) ∙ ap not (page-capped n ((start + 1) / 256) near)
 
-outside-some : (o : Option ℕ) (start : ℕ) → start ≤ 2048 → option_map_or (λ n. not (n / 256 == (capped start + 1) / 256)) (option_map capped o) false ≡ option_map_or (λ n. not (n / 256 == (start + 1) / 256)) o false
+outside-some : (o : Option ℕ) (start : ℕ) → start ≤ 2048
+    → option_map_or (λ n. not (n / 256 == (capped start + 1) / 256)) (option_map capped o) false
+    ≡ option_map_or (λ n. not (n / 256 == (start + 1) / 256)) o false
 outside-some None start h = refl
 outside-some (Some n) start h = outside-number n start h
 
 outside-low : (o : Option ℕ) (start : ℕ) → start ≤ 2048
-    → option_map_or (λ n. not (n / 256 == (capped start + 1) / 256)) (option_map (λ v. v % 256) (option_map capped o)) false ≡ option_map_or (λ n. not (n / 256 == (start + 1) / 256)) (option_map (λ v. v % 256) o) false
+    → option_map_or (λ n. not (n / 256 == (capped start + 1) / 256))
+        (option_map (λ v. v % 256) (option_map capped o)) false
+        ≡ option_map_or (λ n. not (n / 256 == (start + 1) / 256)) (option_map (λ v. v % 256) o) false
 outside-low None start h = refl
 outside-low (Some n) start h =
     ap (λ s. not (capped n % 256 / 256 == (s + 1) / 256)) (small-capped start (omega arith))
     ∙ ap not (low-page (capped n) ((start + 1) / 256) ∙ sym (low-page n ((start + 1) / 256)))
 
-outside-capped : (names : Meanings) (start : ℕ) (role : Role) (v : Value) → start ≤ 2048 → is_outside (names_capped names) (capped start) role (value_capped v) ≡ is_outside names start role v
+outside-capped : (names : Meanings) (start : ℕ) (role : Role) (v : Value) → start ≤ 2048
+    → is_outside (names_capped names) (capped start) role (value_capped v) ≡ is_outside names start role v
 outside-capped names start Byte v h = refl
 outside-capped names start Address v h = refl
 outside-capped names start Target (Number n) h = outside-number n start h
@@ -257,13 +275,16 @@ outside-capped names start Target (Named q) h = outside-some (names q) start h
 outside-capped names start Target (Low q) h = outside-low (names q) start h
 
 off-at : (names : Meanings) (start : ℕ) (s : Statement) → start ≤ 2048
-    → list_any (λ a. is_outside (names_capped names) (capped start) a.role a.value) (arguments (statement_capped s)) ≡ list_any (λ a. is_outside names start a.role a.value) (arguments s)
+    → list_any (λ a. is_outside (names_capped names) (capped start) a.role a.value) (arguments (statement_capped s))
+        ≡ list_any (λ a. is_outside names start a.role a.value) (arguments s)
 off-at names start s h =
     ap (list_any (λ a. is_outside (names_capped names) (capped start) a.role a.value)) (arguments-capped s)
-    ∙ any-map (λ a. is_outside (names_capped names) (capped start) a.role a.value) (λ a. is_outside names start a.role a.value) argument_capped (arguments s) (λ a. outside-capped names start a.role a.value h)
+    ∙ any-map (λ a. is_outside (names_capped names) (capped start) a.role a.value)
+        (λ a. is_outside names start a.role a.value) argument_capped (arguments s) (λ a. outside-capped names start a.role a.value h)
 
 off-capped : (names : Meanings) (place : ℕ) (s : Statement) → place ≤ 2048
-    → list_any (λ a. is_outside (names_capped names) (capped (start_of place s)) a.role a.value) (arguments (statement_capped s)) ≡ list_any (λ a. is_outside names (start_of place s) a.role a.value) (arguments s)
+    → list_any (λ a. is_outside (names_capped names) (capped (start_of place s)) a.role a.value)
+        (arguments (statement_capped s)) ≡ list_any (λ a. is_outside names (start_of place s) a.role a.value) (arguments s)
 off-capped names place Nothing h = refl
 off-capped names place (Instruction opcode a) h = off-at names place (Instruction opcode a) h
 off-capped names place (Origin n) h = refl
@@ -282,19 +303,25 @@ covers-number s c k h = cases (cases_lt s 65536)
 
 covers-capped : (at : Placed) (k : ℕ) → k < 2048 → covers (at_capped at) k ≡ covers at k
 covers-capped at k h =
-    ap (λ c. nat_le (capped at.start) k && nat_lt k (capped at.start + c)) (count-capped at.line.statement) ∙ covers-number at.start (count_of at.line.statement) k h
+    ap (λ c. nat_le (capped at.start) k && nat_lt k (capped at.start + c)) (count-capped at.line.statement)
+        ∙ covers-number at.start (count_of at.line.statement) k h
 
 filled-capped : (ps : List Placed) (k : ℕ) → k < 2048 → is_filled (map at_capped ps) k ≡ is_filled ps k
 filled-capped ps k h = any-map (λ at. covers at k) (λ at. covers at k) at_capped ps (λ at. covers-capped at k h)
 
-filled_again-capped : (earlier : List Placed) (at : Placed) → is_filled_again (is_filled (map at_capped earlier)) (at_capped at) ≡ is_filled_again (is_filled earlier) at
+filled_again-capped : (earlier : List Placed) (at : Placed)
+    → is_filled_again (is_filled (map at_capped earlier)) (at_capped at) ≡ is_filled_again (is_filled earlier) at
 filled_again-capped earlier at =
     any_places-alike (λ k. covers (at_capped at) k && is_filled (map at_capped earlier) k) (λ k. covers at k && is_filled earlier k)
-    (λ k h. ap (λ b. b && is_filled (map at_capped earlier) k) (covers-capped at k h) ∙ ap (λ b. covers at k && b) (filled-capped earlier k h))
+    (λ k h. ap (λ b. b && is_filled (map at_capped earlier) k) (covers-capped at k h)
+        ∙ ap (λ b. covers at k && b) (filled-capped earlier k h))
 
 pub fault-capped : (names : Meanings) (earlier : List Placed) (place : ℕ) (line : Line) → place ≤ 2048
-    → fault_behind (names_capped names) (map at_capped earlier) (at_capped (record { start = start_of place line.statement; line = line })) ≡ fault_behind names earlier (record { start = start_of place line.statement; line = line })
+    → fault_behind (names_capped names) (map at_capped earlier)
+        (at_capped (record { start = start_of place line.statement; line = line }))
+        ≡ fault_behind names earlier (record { start = start_of place line.statement; line = line })
 fault-capped names earlier place line h =
     let at : Placed = record { start = start_of place line.statement; line = line } in
     ap (λ m. fault_of (names_capped names) m (is_filled (map at_capped earlier)) (at_capped at)) (names-capped earlier)
-    ∙ cc (refused-capped names at, unknown-capped names at, again-capped (value_named (definitions earlier)) at, off-capped names place line.statement h, past_end-capped at, filled_again-capped earlier at)
+    ∙ cc (refused-capped names at, unknown-capped names at, again-capped
+        (value_named (definitions earlier)) at, off-capped names place line.statement h, past_end-capped at, filled_again-capped earlier at)

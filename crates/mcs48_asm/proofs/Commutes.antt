@@ -24,31 +24,38 @@ pub part-capped : (o : Option Value) → unwrap_or (option_map value_capped o) (
 part-capped None = refl
 part-capped (Some v) = refl
 
-pub given-capped : (role : Role) (o : Option Value) → option_map (given role) (option_map value_capped o) ≡ option_map reading_capped (option_map (given role) o)
+pub given-capped : (role : Role) (o : Option Value)
+    → option_map (given role) (option_map value_capped o) ≡ option_map reading_capped (option_map (given role) o)
 given-capped role None = refl
 given-capped role (Some v) = refl
 
-or-capped : (a b : Option Argument) → option_or (option_map argument_capped a) (option_map argument_capped b) ≡ option_map argument_capped (option_or a b)
+or-capped : (a b : Option Argument)
+    → option_or (option_map argument_capped a) (option_map argument_capped b) ≡ option_map argument_capped (option_or a b)
 or-capped None b = refl
 or-capped (Some x) b = refl
 
 joined-capped : (a b : Reading) → joined (reading_capped a) (reading_capped b) ≡ reading_capped (joined a b)
 joined-capped a b = λ i. record { offset = (joined a b).offset; argument = or-capped a.argument b.argument i }
 
-pub both-capped : (a b : Option Reading) → both (option_map reading_capped a) (option_map reading_capped b) ≡ option_map reading_capped (both a b)
+pub both-capped : (a b : Option Reading)
+    → both (option_map reading_capped a) (option_map reading_capped b) ≡ option_map reading_capped (both a b)
 both-capped None b = refl
 both-capped (Some x) None = refl
 both-capped (Some x) (Some y) = λ i. Some (joined-capped x y i)
 
-pub instruction-capped : (first : ℕ) (o : Option Reading) → option_map (instruction_with first) (option_map reading_capped o) ≡ option_map statement_capped (option_map (instruction_with first) o)
+pub instruction-capped : (first : ℕ) (o : Option Reading)
+    → option_map (instruction_with first) (option_map reading_capped o)
+    ≡ option_map statement_capped (option_map (instruction_with first) o)
 instruction-capped first None = refl
 instruction-capped first (Some x) = refl
 
-or-kept : (a b : Option Statement) → option_or (option_map statement_capped a) (option_map statement_capped b) ≡ option_map statement_capped (option_or a b)
+or-kept : (a b : Option Statement)
+    → option_or (option_map statement_capped a) (option_map statement_capped b) ≡ option_map statement_capped (option_or a b)
 or-kept None b = refl
 or-kept (Some x) b = refl
 
-fit-capped : (rows : List KeptRow) (tokens : List (List ℕ)) → kept_fit rows tokens ≡ option_map statement_capped (first_fit (map form_seen rows) tokens)
+fit-capped : (rows : List KeptRow) (tokens : List (List ℕ))
+    → kept_fit rows tokens ≡ option_map statement_capped (first_fit (map form_seen rows) tokens)
 fit-capped [] tokens = refl
 fit-capped (row ∷ rows) tokens =
     ap (option_or (option_map statement_capped (instruction_in (form_seen row) tokens))) (fit-capped rows tokens)
@@ -59,25 +66,29 @@ found-capped None = refl
 found-capped (Some x) = refl
 
 -- the instruction of the program's rows
-pub instruction-found : (rows : List KeptRow) (tokens : List (List ℕ)) (found : Option Statement) → map form_seen rows ≡ instructions → found ≡ kept_fit rows tokens
+pub instruction-found : (rows : List KeptRow) (tokens : List (List ℕ)) (found : Option Statement)
+    → map form_seen rows ≡ instructions → found ≡ kept_fit rows tokens
     → ok_or found Misfit ≡ found_capped (ok_or (first_fit instructions tokens) Misfit)
 instruction-found rows tokens found forms is =
     ap (λ o. ok_or o Misfit) (is ∙ fit-capped rows tokens)
     ∙ ap (λ forms. ok_or (option_map statement_capped (first_fit forms tokens)) Misfit) forms
     ∙ found-capped (first_fit instructions tokens)
 
-pub line-capped : (label : Option (List ℕ)) (found : Result Statement Flaw) → line_with label (found_capped found) ≡ line_capped (line_with label found)
+pub line-capped : (label : Option (List ℕ)) (found : Result Statement Flaw)
+    → line_with label (found_capped found) ≡ line_capped (line_with label found)
 line-capped label (Ok statement) = refl
 line-capped label (Err flaw) = refl
 
 -- the values of parts
-values-some : (o : Option Value) (os : Option (List Value)) → is_some (option_and_then (λ v. option_map (λ vs. v ∷ vs) os) o) ≡ (is_some o && is_some os)
+values-some : (o : Option Value) (os : Option (List Value))
+    → is_some (option_and_then (λ v. option_map (λ vs. v ∷ vs) os) o) ≡ (is_some o && is_some os)
 values-some None os = refl
 values-some (Some v) None = refl
 values-some (Some v) (Some vs) = refl
 
 pub parts-turn : (text part more : List ℕ) → slice_split is_comma text ≡ part ∷ slice_split is_comma more
-    → is_some (values_of (parts_of (tokens_of text))) ≡ (is_some (value_of (tokens_of part)) && is_some (values_of (parts_of (tokens_of more))))
+    → is_some (values_of (parts_of (tokens_of text)))
+        ≡ (is_some (value_of (tokens_of part)) && is_some (values_of (parts_of (tokens_of more))))
 parts-turn text part more split =
     ap (λ parts. is_some (values_of parts)) (parts-tokens text ∙ ap (map tokens_of) split)
     ∙ values-some (value_of (tokens_of part)) (values_of (map tokens_of (slice_split is_comma more)))
@@ -87,7 +98,8 @@ and-true : (b : Bool) → (b && true) ≡ b
 and-true true = refl
 and-true false = refl
 
-pub parts-end : (text : List ℕ) → slice_split is_comma text ≡ text ∷ [] → is_some (values_of (parts_of (tokens_of text))) ≡ is_some (value_of (tokens_of text))
+pub parts-end : (text : List ℕ) → slice_split is_comma text ≡ text ∷ []
+    → is_some (values_of (parts_of (tokens_of text))) ≡ is_some (value_of (tokens_of text))
 parts-end text split =
     ap (λ parts. is_some (values_of parts)) (parts-tokens text ∙ ap (map tokens_of) split)
     ∙ values-some (value_of (tokens_of text)) (Some [])

@@ -54,12 +54,14 @@ known-number : (a : Bool) (o : Option ℕ) (n : ℕ) → o ≡ Some n → (a || 
 known-number true o n h = refl
 known-number false o n h = ap is_some h
 
-pub shown-numeral : (numeral : List ℕ) (n : ℕ) → IsNumeral (48 ∷ numeral) n → (is_shown (48 ∷ numeral) ≡ true) × (is_shown (35 ∷ 48 ∷ numeral) ≡ true)
+pub shown-numeral : (numeral : List ℕ) (n : ℕ) → IsNumeral (48 ∷ numeral) n → (is_shown (48 ∷ numeral) ≡ true)
+    × (is_shown (35 ∷ 48 ∷ numeral) ≡ true)
 shown-numeral numeral n is =
     let digits = (and_parts (is_word_character 48) (list_all is_word_character numeral) is.word).1 in
     let plain : IsPlain numeral = all_weaker is_word_character is_plain word-plain numeral digits in
     let words : words_of (48 ∷ numeral) ≡ (48 ∷ numeral) ∷ [] = words-whole 48 numeral is.word in
-    let good : is_good_word (48 ∷ numeral) ≡ true = and_from _ _ (known-number (is_name (48 ∷ numeral)) (number_of (48 ∷ numeral)) n is.number) refl in
+    let good : is_good_word (48 ∷ numeral)
+        ≡ true = and_from _ _ (known-number (is_name (48 ∷ numeral)) (number_of (48 ∷ numeral)) n is.number) refl in
     let all : list_all is_good_word (words_of (48 ∷ numeral)) ≡ true = ap (list_all is_good_word) words ∙ and_from _ _ good refl in (
       and_from _ _ digits (and_from _ _ plain all),
       and_from _ _ is.word (and_from _ _ (and_from _ _ refl (and_from _ _ refl plain)) all),
@@ -67,7 +69,8 @@ shown-numeral numeral n is =
 
 pub shown : (place : ℕ) (operand : Operand) → IsListed place operand → is_shown (operand_text place operand) ≡ true
 shown place (Is word) h = h
-shown place (Register r) h = registers (λ r. is_shown (operand_text place (Register r)) ≡ true) (refl, refl, refl, refl, refl, refl, refl, refl) r h
+shown place (Register r) h =
+    registers (λ r. is_shown (operand_text place (Register r)) ≡ true) (refl, refl, refl, refl, refl, refl, refl, refl) r h
 shown place (Pointer i) h = pointers (λ i. is_shown (operand_text place (Pointer i)) ≡ true) (refl, refl) i h
 shown place (Expander p) h = ports (λ p. is_shown (operand_text place (Expander p)) ≡ true) (refl, refl, refl, refl) p h
 shown place (Immediate n) h = (shown-numeral _ n (value-numeral n h)).1
@@ -88,14 +91,22 @@ is_same _ _ = false
 same-word : (word held : List ℕ) → bytes_eq word held ≡ true → word_read word held ≡ Some (fixed 0)
 same-word word held h = ap (λ b. cond b (Some (fixed 0)) None) h
 
-same-read : (place : ℕ) (form operand : Operand) → is_same form operand ≡ true → IsListed place operand → read form (operand_text place operand ∷ []) ≡ Some (said_by place operand)
+same-read : (place : ℕ) (form operand : Operand) → is_same form operand ≡ true → IsListed place operand
+    → read form (operand_text place operand ∷ []) ≡ Some (said_by place operand)
 same-read place (Is word) (Is held) same h = same-word word held same
-same-read place (Register r) (Register k) same h = registers (λ k. read (Register r) (operand_text place (Register k) ∷ []) ≡ Some (fixed k)) (refl, refl, refl, refl, refl, refl, refl, refl) k h
-same-read place (Pointer r) (Pointer k) same h = pointers (λ k. read (Pointer r) (operand_text place (Pointer k) ∷ []) ≡ Some (fixed k)) (refl, refl) k h
-same-read place (Expander r) (Expander k) same h = ports (λ k. read (Expander r) (operand_text place (Expander k) ∷ []) ≡ Some (fixed k)) (refl, refl, refl, refl) k h
-same-read place (Immediate r) (Immediate n) same h = ap (λ o. option_map (given role.Byte) (number_or_name o (value n))) (value-numeral n h).number
-same-read place (Address r) (Address a) same h = ap (λ o. option_map (given role.Address) (number_or_name o (address a))) (address-numeral a h).number
-same-read place (Target r) (Target n) same h = ap (λ o. option_map (given role.Target) (number_or_name o (address (target place n)))) (address-numeral (target place n) h).number
+same-read place (Register r) (Register k) same h =
+    registers (λ k. read (Register r) (operand_text place (Register k) ∷ []) ≡ Some (fixed k))
+    (refl, refl, refl, refl, refl, refl, refl, refl) k h
+same-read place (Pointer r) (Pointer k) same h =
+    pointers (λ k. read (Pointer r) (operand_text place (Pointer k) ∷ []) ≡ Some (fixed k)) (refl, refl) k h
+same-read place (Expander r) (Expander k) same h =
+    ports (λ k. read (Expander r) (operand_text place (Expander k) ∷ []) ≡ Some (fixed k)) (refl, refl, refl, refl) k h
+same-read place (Immediate r) (Immediate n) same h =
+    ap (λ o. option_map (given role.Byte) (number_or_name o (value n))) (value-numeral n h).number
+same-read place (Address r) (Address a) same h =
+    ap (λ o. option_map (given role.Address) (number_or_name o (address a))) (address-numeral a h).number
+same-read place (Target r) (Target n) same h =
+    ap (λ o. option_map (given role.Target) (number_or_name o (address (target place n)))) (address-numeral (target place n) h).number
 same-read place form operand same h = absurd (cc)
 
 -- the first character of an operand's text
@@ -163,11 +174,14 @@ starts place (Immediate n) h = record { rest = _; is = refl }
 starts place (Address a) h = record { rest = _; is = refl }
 starts place (Target n) h = record { rest = _; is = refl }
 
-unlike-none : (place : ℕ) (form operand : Operand) → is_unlike form operand ≡ true → IsListed place operand → read form (operand_text place operand ∷ []) ≡ None
+unlike-none : (place : ℕ) (form operand : Operand) → is_unlike form operand ≡ true → IsListed place operand
+    → read form (operand_text place operand ∷ []) ≡ None
 unlike-none place form operand h listed = go (is_apart form (first_char operand)) refl h
   where
-    go : (t : Bool) → is_apart form (first_char operand) ≡ t → (t || is_other form operand) ≡ true → read form (operand_text place operand ∷ []) ≡ None
-    go true is h = let text = starts place operand listed in ap (λ t. read form (t ∷ [])) text.is ∙ apart-none form (first_char operand) text.rest is
+    go : (t : Bool) → is_apart form (first_char operand) ≡ t → (t || is_other form operand) ≡ true
+        → read form (operand_text place operand ∷ []) ≡ None
+    go true is h = let text = starts place operand listed in ap (λ t. read form (t ∷ [])) text.is
+        ∙ apart-none form (first_char operand) text.rest is
     go false is h = other-none place form operand h
 
 -- operands, at most two
@@ -202,11 +216,13 @@ token-comma (c ∷ cs) h = not-true (is_comma c) (and_parts (not (is_comma c)) _
 pub one-parts : (t : List ℕ) → is_comma_token t ≡ false → parts_of (t ∷ []) ≡ (t ∷ []) ∷ []
 one-parts t h = slice_split-cons_no is_comma_token t [] h
 
-two-parts : (t u : List ℕ) → is_comma_token t ≡ false → is_comma_token u ≡ false → parts_of (t ∷ codes "," ∷ u ∷ []) ≡ (t ∷ []) ∷ (u ∷ []) ∷ []
+two-parts : (t u : List ℕ) → is_comma_token t ≡ false → is_comma_token u ≡ false
+    → parts_of (t ∷ codes "," ∷ u ∷ []) ≡ (t ∷ []) ∷ (u ∷ []) ∷ []
 two-parts t u h k = slice_split-cons_no is_comma_token t (codes "," ∷ u ∷ []) h ∙ ap (λ ps. onto_first t ([] ∷ ps)) (one-parts u k)
 
 comma-free : (place : ℕ) (operand : Operand) → IsListed place operand → is_comma_token (operand_text place operand) ≡ false
-comma-free place operand h = token-comma (operand_text place operand) (and_parts (is_token (operand_text place operand)) _ (shown place operand h)).0
+comma-free place operand h =
+    token-comma (operand_text place operand) (and_parts (is_token (operand_text place operand)) _ (shown place operand h)).0
 
 pub too-many : (n : ℕ) → nat_le (suc (suc (suc n))) 2 ≡ true → ⊥
 too-many n h = let no : suc (suc (suc n)) ≤ 2 = leb-true (suc (suc (suc n))) 2 h in omega (arith, no)
@@ -215,14 +231,17 @@ or-left : (a : Bool) → (a || false) ≡ true → a ≡ true
 or-left true h = refl
 or-left false h = h
 
-pub read-same : (place : ℕ) (forms operands : List Operand) → all_same forms operands ≡ true → nat_le (length operands) 2 ≡ true → AllListed place operands
+pub read-same : (place : ℕ) (forms operands : List Operand) → all_same forms operands ≡ true
+    → nat_le (length operands) 2 ≡ true → AllListed place operands
     → read_all forms (operand_tokens place operands) ≡ Some (said_all place operands)
 read-same place [] [] same few all = refl
 read-same place (f ∷ []) (o ∷ []) same few all =
-    ap (read_parts (f ∷ [])) (one-parts (operand_text place o) (comma-free place o all.0)) ∙ same-read place f o (and_parts (is_same f o) _ same).0 all.0
+    ap (read_parts (f ∷ [])) (one-parts (operand_text place o) (comma-free place o all.0))
+        ∙ same-read place f o (and_parts (is_same f o) _ same).0 all.0
 read-same place (f ∷ g ∷ []) (o ∷ u ∷ []) same few all =
     let first = and_parts (is_same f o) _ same in
-    ap (read_parts (f ∷ g ∷ [])) (two-parts (operand_text place o) (operand_text place u) (comma-free place o all.0) (comma-free place u all.1.0))
+    ap (read_parts (f ∷ g ∷ []))
+        (two-parts (operand_text place o) (operand_text place u) (comma-free place o all.0) (comma-free place u all.1.0))
     ∙ ap (λ r. both r (read g (operand_text place u ∷ []))) (same-read place f o first.0 all.0)
     ∙ ap (both (Some (said_by place o))) (same-read place g u (and_parts (is_same g u) _ first.1).0 all.1.0)
 read-same place [] (o ∷ os) same few all = absurd (cc)
@@ -253,7 +272,8 @@ one-too-few : (f g : Operand) (gs : List Operand) (t : List ℕ) → read_parts 
 one-too-few f g [] t = refl
 one-too-few f g (h ∷ hs) t = refl
 
-pub read-unlike : (place : ℕ) (forms operands : List Operand) → any_unlike forms operands ≡ true → nat_le (length operands) 2 ≡ true → AllListed place operands
+pub read-unlike : (place : ℕ) (forms operands : List Operand) → any_unlike forms operands ≡ true
+    → nat_le (length operands) 2 ≡ true → AllListed place operands
     → read_all forms (operand_tokens place operands) ≡ None
 read-unlike place [] [] unlike few all = absurd (cc)
 read-unlike place (f ∷ []) [] unlike few all = read-nothing f
@@ -261,16 +281,23 @@ read-unlike place (f ∷ g ∷ []) [] unlike few all = refl
 read-unlike place (f ∷ g ∷ h ∷ hs) [] unlike few all = refl
 read-unlike place [] (o ∷ []) unlike few all = ap (read_parts []) (one-parts (operand_text place o) (comma-free place o all.0))
 read-unlike place (f ∷ []) (o ∷ []) unlike few all =
-    ap (read_parts (f ∷ [])) (one-parts (operand_text place o) (comma-free place o all.0)) ∙ unlike-none place f o (or-left (is_unlike f o) unlike) all.0
-read-unlike place (f ∷ g ∷ gs) (o ∷ []) unlike few all = ap (read_parts (f ∷ g ∷ gs)) (one-parts (operand_text place o) (comma-free place o all.0)) ∙ one-too-few f g gs (operand_text place o)
+    ap (read_parts (f ∷ [])) (one-parts (operand_text place o) (comma-free place o all.0))
+        ∙ unlike-none place f o (or-left (is_unlike f o) unlike) all.0
+read-unlike place (f ∷ g ∷ gs) (o ∷ []) unlike few all =
+    ap (read_parts (f ∷ g ∷ gs)) (one-parts (operand_text place o) (comma-free place o all.0)) ∙ one-too-few f g gs (operand_text place o)
 read-unlike place forms (o ∷ u ∷ []) unlike few all =
-    read_all-parts forms (operand_text place o) _ ∙ ap (λ ps. read_parts forms ps) (two-parts (operand_text place o) (operand_text place u) (comma-free place o all.0) (comma-free place u all.1.0)) ∙ go forms unlike
+    read_all-parts forms (operand_text place o) _
+        ∙ ap (λ ps. read_parts forms ps)
+        (two-parts (operand_text place o) (operand_text place u) (comma-free place o all.0) (comma-free place u all.1.0)) ∙ go forms unlike
   where
-    two : (f g : Operand) (t : Bool) → is_unlike f o ≡ t → (t || (is_unlike g u || false)) ≡ true → both (read f (operand_text place o ∷ [])) (read g (operand_text place u ∷ [])) ≡ None
+    two : (f g : Operand) (t : Bool) → is_unlike f o ≡ t → (t || (is_unlike g u || false)) ≡ true
+        → both (read f (operand_text place o ∷ [])) (read g (operand_text place u ∷ [])) ≡ None
     two f g true is h = ap (λ r. both r (read g (operand_text place u ∷ []))) (unlike-none place f o is all.0)
-    two f g false is h = ap (both (read f (operand_text place o ∷ []))) (unlike-none place g u (or-left (is_unlike g u) h) all.1.0) ∙ no-second (read f (operand_text place o ∷ []))
+    two f g false is h = ap (both (read f (operand_text place o ∷ [])))
+        (unlike-none place g u (or-left (is_unlike g u) h) all.1.0) ∙ no-second (read f (operand_text place o ∷ []))
 
-    go : (forms : List Operand) → any_unlike forms (o ∷ u ∷ []) ≡ true → read_parts forms ((operand_text place o ∷ []) ∷ (operand_text place u ∷ []) ∷ []) ≡ None
+    go : (forms : List Operand) → any_unlike forms (o ∷ u ∷ []) ≡ true
+        → read_parts forms ((operand_text place o ∷ []) ∷ (operand_text place u ∷ []) ∷ []) ≡ None
     go [] h = refl
     go (f ∷ []) h = refl
     go (f ∷ g ∷ []) h = two f g (is_unlike f o) refl h

@@ -25,24 +25,30 @@ hits (form ∷ forms) word first operands =
     (cond (all_same form.operands operands) (form.first == first) (any_unlike form.operands operands && hits forms word first operands))
     (hits forms word first operands)
 
-fit-hit : (place : ℕ) (forms : List Form) (word : List ℕ) (first : ℕ) (operands : List Operand) → hits forms word first operands ≡ true → nat_le (length operands) 2 ≡ true → AllListed place operands
+fit-hit : (place : ℕ) (forms : List Form) (word : List ℕ) (first : ℕ) (operands : List Operand)
+    → hits forms word first operands ≡ true → nat_le (length operands) 2 ≡ true → AllListed place operands
     → first_fit forms (word ∷ operand_tokens place operands) ≡ Some (instruction_with first (said_all place operands))
 fit-hit place [] word first operands h few all = absurd (cc)
 fit-hit place (form ∷ forms) word first operands h few all =
     go (bytes_eq form.word word) (all_same form.operands operands) refl h (λ more. fit-hit place forms word first operands more few all)
   where
     go : (t s : Bool) → all_same form.operands operands ≡ s
-        → cond t (cond s (form.first == first) (any_unlike form.operands operands && hits forms word first operands)) (hits forms word first operands) ≡ true
-        → (hits forms word first operands ≡ true → first_fit forms (word ∷ operand_tokens place operands) ≡ Some (instruction_with first (said_all place operands)))
-        → option_or (cond t (option_map (instruction_with form.first) (read_all form.operands (operand_tokens place operands))) None) (first_fit forms (word ∷ operand_tokens place operands))
+        → cond t (cond s (form.first == first) (any_unlike form.operands operands && hits forms word first operands))
+            (hits forms word first operands) ≡ true
+        → (hits forms word first operands ≡ true
+            → first_fit forms (word ∷ operand_tokens place operands) ≡ Some (instruction_with first (said_all place operands)))
+        → option_or (cond t (option_map (instruction_with form.first)
+            (read_all form.operands (operand_tokens place operands))) None) (first_fit forms (word ∷ operand_tokens place operands))
         ≡ Some (instruction_with first (said_all place operands))
     go false s same h more = more h
     go true true same h more =
-        ap (λ o. option_or (option_map (instruction_with form.first) o) (first_fit forms (word ∷ operand_tokens place operands))) (read-same place form.operands operands same few all)
+        ap (λ o. option_or (option_map (instruction_with form.first) o)
+            (first_fit forms (word ∷ operand_tokens place operands))) (read-same place form.operands operands same few all)
         ∙ ap (λ k. Some (instruction_with k (said_all place operands))) (eqb-true form.first first h)
     go true false same h more =
         let both = and_parts (any_unlike form.operands operands) (hits forms word first operands) h in
-        ap (λ o. option_or (option_map (instruction_with form.first) o) (first_fit forms (word ∷ operand_tokens place operands))) (read-unlike place form.operands operands both.0 few all)
+        ap (λ o. option_or (option_map (instruction_with form.first) o)
+            (first_fit forms (word ∷ operand_tokens place operands))) (read-unlike place form.operands operands both.0 few all)
         ∙ more both.1
 
 -- a word before another character
@@ -52,7 +58,8 @@ word-before c cs rest all ends = (token-before (c ∷ cs) rest (word-token c cs 
 
 -- a token before a comma
 comma-behind : (text rest : List ℕ) → is_token text ≡ true → tokens_of (text ++ 44 ∷ rest) ≡ text ∷ codes "," ∷ tokens_of rest
-comma-behind text rest h = token-before text (44 ∷ rest) h refl ∙ ap (λ ts. text ∷ ts) (before-comma 44 (goes_on rest) (tokens_of rest) refl)
+comma-behind text rest h = token-before text (44 ∷ rest) h refl
+    ∙ ap (λ ts. text ∷ ts) (before-comma 44 (goes_on rest) (tokens_of rest) refl)
 
 -- the operands of an entry
 record IsTail (place : ℕ) (operands : List Operand) : Type 0 where
@@ -82,8 +89,10 @@ tail-is place (o ∷ u ∷ []) few all =
     let fourth = and_parts (list_all is_plain v) _ third.1 in
     record {
       ends = refl;
-      tokens = ap (λ x. tokens_of (t ++ 44 ∷ x)) (append-nil v) ∙ comma-behind t v first.0 ∙ ap (λ ts. t ∷ codes "," ∷ ts) (token-one v third.0);
-      plain = ap (λ x. list_all is_plain (t ++ 44 ∷ x)) (append-nil v) ∙ list_all-append is_plain t (44 ∷ v) ∙ and_from _ _ second.0 fourth.0;
+      tokens = ap (λ x. tokens_of (t ++ 44 ∷ x)) (append-nil v) ∙ comma-behind t v first.0
+          ∙ ap (λ ts. t ∷ codes "," ∷ ts) (token-one v third.0);
+      plain = ap (λ x. list_all is_plain (t ++ 44 ∷ x)) (append-nil v) ∙ list_all-append is_plain t (44 ∷ v)
+          ∙ and_from _ _ second.0 fourth.0;
       good = ap (λ x. list_all is_good_word (words_of (t ++ 44 ∷ x))) (append-nil v) ∙ ap (list_all is_good_word) (words-before t 44 v refl)
           ∙ list_all-append is_good_word (words_of t) (words_of v) ∙ and_from _ _ second.1 fourth.1;
     }
@@ -97,13 +106,16 @@ good-known (w ∷ ws) h =
 
 pub good-first : (words : List (List ℕ)) → list_all is_good_word words ≡ true → bytes_eq (first_of words) (codes "EQU") ≡ false
 good-first [] h = refl
-good-first (w ∷ ws) h = not-true (bytes_eq w (codes "EQU")) (and_parts (is_known_word w) _ (and_parts (is_good_word w) (list_all is_good_word ws) h).0).1
+good-first (w ∷ ws) h =
+    not-true (bytes_eq w (codes "EQU")) (and_parts (is_known_word w) _ (and_parts (is_good_word w) (list_all is_good_word ws) h).0).1
 
 -- a plain line whose words are known says what its statement says
-pub plain-line : (text : List ℕ) (statement : Statement) → IsPlain text → list_all is_known_word (words_of text) ≡ true → statement_of text ≡ Ok statement → line_of text ≡ said statement
+pub plain-line : (text : List ℕ) (statement : Statement) → IsPlain text
+    → list_all is_known_word (words_of text) ≡ true → statement_of text ≡ Ok statement → line_of text ≡ said statement
 plain-line text statement plain words statement_is =
     let allowed : list_all is_allowed text ≡ true = all_weaker is_plain is_allowed plain-allowed text plain in
-    ap (λ t. cond (is_spelled t) (line_of_parts (slice_split is_colon t)) (flawed Syntax)) (uncut is_plain is_semicolon plain-semicolon text plain)
+    ap (λ t. cond (is_spelled t) (line_of_parts (slice_split is_colon t)) (flawed Syntax))
+        (uncut is_plain is_semicolon plain-semicolon text plain)
     ∙ ap (λ b. cond b (line_of_parts (slice_split is_colon text)) (flawed Syntax)) (and_from _ _ allowed words)
     ∙ ap line_of_parts (one_part is_plain is_colon plain-colon text plain)
     ∙ ap (line_with None) statement_is
@@ -114,19 +126,27 @@ is_word_shown (Is word) = is_shown word
 is_word_shown operand = true
 
 abbrev pub is_first : List ℕ → Bool
-is_first word = list_all is_word_character word && (goes_on word && (is_good_word word && (not (bytes_eq word (codes "ORG")) && (not (bytes_eq word (codes "DB")) && is_instruction word))))
+is_first word = list_all is_word_character word &&
+    (goes_on word && (is_good_word word &&
+    (not (bytes_eq word (codes "ORG")) && (not (bytes_eq word (codes "DB")) && is_instruction word))))
 
 abbrev pub is_entry : Entry → Bool
 is_entry entry =
-    is_first entry.word && (nat_le (length entry.operands) 2 && (list_all is_word_shown entry.operands && hits instructions entry.word entry.first entry.operands))
+    is_first entry.word &&
+        (nat_le (length entry.operands) 2 &&
+        (list_all is_word_shown entry.operands && hits instructions entry.word entry.first entry.operands))
 
-statement-is : (word : List ℕ) (words tokens : List (List ℕ)) (statement : Statement) → bytes_eq (first_of words) (codes "EQU") ≡ false → bytes_eq word (codes "ORG") ≡ false → bytes_eq word (codes "DB") ≡ false
-    → is_instruction word ≡ true → first_fit instructions (word ∷ tokens) ≡ Some statement → statement_in (word ∷ words) (word ∷ tokens) ≡ Ok statement
+statement-is : (word : List ℕ) (words tokens : List (List ℕ)) (statement : Statement)
+    → bytes_eq (first_of words) (codes "EQU") ≡ false → bytes_eq word (codes "ORG") ≡ false → bytes_eq word (codes "DB") ≡ false
+    → is_instruction word ≡ true → first_fit instructions (word ∷ tokens) ≡ Some statement
+        → statement_in (word ∷ words) (word ∷ tokens) ≡ Ok statement
 statement-is word words tokens statement equ org db is found =
     rw (equ, org, db, is, found) refl
 
-word-line : (place : ℕ) (word : List ℕ) (first : ℕ) (operands : List Operand) → is_first word ≡ true → nat_le (length operands) 2 ≡ true → hits instructions word first operands ≡ true → AllListed place operands
-    → IsPlain (word ++ operands_text place operands) × (line_of (word ++ operands_text place operands) ≡ said (instruction_with first (said_all place operands)))
+word-line : (place : ℕ) (word : List ℕ) (first : ℕ) (operands : List Operand) → is_first word ≡ true
+    → nat_le (length operands) 2 ≡ true → hits instructions word first operands ≡ true → AllListed place operands
+    → IsPlain (word ++ operands_text place operands)
+        × (line_of (word ++ operands_text place operands) ≡ said (instruction_with first (said_all place operands)))
 word-line place [] first operands h few hit all = absurd (cc)
 word-line place (c ∷ cs) first operands h few hit all =
     let word : List ℕ = c ∷ cs in
@@ -142,19 +162,22 @@ word-line place (c ∷ cs) first operands h few hit all =
     list_all-append is_plain word (operands_text place operands)
     ∙ and_from _ _ (all_weaker is_word_character is_plain word-plain word made.0) tail.plain in
     let known : list_all is_known_word (words_of text) ≡ true =
-    ap (list_all is_known_word) whole.1 ∙ and_from _ _ (and_parts (is_known_word word) _ good.0).0 (good-known (words_of (operands_text place operands)) tail.good) in (
+    ap (list_all is_known_word) whole.1
+        ∙ and_from _ _ (and_parts (is_known_word word) _ good.0).0 (good-known (words_of (operands_text place operands)) tail.good) in (
       plain,
       plain-line text (instruction_with first (said_all place operands)) plain known (
           ap (λ ws. statement_in ws (tokens_of text)) whole.1
           ∙ ap (statement_in (word ∷ words_of (operands_text place operands))) (whole.0 ∙ ap (λ ts. word ∷ ts) tail.tokens)
-          ∙ statement-is word (words_of (operands_text place operands)) (operand_tokens place operands) (instruction_with first (said_all place operands))
+          ∙ statement-is word (words_of (operands_text place operands)) (operand_tokens place operands)
+              (instruction_with first (said_all place operands))
           (good-first (words_of (operands_text place operands)) tail.good) (not-true _ org.0) (not-true _ db.0) db.1
           (fit-hit place instructions word first operands hit few all)
           ),
     )
 
 pub entry-line : (place : ℕ) (entry : Entry) → is_entry entry ≡ true → AllListed place entry.operands
-    → IsPlain (entry_text place entry) × (line_of (entry_text place entry) ≡ said (instruction_with entry.first (said_all place entry.operands)))
+    → IsPlain (entry_text place entry)
+        × (line_of (entry_text place entry) ≡ said (instruction_with entry.first (said_all place entry.operands)))
 entry-line place entry h all =
     let first = and_parts (is_first entry.word) _ h in
     let few = and_parts (nat_le (length entry.operands) 2) _ first.1 in

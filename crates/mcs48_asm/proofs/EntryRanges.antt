@@ -80,7 +80,8 @@ unaries op within = (refl, within)
 
 flows : (op : FlowOp) → IsOp (Flow op) → IsRight (entry_of (Flow op))
 unfolding instructions is_instruction
-flows (Jb b n) within = (registers (λ b. is_right_entry (entry_of (Flow (Jb b n))) ≡ true) (refl, refl, refl, refl, refl, refl, refl, refl) b within, tt)
+flows (Jb b n) within =
+    (registers (λ b. is_right_entry (entry_of (Flow (Jb b n))) ≡ true) (refl, refl, refl, refl, refl, refl, refl, refl) b within, tt)
 flows op within = (refl, within)
 
 ports_ : (op : PortOp) → IsOp (PortIo op) → IsRight (entry_of (PortIo op))

@@ -12,7 +12,8 @@ use Rattle.mcs48_asm.specs.Statements.{Data, values_of}
 use Rattle.mcs48_asm.specs.Capped.{value_capped, statement_capped}
 use Rattle.mcs48_asm.specs.Kept.{kept_value, kept_part}
 
-pub lookup-kept : (entries : List (Bor (List ℕ) × ℕ)) (name : List ℕ) → lookup (λ (key : Bor (List ℕ)). bytes_eq name key.now) entries ≡ kept_value entries name
+pub lookup-kept : (entries : List (Bor (List ℕ) × ℕ)) (name : List ℕ)
+    → lookup (λ (key : Bor (List ℕ)). bytes_eq name key.now) entries ≡ kept_value entries name
 lookup-kept [] name = refl
 lookup-kept (entry ∷ entries) name = ap (cond (bytes_eq name entry.0.now) (Some entry.1)) (lookup-kept entries name)
 
@@ -25,12 +26,15 @@ or_cond true x o p z h = refl
 or_cond false x o p z h = h
 
 -- a new name goes last
-pub kept_value-insert : (entries : List (Bor (List ℕ) × ℕ)) (key : Bor (List ℕ)) (value : ℕ) (other : List ℕ) → kept_value entries key.now ≡ None
-    → kept_value (insert_entry (λ (a : Bor (List ℕ)) (b : Bor (List ℕ)). bytes_eq a.now b.now) entries key value) other ≡ option_or (kept_value entries other) (cond (bytes_eq other key.now) (Some value) None)
+pub kept_value-insert : (entries : List (Bor (List ℕ) × ℕ)) (key : Bor (List ℕ)) (value : ℕ) (other : List ℕ)
+    → kept_value entries key.now ≡ None
+    → kept_value (insert_entry (λ (a : Bor (List ℕ)) (b : Bor (List ℕ)). bytes_eq a.now b.now) entries key value)
+        other ≡ option_or (kept_value entries other) (cond (bytes_eq other key.now) (Some value) None)
 kept_value-insert [] key value other h = refl
 kept_value-insert (entry ∷ entries) key value other h =
     let absent = absent_test (bytes_eq key.now entry.0.now) entry.1 (kept_value entries key.now) h in
-    rw absent.0 (or_cond (bytes_eq other entry.0.now) entry.1 (kept_value entries other) _ _ (kept_value-insert entries key value other absent.1))
+    rw absent.0 (or_cond (bytes_eq other entry.0.now) entry.1 (kept_value entries other) _ _
+        (kept_value-insert entries key value other absent.1))
 
 or_some : (o z : Option ℕ) → is_some o ≡ true → o ≡ option_or o z
 or_some (Some x) z h = refl
@@ -40,9 +44,11 @@ or_none : (o : Option ℕ) → o ≡ option_or o None
 or_none (Some x) = refl
 or_none None = refl
 
-pub present : (entries : List (Bor (List ℕ) × ℕ)) (name other : List ℕ) (value : ℕ) (b : Bool) → (b ≡ true → other ≡ name) → is_some (kept_value entries name) ≡ true
+pub present : (entries : List (Bor (List ℕ) × ℕ)) (name other : List ℕ) (value : ℕ) (b : Bool)
+    → (b ≡ true → other ≡ name) → is_some (kept_value entries name) ≡ true
     → kept_value entries other ≡ option_or (kept_value entries other) (cond b (Some value) None)
-present entries name other value true same h = or_some (kept_value entries other) (Some value) (ap (λ q. is_some (kept_value entries q)) (same refl) ∙ h)
+present entries name other value true same h =
+    or_some (kept_value entries other) (Some value) (ap (λ q. is_some (kept_value entries q)) (same refl) ∙ h)
 present entries name other value false same h = or_none (kept_value entries other)
 
 -- texts that compare alike are one
@@ -50,11 +56,13 @@ pub same_bytes : (xs ys : List ℕ) → bytes_eq xs ys ≡ true → xs ≡ ys
 same_bytes xs ys h = (bytes_eq-Decides xs ys).0 h
 
 -- what a look-up says of the names kept
-pub none_kept : (found : Option (Bor ℕ)) (entries : List (Bor (List ℕ) × ℕ)) (name : List ℕ) → option_copied found ≡ kept_value entries name → is_some found ≡ false → kept_value entries name ≡ None
+pub none_kept : (found : Option (Bor ℕ)) (entries : List (Bor (List ℕ) × ℕ)) (name : List ℕ)
+    → option_copied found ≡ kept_value entries name → is_some found ≡ false → kept_value entries name ≡ None
 none_kept None entries name h k = sym h
 none_kept (Some x) entries name h k = absurd (cc)
 
-pub some_kept : (found : Option (Bor ℕ)) (entries : List (Bor (List ℕ) × ℕ)) (name : List ℕ) → option_copied found ≡ kept_value entries name → is_some found ≡ true → is_some (kept_value entries name) ≡ true
+pub some_kept : (found : Option (Bor ℕ)) (entries : List (Bor (List ℕ) × ℕ)) (name : List ℕ)
+    → option_copied found ≡ kept_value entries name → is_some found ≡ true → is_some (kept_value entries name) ≡ true
 some_kept None entries name h k = absurd (cc)
 some_kept (Some x) entries name h k = sym (ap is_some h)
 
@@ -62,11 +70,14 @@ some_kept (Some x) entries name h k = sym (ap is_some h)
 abbrev part_of : List ℕ → Value
 part_of text = unwrap_or (value_of (tokens_of text)) (Number 0)
 
-values_of-parts : (parts : List (List ℕ)) → is_some (values_of (map tokens_of parts)) ≡ true → values_of (map tokens_of parts) ≡ Some (map part_of parts)
+values_of-parts : (parts : List (List ℕ)) → is_some (values_of (map tokens_of parts)) ≡ true
+    → values_of (map tokens_of parts) ≡ Some (map part_of parts)
 values_of-parts [] h = refl
-values_of-parts (part ∷ parts) h = more (value_of (tokens_of part)) (values_of (map tokens_of parts)) (map part_of parts) h (values_of-parts parts)
+values_of-parts (part ∷ parts) h =
+    more (value_of (tokens_of part)) (values_of (map tokens_of parts)) (map part_of parts) h (values_of-parts parts)
   where
-    more : (o : Option Value) (os : Option (List Value)) (vs : List Value) → is_some (option_and_then (λ v. option_map (λ vs. v ∷ vs) os) o) ≡ true → (is_some os ≡ true → os ≡ Some vs)
+    more : (o : Option Value) (os : Option (List Value)) (vs : List Value)
+        → is_some (option_and_then (λ v. option_map (λ vs. v ∷ vs) os) o) ≡ true → (is_some os ≡ true → os ≡ Some vs)
         → option_and_then (λ v. option_map (λ vs. v ∷ vs) os) o ≡ Some (unwrap_or o (Number 0) ∷ vs)
     more None os vs h k = absurd (cc)
     more (Some v) None vs h k = absurd (cc)

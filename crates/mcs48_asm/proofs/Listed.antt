@@ -48,7 +48,8 @@ first_line text rest plain =
     ∙ ap (λ t. t ∷ lines rest) (plain_text-whole text plain)
 
 -- and the same in upper case
-first_line-upper : (text rest : List ℕ) → IsPlain text → lines (map to_ascii_uppercase ((text ++ 10 ∷ []) ++ rest)) ≡ text ∷ lines (map to_ascii_uppercase rest)
+first_line-upper : (text rest : List ℕ) → IsPlain text
+    → lines (map to_ascii_uppercase ((text ++ 10 ∷ []) ++ rest)) ≡ text ∷ lines (map to_ascii_uppercase rest)
 first_line-upper text rest plain =
     ap (λ t. lines (map to_ascii_uppercase t)) (append_assoc text (10 ∷ []) rest)
     ∙ ap lines (map-append to_ascii_uppercase text (10 ∷ rest))
@@ -56,7 +57,8 @@ first_line-upper text rest plain =
     ∙ first_line text (map to_ascii_uppercase rest) plain
 
 -- a line that is a statement, and the lines behind it
-placed-said : (place : ℕ) (statement : Statement) (others : List Line) → ((before : ℕ) → start_of before statement ≡ before) → place + count_of statement ≤ 2048
+placed-said : (place : ℕ) (statement : Statement) (others : List Line)
+    → ((before : ℕ) → start_of before statement ≡ before) → place + count_of statement ≤ 2048
     → placed place (said statement ∷ others) ≡ said_at place statement ∷ placed (place + count_of statement) others
 placed-said place statement others start within =
     ap (λ s. record { start = s; line = said statement } ∷ placed (s + count_of statement) others) (start place)
@@ -66,7 +68,8 @@ pub record IsWritten (memory : List ℕ) (place : ℕ) (at : Placed) : Type 0 wh
   pub start : at.start ≡ place
   pub some : 0 < count_of at.line.statement
   pub within : place + count_of at.line.statement ≤ 2048
-  pub bytes : (names : Meanings) (k : ℕ) → k < count_of at.line.statement → slice_index (bytes_of names at.line.statement) k ≡ slice_index memory (place + k)
+  pub bytes : (names : Meanings) (k : ℕ) → k < count_of at.line.statement
+      → slice_index (bytes_of names at.line.statement) k ≡ slice_index memory (place + k)
   pub faults : (names seen : Meanings) (filled : ℕ → Bool) → fault_of names seen filled at ≡ late_fault filled at
 
 -- lines one behind the other from a place on, up to the end
@@ -87,13 +90,15 @@ abbrev listed : List ℕ → ℕ → ℕ → ℕ → List Line
 listed memory end most place = map line_of (lines (map to_ascii_uppercase (lines_from memory end most place)))
 
 -- one of two bytes that stand one behind the other
-one_of_two : (memory : List ℕ) (place k : ℕ) → k < 2 → slice_index (slice_index memory place ∷ slice_index memory (place + 1) ∷ []) k ≡ slice_index memory (place + k)
+one_of_two : (memory : List ℕ) (place k : ℕ) → k < 2
+    → slice_index (slice_index memory place ∷ slice_index memory (place + 1) ∷ []) k ≡ slice_index memory (place + k)
 one_of_two memory place zero h = ap (slice_index memory) (omega arith)
 one_of_two memory place (suc zero) h = refl
 one_of_two memory place (suc (suc k)) h = absurd (omega arith)
 
 -- a byte of the bytes at a place
-byte_of-place : (memory : List ℕ) (place k : ℕ) → k < length (bytes_at memory place) → slice_index (bytes_at memory place) k ≡ slice_index memory (place + k)
+byte_of-place : (memory : List ℕ) (place k : ℕ) → k < length (bytes_at memory place)
+    → slice_index (bytes_at memory place) k ≡ slice_index memory (place + k)
 byte_of-place memory place k h =
     let two : List ℕ = slice_index memory place ∷ slice_index memory (place + 1) ∷ [] in
     let size : ℕ = size_of (instruction_at memory place) in
@@ -112,13 +117,16 @@ said-written memory place read sized = record {
 }
 
 -- where a place lies before the end its line is the first, and the others follow
-listed-step : (memory : List ℕ) (end most place : ℕ) (read : IsRead (text_at memory place) place (bytes_at memory place)) → IsSized memory place → place < end
+listed-step : (memory : List ℕ) (end most place : ℕ)
+    (read : IsRead (text_at memory place) place (bytes_at memory place)) → IsSized memory place → place < end
     → placed place (listed memory end (suc most) place)
-    ≡ said_at place read.statement ∷ placed (place + count_of read.statement) (listed memory end most (place + size_of (instruction_at memory place)))
+    ≡ said_at place read.statement ∷ placed (place + count_of read.statement)
+        (listed memory end most (place + size_of (instruction_at memory place)))
 listed-step memory end most place read sized below =
     let next : ℕ = place + size_of (instruction_at memory place) in
     let others : List ℕ = lines_from memory end most next in
-    ap (λ b. placed place (map line_of (lines (map to_ascii_uppercase (cond b (line_at memory place ++ others) []))))) (lt-ltb place end below)
+    ap (λ b. placed place (map line_of (lines (map to_ascii_uppercase (cond b (line_at memory place ++ others) [])))))
+        (lt-ltb place end below)
     ∙ ap (λ ls. placed place (map line_of ls)) (first_line-upper (text_at memory place) others read.plain)
     ∙ ap (λ line. placed place (line ∷ listed memory end most next)) read.line
     ∙ placed-said place read.statement (listed memory end most next) read.start (omega (arith, read.count, sized.within, sized.length_is))
@@ -127,7 +135,8 @@ listed-step memory end most place read sized below =
 listed-done : (memory : List ℕ) (end most place : ℕ) → end ≤ place → placed place (listed memory end (suc most) place) ≡ []
 listed-done memory end most place past =
     let others : List ℕ = lines_from memory end most (place + size_of (instruction_at memory place)) in
-    ap (λ b. placed place (map line_of (lines (map to_ascii_uppercase (cond b (line_at memory place ++ others) []))))) (le-ltb place end past)
+    ap (λ b. placed place (map line_of (lines (map to_ascii_uppercase (cond b (line_at memory place ++ others) [])))))
+        (le-ltb place end past)
 
 -- the lines of a listing stand one behind the other
 listing-written : (memory : List ℕ) (end most place : ℕ)
@@ -152,7 +161,8 @@ listing-written memory end (suc most) place reads sized all bound =
     (cases_lt place end)
 
 -- a line covers no place before it and none behind it
-covers-not : (memory : List ℕ) (place : ℕ) (at : Placed) (k : ℕ) → IsWritten memory place at → (k < place) ⊎ (place + count_of at.line.statement ≤ k)
+covers-not : (memory : List ℕ) (place : ℕ) (at : Placed) (k : ℕ) → IsWritten memory place at → (k < place)
+    ⊎ (place + count_of at.line.statement ≤ k)
     → covers at k ≡ false
 covers-not memory place at k w (inl before) = rw w.start (grind (arith, nat_tests))
 covers-not memory place at k w (inr behind) = rw w.start (grind (arith, nat_tests))
@@ -164,7 +174,8 @@ written-within memory place at w =
     (le-ltb 2048 (at.start + count_of at.line.statement) (omega (arith, w.start, w.within)))
 
 -- no earlier line fills a place of its own
-written-free : (memory : List ℕ) (place : ℕ) (at : Placed) (filled : ℕ → Bool) → IsWritten memory place at → IsFree filled place → is_filled_again filled at ≡ false
+written-free : (memory : List ℕ) (place : ℕ) (at : Placed) (filled : ℕ → Bool) → IsWritten memory place at
+    → IsFree filled place → is_filled_again filled at ≡ false
 written-free memory place at filled w free =
     list_any_none (λ k. covers at k && filled k) places (λ k d h. one (slice_index_or places k d))
   where
@@ -176,7 +187,8 @@ written-free memory place at filled w free =
         (cases_lt k place)
 
 -- so it has no fault
-written-sound : (memory : List ℕ) (place : ℕ) (at : Placed) (names seen : Meanings) (filled : ℕ → Bool) → IsWritten memory place at → IsFree filled place
+written-sound : (memory : List ℕ) (place : ℕ) (at : Placed) (names seen : Meanings) (filled : ℕ → Bool)
+    → IsWritten memory place at → IsFree filled place
     → fault_of names seen filled at ≡ None
 written-sound memory place at names seen filled w free =
     w.faults names seen filled
@@ -184,23 +196,29 @@ written-sound memory place at names seen filled w free =
     ∙ ap (λ b. cond b (Some PlaceTaken) None) (written-free memory place at filled w free)
 
 -- one line more fills no place behind it
-free-push : (memory : List ℕ) (place : ℕ) (earlier : List Placed) (at : Placed) → IsWritten memory place at → IsFree (is_filled earlier) place
+free-push : (memory : List ℕ) (place : ℕ) (earlier : List Placed) (at : Placed) → IsWritten memory place at
+    → IsFree (is_filled earlier) place
     → IsFree (is_filled (earlier ++ at ∷ [])) (place + count_of at.line.statement)
 free-push memory place earlier at w free k behind =
-    is_filled-push earlier at k ∙ or_from (is_filled earlier k) (covers at k) (free k (omega arith)) (covers-not memory place at k w (inr behind))
+    is_filled-push earlier at k
+        ∙ or_from (is_filled earlier k) (covers at k) (free k (omega arith)) (covers-not memory place at k w (inr behind))
 
 -- lines one behind the other have no fault
-written-faultless : (memory : List ℕ) (end place : ℕ) (names : Meanings) (earlier all : List Placed) → Written memory end place all → IsFree (is_filled earlier) place
+written-faultless : (memory : List ℕ) (end place : ℕ) (names : Meanings) (earlier all : List Placed)
+    → Written memory end place all → IsFree (is_filled earlier) place
     → first_fault names earlier all ≡ None
 written-faultless memory end place names earlier [] w free = refl
 written-faultless memory end place names earlier (at ∷ rest) w free =
     ap (λ o. option_or (option_map (λ flaw. (length earlier + 1, number_of flaw)) o) (first_fault names (earlier ++ at ∷ []) rest))
     (written-sound memory place at names (value_named (definitions earlier)) (is_filled earlier) w.0 free)
-    ∙ written-faultless memory end (place + count_of at.line.statement) names (earlier ++ at ∷ []) rest w.1 (free-push memory place earlier at w.0 free)
+    ∙ written-faultless memory end (place + count_of at.line.statement) names (earlier ++ at ∷ []) rest w.1
+        (free-push memory place earlier at w.0 free)
 
 -- a byte of a line, or of those behind it
-byte-step : (t : Bool) (memory : List ℕ) (place : ℕ) (names : Meanings) (at : Placed) (k x : ℕ) → IsWritten memory place at → covers at k ≡ t → place ≤ k
-    → (place + count_of at.line.statement ≤ k → x ≡ slice_index memory k) → cond t (slice_index (bytes_of names at.line.statement) (k - at.start)) x ≡ slice_index memory k
+byte-step : (t : Bool) (memory : List ℕ) (place : ℕ) (names : Meanings) (at : Placed) (k x : ℕ)
+    → IsWritten memory place at → covers at k ≡ t → place ≤ k
+    → (place + count_of at.line.statement ≤ k → x ≡ slice_index memory k)
+        → cond t (slice_index (bytes_of names at.line.statement) (k - at.start)) x ≡ slice_index memory k
 byte-step true memory place names at k x w t from others =
     let both = and_parts (nat_le at.start k) (nat_lt k (at.start + count_of at.line.statement)) t in
     let below : k < at.start + count_of at.line.statement = ltb-true k (at.start + count_of at.line.statement) both.1 in
@@ -211,13 +229,15 @@ byte-step true memory place names at k x w t from others =
 byte-step false memory place names at k x w t from others =
     others (⊎_elim
     (λ (below : k < place + count_of at.line.statement).
-    absurd (both_ways (covers at k) t (and_from (nat_le at.start k) (nat_lt k (at.start + count_of at.line.statement)) (le-leb at.start k (omega (arith, w.start)))
+    absurd (both_ways (covers at k) t
+        (and_from (nat_le at.start k) (nat_lt k (at.start + count_of at.line.statement)) (le-leb at.start k (omega (arith, w.start)))
     (lt-ltb k (at.start + count_of at.line.statement) (omega (arith, w.start, below))))))
     (λ (behind : place + count_of at.line.statement ≤ k). behind)
     (cases_lt k (place + count_of at.line.statement)))
 
 -- from a place on the bytes of the lines are those of the memory, which is 00 from the end on
-written-byte : (memory : List ℕ) (end place : ℕ) (names : Meanings) (all : List Placed) → Written memory end place all → IsZeroFrom memory end
+written-byte : (memory : List ℕ) (end place : ℕ) (names : Meanings) (all : List Placed) → Written memory end place all
+    → IsZeroFrom memory end
     → (k : ℕ) → place ≤ k → byte_at names all k ≡ slice_index memory k
 written-byte memory end place names [] w zeros k from = sym (zeros k (omega arith))
 written-byte memory end place names (at ∷ rest) w zeros k from =
@@ -252,14 +272,16 @@ end_of-zeros (byte ∷ bytes) (suc k) h = end_of-zeros bytes k (one byte (end_of
     one byte (suc end) h = omega arith
 
 -- lines from place 0 on give the memory
-written-image : (memory : List ℕ) (end : ℕ) (names : Meanings) (all : List Placed) → length memory ≡ 2048 → Written memory end 0 all → IsZeroFrom memory end
+written-image : (memory : List ℕ) (end : ℕ) (names : Meanings) (all : List Placed) → length memory ≡ 2048
+    → Written memory end 0 all → IsZeroFrom memory end
     → image_of names all ≡ memory
 written-image memory end names all long w zeros =
     ap (map (byte_at names all)) (sym (places-of 2048 refl))
     ∙ sym (fill_by_all (byte_at names all) memory 2048 0 long (λ k h. sym (written-byte memory end 0 names all w zeros k (omega arith))))
 
 -- and no fault
-written-outcome : (memory : List ℕ) (end : ℕ) (names : Meanings) (all : List Placed) → length memory ≡ 2048 → Written memory end 0 all → IsZeroFrom memory end
+written-outcome : (memory : List ℕ) (end : ℕ) (names : Meanings) (all : List Placed) → length memory ≡ 2048
+    → Written memory end 0 all → IsZeroFrom memory end
     → outcome_of names all ≡ Ok memory
 written-outcome memory end names all long w zeros =
     ap (λ f. image_unless f (image_of names all)) (written-faultless memory end 0 names [] all w (λ k h. refl))

@@ -11,9 +11,11 @@ use Rattle.mcs48_asm.specs.Assembly.{outcome_of}
 use Rattle.mcs48_asm.specs.Answers.{IsOutcome}
 
 -- names that mean the same give the same answer
-pub same_names : (answer : Result Image AsmFault) (text : List ℕ) (names : Meanings) → ((q : List ℕ) → names q ≡ value_named (definitions (kept_places 0 (map kept_line (lines text)))) q)
+pub same_names : (answer : Result Image AsmFault) (text : List ℕ) (names : Meanings)
+    → ((q : List ℕ) → names q ≡ value_named (definitions (kept_places 0 (map kept_line (lines text)))) q)
     → IsOutcome answer (outcome_of names (kept_places 0 (map kept_line (lines text))))
-    → IsOutcome answer (outcome_of (value_named (definitions (kept_places 0 (map kept_line (lines text))))) (kept_places 0 (map kept_line (lines text))))
+    → IsOutcome answer (outcome_of (value_named (definitions (kept_places 0 (map kept_line (lines text)))))
+        (kept_places 0 (map kept_line (lines text))))
 same_names answer text names h =
     let all = kept_places 0 (map kept_line (lines text)) in
     let same : names ≡ value_named (definitions all) = λ i q. h q i in

@@ -22,14 +22,16 @@ all_weaker p q weaker (c ∷ cs) all =
     and_from (q c) (list_all q cs) (weaker c both.0) (all_weaker p q weaker cs both.1)
 
 -- a text without a mark is one part
-pub one_part : (p q : ℕ → Bool) → ((c : ℕ) → p c ≡ true → q c ≡ false) → (text : List ℕ) → list_all p text ≡ true → slice_split q text ≡ text ∷ []
+pub one_part : (p q : ℕ → Bool) → ((c : ℕ) → p c ≡ true → q c ≡ false) → (text : List ℕ) → list_all p text ≡ true
+    → slice_split q text ≡ text ∷ []
 one_part p q none [] all = refl
 one_part p q none (c ∷ cs) all =
     let both = and_parts (p c) (list_all p cs) all in
     slice_split-cons_no q c cs (none c both.0) ∙ ap (onto_first c) (one_part p q none cs both.1)
 
 -- and a text before a mark is the first part
-pub first_part : (p q : ℕ → Bool) → ((c : ℕ) → p c ≡ true → q c ≡ false) → (text : List ℕ) (mark : ℕ) (rest : List ℕ) → list_all p text ≡ true → q mark ≡ true
+pub first_part : (p q : ℕ → Bool) → ((c : ℕ) → p c ≡ true → q c ≡ false) → (text : List ℕ) (mark : ℕ) (rest : List ℕ)
+    → list_all p text ≡ true → q mark ≡ true
     → slice_split q (text ++ mark ∷ rest) ≡ text ∷ slice_split q rest
 first_part p q none [] mark rest all is = slice_split-cons_yes q mark rest is
 first_part p q none (c ∷ cs) mark rest all is =

@@ -6,12 +6,14 @@ use Rattle.std.specs.List.{list_any, range_with_len}
 use Rattle.std.proofs.lemmas.Bool.Decides.{nat_tests}
 use Rattle.mcs48_asm.specs.Places.{places}
 
-pub any_range-step : (f : ℕ → Bool) (n place : ℕ) → place < n → list_any f (range_with_len place (n - place)) ≡ (f place || list_any f (range_with_len (place + 1) (n - (place + 1))))
+pub any_range-step : (f : ℕ → Bool) (n place : ℕ) → place < n
+    → list_any f (range_with_len place (n - place)) ≡ (f place || list_any f (range_with_len (place + 1) (n - (place + 1))))
 any_range-step f n place h =
     let e : n - place ≡ suc (n - (place + 1)) = omega arith in
     ap (λ k. list_any f (range_with_len place k)) e
 
-pub any_range-false : (f : ℕ → Bool) (n place : ℕ) → place < n → f place ≡ false → list_any f (range_with_len place (n - place)) ≡ list_any f (range_with_len (place + 1) (n - (place + 1)))
+pub any_range-false : (f : ℕ → Bool) (n place : ℕ) → place < n → f place ≡ false
+    → list_any f (range_with_len place (n - place)) ≡ list_any f (range_with_len (place + 1) (n - (place + 1)))
 any_range-false f n place h t = any_range-step f n place h ∙ ap (λ b. b || list_any f (range_with_len (place + 1) (n - (place + 1)))) t
 
 pub any_range-end : (f : ℕ → Bool) (n place : ℕ) → n ≤ place → list_any f (range_with_len place (n - place)) ≡ false
@@ -20,7 +22,8 @@ any_range-end f n place h =
     ap (λ k. list_any f (range_with_len place k)) e
 
 -- a test that no place before one passes
-pub any_range-skip : (f : ℕ → Bool) (n place : ℕ) → ((k : ℕ) → k < place → f k ≡ false) → list_any f (range_with_len 0 n) ≡ list_any f (range_with_len place (n - place))
+pub any_range-skip : (f : ℕ → Bool) (n place : ℕ) → ((k : ℕ) → k < place → f k ≡ false)
+    → list_any f (range_with_len 0 n) ≡ list_any f (range_with_len place (n - place))
 any_range-skip f n zero before = ap (λ k. list_any f (range_with_len 0 k)) (sym (sub-zero n))
 any_range-skip f n (suc place) before =
     let e : place + 1 ≡ suc place = omega arith in
@@ -45,7 +48,8 @@ pub any_places : (f : ℕ → Bool) (n : ℕ) → n ≡ 2048 → list_any f (ran
 any_places f n e = ap (list_any f) (places-of n e)
 
 -- a test of places that gives alike below 2,048
-pub any_range-alike : (f g : ℕ → Bool) (place n : ℕ) → ((k : ℕ) → k < place + n → f k ≡ g k) → list_any f (range_with_len place n) ≡ list_any g (range_with_len place n)
+pub any_range-alike : (f g : ℕ → Bool) (place n : ℕ) → ((k : ℕ) → k < place + n → f k ≡ g k)
+    → list_any f (range_with_len place n) ≡ list_any g (range_with_len place n)
 any_range-alike f g place zero h = refl
 any_range-alike f g place (suc n) h =
     rw (h place (omega arith)) (ap (λ b. g place || b) (any_range-alike f g (place + 1) n (λ k l. h k (omega (arith, l)))))
@@ -67,6 +71,8 @@ and_false true false c h = refl
 and_false false b c h = refl
 
 -- no place lies among none
-pub no_places : (f : ℕ → Bool) (start count : ℕ) → count ≡ 0 → list_any (λ place. nat_le start place && nat_lt place (start + count) && f place) places ≡ false
+pub no_places : (f : ℕ → Bool) (start count : ℕ) → count ≡ 0
+    → list_any (λ place. nat_le start place && nat_lt place (start + count) && f place) places ≡ false
 no_places f start count e =
-    rw e (none (λ place. nat_le start place && nat_lt place (start + 0) && f place) places (λ place. and_false (nat_le start place) (nat_lt place (start + 0)) (f place) (empty start place)))
+    rw e (none (λ place. nat_le start place && nat_lt place (start + 0) && f place) places
+        (λ place. and_false (nat_le start place) (nat_lt place (start + 0)) (f place) (empty start place)))

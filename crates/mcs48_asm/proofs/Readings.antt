@@ -31,7 +31,8 @@ pub record IsRead (text : List ℕ) (place : ℕ) (bytes : List ℕ) : Type 0 wh
   pub count : count_of statement ≡ length bytes
   pub start : (before : ℕ) → start_of before statement ≡ before
   pub no_name : equated statement ≡ []
-  pub faults : (names seen : Meanings) (filled : ℕ → Bool) → fault_of names seen filled (said_at place statement) ≡ late_fault filled (said_at place statement)
+  pub faults : (names seen : Meanings) (filled : ℕ → Bool)
+      → fault_of names seen filled (said_at place statement) ≡ late_fault filled (said_at place statement)
 
 -- the text of a place in a listing, without its LF
 abbrev pub text_at : List ℕ → ℕ → List ℕ

@@ -13,18 +13,21 @@ use Rattle.mcs48_asm.proofs.Sizes.{byte_below, sized}
 use Rattle.mcs48_asm.proofs.Listed.{listing-assembles}
 
 -- an instruction that fits is read, and else DB and the byte
-fitting-reads : (fits : Bool) (d : Decoded) (b n place : ℕ) → nat_le (place + d.len) 2048 ≡ fits → b < 256 → (place + d.len ≤ 2048 → IsRead (text_of d.op place) place (take d.len (b ∷ n ∷ [])))
+fitting-reads : (fits : Bool) (d : Decoded) (b n place : ℕ) → nat_le (place + d.len) 2048 ≡ fits → b < 256
+    → (place + d.len ≤ 2048 → IsRead (text_of d.op place) place (take d.len (b ∷ n ∷ [])))
     → IsRead (statement_of (cond fits (Some d) None) b place) place (take (size_of (cond fits (Some d) None)) (b ∷ n ∷ []))
 fitting-reads true d b n place is below reads = reads (leb-true (place + d.len) 2048 is)
 fitting-reads false d b n place is below reads = byte_alone place b below
 
-row_at-reads : (row : Option Decoded) (b n place : ℕ) → b < 256 → IfSome row (λ d. place + d.len ≤ 2048 → IsRead (text_of d.op place) place (take d.len (b ∷ n ∷ [])))
+row_at-reads : (row : Option Decoded) (b n place : ℕ) → b < 256
+    → IfSome row (λ d. place + d.len ≤ 2048 → IsRead (text_of d.op place) place (take d.len (b ∷ n ∷ [])))
     → IsRead (statement_of (that_fits place row) b place) place (take (size_of (that_fits place row)) (b ∷ n ∷ []))
 row_at-reads None b n place below reads = byte_alone place b below
 row_at-reads (Some d) b n place below reads = fitting-reads (nat_le (place + d.len) 2048) d b n place refl below reads
 
 -- the text of each place is read as its bytes
-reads_at : (memory : List ℕ) → ((k : ℕ) → slice_index memory k < 256) → (place : ℕ) → IsRead (text_at memory place) place (bytes_at memory place)
+reads_at : (memory : List ℕ) → ((k : ℕ) → slice_index memory k < 256) → (place : ℕ)
+    → IsRead (text_at memory place) place (bytes_at memory place)
 reads_at memory bytes place =
     let b : ℕ = slice_index memory place in
     let n : ℕ = slice_index memory (place + 1) in

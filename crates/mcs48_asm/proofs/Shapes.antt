@@ -14,7 +14,8 @@ use Rattle.mcs48_asm.proofs.Plain.{IsPlain}
 use Rattle.mcs48_asm.proofs.Readings.{IsRead, said, said_at, late_fault}
 
 -- an instruction without a value
-pub bare : (text : List ℕ) (place opcode : ℕ) → IsPlain text → line_of text ≡ said (Instruction opcode None) → IsRead text place (opcode ∷ [])
+pub bare : (text : List ℕ) (place opcode : ℕ) → IsPlain text → line_of text ≡ said (Instruction opcode None)
+    → IsRead text place (opcode ∷ [])
 bare text place opcode plain line =
     record {
       statement = Instruction opcode None;
@@ -31,12 +32,14 @@ bare text place opcode plain line =
 abbrev pub Suits : ℕ → Role → ℕ → Type 0
 Suits place role n = (names : Meanings) → (is_past names role (Number n) ≡ false) × (is_outside names place role (Number n) ≡ false)
 
-pub if_none : (refused off : Bool) (late : Option Flaw) → refused ≡ false → off ≡ false → (if refused then Some Misfit else (if off then Some OffPage else late)) ≡ late
+pub if_none : (refused off : Bool) (late : Option Flaw) → refused ≡ false → off ≡ false
+    → (if refused then Some Misfit else (if off then Some OffPage else late)) ≡ late
 if_none refused off late no_refusal no_jump = rw (no_refusal, no_jump) refl
 
 -- an instruction with a value
 pub with_number : (text : List ℕ) (place opcode : ℕ) (role : Role) (n first second : ℕ) → IsPlain text
-    → line_of text ≡ said (Instruction opcode (Some (record { role = role; value = Number n }))) → Suits place role n → with_value opcode role n ≡ first ∷ second ∷ []
+    → line_of text ≡ said (Instruction opcode (Some (record { role = role; value = Number n }))) → Suits place role n
+        → with_value opcode role n ≡ first ∷ second ∷ []
     → IsRead text place (first ∷ second ∷ [])
 with_number text place opcode role n first second plain line suits bytes =
     record {

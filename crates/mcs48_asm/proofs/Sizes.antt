@@ -25,7 +25,8 @@ fitting true d place test few below = let within : place + d.len ≤ 2048 = leb-
 fitting false d place test few below = omega arith
 
 -- and so what stands at a place
-that_fits-room : (row : Option Decoded) (place : ℕ) → IfSome row (λ d. IsFew d.len) → place < 2048 → IsRoom place (size_of (that_fits place row))
+that_fits-room : (row : Option Decoded) (place : ℕ) → IfSome row (λ d. IsFew d.len) → place < 2048
+    → IsRoom place (size_of (that_fits place row))
 that_fits-room None place few below = omega arith
 that_fits-room (Some d) place few below = fitting (nat_le (place + d.len) 2048) d place refl few below
 
@@ -42,7 +43,8 @@ pub sized : (memory : List ℕ) → ((k : ℕ) → slice_index memory k < 256) �
 sized memory bytes place below =
     let first : ℕ = slice_index memory place in
     let second : ℕ = slice_index memory (place + 1) in
-    let few = each_row (λ d. IsFew d.len) first second (λ (d : Decoded) (s : IsSound first second d). s.2) (bytes place) (bytes (place + 1)) in
+    let few = each_row (λ d. IsFew d.len) first second (λ (d : Decoded) (s : IsSound first second d). s.2)
+        (bytes place) (bytes (place + 1)) in
     let room = that_fits-room (row_of first second) place few below in
     record {
       some = room.0;

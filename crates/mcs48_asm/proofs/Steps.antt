@@ -13,12 +13,15 @@ or_cond : (t : Bool) (x : ℕ) (o z p : Option ℕ) → p ≡ option_or o z → 
 or_cond true x o z p h = refl
 or_cond false x o z p h = h
 
-value_named-append : (xs ys : List Definition) (name : List ℕ) → value_named (xs ++ ys) name ≡ option_or (value_named xs name) (value_named ys name)
+value_named-append : (xs ys : List Definition) (name : List ℕ)
+    → value_named (xs ++ ys) name ≡ option_or (value_named xs name) (value_named ys name)
 value_named-append [] ys name = refl
 value_named-append (x ∷ xs) ys name = first (bytes_eq name x.name) xs ys name x (value_named-append xs ys name)
   where
-    first : (t : Bool) (xs ys : List Definition) (name : List ℕ) (x : Definition) → value_named (xs ++ ys) name ≡ option_or (value_named xs name) (value_named ys name)
-        → option_map (λ d. d.value) (cond t (Some x) (find (λ d. bytes_eq name d.name) (xs ++ ys))) ≡ option_or (option_map (λ d. d.value) (cond t (Some x) (find (λ d. bytes_eq name d.name) xs))) (value_named ys name)
+    first : (t : Bool) (xs ys : List Definition) (name : List ℕ) (x : Definition)
+        → value_named (xs ++ ys) name ≡ option_or (value_named xs name) (value_named ys name)
+        → option_map (λ d. d.value) (cond t (Some x) (find (λ d. bytes_eq name d.name) (xs ++ ys)))
+            ≡ option_or (option_map (λ d. d.value) (cond t (Some x) (find (λ d. bytes_eq name d.name) xs))) (value_named ys name)
     first true xs ys name x h = refl
     first false xs ys name x h = h
 
@@ -26,7 +29,8 @@ definitions-push : (xs : List Placed) (at : Placed) → definitions (xs ++ at �
 definitions-push xs at = flat_map-append defined xs (at ∷ []) ∙ ap (λ ds. definitions xs ++ ds) (append-nil (defined at))
 
 -- the names that the lines define with one line more
-pub names-push : (xs : List Placed) (at : Placed) (name : List ℕ) → value_named (definitions (xs ++ at ∷ [])) name ≡ option_or (value_named (definitions xs) name) (value_named (defined at) name)
+pub names-push : (xs : List Placed) (at : Placed) (name : List ℕ)
+    → value_named (definitions (xs ++ at ∷ [])) name ≡ option_or (value_named (definitions xs) name) (value_named (defined at) name)
 names-push xs at name = ap (λ ds. value_named ds name) (definitions-push xs at) ∙ value_named-append (definitions xs) (defined at) name
 
 or_assoc : (a b c : Bool) → (a || (b || c)) ≡ ((a || b) || c)
@@ -38,14 +42,18 @@ or_false true = refl
 or_false false = refl
 
 -- the places that the lines fill with one line more
-pub is_filled-push : (xs : List Placed) (at : Placed) (place : ℕ) → is_filled (xs ++ at ∷ []) place ≡ (is_filled xs place || covers at place)
+pub is_filled-push : (xs : List Placed) (at : Placed) (place : ℕ)
+    → is_filled (xs ++ at ∷ []) place ≡ (is_filled xs place || covers at place)
 is_filled-push [] at place = or_false (covers at place)
-is_filled-push (x ∷ xs) at place = ap (λ b. covers x place || b) (is_filled-push xs at place) ∙ or_assoc (covers x place) (is_filled xs place) (covers at place)
+is_filled-push (x ∷ xs) at place = ap (λ b. covers x place || b) (is_filled-push xs at place)
+    ∙ or_assoc (covers x place) (is_filled xs place) (covers at place)
 
 -- the byte at a place with one line more: a place that is filled keeps its byte
-pub byte_at-kept : (names : Meanings) (xs : List Placed) (at : Placed) (place : ℕ) → covers at place ≡ false → byte_at names (xs ++ at ∷ []) place ≡ byte_at names xs place
+pub byte_at-kept : (names : Meanings) (xs : List Placed) (at : Placed) (place : ℕ) → covers at place ≡ false
+    → byte_at names (xs ++ at ∷ []) place ≡ byte_at names xs place
 byte_at-kept names [] at place h = rw h refl
-byte_at-kept names (x ∷ xs) at place h = ap (cond (covers x place) (slice_index (bytes_of names x.line.statement) (place - x.start))) (byte_at-kept names xs at place h)
+byte_at-kept names (x ∷ xs) at place h =
+    ap (cond (covers x place) (slice_index (bytes_of names x.line.statement) (place - x.start))) (byte_at-kept names xs at place h)
 
 -- and a place that is not filled takes the byte of the line
 pub byte_at-new : (names : Meanings) (xs : List Placed) (at : Placed) (place : ℕ) → is_filled xs place ≡ false → covers at place ≡ true

@@ -30,14 +30,18 @@ pub before-apart : (c : ℕ) (ts : List (List ℕ)) → is_blank c ≡ false →
 before-apart c ts h = ap (λ b. cond b ts ((c ∷ []) ∷ ts)) h
 
 pub before-comma : (c : ℕ) (g : Bool) (ts : List (List ℕ)) → is_comma c ≡ true → before_tokens c g ts ≡ (c ∷ []) ∷ ts
-before-comma c true ts h = ap (λ b. cond b ts (cond (true && not (is_comma c)) (onto_first c ts) ((c ∷ []) ∷ ts))) (comma-blank c h) ∙ ap (λ b. cond (true && not b) (onto_first c ts) ((c ∷ []) ∷ ts)) h
+before-comma c true ts h =
+    ap (λ b. cond b ts (cond (true && not (is_comma c)) (onto_first c ts) ((c ∷ []) ∷ ts))) (comma-blank c h)
+    ∙ ap (λ b. cond (true && not b) (onto_first c ts) ((c ∷ []) ∷ ts)) h
 before-comma c false ts h = before-apart c ts (comma-blank c h)
 
 pub before-joined : (c : ℕ) (ts : List (List ℕ)) → is_blank c ≡ false → is_comma c ≡ false → before_tokens c true ts ≡ onto_first c ts
-before-joined c ts h k = ap (λ b. cond b ts (cond (true && not (is_comma c)) (onto_first c ts) ((c ∷ []) ∷ ts))) h ∙ ap (λ b. cond (true && not b) (onto_first c ts) ((c ∷ []) ∷ ts)) k
+before-joined c ts h k = ap (λ b. cond b ts (cond (true && not (is_comma c)) (onto_first c ts) ((c ∷ []) ∷ ts))) h
+    ∙ ap (λ b. cond (true && not b) (onto_first c ts) ((c ∷ []) ∷ ts)) k
 
 -- a character that is no blank and no comma, the letters behind it, and what stands behind these
-pub token-run : (c : ℕ) (word rest : List ℕ) → is_blank c ≡ false → is_comma c ≡ false → list_all is_word_character word ≡ true → goes_on rest ≡ false
+pub token-run : (c : ℕ) (word rest : List ℕ) → is_blank c ≡ false → is_comma c ≡ false
+    → list_all is_word_character word ≡ true → goes_on rest ≡ false
     → tokens_of (c ∷ (word ++ rest)) ≡ (c ∷ word) ∷ tokens_of rest
 token-run c [] rest visible comma all ends = ap (λ g. before_tokens c g (tokens_of rest)) ends ∙ before-apart c (tokens_of rest) visible
 token-run c (d ∷ ds) rest visible comma all ends =
@@ -47,9 +51,11 @@ token-run c (d ∷ ds) rest visible comma all ends =
     ∙ ap (onto_first c) (token-run d ds rest (word-blank d both.0) (word-comma d both.0) both.1 ends)
 
 -- the same, where so many letters stand behind the character
-pub token-cut : (c : ℕ) (behind : List ℕ) (n : ℕ) → is_blank c ≡ false → is_comma c ≡ false → list_all is_word_character (take n behind) ≡ true → goes_on (drop n behind) ≡ false
+pub token-cut : (c : ℕ) (behind : List ℕ) (n : ℕ) → is_blank c ≡ false → is_comma c ≡ false
+    → list_all is_word_character (take n behind) ≡ true → goes_on (drop n behind) ≡ false
     → tokens_of (c ∷ behind) ≡ (c ∷ take n behind) ∷ tokens_of (drop n behind)
-token-cut c behind n visible comma all ends = ap (λ text. tokens_of (c ∷ text)) (sym (take-append-drop n behind)) ∙ token-run c (take n behind) (drop n behind) visible comma all ends
+token-cut c behind n visible comma all ends = ap (λ text. tokens_of (c ∷ text)) (sym (take-append-drop n behind))
+    ∙ token-run c (take n behind) (drop n behind) visible comma all ends
 
 -- one token: what begins with no blank and no comma, and goes on with letters, digits and _
 abbrev pub is_token : List ℕ → Bool
@@ -88,7 +94,8 @@ split-end : (rest : List ℕ) → goes_on rest ≡ false → slice_split is_betw
 split-end [] h = refl
 split-end (c ∷ cs) h = slice_split-cons_yes is_between c cs (ap not h)
 
-split-word : (word rest : List ℕ) → list_all is_word_character word ≡ true → goes_on rest ≡ false → slice_split is_between (word ++ rest) ≡ word ∷ parts_behind rest
+split-word : (word rest : List ℕ) → list_all is_word_character word ≡ true → goes_on rest ≡ false
+    → slice_split is_between (word ++ rest) ≡ word ∷ parts_behind rest
 split-word [] rest all ends = split-end rest ends
 split-word (c ∷ cs) rest all ends =
     let both = and_parts (is_word_character c) (list_all is_word_character cs) all in
@@ -96,33 +103,44 @@ split-word (c ∷ cs) rest all ends =
 
 -- a part that isn't nothing is a word
 pub kept : (c : ℕ) (cs : List ℕ) (parts : List (List ℕ)) → filter is_word ((c ∷ cs) ∷ parts) ≡ (c ∷ cs) ∷ filter is_word parts
-kept c cs parts = let some : is_word (c ∷ cs) ≡ true = grind (arith, nat_tests) in ap (λ b. cond b ((c ∷ cs) ∷ filter is_word parts) (filter is_word parts)) some
+kept c cs parts = let some : is_word (c ∷ cs) ≡ true = grind (arith, nat_tests) in
+    ap (λ b. cond b ((c ∷ cs) ∷ filter is_word parts) (filter is_word parts)) some
 
-pub words-run : (c : ℕ) (cs rest : List ℕ) → list_all is_word_character (c ∷ cs) ≡ true → goes_on rest ≡ false → words_of ((c ∷ cs) ++ rest) ≡ (c ∷ cs) ∷ words_of rest
+pub words-run : (c : ℕ) (cs rest : List ℕ) → list_all is_word_character (c ∷ cs) ≡ true → goes_on rest ≡ false
+    → words_of ((c ∷ cs) ++ rest) ≡ (c ∷ cs) ∷ words_of rest
 words-run c cs rest all ends =
     ap (filter is_word) (split-word (c ∷ cs) rest all ends)
     ∙ kept c cs (parts_behind rest)
     ∙ ap (λ words. (c ∷ cs) ∷ words) (sym (ap (filter is_word) (split-end rest ends)))
 
 -- the same, where so many letters stand at the start
-pub words-cut : (text : List ℕ) (n : ℕ) → 1 ≤ length text → is_word_character (slice_index text 0) ≡ true → list_all is_word_character (take n text) ≡ true → goes_on (drop n text) ≡ false
+pub words-cut : (text : List ℕ) (n : ℕ) → 1 ≤ length text → is_word_character (slice_index text 0) ≡ true
+    → list_all is_word_character (take n text) ≡ true → goes_on (drop n text) ≡ false
     → words_of text ≡ take n text ∷ words_of (drop n text)
 words-cut [] n some h all ends = absurd (cc)
 words-cut (c ∷ behind) zero some h all ends = absurd (cc)
-words-cut (c ∷ behind) (suc n) some h all ends = ap (λ text. words_of (c ∷ text)) (sym (take-append-drop n behind)) ∙ words-run c (take n behind) (drop n behind) all ends
+words-cut (c ∷ behind) (suc n) some h all ends = ap (λ text. words_of (c ∷ text)) (sym (take-append-drop n behind))
+    ∙ words-run c (take n behind) (drop n behind) all ends
 
 -- the words before a character that is in none, and those behind it
-onto-append : (c : ℕ) (text : List ℕ) (parts : List (List ℕ)) → onto_first c (slice_split is_between text ++ parts) ≡ onto_first c (slice_split is_between text) ++ parts
-onto-append c text parts = let cut = split-is_cons is_between text in ap (λ ps. onto_first c (ps ++ parts)) cut.is ∙ sym (ap (λ ps. onto_first c ps ++ parts) cut.is)
+onto-append : (c : ℕ) (text : List ℕ) (parts : List (List ℕ))
+    → onto_first c (slice_split is_between text ++ parts) ≡ onto_first c (slice_split is_between text) ++ parts
+onto-append c text parts = let cut = split-is_cons is_between text in ap (λ ps. onto_first c (ps ++ parts)) cut.is
+    ∙ sym (ap (λ ps. onto_first c ps ++ parts) cut.is)
 
-split-before : (text : List ℕ) (m : ℕ) (rest : List ℕ) → is_between m ≡ true → slice_split is_between (text ++ m ∷ rest) ≡ slice_split is_between text ++ slice_split is_between rest
+split-before : (text : List ℕ) (m : ℕ) (rest : List ℕ) → is_between m ≡ true
+    → slice_split is_between (text ++ m ∷ rest) ≡ slice_split is_between text ++ slice_split is_between rest
 split-before [] m rest h = slice_split-cons_yes is_between m rest h
 split-before (c ∷ cs) m rest h = go (is_between c) (split-before cs m rest h)
   where
     go : (b : Bool) → slice_split is_between (cs ++ m ∷ rest) ≡ slice_split is_between cs ++ slice_split is_between rest
-        → cond b ([] ∷ slice_split is_between (cs ++ m ∷ rest)) (onto_first c (slice_split is_between (cs ++ m ∷ rest))) ≡ cond b ([] ∷ slice_split is_between cs) (onto_first c (slice_split is_between cs)) ++ slice_split is_between rest
+        → cond b ([] ∷ slice_split is_between (cs ++ m ∷ rest))
+            (onto_first c (slice_split is_between (cs ++ m ∷ rest)))
+            ≡ cond b ([] ∷ slice_split is_between cs) (onto_first c (slice_split is_between cs)) ++ slice_split is_between rest
     go true more = ap (λ parts. [] ∷ parts) more
     go false more = ap (onto_first c) more ∙ onto-append c cs (slice_split is_between rest)
 
-pub words-before : (text : List ℕ) (m : ℕ) (rest : List ℕ) → is_word_character m ≡ false → words_of (text ++ m ∷ rest) ≡ words_of text ++ words_of rest
-words-before text m rest h = ap (filter is_word) (split-before text m rest (ap not h)) ∙ filter-append is_word (slice_split is_between text) (slice_split is_between rest)
+pub words-before : (text : List ℕ) (m : ℕ) (rest : List ℕ) → is_word_character m ≡ false
+    → words_of (text ++ m ∷ rest) ≡ words_of text ++ words_of rest
+words-before text m rest h = ap (filter is_word) (split-before text m rest (ap not h))
+    ∙ filter-append is_word (slice_split is_between text) (slice_split is_between rest)

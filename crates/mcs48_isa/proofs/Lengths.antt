@@ -61,7 +61,8 @@ line-short bytes place =
     let short = statement-short (instruction_at bytes place) (slice_index bytes place) place in
     omega (arith, short, length-append statement (10 ∷ []))
 
-either-within : (b : Bool) (line rest : List ℕ) (most : ℕ) → length line ≤ 14 → length rest ≤ most * 14 → length (if b then line ++ rest else []) ≤ suc most * 14
+either-within : (b : Bool) (line rest : List ℕ) (most : ℕ) → length line ≤ 14 → length rest ≤ most * 14
+    → length (if b then line ++ rest else []) ≤ suc most * 14
 either-within true line rest most short within = omega (arith, short, within, length-append line rest)
 either-within false line rest most short within = omega arith
 
@@ -69,7 +70,8 @@ lines-within : (bytes : List ℕ) (end most place : ℕ) → length (lines_from 
 lines-within bytes end zero place = omega arith
 lines-within bytes end (suc most) place =
     let next : ℕ = place + size_of (instruction_at bytes place) in
-    either-within (nat_lt place end) (line_at bytes place) (lines_from bytes end most next) most (line-short bytes place) (lines-within bytes end most next)
+    either-within (nat_lt place end) (line_at bytes place) (lines_from bytes end most next) most
+        (line-short bytes place) (lines-within bytes end most next)
 
 end-within : (bytes : List ℕ) → end_of bytes ≤ length bytes
 end-within [] = omega arith

@@ -22,7 +22,8 @@ end_of-take bytes i h =
     ap end_of (take_more bytes i 0 h) ∙ end_of-append (take i bytes) (slice_index bytes i)
 
 -- a byte 00 leaves the end, another byte moves it behind itself
-pub end_of-zero : (bytes : List ℕ) (i : ℕ) → i < length bytes → slice_index bytes i ≡ 0 → end_of (take (i + 1) bytes) ≡ end_of (take i bytes)
+pub end_of-zero : (bytes : List ℕ) (i : ℕ) → i < length bytes → slice_index bytes i ≡ 0
+    → end_of (take (i + 1) bytes) ≡ end_of (take i bytes)
 end_of-zero bytes i h zero_there =
     end_of-take bytes i h
     ∙ ap (λ t. if t then end_of (take i bytes) else suc (length (take i bytes))) (eq-eqb (slice_index bytes i) 0 zero_there)

@@ -6,4 +6,5 @@ use Rattle.mcs48_isa.specs.Table.{row_of, one}
 use Rattle.mcs48_isa.proofs.Cases.{from_each}
 
 pub mov_ar : (n b : ℕ) → 248 ≤ b → b < 256 → row_of b n ≡ one (Moves (MovAR (bit_and b 7))) 1 n
-mov_ar n = from_each (λ b. row_of b n ≡ one (Moves (MovAR (bit_and b 7))) 1 n) 248 8 (refl, (refl, (refl, (refl, (refl, (refl, (refl, (refl, tt))))))))
+mov_ar n = from_each (λ b. row_of b n ≡ one (Moves (MovAR (bit_and b 7))) 1 n) 248 8
+    (refl, (refl, (refl, (refl, (refl, (refl, (refl, (refl, tt))))))))

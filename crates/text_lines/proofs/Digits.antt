@@ -15,6 +15,7 @@ pub number_after-next : (base : ℕ) (digit : ℕ → Option ℕ) (n i d : ℕ) 
 number_after-next base digit n i d text within is = rw (add-one, drop-cons text i 0) (rw is refl)
 
 -- fewer digits write a number that more digits write
-pub below_more : (number : Option ℕ) (digits most : ℕ) → digits ≤ most → IfSome number (λ n. n < 10 ^ digits) → IfSome number (λ n. n < 10 ^ most)
+pub below_more : (number : Option ℕ) (digits most : ℕ) → digits ≤ most → IfSome number (λ n. n < 10 ^ digits)
+    → IfSome number (λ n. n < 10 ^ most)
 below_more None digits most within below = tt
 below_more (Some n) digits most within below = let power : 10 ^ digits ≤ 10 ^ most = room 10 digits most (omega arith) within in omega arith

@@ -23,7 +23,9 @@ split-is_cons p [] = record { first = []; rest = []; is = refl }
 split-is_cons p (x ∷ xs) = cond-is_cons (p x) x (slice_split p xs)
 
 -- a line and the lines behind it
-pub lines-first : (text front rest : List ℕ) → slice_split (λ c. c == 10) text ≡ front ∷ slice_split (λ c. c == 10) rest → lines text ≡ strip_carriage_return front ∷ lines rest
+pub lines-first : (text front rest : List ℕ)
+    → slice_split (λ c. c == 10) text ≡ front ∷ slice_split (λ c. c == 10) rest → lines text ≡ strip_carriage_return front ∷ lines rest
 lines-first text front rest split =
     let parts = split-is_cons (λ c. c == 10) rest in
-    ap lines_of_parts (split ∙ ap (λ more. front ∷ more) parts.is) ∙ sym (ap (λ more. strip_carriage_return front ∷ lines_of_parts more) parts.is)
+    ap lines_of_parts (split ∙ ap (λ more. front ∷ more) parts.is)
+        ∙ sym (ap (λ more. strip_carriage_return front ∷ lines_of_parts more) parts.is)

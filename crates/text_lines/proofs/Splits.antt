@@ -17,7 +17,8 @@ none_of true x h = absurd (cc)
 none_of false x h = refl
 
 -- the place of the first mark
-pub place_is : (p : ℕ → Bool) (xs : List ℕ) (i : ℕ) → position p xs ≡ Some i → (position_or_len p xs < length xs) × (position_or_len p xs ≡ i)
+pub place_is : (p : ℕ → Bool) (xs : List ℕ) (i : ℕ) → position p xs ≡ Some i → (position_or_len p xs < length xs)
+    × (position_or_len p xs ≡ i)
 place_is p xs i h =
     let both = some_of (ltb (position_or_len p xs) (length xs)) (position_or_len p xs) i h in
     (ltb-true (position_or_len p xs) (length xs) both.0, both.1)
@@ -26,15 +27,18 @@ pub is_within : (p : ℕ → Bool) (xs : List ℕ) (i : ℕ) → position p xs �
 is_within p xs i h = let both = place_is p xs i h in omega (arith, both.0, both.1)
 
 pub none_passes : (p : ℕ → Bool) (xs : List ℕ) → position p xs ≡ None → length xs ≤ position_or_len p xs
-none_passes p xs h = ltb-false (position_or_len p xs) (length xs) (none_of (ltb (position_or_len p xs) (length xs)) (position_or_len p xs) h)
+none_passes p xs h = ltb-false (position_or_len p xs) (length xs)
+    (none_of (ltb (position_or_len p xs) (length xs)) (position_or_len p xs) h)
 
 pub split_none : (p : ℕ → Bool) (xs : List ℕ) → position p xs ≡ None → slice_split p xs ≡ xs ∷ []
-split_none p xs h = slice_split_none p xs (λ k d within. let all = none_passes p xs h in fails_before_first p xs k d (omega (arith, all, within)))
+split_none p xs h = slice_split_none p xs
+    (λ k d within. let all = none_passes p xs h in fails_before_first p xs k d (omega (arith, all, within)))
 
 tail_whole : (xs : List ℕ) (n : ℕ) → take (length xs - n) (drop n xs) ≡ drop n xs
 tail_whole xs n = take_all (length xs - n) (drop n xs) (omega (arith, length-drop n xs))
 
-pub split_some : (p : ℕ → Bool) (xs : List ℕ) (i : ℕ) → position p xs ≡ Some i → slice_split p xs ≡ take i xs ∷ slice_split p (take (length xs - (i + 1)) (drop (i + 1) xs))
+pub split_some : (p : ℕ → Bool) (xs : List ℕ) (i : ℕ) → position p xs ≡ Some i
+    → slice_split p xs ≡ take i xs ∷ slice_split p (take (length xs - (i + 1)) (drop (i + 1) xs))
 split_some p xs i h =
     let both = place_is p xs i h in
     slice_split_first p xs 0 both.0 ∙ ap (λ n. take n xs ∷ slice_split p (drop (n + 1) xs)) both.1

@@ -67,7 +67,8 @@ entered w s = record { after = record s { words = w ∷ [] }; items = Word w ∷
 -- a key without a shift key: its word of the base column, and nothing at its break
 pub plain_makes : (k w : ℕ) → k < 84 → word_of base k ≡ Some w → (w % 256 == 0) ≡ false → fed (scan_at k) start
     ≡ entered w start
-unfolding keys words letter_on reverses fed marks on_sysreq alt_broken on_shift_key locks lock_made on_lock_key without_words in_pause with_alt with_ctrl alone
+unfolding keys words letter_on reverses fed marks on_sysreq alt_broken on_shift_key locks lock_made on_lock_key
+    without_words in_pause with_alt with_ctrl alone
 plain_makes k w l e z =
     on_word_is (word_of base k) (λ w. fed (scan_at k) start) (λ w. entered w start) w
     (at_table (λ k. on_word (word_of base k) (λ w. fed (scan_at k) start))
@@ -76,7 +77,8 @@ plain_makes k w l e z =
 
 pub plain_breaks : (k w : ℕ) → k < 84 → word_of base k ≡ Some w → (w % 256 == 0) ≡ false → fed (broken k) start
     ≡ quiet start
-unfolding keys words letter_on reverses fed marks on_sysreq alt_broken on_shift_key locks lock_made on_lock_key without_words in_pause with_alt with_ctrl alone
+unfolding keys words letter_on reverses fed marks on_sysreq alt_broken on_shift_key locks lock_made on_lock_key
+    without_words in_pause with_alt with_ctrl alone
 plain_breaks k w l e z =
     on_word_is (word_of base k) (λ w. fed (broken k) start) (λ w. quiet start) w
     (at_table (λ k. on_word (word_of base k) (λ w. fed (broken k) start))
@@ -102,11 +104,13 @@ shift_table f g h k l s =
     ∙ ap (λ b. if b then g k else quiet start) s
 
 pub shift_makes : (k : ℕ) → k < 84 → is_shift k ≡ true → fed (scan_at k) start ≡ quiet (under_shift_key (is_left k))
-unfolding keys words letter_on reverses fed marks on_sysreq alt_broken on_shift_key locks lock_made on_lock_key without_words in_pause with_alt with_ctrl alone
+unfolding keys words letter_on reverses fed marks on_sysreq alt_broken on_shift_key locks lock_made on_lock_key
+    without_words in_pause with_alt with_ctrl alone
 shift_makes = shift_table (λ k. fed (scan_at k) start) (λ k. quiet (under_shift_key (is_left k))) refl
 
 pub shift_breaks : (k : ℕ) → k < 84 → is_shift k ≡ true → fed (broken k) (under_shift_key (is_left k)) ≡ quiet start
-unfolding keys words letter_on reverses fed marks on_sysreq alt_broken on_shift_key locks lock_made on_lock_key without_words in_pause with_alt with_ctrl alone
+unfolding keys words letter_on reverses fed marks on_sysreq alt_broken on_shift_key locks lock_made on_lock_key
+    without_words in_pause with_alt with_ctrl alone
 shift_breaks = shift_table (λ k. fed (broken k) (under_shift_key (is_left k))) (λ k. quiet start) refl
 
 -- a key under it: its word of the shift column, and nothing at its break
@@ -122,7 +126,8 @@ shifted_makes_by left k w l e z h =
 
 pub shifted_makes : (left : Bool) (k w : ℕ) → k < 84 → word_of shifted k ≡ Some w → (w % 256 == 0) ≡ false
     → fed (scan_at k) (under_shift_key left) ≡ entered w (under_shift_key left)
-unfolding keys words letter_on reverses fed marks on_sysreq alt_broken on_shift_key locks lock_made on_lock_key without_words in_pause with_alt with_ctrl alone
+unfolding keys words letter_on reverses fed marks on_sysreq alt_broken on_shift_key locks lock_made on_lock_key
+    without_words in_pause with_alt with_ctrl alone
 shifted_makes true k w l e z = shifted_makes_by true k w l e z refl
 shifted_makes false k w l e z = shifted_makes_by false k w l e z refl
 
@@ -140,6 +145,7 @@ shifted_breaks_by left k w l e z h =
 
 pub shifted_breaks : (left : Bool) (k w : ℕ) → k < 84 → word_of shifted k ≡ Some w → (w % 256 == 0) ≡ false
     → fed (broken k) (with_word left w) ≡ quiet (with_word left w)
-unfolding keys words letter_on reverses fed marks on_sysreq alt_broken on_shift_key locks lock_made on_lock_key without_words in_pause with_alt with_ctrl alone
+unfolding keys words letter_on reverses fed marks on_sysreq alt_broken on_shift_key locks lock_made on_lock_key
+    without_words in_pause with_alt with_ctrl alone
 shifted_breaks true k w l e z = shifted_breaks_by true k w l e z refl
 shifted_breaks false k w l e z = shifted_breaks_by false k w l e z refl

@@ -37,7 +37,8 @@ module _ {F : Type 0} (opens : F → Bool) where
   asking_free since (Output byte) l h = h
   asking_free since (Pulse lines) l h = h
 
-  where_free : (now : ℕ) (since : Option ℕ) (input : Option Taken) (p : Port F) → is_busy p.link ≡ false → is_busy (took_where now since input p).port.link ≡ false
+  where_free : (now : ℕ) (since : Option ℕ) (input : Option Taken) (p : Port F) → is_busy p.link ≡ false
+      → is_busy (took_where now since input p).port.link ≡ false
   where_free now None input p h = h
   where_free now (Some since) None p h = h
   where_free now (Some since) (Some t) p h = asking_free since t.did p.link h
@@ -52,7 +53,8 @@ module _ {F : Type 0} (opens : F → Bool) where
   after_free now stop awaits (Request byte) h = refl
   after_free now stop awaits (Busy x) h = h
 
-  pub stays_free : (events : List HostEvent) (now : ℕ) (s : Side F) → is_busy s.port.link ≡ false → is_busy (goes_on opens events now s).port.link ≡ false
+  pub stays_free : (events : List HostEvent) (now : ℕ) (s : Side F) → is_busy s.port.link ≡ false
+      → is_busy (goes_on opens events now s).port.link ≡ false
   unfolding goes_on
   stays_free events now s h =
       let p : Port F = Rattle.host_turn.specs.Cycle.port_by (turn_of events now s) s.port in
@@ -71,7 +73,8 @@ look_still now dat true p (Request byte) h = refl
 look_still now dat true p (Busy x) h = absurd cc
 look_still now dat false p l h = refl
 
-pub looks_still : (now : ℕ) (latch : Lines) (b : Pc) → latch.clk ≡ true → is_busy b.side.port.link ≡ false → (looked now (wires latch b) b).side ≡ b.side
+pub looks_still : (now : ℕ) (latch : Lines) (b : Pc) → latch.clk ≡ true → is_busy b.side.port.link ≡ false
+    → (looked now (wires latch b) b).side ≡ b.side
 looks_still now latch b up h =
     let p : Port Wire = b.side.port in
     let dat : Bool = latch.dat && (drive p.link).dat in
@@ -89,7 +92,8 @@ pub one_free : (events : List HostEvent) (now : ℕ) (latch : Lines) (b : Pc) �
     → is_busy (board_cycle events now latch b).side.port.link ≡ false
 unfolding board_cycle
 one_free events now latch b up h =
-    ap (λ s. is_busy (goes_on is_breakable events now s).port.link) (looks_still now latch b up h) ∙ stays_free is_breakable events now b.side h
+    ap (λ s. is_busy (goes_on is_breakable events now s).port.link) (looks_still now latch b up h)
+        ∙ stays_free is_breakable events now b.side h
 
 -- any number of cycles
 pub between : BetweenFrames
@@ -97,7 +101,8 @@ between events latch zero now b up h = (refl, h)
 between events latch (suc n) now b up h =
     let next : Pc = board_cycle events now (latch now) b in
     let high : (latch now).clk ≡ true = up now (omega arith) (omega arith) in
-    let rest = between events latch n (suc now) next (λ o l u. up o (omega (arith, l)) (omega (arith, u))) (one_free events now (latch now) b high h) in
+    let rest = between events latch n (suc now) next (λ o l u. up o (omega (arith, l)) (omega (arith, u)))
+        (one_free events now (latch now) b high h) in
     (rest.0 ∙ ap (λ m. quietly events n (suc now) m) (one_cycle events now (latch now) b high h), rest.1)
 
 -- the look, while the clock was low and the keyboard keeps it low
@@ -107,14 +112,19 @@ looks_low now latch b h =
     ap (λ c. record b.side { port = if c && not line.clk then edge_at now line.dat b.side.port.link b.side.port else b.side.port }) h
 
 -- cycles behind an edge, in which the keyboard keeps the clock low
-pub low_span : (events : List HostEvent) (latch : ℕ → Lines) (n now : ℕ) (b : Pc) → ((o : ℕ) → now ≤ o → o < now + n → (latch o).clk ≡ false) → b.clock ≡ false
+pub low_span : (events : List HostEvent) (latch : ℕ → Lines) (n now : ℕ) (b : Pc)
+    → ((o : ℕ) → now ≤ o → o < now + n → (latch o).clk ≡ false) → b.clock ≡ false
     → is_busy b.side.port.link ≡ false
-    → (seen_in_bytes (board_cycles events latch n now b).side ≡ quietly events n now (seen_in_bytes b.side)) × (is_busy (board_cycles events latch n now b).side.port.link ≡ false)
+    → (seen_in_bytes (board_cycles events latch n now b).side ≡ quietly events n now (seen_in_bytes b.side))
+        × (is_busy (board_cycles events latch n now b).side.port.link ≡ false)
 low_span events latch zero now b low c h = (refl, h)
 low_span events latch (suc n) now b low c h =
     let next : Pc = board_cycle events now (latch now) b in
     let same : (looked now (wires (latch now) b) b).side ≡ b.side = looks_low now (latch now) b c in
-    let free : is_busy next.side.port.link ≡ false = ap (λ s. is_busy s.port.link) (board_by events now (latch now) b b.side same) ∙ stays_free is_breakable events now b.side h in
-    let down : next.clock ≡ false = clock_by events now (latch now) b ∙ ap (λ k. k && (drive b.side.port.link).clk) (low now (omega arith) (omega arith)) in
+    let free : is_busy next.side.port.link
+        ≡ false = ap (λ s. is_busy s.port.link) (board_by events now (latch now) b b.side same)
+        ∙ stays_free is_breakable events now b.side h in
+    let down : next.clock ≡ false = clock_by events now (latch now) b
+        ∙ ap (λ k. k && (drive b.side.port.link).clk) (low now (omega arith) (omega arith)) in
     let rest = low_span events latch n (suc now) next (λ o l u. low o (omega (arith, l)) (omega (arith, u))) down free in
     (rest.0 ∙ ap (λ m. quietly events n (suc now) m) (still_cycle events now (latch now) b same), rest.1)

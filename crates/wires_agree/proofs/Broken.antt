@@ -45,7 +45,8 @@ closed_idle (Ask byte since) h = refl
 closed_idle (Request byte) h = refl
 closed_idle (Busy u) h = absurd cc
 
-closes_idle : (events : List HostEvent) (now : ℕ) (m : Side UnderWay) → is_busy m.port.link ≡ false → byte_cycle events now Closes m ≡ byte_cycle events now Quiet m
+closes_idle : (events : List HostEvent) (now : ℕ) (m : Side UnderWay) → is_busy m.port.link ≡ false
+    → byte_cycle events now Closes m ≡ byte_cycle events now Quiet m
 closes_idle events now m h =
     event_by events now Closes m
     ∙ ap (λ l. goes_on is_open events now (record m { port = record m.port { link = l } })) (closed_idle m.port.link h)
@@ -58,7 +59,8 @@ none_arrives now byte p (Ask asked since) h = refl
 none_arrives now byte p (Request asked) h = refl
 none_arrives now byte p (Busy u) h = absurd cc
 
-arrives_idle : (events : List HostEvent) (now byte : ℕ) (m : Side UnderWay) → is_busy m.port.link ≡ false → byte_cycle events now (Arrives byte) m ≡ byte_cycle events now Quiet m
+arrives_idle : (events : List HostEvent) (now byte : ℕ) (m : Side UnderWay) → is_busy m.port.link ≡ false
+    → byte_cycle events now (Arrives byte) m ≡ byte_cycle events now Quiet m
 arrives_idle events now byte m h =
     event_by events now (Arrives byte) m
     ∙ ap (λ p. goes_on is_open events now (record m { port = p })) (none_arrives now byte m.port m.port.link h)
@@ -75,13 +77,15 @@ module _ (events : List HostEvent) (latch : ℕ → Lines) (now byte : ℕ) (b :
   y = byte_cycle events now (Begins true) m
 
   -- from a cycle without a byte under way to a later one, while the keyboard leaves the clock alone
-  on : (t n k : ℕ) (v : Side UnderWay) → t + n ≡ k → ((o : ℕ) → t + now ≤ o → o < k + now → (latch o).clk ≡ true) → is_busy (pc_at t).side.port.link ≡ false
+  on : (t n k : ℕ) (v : Side UnderWay) → t + n ≡ k → ((o : ℕ) → t + now ≤ o → o < k + now → (latch o).clk ≡ true)
+      → is_busy (pc_at t).side.port.link ≡ false
       → seen_in_bytes (pc_at t).side ≡ v
       → (seen_in_bytes (pc_at k).side ≡ quietly events n (t + now) v) × (is_busy (pc_at k).side.port.link ≡ false)
   on t n k v e up idle is =
       let more : pc_at k ≡ board_cycles events latch n (t + now) (pc_at t) = cycles_more events latch t n k now b e in
       let rest = between events latch n (t + now) (pc_at t) (λ o l u. up o l (omega (arith, u, e))) idle in
-      (ap (λ (v : Pc). seen_in_bytes v.side) more ∙ rest.0 ∙ ap (λ s. quietly events n (t + now) s) is, ap (λ (v : Pc). is_busy v.side.port.link) more ∙ rest.1)
+      (ap (λ (v : Pc). seen_in_bytes v.side) more ∙ rest.0
+          ∙ ap (λ s. quietly events n (t + now) s) is, ap (λ (v : Pc). is_busy v.side.port.link) more ∙ rest.1)
 
   -- a frame that was broken off by its last look
   late : (up : (o : ℕ) → 306 + now ≤ o → o < 321 + now → (latch o).clk ≡ true) → is_busy (pc_at 306).side.port.link ≡ false
@@ -90,13 +94,16 @@ module _ (events : List HostEvent) (latch : ℕ → Lines) (now byte : ℕ) (b :
   late up idle is =
       let r = on 306 14 320 (up_to events true 9 17 now m) refl (λ o l u. up o l (omega (arith, u))) idle is in
       let z : 306 + now ≡ 17 + (289 + now) = omega arith in (
-        r.0 ∙ ap (λ v. quietly events 14 (306 + now) v) (all_cells events now m 17) ∙ ap (λ j. quietly events 14 j (quietly events 17 (289 + now) (byte_cycle events (288 + now) Closes (quietly events 287 (suc now) y)))) z
+        r.0 ∙ ap (λ v. quietly events 14 (306 + now) v) (all_cells events now m 17)
+            ∙ ap (λ j. quietly events 14 j
+            (quietly events 17 (289 + now) (byte_cycle events (288 + now) Closes (quietly events 287 (suc now) y)))) z
             ∙ sym (quiet_more events 17 14 31 (289 + now) (byte_cycle events (288 + now) Closes (quietly events 287 (suc now) y)) refl),
         r.1,
       )
 
   -- or by an earlier one
-  early : (j : ℕ) → j ≤ 8 → (up : (o : ℕ) → 32 * j + 18 + now ≤ o → o < 321 + now → (latch o).clk ≡ true) → is_busy (pc_at (32 * j + 18)).side.port.link ≡ false
+  early : (j : ℕ) → j ≤ 8 → (up : (o : ℕ) → 32 * j + 18 + now ≤ o → o < 321 + now → (latch o).clk ≡ true)
+      → is_busy (pc_at (32 * j + 18)).side.port.link ≡ false
       → seen_in_bytes (pc_at (32 * j + 18)).side ≡ up_to events true j 17 now m
       → (seen_in_bytes (pc_at 320).side ≡ sends events now m) × (is_busy (pc_at 320).side.port.link ≡ false)
   early j l up idle is =
@@ -107,27 +114,34 @@ module _ (events : List HostEvent) (latch : ℕ → Lines) (now byte : ℕ) (b :
       let f : 32 * j + 17 + n ≡ 287 = omega (arith, l) in
       let to = on t n 288 (up_to events true j 17 now m) e (λ o a u. up o a (omega (arith, u))) idle is in
       let there : seen_in_bytes (pc_at 288).side ≡ quietly events 287 (suc now) y =
-      to.0 ∙ ap (λ v. quietly events n (t + now) v) (quiet_cells events now m j 17 l) ∙ ap (λ j'. quietly events n j' (quietly events (32 * j + 17) (suc now) y)) z
+      to.0 ∙ ap (λ v. quietly events n (t + now) v) (quiet_cells events now m j 17 l)
+          ∙ ap (λ j'. quietly events n j' (quietly events (32 * j + 17) (suc now) y)) z
       ∙ sym (quiet_more events (32 * j + 17) n 287 (suc now) y f) in
       let far : (o : ℕ) → 288 + now ≤ o → o < 321 + now → (latch o).clk ≡ true = λ o a u. up o (omega (arith, a, l)) u in
       let one = on 288 1 289 (quietly events 287 (suc now) y) refl (λ o a u. far o a (omega (arith, u))) to.1 there in
       let shut : seen_in_bytes (pc_at 289).side ≡ byte_cycle events (288 + now) Closes (quietly events 287 (suc now) y) =
-      one.0 ∙ sym (closes_idle events (288 + now) (quietly events 287 (suc now) y) (ap (λ s. is_busy s.port.link) (sym there) ∙ busy_seen (pc_at 288).side.port.link to.1)) in
-      on 289 31 320 (byte_cycle events (288 + now) Closes (quietly events 287 (suc now) y)) refl (λ o a u. far o (omega (arith, a)) (omega (arith, u))) one.1 shut
+      one.0 ∙ sym (closes_idle events (288 + now) (quietly events 287 (suc now) y)
+          (ap (λ s. is_busy s.port.link) (sym there) ∙ busy_seen (pc_at 288).side.port.link to.1)) in
+      on 289 31 320 (byte_cycle events (288 + now) Closes (quietly events 287 (suc now) y)) refl
+          (λ o a u. far o (omega (arith, a)) (omega (arith, u))) one.1 shut
 
   -- and so nothing arrives
-  pub broken : (j : ℕ) → j < 10 → (up : (o : ℕ) → 32 * j + 18 + now ≤ o → o < 321 + now → (latch o).clk ≡ true) → is_busy (pc_at (32 * j + 18)).side.port.link ≡ false
+  pub broken : (j : ℕ) → j < 10 → (up : (o : ℕ) → 32 * j + 18 + now ≤ o → o < 321 + now → (latch o).clk ≡ true)
+      → is_busy (pc_at (32 * j + 18)).side.port.link ≡ false
       → seen_in_bytes (pc_at (32 * j + 18)).side ≡ up_to events true j 17 now m
-      → (seen_in_bytes (pc_at 321).side ≡ byte_cycle events (320 + now) (Arrives byte) (sends events now m)) × (is_busy (pc_at 321).side.port.link ≡ false)
+      → (seen_in_bytes (pc_at 321).side ≡ byte_cycle events (320 + now) (Arrives byte) (sends events now m))
+          × (is_busy (pc_at 321).side.port.link ≡ false)
       × (is_busy (sends events now m).port.link ≡ false)
   broken j below up idle is =
       let to = at_last (nat_lt j 9) refl in
       let far : (o : ℕ) → 320 + now ≤ o → o < 321 + now → (latch o).clk ≡ true = λ o a u. up o (omega (arith, a, below)) u in
       let one = on 320 1 321 (sends events now m) refl far to.1 to.0 in
-      let idle' : is_busy (sends events now m).port.link ≡ false = ap (λ s. is_busy s.port.link) (sym to.0) ∙ busy_seen (pc_at 320).side.port.link to.1 in
+      let idle' : is_busy (sends events now m).port.link ≡ false = ap (λ s. is_busy s.port.link) (sym to.0)
+          ∙ busy_seen (pc_at 320).side.port.link to.1 in
       (one.0 ∙ sym (arrives_idle events (320 + now) byte (sends events now m) idle'), one.1, idle')
     where
-      at_last : (c : Bool) → nat_lt j 9 ≡ c → (seen_in_bytes (pc_at 320).side ≡ sends events now m) × (is_busy (pc_at 320).side.port.link ≡ false)
+      at_last : (c : Bool) → nat_lt j 9 ≡ c → (seen_in_bytes (pc_at 320).side ≡ sends events now m)
+          × (is_busy (pc_at 320).side.port.link ≡ false)
       at_last true e = early j (grind (arith, nat_tests, e)) up idle is
       at_last false e =
           let same : j ≡ 9 = grind (arith, nat_tests, e, below) in
@@ -149,7 +163,8 @@ behind_idle now None s = by_count (asks_again s)
     by_count true = refl
     by_count false = refl
 
-module _ (events : List HostEvent) (latch : ℕ → Lines) (now byte : ℕ) (bits : ℕ → Bool) (is : IsFrame latch now bits) (b : Pc) (at : IsAt b Free true)
+module _ (events : List HostEvent) (latch : ℕ → Lines) (now byte : ℕ) (bits : ℕ → Bool) (is : IsFrame latch now bits)
+    (b : Pc) (at : IsAt b Free true)
     (comes : byte_of (turned b.side.port.flip (bits_to bits 11)) ≡ arriving b.side.port.flip byte) where
   abbrev flip : Option ℕ
   flip = b.side.port.flip
@@ -161,30 +176,37 @@ module _ (events : List HostEvent) (latch : ℕ → Lines) (now byte : ℕ) (bit
   q = behind_first (bits 0) b.side.port
 
   arrived : (v : Pc) → v.side.port.link ≡ Busy (w 9)
-      → port_by without_bits (received (320 + now) (arriving flip byte) v.side.port) ≡ happened_at (320 + now) (Arrives byte) (port_by without_bits v.side.port)
+      → port_by without_bits (received (320 + now) (arriving flip byte) v.side.port)
+          ≡ happened_at (320 + now) (Arrives byte) (port_by without_bits v.side.port)
   arrived v e =
       received_same without_bits (320 + now) (arriving flip byte) v.side.port
       ∙ sym (ap (λ l. arrived_in (320 + now) byte (link_by without_bits l) (port_by without_bits v.side.port)) e)
 
   -- a frame that passes all its cells arrives
   pub whole : IsThrough events latch now bits is b q Free w true at (sent_way bits b.side.port) 9
-      → (seen_in_bytes (board_cycles events latch 321 now b).side ≡ byte_cycle events (320 + now) (Arrives byte) (sends events now (seen_in_bytes b.side)))
+      → (seen_in_bytes (board_cycles events latch 321 now b).side
+          ≡ byte_cycle events (320 + now) (Arrives byte) (sends events now (seen_in_bytes b.side)))
       × IsBehind (board_cycles events latch 321 now b)
       × ((sends events now (seen_in_bytes b.side)).port.link ≡ Busy (without_bits (w 9)))
   whole through =
       let b' : Pc = board_cycles events latch 320 now b in
       let came : Option ℕ = arriving flip byte in
-      let more : board_cycles events latch 321 now b ≡ board_cycle events (320 + now) (latch (320 + now)) b' = cycles_more events latch 320 1 321 now b refl in
+      let more : board_cycles events latch 321 now b
+          ≡ board_cycle events (320 + now) (latch (320 + now)) b' = cycles_more events latch 320 1 321 now b refl in
       let edge : edge_at (320 + now) (bits 10 && true) (Busy (w 9)) b'.side.port ≡ received (320 + now) came b'.side.port =
-      ap (λ d. received (320 + now) (byte_of (turned flip (bits_to bits 10 ++ d ∷ []))) b'.side.port) (and-true (bits 10)) ∙ ap (λ o. received (320 + now) o b'.side.port) comes in
-      let c = fall_cycle events (320 + now) (latch (320 + now)) b' (Busy (w 9)) (received (320 + now) came b'.side.port) (Arrives byte) through.there is.ends
+      ap (λ d. received (320 + now) (byte_of (turned flip (bits_to bits 10 ++ d ∷ []))) b'.side.port)
+          (and-true (bits 10)) ∙ ap (λ o. received (320 + now) o b'.side.port) comes in
+      let c = fall_cycle events (320 + now) (latch (320 + now)) b' (Busy (w 9))
+          (received (320 + now) came b'.side.port) (Arrives byte) through.there is.ends
       (ap (λ d. edge_at (320 + now) (d && true) (Busy (w 9)) b'.side.port) is.last ∙ edge) (arrived b' through.there.link_is) in
-      let sent : seen_in_bytes b'.side ≡ sends events now (seen_in_bytes b.side) = through.agrees ∙ all_cells events now (seen_in_bytes b.side) 31 in (
+      let sent : seen_in_bytes b'.side ≡ sends events now (seen_in_bytes b.side) = through.agrees
+          ∙ all_cells events now (seen_in_bytes b.side) 31 in (
         ap (λ (v : Pc). seen_in_bytes v.side) more ∙ c.0 ∙ ap (λ v. byte_cycle events (320 + now) (Arrives byte) v) sent,
         record {
           low = ap (λ (v : Pc). v.clock) more ∙ c.2;
           free = ap (λ (v : Pc). is_busy v.side.port.link) more ∙ ap (λ v. is_busy v.port.link) c.1
-              ∙ stays_free is_breakable events (320 + now) (record b'.side { port = received (320 + now) came b'.side.port }) (behind_idle (320 + now) came b'.side.port.core);
+              ∙ stays_free is_breakable events (320 + now)
+                  (record b'.side { port = received (320 + now) came b'.side.port }) (behind_idle (320 + now) came b'.side.port.core);
         },
         ap (λ m. m.port.link) (sym sent) ∙ ap (λ l. link_by without_bits l) through.there.link_is,
       )

@@ -25,7 +25,8 @@ use Rattle.wires_agree.proofs.Frames.{fall_cycle, cell}
 use Rattle.wires_agree.proofs.Ways.{IsWay, got_way}
 use Rattle.wires_agree.proofs.Whole.{IsThrough, IsBehind, stands, cycles_more}
 
-module _ (events : List HostEvent) (latch : ℕ → Lines) (now byte : ℕ) (bits : ℕ → Bool) (b : Pc) (is : IsFrame latch now bits) (at : IsAt b (Request byte) true) where
+module _ (events : List HostEvent) (latch : ℕ → Lines) (now byte : ℕ) (bits : ℕ → Bool) (b : Pc)
+    (is : IsFrame latch now bits) (at : IsAt b (Request byte) true) where
   abbrev pc_at : ℕ → Pc
   pc_at t = board_cycles events latch t now b
 
@@ -54,28 +55,35 @@ module _ (events : List HostEvent) (latch : ℕ → Lines) (now byte : ℕ) (bit
   level : (k n : ℕ) → k < 10 → n ≤ 31 → (pc_at (32 * k + suc n)).side.port.link ≡ Busy (w k)
   level zero n below short =
       let x : ℕ = 32 * 0 + now in
-      let c = cell events latch x (bits 0) b (Request byte) (w 0) q (Begins false) (is.cells 0 below) at (way.first x) way.begins (way.starts x) n short in
-      let more : pc_at (32 * 0 + suc n) ≡ board_cycles events latch (suc n) x b = cycles_more events latch (32 * 0) (suc n) (32 * 0 + suc n) now b refl in
+      let c = cell events latch x (bits 0) b (Request byte) (w 0) q (Begins false) (is.cells 0 below) at
+          (way.first x) way.begins (way.starts x) n short in
+      let more : pc_at (32 * 0 + suc n)
+          ≡ board_cycles events latch (suc n) x b = cycles_more events latch (32 * 0) (suc n) (32 * 0 + suc n) now b refl in
       ap (λ (v : Pc). v.side.port.link) more ∙ still_on (board_cycles events latch (suc n) x b) 1 (latch (n + x)).clk x c.1
   level (suc k) n below short =
       let x : ℕ = 32 * suc k + now in
       let b' : Pc = pc_at (32 * suc k) in
       let t = through k (omega (arith, below)) in
-      let c = cell events latch x (bits (suc k)) b' (Busy (w k)) (w (suc k)) (record b'.side.port { link = Busy (w (suc k)) }) (at_edge false (suc k)) (is.cells (suc k) below) t.there
+      let c = cell events latch x (bits (suc k)) b' (Busy (w k)) (w (suc k))
+          (record b'.side.port { link = Busy (w (suc k)) }) (at_edge false (suc k)) (is.cells (suc k) below) t.there
       (way.next k x b'.side.port (omega (arith, below))) refl (way.kind k x b'.side.port (omega (arith, below)) t.there.link_is) n short in
-      let more : pc_at (32 * suc k + suc n) ≡ board_cycles events latch (suc n) x b' = cycles_more events latch (32 * suc k) (suc n) (32 * suc k + suc n) now b refl in
+      let more : pc_at (32 * suc k + suc n)
+          ≡ board_cycles events latch (suc n) x b' = cycles_more events latch (32 * suc k) (suc n) (32 * suc k + suc n) now b refl in
       ap (λ (v : Pc). v.side.port.link) more ∙ still_on (board_cycles events latch (suc n) x b') (suc k + 1) (latch (n + x)).clk x c.1
 
   -- in byte time nothing comes over the link in its cells
-  quiet_cells : (k n : ℕ) (m : Side UnderWay) → up_to events false k n now m ≡ quietly events (32 * k + n) (suc now) (byte_cycle events now (Begins false) m)
-  quiet_cells zero n m = let z : n ≡ 32 * 0 + n = omega arith in ap (λ j. quietly events j (suc now) (byte_cycle events now (Begins false) m)) z
+  quiet_cells : (k n : ℕ) (m : Side UnderWay)
+      → up_to events false k n now m ≡ quietly events (32 * k + n) (suc now) (byte_cycle events now (Begins false) m)
+  quiet_cells zero n m = let z : n ≡ 32 * 0 + n = omega arith in
+      ap (λ j. quietly events j (suc now) (byte_cycle events now (Begins false) m)) z
   quiet_cells (suc k) n m =
       let x : ℕ = 32 * suc k + now in
       let y : Side UnderWay = byte_cycle events now (Begins false) m in
       let e : 32 * k + 31 + suc n ≡ 32 * suc k + n = omega arith in
       let z : 32 * k + 31 + suc now ≡ x = omega arith in
       ap (λ v. quietly events (suc n) x v) (quiet_cells k 31 m)
-      ∙ sym (quiet_more events (32 * k + 31) (suc n) (32 * suc k + n) (suc now) y e ∙ ap (λ j. quietly events (suc n) j (quietly events (32 * k + 31) (suc now) y)) z)
+      ∙ sym (quiet_more events (32 * k + 31) (suc n) (32 * suc k + n) (suc now) y e
+          ∙ ap (λ j. quietly events (suc n) j (quietly events (32 * k + 31) (suc now) y)) z)
 
   -- and so it is handed over
   pub got_frame : (seen_in_bytes (pc_at 321).side ≡ carried events (Got byte) now (seen_in_bytes b.side)) × IsBehind (pc_at 321)

@@ -25,7 +25,8 @@ use Rattle.wires_agree.proofs.Turned.{flips_seen}
 use Rattle.wires_agree.proofs.Ways.{sent_way, behind_first}
 use Rattle.wires_agree.proofs.Whole.{IsBroken, IsBehind, stands, cycles_more}
 
-module _ (events : List HostEvent) (latch : ℕ → Lines) (now : ℕ) (bits : ℕ → Bool) (b : Pc) (is : IsFrame latch now bits) (at : IsAt b Free true) where
+module _ (events : List HostEvent) (latch : ℕ → Lines) (now : ℕ) (bits : ℕ → Bool) (b : Pc)
+    (is : IsFrame latch now bits) (at : IsAt b Free true) where
   abbrev w : ℕ → Wire
   w k = Recv b.side.port.flip (bits_to bits (suc k))
 
@@ -39,7 +40,8 @@ module _ (events : List HostEvent) (latch : ℕ → Lines) (now : ℕ) (bits : �
   Agrees k n = seen_in_bytes (board_cycles events latch (32 * k + suc n) now b).side ≡ up_to events true k n now (seen_in_bytes b.side)
 
   -- a frame that is broken off, but not seen so before this cell
-  cut_cell : (k n : ℕ) → n ≤ 31 → ((i : ℕ) → i < k → lets_look events latch now b i ≡ true) → (j : ℕ) → Off j → (c d : Bool) → nat_lt j k ≡ c → nat_lt k j ≡ d → Agrees k n
+  cut_cell : (k n : ℕ) → n ≤ 31 → ((i : ℕ) → i < k → lets_look events latch now b i ≡ true) → (j : ℕ) → Off j
+      → (c d : Bool) → nat_lt j k ≡ c → nat_lt k j ≡ d → Agrees k n
   cut_cell k n short lets j off true d e f =
       let l : j < k = grind (arith, nat_tests, e) in
       absurd (cc (lets j l, pulled_is_low (board_cycles events latch (32 * j + 18) now b).side.port.link off.since off.pulls))
@@ -56,7 +58,8 @@ module _ (events : List HostEvent) (latch : ℕ → Lines) (now : ℕ) (bits : �
       ]
 
 -- behind the last edge, while the clock stays low
-behind_low : (events : List HostEvent) (latch : ℕ → Lines) (now n : ℕ) (b : Pc) (m : Side UnderWay) → IsBehind (board_cycles events latch 321 now b)
+behind_low : (events : List HostEvent) (latch : ℕ → Lines) (now n : ℕ) (b : Pc) (m : Side UnderWay)
+    → IsBehind (board_cycles events latch 321 now b)
     → seen_in_bytes (board_cycles events latch 321 now b).side ≡ m → IsDown latch (321 + now) (321 + now + n)
     → seen_in_bytes (board_cycles events latch (321 + n) now b).side ≡ quietly events n (321 + now) m
 behind_low events latch now n b m behind is down =
@@ -70,16 +73,20 @@ sent_in_bytes events latch now bits b is here high k n below short lets =
 
 pub got_in_bytes : GotInBytes
 got_in_bytes events latch now byte bits b is here high k n below short =
-    ((through events latch now byte bits b is (record { link_is = here; clock_is = high }) k below).up_to_here k (omega arith)).in_cell n short
+    ((through events latch now byte bits b is (record { link_is = here; clock_is = high }) k below).up_to_here k
+        (omega arith)).in_cell n short
 
 pub sent_ends : SentEndsInBytes
 sent_ends events latch now byte n bits b is right here high flip lets down =
     let at : IsAt b Free true = record { link_is = here; clock_is = high } in
     let comes = flips_seen bits byte b.side.port.flip right flip in
-    elim (stands events latch now bits is b (behind_first (bits 0) b.side.port) Free (λ k. Recv b.side.port.flip (bits_to bits (suc k))) true at (sent_way bits b.side.port) 9 (omega arith)) [
+    elim (stands events latch now bits is b (behind_first (bits 0) b.side.port) Free
+        (λ k. Recv b.side.port.flip (bits_to bits (suc k))) true at (sent_way bits b.side.port) 9 (omega arith)) [
       | inl passes ↦
           let e = whole events latch now byte bits is b at comes passes in
-          behind_low events latch now n b (Rattle.byte_time.specs.ByteTime.carried events (Rattle.byte_time.specs.declared.meeting.Meeting.TheVariants.Sent byte) now (seen_in_bytes b.side)) e.1 e.0 down
+          behind_low events latch now n b
+              (Rattle.byte_time.specs.ByteTime.carried events
+              (Rattle.byte_time.specs.declared.meeting.Meeting.TheVariants.Sent byte) now (seen_in_bytes b.side)) e.1 e.0 down
       | inr off ↦
           let j : ℕ = off.0 in
           let o = off.1 in
@@ -89,4 +96,6 @@ sent_ends events latch now byte n bits b is right here high flip lets down =
 pub got_ends : GotEndsInBytes
 got_ends events latch now byte n bits b is here high down =
     let e = got_frame events latch now byte bits b is (record { link_is = here; clock_is = high }) in
-    behind_low events latch now n b (Rattle.byte_time.specs.ByteTime.carried events (Rattle.byte_time.specs.declared.meeting.Meeting.TheVariants.Got byte) now (seen_in_bytes b.side)) e.1 e.0 down
+    behind_low events latch now n b
+        (Rattle.byte_time.specs.ByteTime.carried events
+        (Rattle.byte_time.specs.declared.meeting.Meeting.TheVariants.Got byte) now (seen_in_bytes b.side)) e.1 e.0 down

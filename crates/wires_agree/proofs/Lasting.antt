@@ -14,11 +14,13 @@ use Rattle.wires_agree.specs.Cycles.{board_cycles}
 use Rattle.wires_agree.specs.Laws.{PullsLast}
 use Rattle.wires_agree.proofs.Pulls.{pulled_span}
 
-goes_once : (events : List HostEvent) (now : ℕ) (s : Side Wire) → OrNow now s.port.link → OrNow now (goes_on is_breakable events now s).port.link
+goes_once : (events : List HostEvent) (now : ℕ) (s : Side Wire) → OrNow now s.port.link
+    → OrNow now (goes_on is_breakable events now s).port.link
 unfolding goes_on
 goes_once events now s h = breaks_once now (port_by (turn_of events now s) s.port) s.port.link refl h
 
-cycle_once : (events : List HostEvent) (now : ℕ) (latch : Lines) (b : Pc) → pulled b.side.port.link ≡ None → OrNow now (board_cycle events now latch b).side.port.link
+cycle_once : (events : List HostEvent) (now : ℕ) (latch : Lines) (b : Pc) → pulled b.side.port.link ≡ None
+    → OrNow now (board_cycle events now latch b).side.port.link
 unfolding board_cycle
 cycle_once events now latch b h =
     let line : Lines = wires latch b in

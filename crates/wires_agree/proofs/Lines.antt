@@ -5,7 +5,8 @@ use Rattle.board_lines.specs.declared.lines.Lines.{Lines}
 use Rattle.pc_wires.specs.Wires.{Pc, board_cycle}
 use Rattle.wires_agree.specs.Cycles.{board_cycles}
 
-pub same_lines : (events : List HostEvent) (one other : ℕ → Lines) (n now : ℕ) (b : Pc) → ((o : ℕ) → now ≤ o → o < now + n → one o ≡ other o)
+pub same_lines : (events : List HostEvent) (one other : ℕ → Lines) (n now : ℕ) (b : Pc)
+    → ((o : ℕ) → now ≤ o → o < now + n → one o ≡ other o)
     → board_cycles events one n now b ≡ board_cycles events other n now b
 same_lines events one other zero now b same = refl
 same_lines events one other (suc n) now b same =

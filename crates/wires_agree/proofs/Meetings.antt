@@ -30,7 +30,8 @@ use Rattle.ctl_link.proofs.Breaks.{unbroken}
 use Rattle.wires_agree.proofs.Breaks.{Pulls}
 
 -- a request stays until the clock falls
-stays_request : (events : List HostEvent) (now : ℕ) (s : Side Wire) (byte : ℕ) → s.port.link ≡ Request byte → (goes_on is_breakable events now s).port.link ≡ Request byte
+stays_request : (events : List HostEvent) (now : ℕ) (s : Side Wire) (byte : ℕ) → s.port.link ≡ Request byte
+    → (goes_on is_breakable events now s).port.link ≡ Request byte
 unfolding goes_on
 stays_request events now s byte e =
     let p : Port Wire = Rattle.host_turn.specs.Cycle.port_by (turn_of events now s) s.port in
@@ -41,25 +42,31 @@ stays_request events now s byte e =
 
 module _ (events : List HostEvent) (latch : ℕ → Lines) where
   -- and so over cycles that leave the clock alone
-  pub requests : (n now : ℕ) (b : Pc) (byte : ℕ) → ((o : ℕ) → now ≤ o → o < now + n → (latch o).clk ≡ true) → b.side.port.link ≡ Request byte
+  pub requests : (n now : ℕ) (b : Pc) (byte : ℕ) → ((o : ℕ) → now ≤ o → o < now + n → (latch o).clk ≡ true)
+      → b.side.port.link ≡ Request byte
       → (board_cycles events latch n now b).side.port.link ≡ Request byte
   requests zero now b byte up e = e
   requests (suc n) now b byte up e =
       let high : (latch now).clk ≡ true = up now (omega arith) (omega arith) in
       requests n (suc now) (board_cycle events now (latch now) b) byte (λ o l u. up o (omega (arith, l)) (omega (arith, u)))
-      (ap (λ s. s.port.link) (board_by events now (latch now) b b.side (looks_still now (latch now) b high (ap is_busy e))) ∙ stays_request events now b.side byte e)
+      (ap (λ s. s.port.link)
+          (board_by events now (latch now) b b.side (looks_still now (latch now) b high (ap is_busy e)))
+          ∙ stays_request events now b.side byte e)
 
   -- a link that is free and free again within 64 cycles was free all the time
-  free_between : (m r k now : ℕ) (b : Pc) → m + r ≡ k → k ≤ 64 → ((o : ℕ) → now ≤ o → o < now + k → (latch o).clk ≡ true) → b.side.port.link ≡ Free
+  free_between : (m r k now : ℕ) (b : Pc) → m + r ≡ k → k ≤ 64
+      → ((o : ℕ) → now ≤ o → o < now + k → (latch o).clk ≡ true) → b.side.port.link ≡ Free
       → (board_cycles events latch k now b).side.port.link ≡ Free → (board_cycles events latch m now b).side.port.link ≡ Free
   free_between zero r k now b e short up here there = here
   free_between (suc m) r zero now b e short up here there = absurd (omega (arith, e))
   free_between (suc m) r (suc k) now b e short up here there =
       let high : (latch now).clk ≡ true = up now (omega arith) (omega arith) in
       let next : Pc = board_cycle events now (latch now) b in
-      let is : next.side ≡ goes_on is_breakable events now b.side = board_by events now (latch now) b b.side (looks_still now (latch now) b high (ap is_busy here)) in
+      let is : next.side ≡ goes_on is_breakable events now b.side =
+          board_by events now (latch now) b b.side (looks_still now (latch now) b high (ap is_busy here)) in
       elim (free_begins Wire is_breakable events now b.side here) [
-        | inl free ↦ free_between m r k (suc now) next (omega (arith, e)) (omega (arith, short)) (λ o l u. up o (omega (arith, l)) (omega (arith, u))) (ap (λ s. s.port.link) is ∙ free) there
+        | inl free ↦ free_between m r k (suc now) next (omega (arith, e)) (omega (arith, short))
+            (λ o l u. up o (omega (arith, l)) (omega (arith, u))) (ap (λ s. s.port.link) is ∙ free) there
         | inr pulls ↦
             let on = pulled_span events latch k (suc now) next now (ap (λ s. pulled s.port.link) is ∙ pulls) (omega (arith, short)) in
             let off : pulled (board_cycles events latch k (suc now) next).side.port.link ≡ None = ap pulled there in
@@ -67,38 +74,45 @@ module _ (events : List HostEvent) (latch : ℕ → Lines) where
       ]
 
   -- the clock at the last of some cycles with a high latch
-  last_clock : (n now : ℕ) (b : Pc) → ((o : ℕ) → now ≤ o → o < now + suc n → (latch o).clk ≡ true) → (drive (board_cycles events latch n now b).side.port.link).clk ≡ true
+  last_clock : (n now : ℕ) (b : Pc) → ((o : ℕ) → now ≤ o → o < now + suc n → (latch o).clk ≡ true)
+      → (drive (board_cycles events latch n now b).side.port.link).clk ≡ true
       → (board_cycles events latch (suc n) now b).clock ≡ true
   last_clock n now b up d =
       let a : n + 1 ≡ suc n = omega arith in
       let high : (latch (n + now)).clk ≡ true = up (n + now) (omega arith) (omega arith) in
-      ap (λ v. v.clock) (cycles_more events latch n 1 (suc n) now b a) ∙ clock_by events (n + now) (latch (n + now)) (board_cycles events latch n now b)
+      ap (λ v. v.clock) (cycles_more events latch n 1 (suc n) now b a)
+          ∙ clock_by events (n + now) (latch (n + now)) (board_cycles events latch n now b)
       ∙ ap (λ c. c && (drive (board_cycles events latch n now b).side.port.link).clk) high ∙ d
 
   -- up to the first edge: free after both looks, or requesting
-  pub free_at : (now : ℕ) (b : Pc) → ((o : ℕ) → now ≤ o → o < now + 32 → (latch o).clk ≡ true) → b.side.port.link ≡ Free → (board_cycles events latch 32 now b).side.port.link ≡ Free
+  pub free_at : (now : ℕ) (b : Pc) → ((o : ℕ) → now ≤ o → o < now + 32 → (latch o).clk ≡ true)
+      → b.side.port.link ≡ Free → (board_cycles events latch 32 now b).side.port.link ≡ Free
       → IsAt (board_cycles events latch 32 now b) Free true
   free_at now b up here there = record {
     link_is = there;
     clock_is = last_clock 31 now b up (ap (λ l. (drive l).clk) (free_between 31 1 32 now b refl (omega arith) up here there));
   }
 
-  pub request_at : (now : ℕ) (b : Pc) (byte : ℕ) → ((o : ℕ) → now ≤ o → o < now + 32 → (latch o).clk ≡ true) → b.side.port.link ≡ Request byte
+  pub request_at : (now : ℕ) (b : Pc) (byte : ℕ) → ((o : ℕ) → now ≤ o → o < now + 32 → (latch o).clk ≡ true)
+      → b.side.port.link ≡ Request byte
       → IsAt (board_cycles events latch 32 now b) (Request byte) true
   request_at now b byte up here = record {
     link_is = requests 32 now b byte up here;
     clock_is = last_clock 31 now b up (ap (λ l. (drive l).clk) (requests 31 now b byte (λ o l u. up o l (omega (arith, u))) here));
   }
 
-pub free_or_pulls : (events : List HostEvent) (latch : ℕ → Lines) (n now : ℕ) (b : Pc) → n ≤ 64 → ((o : ℕ) → now ≤ o → o < now + n → (latch o).clk ≡ true) → b.side.port.link ≡ Free
+pub free_or_pulls : (events : List HostEvent) (latch : ℕ → Lines) (n now : ℕ) (b : Pc) → n ≤ 64
+    → ((o : ℕ) → now ≤ o → o < now + n → (latch o).clk ≡ true) → b.side.port.link ≡ Free
     → ((board_cycles events latch n now b).side.port.link ≡ Free) ⊎ (Pulls now (board_cycles events latch n now b).side.port.link)
 free_or_pulls events latch zero now b short up here = inl here
 free_or_pulls events latch (suc n) now b short up here =
     let high : (latch now).clk ≡ true = up now (omega arith) (omega arith) in
     let next : Pc = board_cycle events now (latch now) b in
-    let is : next.side ≡ goes_on is_breakable events now b.side = board_by events now (latch now) b b.side (looks_still now (latch now) b high (ap is_busy here)) in
+    let is : next.side ≡ goes_on is_breakable events now b.side =
+        board_by events now (latch now) b b.side (looks_still now (latch now) b high (ap is_busy here)) in
     elim (free_begins Wire is_breakable events now b.side here) [
-      | inl free ↦ elim (free_or_pulls events latch n (suc now) next (omega (arith, short)) (λ o l u. up o (omega (arith, l)) (omega (arith, u))) (ap (λ s. s.port.link) is ∙ free)) [
+      | inl free ↦ elim (free_or_pulls events latch n (suc now) next (omega (arith, short))
+          (λ o l u. up o (omega (arith, l)) (omega (arith, u))) (ap (λ s. s.port.link) is ∙ free)) [
         | inl still ↦ inl still
         | inr p ↦ inr (record { since = p.since; from = omega (arith, p.from); is = p.is })
       ]
@@ -122,7 +136,8 @@ cut_of byte (Request b) h e = absurd cc
 cut_of byte (Busy w) h e = absurd cc
 
 -- where no byte passes, the 321 cycles of a frame are quiet
-pub none_passes : (events : List HostEvent) (meeting : Meeting) (now : ℕ) (m : Side UnderWay) → IsNone meeting → carried events meeting now m ≡ quietly events 321 now m
+pub none_passes : (events : List HostEvent) (meeting : Meeting) (now : ℕ) (m : Side UnderWay) → IsNone meeting
+    → carried events meeting now m ≡ quietly events 321 now m
 none_passes events (Got byte) now m h = absurd h
 none_passes events Inhibited now m h = refl
 none_passes events Idle now m h = refl
@@ -130,7 +145,8 @@ none_passes events (Sent byte) now m h = absurd h
 none_passes events Cut now m h = refl
 
 -- and the meeting is what it begins as
-pub none_ends : (events : List HostEvent) (meeting : Meeting) (now : ℕ) (m : Side UnderWay) → IsNone meeting → ended_as events meeting now m ≡ meeting
+pub none_ends : (events : List HostEvent) (meeting : Meeting) (now : ℕ) (m : Side UnderWay) → IsNone meeting
+    → ended_as events meeting now m ≡ meeting
 none_ends events (Got byte) now m h = absurd h
 none_ends events Inhibited now m h = refl
 none_ends events Idle now m h = refl

@@ -36,7 +36,8 @@ edge_flip now dat (Hold since) p h = h
 edge_flip now dat (Ask byte since) p h = h
 edge_flip now dat (Request byte) p h = h
 edge_flip now dat (Busy (Recv flip bits)) p h =
-    choice (length bits == 10) (received now (byte_of (turned flip (bits ++ dat ∷ []))) p) (record p { link = Busy (Recv flip (bits ++ dat ∷ [])) }) h h
+    choice (length bits == 10) (received now (byte_of (turned flip (bits ++ dat ∷ []))) p)
+        (record p { link = Busy (Recv flip (bits ++ dat ∷ [])) }) h h
 edge_flip now dat (Busy (Send byte edges)) p h =
     choice (edges == 10) (handed_over p) (record p { link = Busy (Send byte (edges + 1)) }) h h
 
@@ -72,12 +73,14 @@ read_flip : (reads : Bool) (h : Host) → IsFlip h.flip → IsFlip (if reads the
 read_flip true h f = f
 read_flip false h f = f
 
-turn_flip : (now filled : ℕ) (next : Option HostEvent) (h : Host) → FlipsNext next → IsFlip h.flip → IsFlip (turn now filled next h).host.flip
+turn_flip : (now filled : ℕ) (next : Option HostEvent) (h : Host) → FlipsNext next → IsFlip h.flip
+    → IsFlip (turn now filled next h).host.flip
 turn_flip now filled next h is f =
     read_flip (interrupts now filled (event_turn now next h).host) (event_turn now next h).host (event_flip now next h is f)
 
 -- break and settling leave it
-took_flip : (now : ℕ) (since : Option ℕ) (input : Option Taken) (p : Port Wire) → IsFlip p.flip → IsFlip (took_where now since input p).port.flip
+took_flip : (now : ℕ) (since : Option ℕ) (input : Option Taken) (p : Port Wire) → IsFlip p.flip
+    → IsFlip (took_where now since input p).port.flip
 took_flip now None input p f = f
 took_flip now (Some since) None p f = f
 took_flip now (Some since) (Some t) p f = f
@@ -91,18 +94,21 @@ settled_flip now p f =
     took_flip now (held_since now q.awaits q.link) (if q.core.output_full then None else taken q.core) q
     (broken_flip (may_break is_breakable p.link && not p.awaits && is_some p.core.input) now p f)
 
-goes_flip : (events : List HostEvent) (now : ℕ) (s : Side Wire) → AreFlips events → IsFlip s.port.flip → IsFlip (goes_on is_breakable events now s).port.flip
+goes_flip : (events : List HostEvent) (now : ℕ) (s : Side Wire) → AreFlips events → IsFlip s.port.flip
+    → IsFlip (goes_on is_breakable events now s).port.flip
 unfolding goes_on
 goes_flip events now s are f =
     settled_flip now (port_by (turn_of events now s) s.port)
     (turn_flip now s.port.filled (slice_get events s.done) (host_of (desk_of s)) (flips_next events s.done are) f)
 
-cycle_flip : (events : List HostEvent) (now : ℕ) (latch : Lines) (b : Pc) → AreFlips events → IsFlip b.side.port.flip → IsFlip (board_cycle events now latch b).side.port.flip
+cycle_flip : (events : List HostEvent) (now : ℕ) (latch : Lines) (b : Pc) → AreFlips events → IsFlip b.side.port.flip
+    → IsFlip (board_cycle events now latch b).side.port.flip
 unfolding board_cycle
 cycle_flip events now latch b are f =
     let line : Lines = wires latch b in
     goes_flip events now (looked now line b).side are
-    (choice (b.clock && not line.clk) (edge_at now line.dat b.side.port.link b.side.port) b.side.port (edge_flip now line.dat b.side.port.link b.side.port f) f)
+    (choice (b.clock && not line.clk) (edge_at now line.dat b.side.port.link b.side.port) b.side.port
+        (edge_flip now line.dat b.side.port.link b.side.port f) f)
 
 pub flips_stay : FlipsStay
 flips_stay events latch zero now b are f = f

@@ -23,14 +23,16 @@ use Rattle.wires_agree.proofs.Spans.{board_by, still_cycle}
 
 module _ (F : Type 0) (opens : F → Bool) where
   -- a cycle keeps a pull of less than 64 cycles
-  pub stays_pulled : (events : List HostEvent) (now : ℕ) (s : Side F) (h : ℕ) → pulled s.port.link ≡ Some h → now < h + 64 → pulled (goes_on opens events now s).port.link ≡ Some h
+  pub stays_pulled : (events : List HostEvent) (now : ℕ) (s : Side F) (h : ℕ) → pulled s.port.link ≡ Some h
+      → now < h + 64 → pulled (goes_on opens events now s).port.link ≡ Some h
   unfolding goes_on
   stays_pulled events now s h e early =
       let p : Port F = port_by (turn_of events now s) s.port in
       ap (λ q. pulled (settled now q).port.link) (unbroken opens now p (pulled_idle opens s.port.link h e)) ∙ keeps_pull F now p h e early
 
   -- from a free link it stays free, or the controller begins to pull
-  pub free_begins : (events : List HostEvent) (now : ℕ) (s : Side F) → s.port.link ≡ Free → Begins now (goes_on opens events now s).port.link
+  pub free_begins : (events : List HostEvent) (now : ℕ) (s : Side F) → s.port.link ≡ Free
+      → Begins now (goes_on opens events now s).port.link
   unfolding goes_on
   free_begins events now s e =
       let p : Port F = port_by (turn_of events now s) s.port in
@@ -39,16 +41,21 @@ module _ (F : Type 0) (opens : F → Bool) where
 -- the look, while the controller pulls
 looks_pulled : (now : ℕ) (latch : Lines) (b : Pc) (h : ℕ) → pulled b.side.port.link ≡ Some h → (looked now (wires latch b) b).side ≡ b.side
 looks_pulled now latch b h e =
-    ap (λ q. record b.side { port = q }) (look_keeps (b.clock && not (wires latch b).clk) now (wires latch b).dat b.side.port b.side.port.link h e)
+    ap (λ q. record b.side { port = q })
+        (look_keeps (b.clock && not (wires latch b).clk) now (wires latch b).dat b.side.port b.side.port.link h e)
 
 -- cycles in which the controller pulls, whatever the keyboard does
-pub pulled_span : (events : List HostEvent) (latch : ℕ → Lines) (n now : ℕ) (b : Pc) (h : ℕ) → pulled b.side.port.link ≡ Some h → now + n ≤ h + 64
-    → (seen_in_bytes (board_cycles events latch n now b).side ≡ quietly events n now (seen_in_bytes b.side)) × (pulled (board_cycles events latch n now b).side.port.link ≡ Some h)
+pub pulled_span : (events : List HostEvent) (latch : ℕ → Lines) (n now : ℕ) (b : Pc) (h : ℕ)
+    → pulled b.side.port.link ≡ Some h → now + n ≤ h + 64
+    → (seen_in_bytes (board_cycles events latch n now b).side ≡ quietly events n now (seen_in_bytes b.side))
+        × (pulled (board_cycles events latch n now b).side.port.link ≡ Some h)
 pulled_span events latch zero now b h e l = (refl, e)
 pulled_span events latch (suc n) now b h e l =
     let next : Pc = board_cycle events now (latch now) b in
     let same : (looked now (wires (latch now) b) b).side ≡ b.side = looks_pulled now (latch now) b h e in
-    let on : pulled next.side.port.link ≡ Some h = ap (λ s. pulled s.port.link) (board_by events now (latch now) b b.side same) ∙ stays_pulled Wire is_breakable events now b.side h e (omega (arith, l)) in
+    let on : pulled next.side.port.link
+        ≡ Some h = ap (λ s. pulled s.port.link) (board_by events now (latch now) b b.side same)
+        ∙ stays_pulled Wire is_breakable events now b.side h e (omega (arith, l)) in
     let rest = pulled_span events latch n (suc now) next h on (omega (arith, l)) in
     (rest.0 ∙ ap (λ m. quietly events n (suc now) m) (still_cycle events now (latch now) b same), rest.1)
 

@@ -27,21 +27,24 @@ asked : List HostEvent
 asked = at 0 Mask ∷ at 0 (Write64 0xaa) ∷ at 10 AskStatus ∷ at 10 Read60 ∷ at 10 AskStatus ∷ []
 
 self_test : (board_cycles asked high 20 4096 pc_at_start).side.log
-    ≡ record { cycle = 4106; item = Status 0x1d } ∷ record { cycle = 4107; item = Read 0x55 } ∷ record { cycle = 4108; item = Status 0x1c } ∷ []
+    ≡ record { cycle = 4106; item = Status 0x1d } ∷ record { cycle = 4107; item = Read 0x55 } ∷
+        record { cycle = 4108; item = Status 0x1c } ∷ []
 unfolding asked board_cycle goes_on
 self_test = refl
 
 -- the keyboard sends 1C from cycle 4096 + 288 on; the host reads its scan code
 abbrev sends : ℕ → ℕ → Lines
 sends from o =
-    if nat_le from o && nat_lt o (from + 352) then record { clk = nat_le 16 ((o - from) % 32); dat = slice_index_or (frame_bits 0x1c) ((o - from) / 32) true }
+    if nat_le from o && nat_lt o
+        (from + 352) then record { clk = nat_le 16 ((o - from) % 32); dat = slice_index_or (frame_bits 0x1c) ((o - from) / 32) true }
     else record { clk = true; dat = true }
 
 reads : List HostEvent
 reads = at 0 Mask ∷ at 607 Read60 ∷ at 608 Read60 ∷ []
 
 -- what was received stands in the output buffer from offset 608 on, in both machines
-on_wires : (board_cycles reads (sends 4384) 700 4096 pc_at_start).side.log ≡ record { cycle = 4703; item = Read 0 } ∷ record { cycle = 4704; item = Read 0x1e } ∷ []
+on_wires : (board_cycles reads (sends 4384) 700 4096 pc_at_start).side.log
+    ≡ record { cycle = 4703; item = Read 0 } ∷ record { cycle = 4704; item = Read 0x1e } ∷ []
 unfolding reads board_cycle goes_on byte_of scan_codes translated
 on_wires = refl
 
@@ -53,7 +56,8 @@ byte_tick events tested offer start rest m =
     let later : Side UnderWay = quietly events 32 (256 + start) earlier in
     quietly events rest (609 + start) (carried events (meeting_in tested offer earlier later) (288 + start) later)
 
-in_bytes : (byte_tick reads true (Some 0x1c) 4096 91 (side_at_start UnderWay)).log ≡ record { cycle = 4703; item = Read 0 } ∷ record { cycle = 4704; item = Read 0x1e } ∷ []
+in_bytes : (byte_tick reads true (Some 0x1c) 4096 91 (side_at_start UnderWay)).log
+    ≡ record { cycle = 4703; item = Read 0 } ∷ record { cycle = 4704; item = Read 0x1e } ∷ []
 unfolding reads byte_cycle goes_on scan_codes translated
 in_bytes = refl
 
@@ -77,7 +81,8 @@ broken_off_at_575 : (board_cycles (writes 575) (sends 4384) 576 4096 pc_at_start
 unfolding board_cycle goes_on
 broken_off_at_575 = refl
 
-waits_at_576 : (board_cycles (writes 576) (sends 4384) 608 4096 pc_at_start).side.port.core.input ≡ Some (record { port = P64; byte = 0xae })
+waits_at_576 : (board_cycles (writes 576) (sends 4384) 608 4096 pc_at_start).side.port.core.input
+    ≡ Some (record { port = P64; byte = 0xae })
 unfolding board_cycle goes_on
 waits_at_576 = refl
 

@@ -40,7 +40,8 @@ module _ {F G : Type 0} (f : F → G) where
   asking_same since (Output byte) l = refl
   asking_same since (Pulse lines) l = refl
 
-  after_same : (now : ℕ) (stop awaits : Bool) (l : Link F) → link_after now stop awaits (link_by f l) ≡ link_by f (link_after now stop awaits l)
+  after_same : (now : ℕ) (stop awaits : Bool) (l : Link F)
+      → link_after now stop awaits (link_by f l) ≡ link_by f (link_after now stop awaits l)
   after_same now stop true Free = refl
   after_same now true false Free = refl
   after_same now false false Free = refl
@@ -53,15 +54,18 @@ module _ {F G : Type 0} (f : F → G) where
   abbrev settled_by : Settled F → Settled G
   settled_by t = record { port = port_by f t.port; did = t.did }
 
-  where_same : (now : ℕ) (since : Option ℕ) (input : Option Taken) (p : Port F) → took_where now since input (port_by f p) ≡ settled_by (took_where now since input p)
+  where_same : (now : ℕ) (since : Option ℕ) (input : Option Taken) (p : Port F)
+      → took_where now since input (port_by f p) ≡ settled_by (took_where now since input p)
   where_same now None input p = refl
   where_same now (Some since) None p = refl
-  where_same now (Some since) (Some t) p = ap (λ l. record { port = record (took now since t (port_by f p)).port { link = l }; did = t.did }) (asking_same since t.did p.link)
+  where_same now (Some since) (Some t) p =
+      ap (λ l. record { port = record (took now since t (port_by f p)).port { link = l }; did = t.did }) (asking_same since t.did p.link)
 
   takes_same : (now : ℕ) (p : Port F) → takes_input now (port_by f p) ≡ settled_by (takes_input now p)
   takes_same now p =
       let input : Option Taken = if p.core.output_full then None else taken p.core in
-      ap (λ h. took_where now h input (port_by f p)) (held_same now p.awaits p.link) ∙ where_same now (held_since now p.awaits p.link) input p
+      ap (λ h. took_where now h input (port_by f p)) (held_same now p.awaits p.link)
+          ∙ where_same now (held_since now p.awaits p.link) input p
 
   moves_same : (now : ℕ) (p : Port F) → moves_link now (port_by f p) ≡ port_by f (moves_link now p)
   moves_same now p = ap (λ l. record (port_by f p) { link = l }) (after_same now (p.core.output_full || is_disabled p.core) p.awaits p.link)
@@ -82,7 +86,8 @@ module _ {F G : Type 0} (f : F → G) where
 
   pub received_same : (now : ℕ) (came : Option ℕ) (p : Port F) → port_by f (received now came p) ≡ received now came (port_by f p)
   received_same now came p =
-      ap (λ l. record { core = core_after came p.core; filled = filled_by now (core_after came p.core) p.filled; link = l; awaits = false; flip = p.flip })
+      ap (λ l. record { core = core_after came p.core; filled = filled_by now
+          (core_after came p.core) p.filled; link = l; awaits = false; flip = p.flip })
       (behind_same now came p.core)
 
   module _ (here : F → Bool) (there : G → Bool) (alike : (x : F) → there (f x) ≡ here x) where
@@ -93,17 +98,20 @@ module _ {F G : Type 0} (f : F → G) where
     breaks_same (Request byte) = refl
     breaks_same (Busy x) = alike x
 
-    broken_by : (c : Bool) (now : ℕ) (p : Port F) → (if c then record (port_by f p) { link = Hold now } else port_by f p) ≡ port_by f (if c then record p { link = Hold now } else p)
+    broken_by : (c : Bool) (now : ℕ) (p : Port F)
+        → (if c then record (port_by f p) { link = Hold now } else port_by f p) ≡ port_by f (if c then record p { link = Hold now } else p)
     broken_by true now p = refl
     broken_by false now p = refl
 
     broken_same : (now : ℕ) (p : Port F) → broken_off there now (port_by f p) ≡ port_by f (broken_off here now p)
     broken_same now p =
-        ap (λ c. if c && not p.awaits && is_some p.core.input then record (port_by f p) { link = Hold now } else port_by f p) (breaks_same p.link)
+        ap (λ c. if c && not p.awaits && is_some p.core.input then record (port_by f p) { link = Hold now } else
+            port_by f p) (breaks_same p.link)
         ∙ broken_by (may_break here p.link && not p.awaits && is_some p.core.input) now p
 
     -- a cycle goes on alike, whatever is known of a byte under way
-    pub goes_on_same : (events : List HostEvent) (now : ℕ) (s : Side F) → goes_on there events now (side_by f s) ≡ side_by f (goes_on here events now s)
+    pub goes_on_same : (events : List HostEvent) (now : ℕ) (s : Side F)
+        → goes_on there events now (side_by f s) ≡ side_by f (goes_on here events now s)
     unfolding goes_on
     goes_on_same events now s =
         let t : Turn = turn_of events now s in

@@ -27,7 +27,8 @@ pub board_by : (events : List HostEvent) (now : ℕ) (latch : Lines) (b : Pc) (s
 unfolding board_cycle
 board_by events now latch b s e = ap (λ t. goes_on is_breakable events now t) e
 
-pub clock_by : (events : List HostEvent) (now : ℕ) (latch : Lines) (b : Pc) → (board_cycle events now latch b).clock ≡ (latch.clk && (drive b.side.port.link).clk)
+pub clock_by : (events : List HostEvent) (now : ℕ) (latch : Lines) (b : Pc)
+    → (board_cycle events now latch b).clock ≡ (latch.clk && (drive b.side.port.link).clk)
 unfolding board_cycle
 clock_by events now latch b = refl
 
@@ -39,7 +40,8 @@ quiet_by events now m = refl
 pub still_cycle : (events : List HostEvent) (now : ℕ) (latch : Lines) (b : Pc) → (looked now (wires latch b) b).side ≡ b.side
     → seen_in_bytes (board_cycle events now latch b).side ≡ byte_cycle events now Quiet (seen_in_bytes b.side)
 still_cycle events now latch b e =
-    ap (λ s. seen_in_bytes s) (board_by events now latch b b.side e) ∙ sym (in_bytes_same events now b.side) ∙ sym (quiet_by events now (seen_in_bytes b.side))
+    ap (λ s. seen_in_bytes s) (board_by events now latch b b.side e) ∙ sym (in_bytes_same events now b.side)
+        ∙ sym (quiet_by events now (seen_in_bytes b.side))
 
 pub and-true : (a : Bool) → (a && true) ≡ a
 and-true true = refl
@@ -62,11 +64,14 @@ pub record IsAt (b : Pc) (link : Link Wire) (clock : Bool) : Type 0 where
 abbrev pub On : Pc → Wire → Bool → ℕ → Type 0
 On b w c begin = IsAt b (Busy w) c ⊎ ((is_breakable w ≡ true) × Pulls begin b.side.port.link)
 
-pub busy_cycle : (events : List HostEvent) (now : ℕ) (latch : Lines) (b : Pc) (w : Wire) (c : Bool) → IsAt b (Busy w) c → (c && not latch.clk) ≡ false
-    → (seen_in_bytes (board_cycle events now latch b).side ≡ byte_cycle events now Quiet (seen_in_bytes b.side)) × On (board_cycle events now latch b) w latch.clk now
+pub busy_cycle : (events : List HostEvent) (now : ℕ) (latch : Lines) (b : Pc) (w : Wire) (c : Bool)
+    → IsAt b (Busy w) c → (c && not latch.clk) ≡ false
+    → (seen_in_bytes (board_cycle events now latch b).side ≡ byte_cycle events now Quiet (seen_in_bytes b.side))
+        × On (board_cycle events now latch b) w latch.clk now
 busy_cycle events now latch b w c at h =
     let line : (wires latch b).clk ≡ latch.clk = line_clock latch b w at.link_is in
-    let same : (looked now (wires latch b) b).side ≡ b.side = no_fall now (wires latch b) b (ap (λ k. k && not (wires latch b).clk) at.clock_is ∙ ap (λ k. c && not k) line ∙ h) in
+    let same : (looked now (wires latch b) b).side
+        ≡ b.side = no_fall now (wires latch b) b (ap (λ k. k && not (wires latch b).clk) at.clock_is ∙ ap (λ k. c && not k) line ∙ h) in
     let is : (board_cycle events now latch b).side ≡ goes_on is_breakable events now b.side = board_by events now latch b b.side same in (
       still_cycle events now latch b same,
       elim (busy_or_breaks is_breakable events now b.side w at.link_is) [

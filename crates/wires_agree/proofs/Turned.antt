@@ -50,7 +50,8 @@ module _ (bits : ℕ → Bool) (byte : ℕ) (right : byte_of (bits_to bits 11) �
       ap (λ o. if not (bits 0) && bits 10 && o then Some read else None) e
       ∙ not_odd (bits 0) (bits 10) (is_odd inner) (value (take 8 (drop 1 frame))) byte read right
 
-  at : (k : ℕ) → k < 9 → (read : ℕ) → (if not (bits 0) && bits 10 && is_odd (set inner k (not (slice_index_or inner k false))) then Some read else None) ≡ None
+  at : (k : ℕ) → k < 9 → (read : ℕ)
+      → (if not (bits 0) && bits 10 && is_odd (set inner k (not (slice_index_or inner k false))) then Some read else None) ≡ None
   at k l read = by_odd read (is_odd (set inner k (not (slice_index_or inner k false)))) (odd_turned inner k l)
 
   -- each of the nine

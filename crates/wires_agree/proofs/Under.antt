@@ -12,7 +12,8 @@ use Rattle.wires_agree.proofs.Spans.{IsAt, On, busy_cycle}
 use Rattle.wires_agree.proofs.Pulls.{pulled_span}
 
 -- cycles without a falling clock while a byte is under way; the cycle before them is `before`
-pub busy_span : (events : List HostEvent) (latch : ℕ → Lines) (n before : ℕ) (b : Pc) (w : Wire) → n ≤ 31 → IsAt b (Busy w) (latch before).clk
+pub busy_span : (events : List HostEvent) (latch : ℕ → Lines) (n before : ℕ) (b : Pc) (w : Wire) → n ≤ 31
+    → IsAt b (Busy w) (latch before).clk
     → ((o : ℕ) → before ≤ o → o < before + n → ((latch o).clk && not (latch (suc o)).clk) ≡ false)
     → (seen_in_bytes (board_cycles events latch n (suc before) b).side ≡ quietly events n (suc before) (seen_in_bytes b.side))
     × On (board_cycles events latch n (suc before) b) w (latch (n + before)).clk (suc before)

@@ -24,14 +24,16 @@ pub record IsWay (p0 q0 : Port Wire) (l : Link Wire) (w : ℕ → Wire) (from : 
   pub first : (now : ℕ) → edge_at now (bits 0 && (drive l).dat) l p0 ≡ q0
   pub begins : q0.link ≡ Busy (w 0)
   pub starts : (now : ℕ) → port_by without_bits q0 ≡ happened_at now (Begins from) (port_by without_bits p0)
-  pub next : (k now : ℕ) (p : Port Wire) → k < 9 → edge_at now (bits (suc k) && (drive (Busy (w k))).dat) (Busy (w k)) p ≡ record p { link = Busy (w (suc k)) }
+  pub next : (k now : ℕ) (p : Port Wire) → k < 9
+      → edge_at now (bits (suc k) && (drive (Busy (w k))).dat) (Busy (w k)) p ≡ record p { link = Busy (w (suc k)) }
   pub kind : (k now : ℕ) (p : Port Wire) → k < 9 → p.link ≡ Busy (w k)
       → port_by without_bits (record p { link = Busy (w (suc k)) }) ≡ happened_at now (at_edge from (suc k)) (port_by without_bits p)
   pub last : is_breakable (w 9) ≡ false
 
 length-bits : (bits : ℕ → Bool) (k : ℕ) → length (bits_to bits k) ≡ k
 length-bits bits zero = refl
-length-bits bits (suc k) = let e = length-bits bits k in let l : length (bits_to bits k ++ bits k ∷ []) ≡ length (bits_to bits k) + 1 = length-append (bits_to bits k) (bits k ∷ []) in omega (arith, e, l)
+length-bits bits (suc k) = let e = length-bits bits k in let l : length (bits_to bits k ++ bits k ∷ [])
+    ≡ length (bits_to bits k) + 1 = length-append (bits_to bits k) (bits k ∷ []) in omega (arith, e, l)
 
 not_ten : (n k : ℕ) → n ≡ suc k → k < 9 → (n == 10) ≡ false
 not_ten n k e l = grind (arith, nat_tests)
@@ -44,14 +46,17 @@ abbrev pub behind_first : Bool → Port Wire → Port Wire
 behind_first dat p = record p { link = Busy (Recv p.flip (dat ∷ [])); flip = None }
 
 -- the way of a byte of the keyboard, with its bits and the flip that was pending
-pub sent_way : (bits : ℕ → Bool) (p : Port Wire) → IsWay p (behind_first (bits 0) p) Free (λ k. Recv p.flip (bits_to bits (suc k))) true bits
+pub sent_way : (bits : ℕ → Bool) (p : Port Wire)
+    → IsWay p (behind_first (bits 0) p) Free (λ k. Recv p.flip (bits_to bits (suc k))) true bits
 sent_way bits p = record {
   first = λ now. ap (λ d. behind_first d p) (and-true (bits 0));
   begins = refl;
   starts = λ now. refl;
   next = λ k now v l.
       let q : List Bool = bits_to bits (suc k) in
-      ap (λ c. if c then received now (byte_of (turned p.flip (q ++ (bits (suc k) && true) ∷ []))) v else record v { link = Busy (Recv p.flip (q ++ (bits (suc k) && true) ∷ [])) }) (not_ten (length q) k (length-bits bits (suc k)) l)
+      ap (λ c. if c then received now
+          (byte_of (turned p.flip (q ++ (bits (suc k) && true) ∷ []))) v else record v
+          { link = Busy (Recv p.flip (q ++ (bits (suc k) && true) ∷ [])) }) (not_ten (length q) k (length-bits bits (suc k)) l)
       ∙ ap (λ d. record v { link = Busy (Recv p.flip (q ++ d ∷ [])) }) (and-true (bits (suc k)));
   kind = kinds;
   last = ap (λ n. nat_lt n 10) (length-bits bits 10);
@@ -61,13 +66,17 @@ sent_way bits p = record {
     few n l = ap (λ m. nat_lt m 10) (length-bits bits n) ∙ grind (arith, nat_tests)
 
     kinds : (k now : ℕ) (v : Port Wire) → k < 9 → v.link ≡ Busy (Recv p.flip (bits_to bits (suc k)))
-        → port_by without_bits (record v { link = Busy (Recv p.flip (bits_to bits (suc (suc k)))) }) ≡ happened_at now (at_edge true (suc k)) (port_by without_bits v)
+        → port_by without_bits (record v { link = Busy (Recv p.flip (bits_to bits (suc (suc k)))) })
+            ≡ happened_at now (at_edge true (suc k)) (port_by without_bits v)
     kinds k now v l e = by_case (k == 8) refl
       where
-        by_case : (c : Bool) → (k == 8) ≡ c → as_seen p.flip (nat_lt (length (bits_to bits (suc (suc k)))) 10) (port_by without_bits v) ≡ happened_at now (if (k == 8) then Closes else Quiet) (port_by without_bits v)
+        by_case : (c : Bool) → (k == 8) ≡ c
+            → as_seen p.flip (nat_lt (length (bits_to bits (suc (suc k)))) 10) (port_by without_bits v)
+            ≡ happened_at now (if (k == 8) then Closes else Quiet) (port_by without_bits v)
         by_case true t =
             let k8 : suc (suc k) ≡ 10 = grind (arith, nat_tests, t) in
-            let shut : nat_lt (length (bits_to bits (suc (suc k)))) 10 ≡ false = ap (λ n. nat_lt n 10) (length-bits bits (suc (suc k)) ∙ k8) in
+            let shut : nat_lt (length (bits_to bits (suc (suc k)))) 10
+                ≡ false = ap (λ n. nat_lt n 10) (length-bits bits (suc (suc k)) ∙ k8) in
             ap (λ o. as_seen p.flip o (port_by without_bits v)) shut
             ∙ sym (ap (λ c. happened_at now (if c then Closes else Quiet) (port_by without_bits v)) t
             ∙ ap (λ l. record (port_by without_bits v) { link = closed (Rattle.wires_agree.specs.Without.link_by without_bits l) }) e)
@@ -78,7 +87,8 @@ sent_way bits p = record {
             ∙ ap (λ l. record (port_by without_bits v) { link = Rattle.wires_agree.specs.Without.link_by without_bits l }) e)
 
 -- the way of a byte for the keyboard
-pub got_way : (byte : ℕ) (bits : ℕ → Bool) (p : Port Wire) → IsWay p (record p { link = Busy (Send byte 1) }) (Request byte) (λ k. Send byte (k + 1)) false bits
+pub got_way : (byte : ℕ) (bits : ℕ → Bool) (p : Port Wire)
+    → IsWay p (record p { link = Busy (Send byte 1) }) (Request byte) (λ k. Send byte (k + 1)) false bits
 got_way byte bits p = record {
   first = λ now. refl;
   begins = refl;
@@ -86,7 +96,9 @@ got_way byte bits p = record {
   next = λ k now v l.
       let a : k + 1 ≡ suc k = omega arith in
       let z : k + 1 + 1 ≡ suc k + 1 = omega arith in
-      ap (λ c. if c then handed_over v else record v { link = Busy (Send byte (k + 1 + 1)) }) (not_ten (k + 1) k a l) ∙ ap (λ n. record v { link = Busy (Send byte n) }) z;
-  kind = λ k now v l e. ap (λ l. record (port_by without_bits v) { link = Rattle.wires_agree.specs.Without.link_by without_bits l }) (sym e);
+      ap (λ c. if c then handed_over v else record v { link = Busy (Send byte (k + 1 + 1)) }) (not_ten (k + 1) k a l)
+          ∙ ap (λ n. record v { link = Busy (Send byte n) }) z;
+  kind = λ k now v l e. ap
+      (λ l. record (port_by without_bits v) { link = Rattle.wires_agree.specs.Without.link_by without_bits l }) (sym e);
   last = refl;
 }

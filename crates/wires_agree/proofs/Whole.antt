@@ -40,7 +40,8 @@ cycles_more events latch (suc m) n (suc k) now b e =
     ∙ ap (λ j. board_cycles events latch n j (board_cycles events latch (suc m) now b)) z
 
 -- a byte that isn't under way isn't closed
-idle_closed : (from : Bool) (k now : ℕ) (p : Port UnderWay) → is_busy p.link ≡ false → happened_at now (at_edge from (suc k)) p ≡ happened_at now Quiet p
+idle_closed : (from : Bool) (k now : ℕ) (p : Port UnderWay) → is_busy p.link ≡ false
+    → happened_at now (at_edge from (suc k)) p ≡ happened_at now Quiet p
 idle_closed from k now p h = by_case (from && (k == 8))
   where
     at_link : (l : Link UnderWay) → is_busy l ≡ false → closed l ≡ l
@@ -68,7 +69,8 @@ idle_seen (Ask byte since) h e = refl
 idle_seen (Request byte) h e = refl
 idle_seen (Busy w) h e = absurd cc
 
-module _ (events : List HostEvent) (latch : ℕ → Lines) (now : ℕ) (bits : ℕ → Bool) (is : IsFrame latch now bits) (b : Pc) (q : Port Wire) (l : Link Wire) (w : ℕ → Wire)
+module _ (events : List HostEvent) (latch : ℕ → Lines) (now : ℕ) (bits : ℕ → Bool) (is : IsFrame latch now bits)
+    (b : Pc) (q : Port Wire) (l : Link Wire) (w : ℕ → Wire)
     (from : Bool) (at : IsAt b l true) (way : IsWay b.side.port q l w from bits) where
   abbrev pc_at : ℕ → Pc
   pc_at t = board_cycles events latch t now b
@@ -128,19 +130,23 @@ module _ (events : List HostEvent) (latch : ℕ → Lines) (now : ℕ) (bits : �
 
   -- broken off behind the look of cell k: the look of the next cell sees it
   next_cell : (k : ℕ) → k < 10 → ((i : ℕ) → i < suc k → IsOn i) → is_breakable (w k) ≡ true
-      → seen_in_bytes (pc_at (32 * suc k)).side ≡ model k 31 → (since : ℕ) → 32 * k + now + 18 ≤ since → pulled (pc_at (32 * suc k)).side.port.link ≡ Some since
+      → seen_in_bytes (pc_at (32 * suc k)).side ≡ model k 31 → (since : ℕ) → 32 * k + now + 18 ≤ since
+          → pulled (pc_at (32 * suc k)).side.port.link ≡ Some since
       → IsBroken (suc k)
   next_cell k below before opens agrees since late pulls =
       let x : ℕ = 32 * suc k + now in
       let b' : Pc = pc_at (32 * suc k) in
       let rest = pulled_span events latch 18 x b' since pulls (omega (arith, late)) in
-      let more : pc_at (32 * suc k + 18) ≡ board_cycles events latch 18 x b' = cycles_more events latch (32 * suc k) 18 (32 * suc k + 18) now b refl in
-      let idle : is_busy (model k 31).port.link ≡ false = ap (λ m. is_busy m.port.link) (sym agrees) ∙ idle_seen b'.side.port.link since pulls in
+      let more : pc_at (32 * suc k + 18)
+          ≡ board_cycles events latch 18 x b' = cycles_more events latch (32 * suc k) 18 (32 * suc k + 18) now b refl in
+      let idle : is_busy (model k 31).port.link ≡ false = ap (λ m. is_busy m.port.link) (sym agrees)
+          ∙ idle_seen b'.side.port.link since pulls in
       record {
         few = not_last k below opens;
         in_cell = λ n short.
             ap (λ (v : Pc). seen_in_bytes v.side) (cycles_more events latch (32 * suc k) (suc n) (32 * suc k + suc n) now b refl)
-            ∙ (pulled_span events latch (suc n) x b' since pulls (omega (arith, late, short))).0 ∙ ap (λ m. quietly events (suc n) x m) agrees
+            ∙ (pulled_span events latch (suc n) x b' since pulls (omega (arith, late, short))).0
+                ∙ ap (λ m. quietly events (suc n) x m) agrees
             ∙ ap (λ m. quietly events n (suc x) m) (sym (idle_edge events from k x (model k 31) idle));
         since = since;
         late = omega (arith, late);
@@ -150,19 +156,24 @@ module _ (events : List HostEvent) (latch : ℕ → Lines) (now : ℕ) (bits : �
       }
 
   -- from the state 18 cycles into a cell to its end
-  on_to_end : (k : ℕ) → k < 10 → ((i : ℕ) → i < k → IsOn i) → IsOn k → (pc_at (32 * k + 18)).clock ≡ (latch (17 + (32 * k + now))).clk → Stands k
+  on_to_end : (k : ℕ) → k < 10 → ((i : ℕ) → i < k → IsOn i) → IsOn k
+      → (pc_at (32 * k + 18)).clock ≡ (latch (17 + (32 * k + now))).clk → Stands k
   on_to_end k below before on clock =
       let x : ℕ = 32 * k + now in
       let y : ℕ = 32 * k + 18 in
       let c : IsCell latch x (bits k) = is.cells k below in
       let here : IsAt (pc_at y) (Busy (w k)) (latch (17 + x)).clk = record { link_is = on.busy; clock_is = clock } in
-      let rest = busy_span events latch 14 (17 + x) (pc_at y) (w k) (omega arith) here (λ o lo hi. c.once o (omega (arith, lo)) (omega (arith, hi))) in
+      let rest = busy_span events latch 14 (17 + x) (pc_at y) (w k) (omega arith) here
+          (λ o lo hi. c.once o (omega (arith, lo)) (omega (arith, hi))) in
       let z : suc (17 + x) ≡ y + now = omega arith in
       let e : y + 14 ≡ 32 * suc k = omega arith in
-      let more : pc_at (32 * suc k) ≡ board_cycles events latch 14 (y + now) (pc_at y) = cycles_more events latch y 14 (32 * suc k) now b e in
-      let same : board_cycles events latch 14 (suc (17 + x)) (pc_at y) ≡ pc_at (32 * suc k) = ap (λ j. board_cycles events latch 14 j (pc_at y)) z ∙ sym more in
+      let more : pc_at (32 * suc k)
+          ≡ board_cycles events latch 14 (y + now) (pc_at y) = cycles_more events latch y 14 (32 * suc k) now b e in
+      let same : board_cycles events latch 14 (suc (17 + x)) (pc_at y)
+          ≡ pc_at (32 * suc k) = ap (λ j. board_cycles events latch 14 j (pc_at y)) z ∙ sym more in
       let agrees : seen_in_bytes (pc_at (32 * suc k)).side ≡ model k 31 =
-      ap (λ (v : Pc). seen_in_bytes v.side) (sym same) ∙ rest.0 ∙ ap (λ m. quietly events 14 (suc (17 + x)) m) (on.in_cell 17 (omega arith)) ∙ longer k in
+      ap (λ (v : Pc). seen_in_bytes v.side) (sym same) ∙ rest.0
+          ∙ ap (λ m. quietly events 14 (suc (17 + x)) m) (on.in_cell 17 (omega arith)) ∙ longer k in
       elim rest.1 [
         | inl stays ↦
             let f : 14 + (17 + x) ≡ 31 + x = omega arith in
@@ -176,14 +187,16 @@ module _ (events : List HostEvent) (latch : ℕ → Lines) (now : ℕ) (bits : �
             })
         | inr broken ↦
             let p = broken.1 in
-            inr (suc k, next_cell k below (with_this k before on) broken.0 agrees p.since (omega (arith, p.from)) (ap (λ (v : Pc). pulled v.side.port.link) (sym same) ∙ p.is))
+            inr (suc k, next_cell k below (with_this k before on) broken.0 agrees p.since (omega (arith, p.from))
+                (ap (λ (v : Pc). pulled v.side.port.link) (sym same) ∙ p.is))
       ]
 
   -- from a cell's first cycle to its end
   passes : (k : ℕ) → k < 10 → ((i : ℕ) → i < k → IsOn i) → (l' : Link Wire) (q' : Port Wire) → IsAt (pc_at (32 * k)) l' true
       → edge_at (32 * k + now) (bits k && (drive l').dat) l' (pc_at (32 * k)).side.port ≡ q' → q'.link ≡ Busy (w k)
       → port_by without_bits q' ≡ happened_at (32 * k + now) (at_edge from k) (port_by without_bits (pc_at (32 * k)).side.port)
-      → ((n : ℕ) → quietly events n (suc (32 * k + now)) (byte_cycle events (32 * k + now) (at_edge from k) (seen_in_bytes (pc_at (32 * k)).side)) ≡ model k n)
+      → ((n : ℕ) → quietly events n (suc (32 * k + now))
+          (byte_cycle events (32 * k + now) (at_edge from k) (seen_in_bytes (pc_at (32 * k)).side)) ≡ model k n)
       → Stands k
   passes k below before l' q' here edge busy same joins =
       let x : ℕ = 32 * k + now in
@@ -238,8 +251,10 @@ pub record IsBehind (b : Pc) : Type 0 where
   pub free : is_busy b.side.port.link ≡ false
 
 module _ (events : List HostEvent) (now : ℕ) (m : Side UnderWay) where
-  pub quiet_cells : (k n : ℕ) → k ≤ 8 → up_to events true k n now m ≡ quietly events (32 * k + n) (suc now) (byte_cycle events now (Begins true) m)
-  quiet_cells zero n l = let z : n ≡ 32 * 0 + n = omega arith in ap (λ j. quietly events j (suc now) (byte_cycle events now (Begins true) m)) z
+  pub quiet_cells : (k n : ℕ) → k ≤ 8
+      → up_to events true k n now m ≡ quietly events (32 * k + n) (suc now) (byte_cycle events now (Begins true) m)
+  quiet_cells zero n l = let z : n ≡ 32 * 0 + n = omega arith in
+      ap (λ j. quietly events j (suc now) (byte_cycle events now (Begins true) m)) z
   quiet_cells (suc k) n l =
       let x : ℕ = 32 * suc k + now in
       let y : Side UnderWay = byte_cycle events now (Begins true) m in
@@ -248,9 +263,13 @@ module _ (events : List HostEvent) (now : ℕ) (m : Side UnderWay) where
       let z : 32 * k + 31 + suc now ≡ x = omega arith in
       ap (λ c. quietly events n (suc x) (byte_cycle events x (if c then Closes else Quiet) (up_to events true k 31 now m))) no
       ∙ ap (λ v. quietly events (suc n) x v) (quiet_cells k 31 (omega (arith, l)))
-      ∙ sym (quiet_more events (32 * k + 31) (suc n) (32 * suc k + n) (suc now) y e ∙ ap (λ j. quietly events (suc n) j (quietly events (32 * k + 31) (suc now) y)) z)
+      ∙ sym (quiet_more events (32 * k + 31) (suc n) (32 * suc k + n) (suc now) y e
+          ∙ ap (λ j. quietly events (suc n) j (quietly events (32 * k + 31) (suc now) y)) z)
 
-  pub all_cells : (n : ℕ) → up_to events true 9 n now m ≡ quietly events n (289 + now) (byte_cycle events (288 + now) Closes (quietly events 287 (suc now) (byte_cycle events now (Begins true) m)))
+  pub all_cells : (n : ℕ)
+      → up_to events true 9 n now m
+      ≡ quietly events n (289 + now)
+      (byte_cycle events (288 + now) Closes (quietly events 287 (suc now) (byte_cycle events now (Begins true) m)))
   all_cells n =
       let z : suc (288 + now) ≡ 289 + now = omega arith in
       ap (λ j. quietly events n j (byte_cycle events (288 + now) (at_edge true 9) (up_to events true 8 31 now m))) z

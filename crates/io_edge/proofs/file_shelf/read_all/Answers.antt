@@ -4,7 +4,8 @@ use Rattle.io_edge.specs.Reading.{GaveAtMost, NoneLost}
 use Rattle.io_edge.proofs.file_shelf.read_all.Goals as goal
 
 -- what was given up before, and in the last read
-spent_on : (max n : ℕ) (first now next : Option (List ℕ)) (read : List ℕ) → length read ≡ n → n ≤ max → NoneLost first [] now read → GaveAtMost (max - n + 1) now next → GaveAtMost (max + 1) first next
+spent_on : (max n : ℕ) (first now next : Option (List ℕ)) (read : List ℕ) → length read ≡ n → n ≤ max
+    → NoneLost first [] now read → GaveAtMost (max - n + 1) now next → GaveAtMost (max + 1) first next
 spent_on max n None now next read size within lost spent = tt
 spent_on max n (Some left) None next read size within lost spent = absurd lost
 spent_on max n (Some left) (Some here) None read size within lost spent = absurd spent
@@ -16,4 +17,5 @@ spent_on max n (Some left) (Some here) (Some after) read size within lost spent 
 
 pub returns-in_err-read_some-clause-spent : goal.returns-in_err-read_some-clause-spent
 returns-in_err-read_some-clause-spent g c =
-    spent_on _ _ _ _ _ c.loop-turn.bytes.items (sym c.loop-turn.bytes.ok.0) c.loop-turn.invariant.size c.loop-turn.invariant.read c.in_err-read_some.ensures.spent
+    spent_on _ _ _ _ _ c.loop-turn.bytes.items
+        (sym c.loop-turn.bytes.ok.0) c.loop-turn.invariant.size c.loop-turn.invariant.read c.in_err-read_some.ensures.spent

@@ -8,7 +8,8 @@ use Rattle.link_model.proofs.Known.{few_starts}
 use Rattle.link_model.proofs.expecting.expect.Goals as goal
 
 pub expect_events-requires-clause-order : goal.expect_events-requires-clause-order
-expect_events-requires-clause-order c = subst (λ (es : List Edge). AreInOrder es) (sym c.edges.ensures.edges) c.requires.accepted.accepted.edges_in_order
+expect_events-requires-clause-order c =
+    subst (λ (es : List Edge). AreInOrder es) (sym c.edges.ensures.edges) c.requires.accepted.accepted.edges_in_order
 
 pub expect_events-requires-clause-keys : goal.expect_events-requires-clause-keys
 expect_events-requires-clause-keys c =

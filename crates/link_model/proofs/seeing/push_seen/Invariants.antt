@@ -6,4 +6,5 @@ use Rattle.link_model.specs.Seeing.{sees}
 use Rattle.link_model.proofs.seeing.push_seen.Given as goal
 
 abbrev pub invariant-loop-edge : goal.invariant-loop-edge
-invariant-loop-edge l = l.seen.items ≡ l.fn.seen.items ++ map change_of (filter (sees l.before l.now) (of_place l.place (take l.edge-index l.edges)))
+invariant-loop-edge l = l.seen.items
+    ≡ l.fn.seen.items ++ map change_of (filter (sees l.before l.now) (of_place l.place (take l.edge-index l.edges)))

@@ -6,4 +6,5 @@ use Rattle.mcs48_asm.proofs.Parts.{large-parts}
 use Rattle.mcs48_asm.proofs.faults.has_large_value.Goals as goal
 
 pub returns-in-Data : goal.returns-in-Data
-returns-in-Data c = rw c.in-Data.is (c.has_large_part.ensures ∙ sym (large-parts (kept_value c.args.names.now.entries) (slice_split is_comma c.in-Data.text.now)))
+returns-in-Data c = rw c.in-Data.is
+    (c.has_large_part.ensures ∙ sym (large-parts (kept_value c.args.names.now.entries) (slice_split is_comma c.in-Data.text.now)))

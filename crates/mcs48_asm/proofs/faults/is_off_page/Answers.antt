@@ -6,4 +6,5 @@ use Rattle.mcs48_asm.proofs.Parts.{outside-parts}
 use Rattle.mcs48_asm.proofs.faults.is_off_page.Goals as goal
 
 pub returns-in-Data : goal.returns-in-Data
-returns-in-Data c = rw c.in-Data.is (sym (outside-parts (kept_value c.args.names.now.entries) c.args.start (slice_split is_comma c.in-Data.field-0.now)))
+returns-in-Data c = rw c.in-Data.is
+    (sym (outside-parts (kept_value c.args.names.now.entries) c.args.start (slice_split is_comma c.in-Data.field-0.now)))

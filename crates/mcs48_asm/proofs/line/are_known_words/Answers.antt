@@ -10,7 +10,9 @@ use Rattle.mcs48_asm.proofs.Tokenized.{kept}
 use Rattle.mcs48_asm.proofs.line.are_known_words.Goals as goal
 
 -- a part is nothing, or a known word
-known-parts : (parts : List (List ℕ)) → list_all (λ part. length part == 0 || is_known_word part) parts ≡ list_all is_known_word (filter (λ word. nat_lt 0 (length word)) parts)
+known-parts : (parts : List (List ℕ))
+    → list_all (λ part. length part == 0 || is_known_word part) parts
+    ≡ list_all is_known_word (filter (λ word. nat_lt 0 (length word)) parts)
 known-parts [] = refl
 known-parts ([] ∷ parts) = known-parts parts
 known-parts ((c ∷ cs) ∷ parts) =
@@ -22,7 +24,8 @@ known-parts ((c ∷ cs) ∷ parts) =
 pub returns : goal.returns
 returns c =
     all_from_yields_List (λ part. length part == 0 || is_known_word part) _ _ _ c.all.ensures.ran
-    (YieldsList-from_slice_split _ (λ character. not (is_word_character character)) c.args.text.now c.split.ensures.rest c.split.ensures.done c.split.ensures.closure
+    (YieldsList-from_slice_split _
+        (λ character. not (is_word_character character)) c.args.text.now c.split.ensures.rest c.split.ensures.done c.split.ensures.closure
     (λ x b q k. search (rules, tests)))
     (λ x b q k. search (rules, tests))
     ∙ known-parts (slice_split (λ character. not (is_word_character character)) c.args.text.now)

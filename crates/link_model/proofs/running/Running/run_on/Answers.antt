@@ -11,10 +11,12 @@ cycles-preserved-then-now-to c =
     record {
       from = omega (arith, lower);
       to = omega (arith, c.if-now-to.true);
-      runs = run_once c.args.events.now c.args.from c.args.self.now c.sleep-now.result (c.sleep-now.result + 1) c.cycles.self c.cycle.new.self lower refl
+      runs = run_once c.args.events.now c.args.from c.args.self.now c.sleep-now.result
+          (c.sleep-now.result + 1) c.cycles.self c.cycle.new.self lower refl
           (run_leaps c.args.events.now c.args.from c.args.self.now c.cycles.now c.sleep-now.result c.cycles.self
           c.cycles.invariant.from c.sleep-now.ensures.from c.cycles.invariant.runs
-          (subst (λ o. SleepsTo is_open o (desk_of c.cycles.self) c.cycles.now c.sleep-now.result) c.next-next.ensures c.sleep-now.ensures.sleeps))
+          (subst (λ o. SleepsTo is_open o (desk_of c.cycles.self) c.cycles.now c.sleep-now.result) c.next-next.ensures
+              c.sleep-now.ensures.sleeps))
           c.in_ok-cycle.ensures;
     }
 
@@ -24,5 +26,6 @@ cycles-preserved c = record {
   to = c.sleep-now.ensures.to;
   runs = run_leaps c.args.events.now c.args.from c.args.self.now c.cycles.now c.sleep-now.result c.cycles.self
       c.cycles.invariant.from c.sleep-now.ensures.from c.cycles.invariant.runs
-      (subst (λ o. SleepsTo is_open o (desk_of c.cycles.self) c.cycles.now c.sleep-now.result) c.next-next.ensures c.sleep-now.ensures.sleeps);
+      (subst (λ o. SleepsTo is_open o (desk_of c.cycles.self) c.cycles.now c.sleep-now.result) c.next-next.ensures
+          c.sleep-now.ensures.sleeps);
 }
