@@ -20,14 +20,14 @@ pub row_down : (rows row : ℕ) → rows < 256 → row < 8
     → column_keys (bit_and rows (255 - 1 * 2 ^ row % 256)) ≡ set (column_keys rows) row true
 row_down rows row l r = same_bits-true (column_keys (bit_and rows (255 - 1 * 2 ^ row % 256))) (set (column_keys rows) row true)
     (at_each (clears row) 256
-        (let p : every_below (λ row. every_below (clears row) 256) 8 ≡ true = refl in
-        at_each (λ row. every_below (clears row) 256) 8 p row r) rows l)
+    (let p : every_below (λ row. every_below (clears row) 256) 8 ≡ true = refl in
+    at_each (λ row. every_below (clears row) 256) 8 p row r) rows l)
 
 pub row_up : (rows row : ℕ) → rows < 256 → row < 8 → column_keys (bit_or rows (1 * 2 ^ row % 256)) ≡ set (column_keys rows) row false
 row_up rows row l r = same_bits-true (column_keys (bit_or rows (1 * 2 ^ row % 256))) (set (column_keys rows) row false)
     (at_each (sets row) 256
-        (let p : every_below (λ row. every_below (sets row) 256) 8 ≡ true = refl in
-        at_each (λ row. every_below (sets row) 256) 8 p row r) rows l)
+    (let p : every_below (λ row. every_below (sets row) 256) 8 ≡ true = refl in
+    at_each (λ row. every_below (sets row) 256) 8 p row r) rows l)
 
 -- a key in its column
 pub key_turned : (columns : List ℕ) (column row rows : ℕ) (down : Bool) → column < length columns → row < 8
@@ -87,8 +87,17 @@ column_shown columns column c l =
     let at : (row : ℕ) → row < 8 → row_bit (keys_in columns) column row ≡ row_of (column_keys (get_or columns column 0)) row =
     λ row r. ap (λ b. if b then 0 else 2 ^ row) (key_shown columns column row c r) in
     let sum : column_rows (keys_in columns) column ≡ rows_by (column_keys (get_or columns column 0)) =
-    cc (at 0 (omega arith), at 1 (omega arith), at 2 (omega arith), at 3 (omega arith), at 4 (omega arith), at 5
-        (omega arith), at 6 (omega arith), at 7 (omega arith)) in
+    cc (
+      at 0 (omega arith),
+      at 1 (omega arith),
+      at 2 (omega arith),
+      at 3 (omega arith),
+      at 4 (omega arith),
+      at 5
+          (omega arith),
+      at 6 (omega arith),
+      at 7 (omega arith),
+    ) in
     sum ∙ shown_back (get_or columns column 0) l
 
 -- what the bus reads

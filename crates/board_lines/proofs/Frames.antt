@@ -56,9 +56,9 @@ bits_of_value a b c d e f g h =
     (at_bit (λ d. each_bit (λ e. each_bit (λ f. each_bit (λ g. each_bit (λ h. given_back a b c d e f g h)))))
     (at_bit (λ c. each_bit (λ d. each_bit (λ e. each_bit (λ f. each_bit (λ g. each_bit (λ h. given_back a b c d e f g h))))))
     (at_bit (λ b. each_bit
-        (λ c. each_bit (λ d. each_bit (λ e. each_bit (λ f. each_bit (λ g. each_bit (λ h. given_back a b c d e f g h)))))))
+    (λ c. each_bit (λ d. each_bit (λ e. each_bit (λ f. each_bit (λ g. each_bit (λ h. given_back a b c d e f g h)))))))
     (at_bit (λ a. each_bit
-        (λ b. each_bit (λ c. each_bit (λ d. each_bit (λ e. each_bit (λ f. each_bit (λ g. each_bit (λ h. given_back a b c d e f g h))))))))
+    (λ b. each_bit (λ c. each_bit (λ d. each_bit (λ e. each_bit (λ f. each_bit (λ g. each_bit (λ h. given_back a b c d e f g h))))))))
     all_given_back a) b) c) d) e) f) g) h)
 
 -- a last bit turns the number of ones
@@ -102,15 +102,15 @@ right_is f l r = absurd (omega (arith, l))
 -- the frame of bits that are a byte's
 pub framed : (bits : List Bool) (odd : Bool) (b : ℕ) → b < 256 → bits ≡ data_bits b
     → odd ≡ is_odd (get_or bits 0 false ∷ get_or bits 1 false ∷ get_or bits 2 false ∷ get_or bits 3 false ∷ get_or
-        bits 4 false ∷ get_or bits 5 false ∷ get_or bits 6 false ∷ get_or bits 7 false ∷ [])
+    bits 4 false ∷ get_or bits 5 false ∷ get_or bits 6 false ∷ get_or bits 7 false ∷ [])
     → byte_of (false ∷ get_or bits 0 false ∷ get_or bits 1 false ∷ get_or bits 2 false ∷ get_or bits 3 false ∷ get_or
-        bits 4 false ∷ get_or bits 5 false ∷ get_or bits 6 false ∷ get_or bits 7 false ∷ not odd ∷ true ∷ []) ≡ Some b
+    bits 4 false ∷ get_or bits 5 false ∷ get_or bits 6 false ∷ get_or bits 7 false ∷ not odd ∷ true ∷ []) ≡ Some b
 framed bits odd b l e o =
     ap (λ p. byte_of (false ∷ get_or bits 0 false ∷ get_or bits 1 false ∷ get_or bits 2 false ∷ get_or bits 3 false ∷
-        get_or bits 4 false ∷ get_or bits 5 false ∷ get_or bits 6 false ∷ get_or bits 7 false ∷ not p ∷ true ∷ [])) o
+    get_or bits 4 false ∷ get_or bits 5 false ∷ get_or bits 6 false ∷ get_or bits 7 false ∷ not p ∷ true ∷ [])) o
     ∙ ap (λ (d : List Bool). byte_of
-        (false ∷ get_or d 0 false ∷ get_or d 1 false ∷ get_or d 2 false ∷ get_or d 3 false ∷ get_or d 4 false ∷ get_or
-        d 5 false ∷ get_or d 6 false ∷ get_or d 7 false
+    (false ∷ get_or d 0 false ∷ get_or d 1 false ∷ get_or d 2 false ∷ get_or d 3 false ∷ get_or d 4 false ∷ get_or
+    d 5 false ∷ get_or d 6 false ∷ get_or d 7 false
     ∷ not (is_odd (get_or d 0 false ∷ get_or d 1 false ∷ get_or d 2 false ∷ get_or d 3 false ∷ get_or d 4 false ∷
-        get_or d 5 false ∷ get_or d 6 false ∷ get_or d 7 false ∷ [])) ∷ true ∷ [])) e
+    get_or d 5 false ∷ get_or d 6 false ∷ get_or d 7 false ∷ [])) ∷ true ∷ [])) e
     ∙ read_back b l

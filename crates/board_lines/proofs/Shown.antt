@@ -27,13 +27,13 @@ shown_from (e ∷ es) keys place n l =
     let less : place < length keys = omega (arith, n, l) in
     let rest = shown_from es after place m l in
     elim (e.place == place) as (λ b. (e.place == place) ≡ b
-        → get_or (turned_by es after) place false ≡ last_of (get_or keys place false) (of_place place (e ∷ es))) [
+    → get_or (turned_by es after) place false ≡ last_of (get_or keys place false) (of_place place (e ∷ es))) [
       | true ↦ λ h.
           let at : e.place ≡ place = eqb-true e.place place h in
           let here : get_or after place false ≡ e.down = ap (λ k. get_or (set keys k e.down) place false) at
-              ∙ get_or-set_same keys place e.down false less in
+          ∙ get_or-set_same keys place e.down false less in
           rest ∙ ap (λ b. last_of b (of_place place es)) here
-              ∙ ap (λ v. last_of (get_or keys place false) v) (sym (keep (λ (x : Edge). x.place == place) e es h))
+          ∙ ap (λ v. last_of (get_or keys place false) v) (sym (keep (λ (x : Edge). x.place == place) e es h))
       | false ↦ λ h.
           let apart : place ≢ e.place = grind (arith, nat_tests, h) in
           rest ∙ ap (λ b. last_of b (of_place place es)) (get_or-set_other keys e.place place e.down false apart)
@@ -54,7 +54,7 @@ not_made : (cycle place : ℕ) (e : Edge) (es : List Edge) → is_made cycle e �
     → filter (is_made cycle) (of_place place (e ∷ es)) ≡ filter (is_made cycle) (of_place place es)
 not_made cycle place e es h =
     elim (e.place == place) as (λ b. filter (is_made cycle) (if b then e ∷ of_place place es else of_place place es)
-        ≡ filter (is_made cycle) (of_place place es)) [
+    ≡ filter (is_made cycle) (of_place place es)) [
       | true ↦ skip (is_made cycle) e (of_place place es) h
       | false ↦ refl
     ]
@@ -64,7 +64,7 @@ is_one : (cycle place : ℕ) (e : Edge) (es firsts : List Edge) → is_made cycl
     → of_place place (e ∷ firsts) ≡ filter (is_made cycle) (of_place place (e ∷ es))
 is_one cycle place e es firsts h same =
     elim (e.place == place) as (λ b. (if b then e ∷ of_place place firsts else of_place place firsts)
-        ≡ filter (is_made cycle) (if b then e ∷ of_place place es else of_place place es)) [
+    ≡ filter (is_made cycle) (if b then e ∷ of_place place es else of_place place es)) [
       | true ↦ ap (λ v. e ∷ v) same ∙ sym (keep (is_made cycle) e (of_place place es) h)
       | false ↦ same
     ]
@@ -92,7 +92,7 @@ firsts (e ∷ es) cycle zero place order first = sym (none_made cycle place e es
 firsts (e ∷ es) cycle (suc count) place order first =
     is_one cycle place e es (take count es) (first.made 0 e (omega arith) refl)
     (firsts es cycle count place (tail_in_order e es order)
-        (record { made = λ i x l g. first.made (suc i) x (omega (arith, l)) g; left = λ x g. first.left x g }))
+    (record { made = λ i x l g. first.made (suc i) x (omega (arith, l)) g; left = λ x g. first.left x g }))
 
 pub first_edges_shown : FirstEdgesShown
 first_edges_shown edges cycle count place order at first l =

@@ -67,5 +67,5 @@ module _ {F : Type 0} (breaks : F → Bool) where
   pub breaks_or_not : (now : ℕ) (p : Port F) (x : F) → p.link ≡ Busy x → Stays x now (settled now (broken_off breaks now p)).port.link
   breaks_or_not now p x e =
       subst (λ l. Stays x now
-          (settled now (if may_break breaks l && not p.awaits && is_some p.core.input then record p { link = Hold now } else p)).port.link)
+      (settled now (if may_break breaks l && not p.awaits && is_some p.core.input then record p { link = Hold now } else p)).port.link)
       (sym e) (by_rest (breaks x) (not p.awaits) (is_some p.core.input) now p x refl e)

@@ -94,8 +94,8 @@ module _ (F : Type 0) where
       ap (λ l. (took_where now (held_since now p.awaits l) input (record p { link = l })).port.link) e in
       let stop : Bool = t.core.output_full || is_disabled t.core in
       subst (Begins now) (sym
-          (ap (λ l. link_after now stop t.awaits l) same
-          ∙ ap (λ a. link_after now stop a
-          (took_where now (held_since now p.awaits free) input (record p { link = Free })).port.link)
-          (took_awaits now (held_since now p.awaits p.link) input p)))
+      (ap (λ l. link_after now stop t.awaits l) same
+      ∙ ap (λ a. link_after now stop a
+      (took_where now (held_since now p.awaits free) input (record p { link = Free })).port.link)
+      (took_awaits now (held_since now p.awaits p.link) input p)))
       (settling_begins now p.awaits input p stop refl)

@@ -170,7 +170,7 @@ cycle_begins now h w e =
     let none : pulled early.port.link ≡ None = ap (λ k. pulled k) (calls_leave h.before w) ∙ e in
     let once : OrNow now (acts h.calls seen).port.link =
     subst (λ k. OrNow now k) (sym (calls_leave h.calls seen))
-        (look_begins (early.clock && not h.line.clk) now h.line.dat early.port none) in
+    (look_begins (early.clock && not h.line.clk) now h.line.dat early.port none) in
     breaks_once now (acts h.calls seen).port (acts h.calls seen).port.link refl once
 
 -- and keeps one for 64 cycles
@@ -183,11 +183,11 @@ cycle_keeps now since h w e soon =
     let late : WireState = acts h.calls seen in
     let held : pulled early.port.link ≡ Some since = ap (λ k. pulled k) (calls_leave h.before w) ∙ e in
     let same : port_looked now early.clock h.line early.port
-        ≡ early.port = look_keeps (early.clock && not h.line.clk) now h.line.dat early.port early.port.link since held in
+    ≡ early.port = look_keeps (early.clock && not h.line.clk) now h.line.dat early.port early.port.link since held in
     let still : pulled late.port.link ≡ Some since = ap (λ k. pulled k) (calls_leave h.calls seen)
-        ∙ ap (λ (q : Port Wire). pulled q.link) same ∙ held in
+    ∙ ap (λ (q : Port Wire). pulled q.link) same ∙ held in
     ap (λ (q : Port Wire). pulled (settled now q).port.link)
-        (unbroken is_breakable now late.port (pulled_idle is_breakable late.port.link since still))
+    (unbroken is_breakable now late.port (pulled_idle is_breakable late.port.link since still))
     ∙ keeps_pull Wire now late.port since still soon
 
 cycles_keep : (happens : ℕ → Happening) (n now since : ℕ) (w : WireState) → pulled w.port.link ≡ Some since → now + n ≤ since + 64
@@ -195,7 +195,7 @@ cycles_keep : (happens : ℕ → Happening) (n now since : ℕ) (w : WireState) 
 cycles_keep happens zero now since w e l = e
 cycles_keep happens (suc n) now since w e l =
     cycles_keep happens n (suc now) since (wire_cycle now (happens now) w)
-        (cycle_keeps now since (happens now) w e (omega (arith, l))) (omega (arith, l))
+    (cycle_keeps now since (happens now) w e (omega (arith, l))) (omega (arith, l))
 
 -- a link that was pulled by this cycle is pulled since now
 pub since_now : (now : ℕ) (l : Link Wire) → OrNow now l → (drive l).clk ≡ false → pulled l ≡ Some now
@@ -206,5 +206,5 @@ pub pulls_last : PullsLast
 pulls_last happens now n w high low l =
     let next : WireState = wire_cycle now (happens now) w in
     let start : pulled next.port.link
-        ≡ Some now = since_now now next.port.link (cycle_begins now (happens now) w (high_is_none w.port.link high)) low in
+    ≡ Some now = since_now now next.port.link (cycle_begins now (happens now) w (high_is_none w.port.link high)) low in
     pulled_is_low (wire_cycles happens n (suc now) next).port.link now (cycles_keep happens n (suc now) now next start (omega (arith, l)))

@@ -11,4 +11,4 @@ ended bits view count bit n c v l =
     let all : length (set bits 10 bit) ≤ 11 = omega (arith, length-set bits 10 bit, n) in
     let less : 10 < length bits = omega (arith, n) in
     sym (take_all 11 (set bits 10 bit) all) ∙ take-suc-set bits 10 bit less
-        ∙ ap (λ j. take j bits ++ bit ∷ []) (sym k) ∙ ap (λ x. x ++ bit ∷ []) v
+    ∙ ap (λ j. take j bits ++ bit ∷ []) (sym k) ∙ ap (λ x. x ++ bit ∷ []) v

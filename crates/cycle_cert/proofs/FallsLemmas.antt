@@ -71,7 +71,7 @@ list_all_weaker p q h (x ∷ xs) e =
 one_by : (p : Passage) (b : Bool)
     → list_all (λ first. list_all (falls_at p first) (if b then first ∷ [] else byte_values)) byte_values
     ≡ (if b then list_all (λ value. falls_at p value value) byte_values else list_all
-        (λ first. list_all (falls_at p first) byte_values) byte_values)
+    (λ first. list_all (falls_at p first) byte_values) byte_values)
 one_by p true = list_all_same (λ first. list_all (falls_at p first) (first ∷ [])) (λ value. falls_at p value value)
     (λ v. and_true (falls_at p v v)) byte_values
 one_by p false = refl
@@ -82,7 +82,7 @@ falls_on_one p e =
     let t : (p.before.register == p.after.register) ≡ true = grind (arith, nat_tests, e) in
     let k = one_by p (p.before.register == p.after.register) in
     sym (k ∙ ap (λ b. if b then list_all (λ value. falls_at p value value) byte_values else list_all
-        (λ first. list_all (falls_at p first) byte_values) byte_values) t)
+    (λ first. list_all (falls_at p first) byte_values) byte_values) t)
 
 -- the lightest value is open, and no open one is lighter
 lightest_by : (r c : ℕ) (b : Bool) (first : ℕ) → (r == c) ≡ b → (if b then not (first == 1) else true) ≡ true
@@ -135,7 +135,7 @@ falls_by p first second true true e f h =
     let k : list_all test (values_after p.op p.after.register second) ≡ true = rw (open_too, f) at h in
     let g : list_all test' (values_after p.op p.after.register second) ≡ true =
     list_all_weaker test test'
-        (λ v y. rises p.before (lightest p) first (cycles_at p.after v + p.cycles) (lightest_weight p.before.register p.when first e) y)
+    (λ v y. rises p.before (lightest p) first (cycles_at p.after v + p.cycles) (lightest_weight p.before.register p.when first e) y)
     (values_after p.op p.after.register second) k in
     rw (e, f, g) refl
 
@@ -148,9 +148,9 @@ falls_beside p ne =
     let both_ways : list_all each byte_values ≡ each (lightest p) =
     true_or_false (list_all each byte_values ≡ each (lightest p)) (each (lightest p))
     (λ y. each_value each
-        (λ v l. each_value (falls_at p v)
-        (λ z m. falls_by p v z (fits p.when p.before.register v) (fits p.when p.after.register z) refl refl
-        (at_value (falls_at p (lightest p)) z y m))) ∙ sym y)
+    (λ v l. each_value (falls_at p v)
+    (λ z m. falls_by p v z (fits p.when p.before.register v) (fits p.when p.after.register z) refl refl
+    (at_value (falls_at p (lightest p)) z y m))) ∙ sym y)
     (λ n. not_each each (lightest p) (lightest_small p.before.register p.when) n ∙ sym n) in
     sym (k ∙ ap (λ b. if b then list_all (λ value. falls_at p value value) byte_values else list_all
-        (λ first. list_all (falls_at p first) byte_values) byte_values) f ∙ both_ways)
+    (λ first. list_all (falls_at p first) byte_values) byte_values) f ∙ both_ways)

@@ -106,8 +106,13 @@ module _ (test : Way → Bool) (value : ℕ → ℕ) where
   counting c n pc true e l v h =
       let jump : Way = record { to = target (pc % 2048) n; when = NotAtOne c } in
       let next : Way = record { to = place_after (pc % 2048) 2; when = AtOne c } in
-      record { out = jump; passes =
-          (both (test jump) (test next && true) h).0; to = in_target pc n l; allowed = λ r. jump_allowed c e r (r == c) refl }
+      record {
+        out = jump;
+        passes =
+            (both (test jump) (test next && true) h).0;
+        to = in_target pc n l;
+        allowed = λ r. jump_allowed c e r (r == c) refl;
+      }
   counting c n pc false e l v h =
       let jump : Way = record { to = target (pc % 2048) n; when = NotAtOne c } in
       let next : Way = record { to = place_after (pc % 2048) 2; when = AtOne c } in

@@ -70,9 +70,11 @@ masked true b = refl
 masked false b = refl
 
 step_by : (bytes : List ℕ) (pins : Pins) (m : Cpu) (x y : Bool) → x ≡ false → y ≡ false
-    → (elim x as (λ v. Option Stepped)
-        [ true ↦ Some (entered 3 pins m) | false ↦ elim y as (λ v. Option Stepped)
-        [ true ↦ Some (entered 7 pins (record m { rq = false })) | false ↦ executed (row_at bytes m.pc) bytes pins m ] ])
+    → (elim x as (λ v. Option Stepped) [
+      | true ↦ Some (entered 3 pins m)
+      | false ↦ elim y as (λ v. Option Stepped)
+          [ true ↦ Some (entered 7 pins (record m { rq = false })) | false ↦ executed (row_at bytes m.pc) bytes pins m ]
+    ])
     ≡ executed (row_at bytes m.pc) bytes pins m
 step_by bytes pins m true y e f = absurd cc
 step_by bytes pins m false true e f = absurd cc

@@ -62,7 +62,7 @@ same_row bytes pc =
     let a : pc % 2048 % 2048 ≡ pc % 2048 = omega arith in
     let b : (pc % 2048 + 1) % 2048 ≡ (pc + 1) % 2048 = omega arith in
     ap (λ k. row_of (get_or bytes k 0) (get_or bytes ((pc % 2048 + 1) % 2048) 0)) a
-        ∙ ap (λ k. row_of (get_or bytes (pc % 2048) 0) (get_or bytes k 0)) b
+    ∙ ap (λ k. row_of (get_or bytes (pc % 2048) 0) (get_or bytes k 0)) b
 
 ways_clear : (a b : Bool) (x y : Rule) → (if a then (if b then None else Some x) else Some y) ≡ None → (a ≡ true) × (b ≡ true)
 ways_clear true true x y e = (refl, refl)
@@ -87,7 +87,7 @@ found_by : (bytes : List ℕ) (cert : Certificate) (x : Entry) (es : List Entry)
     → (first_fault bytes cert es ≡ None → bound_in es p ≡ Some b → place_fault bytes cert p b ≡ None)
     → (o : Option Rule) (k : Bool) → place_fault bytes cert x.place x.bound ≡ o → (x.place == p) ≡ k
     → (elim o as (λ v. Option (Fault Rule))
-        [ Some rule ↦ Some (record { item = x.line; rule = rule }) | None ↦ first_fault bytes cert es ]) ≡ None
+    [ Some rule ↦ Some (record { item = x.line; rule = rule }) | None ↦ first_fault bytes cert es ]) ≡ None
     → (if k then Some x.bound else bound_in es p) ≡ Some b → place_fault bytes cert p b ≡ None
 found_by bytes cert x es p b rest (Some rule) k f h c e = absurd cc
 found_by bytes cert x es p b rest None true f h c e =
@@ -139,8 +139,8 @@ module _ (bytes : List ℕ) (cert : Certificate) (program : All IsByte bytes) (c
         (register_byte before.register m range) (register_byte after.register m range) (λ e. ap (λ r. register r m) e)
         (took.allowed before.register) (took.allowed after.register)
         (λ test t. value_left d.op bytes pins
-            (past m) after.register test regular.register certified plain.0 range.long after_low
-            (register_byte after.register done done_range) t);
+        (past m) after.register test regular.register certified plain.0 range.long after_low
+        (register_byte after.register done done_range) t);
   }
     where
       regular : Regular d
@@ -196,7 +196,7 @@ module _ (bytes : List ℕ) (cert : Certificate) (program : All IsByte bytes) (c
       → Moved pins m before
   moved pins m before range plain levels here =
       let f : row_fault cert (row_at bytes (m.pc % 2048)) (m.pc % 2048) before
-          ≡ None = found bytes cert cert.entries (m.pc % 2048) before clear here in
+      ≡ None = found bytes cert cert.entries (m.pc % 2048) before clear here in
       moved_by pins m before range plain levels (low (m.pc % 2048) before here) (row_at bytes m.pc) refl
       (subst (λ o. row_fault cert o (m.pc % 2048) before ≡ None) (same_row bytes m.pc) f)
 
@@ -208,7 +208,7 @@ module _ (bytes : List ℕ) (cert : Certificate) (program : All IsByte bytes) (c
       let within : come.end.cycles ≤ rest = come.within in
       let run_is : run (suc (suc come.more)) bytes pins m ≡ later next.cycles (run (suc come.more) bytes (λ i. pins (suc i)) next.cpu) =
       ap (λ o. elim o as (λ v. Option Stepped)
-          [ None ↦ None | Some n ↦ later n.cycles (run (suc come.more) bytes (λ i. pins (suc i)) n.cpu) ]) is in
+      [ None ↦ None | Some n ↦ later n.cycles (run (suc come.more) bytes (λ i. pins (suc i)) n.cpu) ]) is in
       record {
         more = suc come.more;
         end = record { cpu = come.end.cpu; cycles = next.cycles + come.end.cycles };
@@ -243,10 +243,10 @@ module _ (bytes : List ℕ) (cert : Certificate) (program : All IsByte bytes) (c
   goes_on pins m before s true e f rest =
       let there : s.next.cpu.pc % 2048 ≡ cert.target = grind (arith, nat_tests, e) in
       at_once pins m s.next (cycles_at before (register before.register m))
-          (cycles_at s.after (register s.after.register s.next.cpu)) s.is s.falls there s.plain s.range
+      (cycles_at s.after (register s.after.register s.next.cpu)) s.is s.falls there s.plain s.range
   goes_on pins m before s false e f rest =
       first_then pins m s.next (cycles_at before (register before.register m))
-          (cycles_at s.after (register s.after.register s.next.cpu)) s.is s.falls (rest f)
+      (cycles_at s.after (register s.after.register s.next.cpu)) s.is s.falls (rest f)
 
   keeps_by : (n : ℕ) (pins : ℕ → Pins) (m : Cpu) (before : Bound) → IsFine m → IsPlain m → ((i : ℕ) → ArePins (pins i))
       → bound_in cert.entries (m.pc % 2048) ≡ Some before → cycles_at before (register before.register m) < n
@@ -256,7 +256,7 @@ module _ (bytes : List ℕ) (cert : Certificate) (program : All IsByte bytes) (c
       let s = moved (pins 0) m before range plain (levels 0) here in
       let some : 0 < s.next.cycles = s.some in
       let fall : cycles_at s.after (register s.after.register s.next.cpu) + s.next.cycles ≤ cycles_at before
-          (register before.register m) = s.falls in
+      (register before.register m) = s.falls in
       goes_on pins m before s (s.next.cpu.pc % 2048 == cert.target) refl s.known
       (λ f. keeps_by n (λ i. pins (suc i)) s.next.cpu s.after s.range s.plain (λ i. levels (suc i)) f (omega (arith, some, fall, l)))
 

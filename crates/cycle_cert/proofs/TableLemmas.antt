@@ -28,7 +28,7 @@ one_more : (es : List Entry) (e : Entry) (p : ℕ)
 one_more [] e p = refl
 one_more (x ∷ es) e p =
     one_more_by (x.place == p) x.bound (bound_in (es ++ e ∷ []) p) (bound_in es p)
-        (if e.place == p then Some e.bound else None) (one_more es e p)
+    (if e.place == p then Some e.bound else None) (one_more es e p)
 
 low_by : (o : Option Bound) (k : Bool) (e b : Bound) → or_else o (if k then Some e else None) ≡ Some b
     → (o ≡ Some b → b.register < 8) → e.register < 8 → b.register < 8

@@ -11,9 +11,9 @@ refusal rule item = Err (record { item = item; rule = rule })
 one_more : (take : ℕ → ℕ → Result ℕ ℕ) (finish : ℕ → Result ℕ ℕ) (number after item rule : ℕ) (earlier later : List ℕ) (result : Result ℕ ℕ)
     → and_then result (λ next. taken take next earlier) ≡ Ok after
     → ((next : ℕ) → taken take next earlier ≡ Ok after
-        → outcome_from take finish (number + 1) next (earlier ++ item ∷ later) ≡ refusal rule (number + 1 + length earlier))
+    → outcome_from take finish (number + 1) next (earlier ++ item ∷ later) ≡ refusal rule (number + 1 + length earlier))
     → and_then (at_item number result) (λ next. outcome_from take finish (number + 1) next (earlier ++ item ∷ later))
-        ≡ refusal rule (number + 1 + length earlier)
+    ≡ refusal rule (number + 1 + length earlier)
 one_more take finish number after item rule earlier later (Ok next) all then = then next all
 one_more take finish number after item rule earlier later (Err broken) all then = absurd (cc)
 

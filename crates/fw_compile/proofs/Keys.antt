@@ -69,7 +69,7 @@ are_small layout is kernel =
     (λ k d l. bits_small (λ row. is_make_only (8 * get_or (range_with_len 0 12) k d + row) layout) 8) in
     let rate : layout.rate < 256 = omega (arith, is.rate) in
     small_with fn_place_at (fn_byte layout ∷ []) (four layout)
-        (one_byte (fn_byte layout) (fn_small (fn_place layout) (fn_place_within layout is)))
+    (one_byte (fn_byte layout) (fn_small (fn_place layout) (fn_place_within layout is)))
     (small_with make_only_at (make_only_of layout) (three layout) make_only
     (small_with fn_codes_at (fn_codes_of layout) (two layout) fn_codes
     (small_with rate_at (layout.rate ∷ []) (one layout) (one_byte layout.rate rate)

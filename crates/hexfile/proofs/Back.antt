@@ -33,7 +33,7 @@ bytes_back (byte ∷ bytes) h =
     let below : byte < 256 = All-head (λ b. b < 256) byte bytes h in
     let whole : 16 * (byte / 16) + byte % 16 ≡ byte = omega arith in
     pair_back (digit_value (hex_digit (byte / 16))) (digit_value (hex_digit (byte % 16)))
-        (bytes_of (flat_map hex_byte bytes)) (byte / 16) (byte % 16) bytes
+    (bytes_of (flat_map hex_byte bytes)) (byte / 16) (byte % 16) bytes
     (digit_back (byte / 16) (omega arith)) (digit_back (byte % 16) (omega arith)) (bytes_back bytes (All-tail (λ b. b < 256) byte bytes h))
     ∙ ap (λ b. Some (b ∷ bytes)) whole
 
@@ -79,8 +79,8 @@ line_back place row fits long all =
     (All-cons (λ b. b < 256) (place % 256) (0 ∷ row) (omega arith) (All-cons (λ b. b < 256) 0 row (omega arith) all))) in
     let check = All-cons (λ b. b < 256) (sum_byte (row_bytes place row)) [] (omega arith) (All-nil (λ b. b < 256)) in
     ap (option_and_then record_of)
-        (bytes_back (row_bytes place row ++ sum_byte (row_bytes place row) ∷ [])
-        (All-append (λ b. b < 256) (row_bytes place row) (sum_byte (row_bytes place row) ∷ []) head check))
+    (bytes_back (row_bytes place row ++ sum_byte (row_bytes place row) ∷ [])
+    (All-append (λ b. b < 256) (row_bytes place row) (sum_byte (row_bytes place row) ∷ []) head check))
     ∙ record_back place row long
 
 -- each of these is past the control characters

@@ -33,8 +33,8 @@ with_row front rest place row at long =
     let before : take place (front ++ (blank ++ rest)) ≡ front = take_whole place front (blank ++ rest) at in
     let end : length (front ++ blank) ≡ place + length row = omega (arith, length-append front blank, length-replicate 16 (none_of)) in
     let after : drop (place + length row) (front ++ (blank ++ rest))
-        ≡ rest = ap (drop (place + length row)) (sym (append_assoc front blank rest))
-        ∙ drop_whole (place + length row) (front ++ blank) rest end in
+    ≡ rest = ap (drop (place + length row)) (sym (append_assoc front blank rest))
+    ∙ drop_whole (place + length row) (front ++ blank) rest end in
     rw (before, after) refl
   where
     none_of : Option ℕ
@@ -47,7 +47,7 @@ row_free front rest place row at long =
     let here : drop place (front ++ (blank ++ rest)) ≡ blank ++ rest = drop_whole place front (blank ++ rest) at in
     let count : place + length row - place ≡ 16 = omega arith in
     ap (λ cells. list_any is_some (take (place + length row - place) cells)) here
-        ∙ ap (λ n. list_any is_some (take n (blank ++ rest))) count
+    ∙ ap (λ n. list_any is_some (take n (blank ++ rest))) count
 
 row_within : (place : ℕ) (row : List ℕ) → place + length row ≤ 2048 → is_past (row_record place row) ≡ false
 row_within place row h = grind (arith, nat_tests)
@@ -66,7 +66,7 @@ line_obeyed front rest place row at long fits all =
     let memory = front ++ (blank ++ rest) in
     let said = line_back place row (omega arith) long all in
     let whole = none_broken (is_past (row_record place row)) (is_given_twice memory (row_record place row))
-        (row_within place row (omega arith)) (row_free front rest place row at long) in
+    (row_within place row (omega arith)) (row_free front rest place row at long) in
     ap (λ found. after_form found (going memory)) said
     ∙ ap (λ broken. after_rules broken (going memory) (row_record place row)) whole
     ∙ ap (λ filled. let done : Result Progress Rule = Ok (going filled) in done) (with_row front rest place row at long)
@@ -97,7 +97,7 @@ take_row bytes place h =
 abbrev pub ComesBack : List ℕ → ℕ → List (Option ℕ) → List ℕ → Type 0
 ComesBack bytes place rest text =
     (line : ℕ) (front : List (Option ℕ)) → length front ≡ place → image_of front ≡ take place bytes
-        → hex_from line (going (front ++ rest)) (lines text) ≡ Ok bytes
+    → hex_from line (going (front ++ rest)) (lines text) ≡ Ok bytes
 
 module _ (bytes : List ℕ) (place line : ℕ) (front rest : List (Option ℕ)) (more : List ℕ) where
   -- one row, and the rows behind it
@@ -105,29 +105,29 @@ module _ (bytes : List ℕ) (place line : ℕ) (front rest : List (Option ℕ)) 
       → image_of front ≡ take place bytes → ComesBack bytes (place + 16) rest more → (b : Bool)
       → list_all (λ byte. byte == 0) (slice_range bytes place (place + 16)) ≡ b
       → hex_from line (going (front ++ (blank ++ rest)))
-          (lines ((if b then [] else line_text (row_bytes place (slice_range bytes place (place + 16)))) ++ more)) ≡ Ok bytes
+      (lines ((if b then [] else line_text (row_bytes place (slice_range bytes place (place + 16)))) ++ more)) ≡ Ok bytes
   row_step fits long all at so_far ih true z =
       let row = slice_range bytes place (place + 16) in
       let row_long : length row ≡ 16 = omega (arith, length-take (place + 16 - place) (drop place bytes), length-drop place bytes) in
       let here : image_of (front ++ blank)
-          ≡ take (place + 16) bytes = map-append (λ cell. unwrap_or cell 0) front blank
-          ∙ ap (λ b. b ++ image_of blank) so_far ∙ ap (λ b. take place bytes ++ b) (zeros 16 row row_long z)
-          ∙ sym (take_row bytes place (omega arith)) in
+      ≡ take (place + 16) bytes = map-append (λ cell. unwrap_or cell 0) front blank
+      ∙ ap (λ b. b ++ image_of blank) so_far ∙ ap (λ b. take place bytes ++ b) (zeros 16 row row_long z)
+      ∙ sym (take_row bytes place (omega arith)) in
       ap (λ memory. hex_from line (going memory) (lines more)) (sym (append_assoc front blank rest))
-          ∙ ih line (front ++ blank) (omega (arith, length-append front blank)) here
+      ∙ ih line (front ++ blank) (omega (arith, length-append front blank)) here
   row_step fits long all at so_far ih false z =
       let row = slice_range bytes place (place + 16) in
       let row_long : length row ≡ 16 = omega (arith, length-take (place + 16 - place) (drop place bytes), length-drop place bytes) in
       let row_all : AllBytes row =
-          All-take (λ b. b < 256) (place + 16 - place) (drop place bytes) (All-drop (λ b. b < 256) place bytes all) in
+      All-take (λ b. b < 256) (place + 16 - place) (drop place bytes) (All-drop (λ b. b < 256) place bytes all) in
       let here : image_of (front ++ map Some row)
-          ≡ take (place + 16) bytes = map-append (λ cell. unwrap_or cell 0) front (map Some row)
-          ∙ ap (λ b. b ++ image_of (map Some row)) so_far ∙ ap (λ b. take place bytes ++ b) (image_of-given row)
-          ∙ sym (take_row bytes place (omega arith)) in
+      ≡ take (place + 16) bytes = map-append (λ cell. unwrap_or cell 0) front (map Some row)
+      ∙ ap (λ b. b ++ image_of (map Some row)) so_far ∙ ap (λ b. take place bytes ++ b) (image_of-given row)
+      ∙ sym (take_row bytes place (omega arith)) in
       ap (λ text. hex_from line (going (front ++ (blank ++ rest))) text)
-          (first_line (row_line place row) more (omega arith) (line_plain place row))
+      (first_line (row_line place row) more (omega arith) (line_plain place row))
       ∙ ap (λ said. and_then_at line said (λ after. hex_from (line + 1) after (lines more)))
-          (line_obeyed front rest place row at row_long fits row_all)
+      (line_obeyed front rest place row at row_long fits row_all)
       ∙ ih (line + 1) (front ++ map Some row) (omega (arith, length-append front (map Some row), length-map row Some)) here
 
 -- the rows from one on, and the end
@@ -140,16 +140,16 @@ rows_back bytes (suc count) number long all sum line front at so_far =
     let rest = replicate (16 * count) None in
     let more = flat_map (row_at bytes) (range_with_len (number + 1) count) ++ end_text in
     let places : replicate (16 * suc count) None ≡ blank ++ rest = ap (λ n. replicate n None) (times16 count)
-        ∙ sym (replicate-append-replicate 16 (16 * count) None) in
+    ∙ sym (replicate-append-replicate 16 (16 * count) None) in
     let next : 16 * (number + 1) ≡ 16 * number + 16 = omega arith in
     let ih : ComesBack bytes (16 * number + 16) rest more =
-        subst (λ place. ComesBack bytes place rest more) next (rows_back bytes count (number + 1) long all (omega arith)) in
+    subst (λ place. ComesBack bytes place rest more) next (rows_back bytes count (number + 1) long all (omega arith)) in
     ap (λ cells. hex_from line (going (front ++ cells))
-        (lines ((row_at bytes number ++ flat_map (row_at bytes) (range_with_len (number + 1) count)) ++ end_text))) places
+    (lines ((row_at bytes number ++ flat_map (row_at bytes) (range_with_len (number + 1) count)) ++ end_text))) places
     ∙ ap (λ text. hex_from line (going (front ++ (blank ++ rest))) (lines text))
-        (append_assoc (row_at bytes number) (flat_map (row_at bytes) (range_with_len (number + 1) count)) end_text)
+    (append_assoc (row_at bytes number) (flat_map (row_at bytes) (range_with_len (number + 1) count)) end_text)
     ∙ row_step bytes (16 * number) line front rest more (omega arith) long all at so_far ih
-        (list_all (λ byte. byte == 0) (slice_range bytes (16 * number) (16 * number + 16))) refl
+    (list_all (λ byte. byte == 0) (slice_range bytes (16 * number) (16 * number + 16))) refl
   where
     times16 : (count : ℕ) → 16 * suc count ≡ 16 + 16 * count
     times16 count = omega arith

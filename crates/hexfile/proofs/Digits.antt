@@ -22,7 +22,7 @@ pair_onto-some front (Some x) (Some y) (Some bytes) a b p q =
 pub bytes_of_more : (front digits : List ℕ) (a b : ℕ) → 2 ≤ length digits → digit_value (get_or digits 0 0) ≡ Some a
     → digit_value (get_or digits 1 0) ≡ Some b
     → option_map (λ more. front ++ more) (bytes_of digits)
-        ≡ option_map (λ more. (front ++ (16 * a + b) ∷ []) ++ more) (bytes_of (drop 2 digits))
+    ≡ option_map (λ more. (front ++ (16 * a + b) ∷ []) ++ more) (bytes_of (drop 2 digits))
 bytes_of_more front [] a b h p q = absurd (omega arith)
 bytes_of_more front (x ∷ []) a b h p q = absurd (omega arith)
 bytes_of_more front (x ∷ y ∷ digits) a b h p q = pair_onto-some front (digit_value x) (digit_value y) (bytes_of digits) a b p q
@@ -32,7 +32,7 @@ pub bytes_of_kept : (whole front digits next left : List ℕ) (a b : ℕ) → 2 
     → digit_value (get_or digits 0 0) ≡ Some a → digit_value (get_or digits 1 0) ≡ Some b
     → next ≡ front ++ (16 * a + b) ∷ [] → left ≡ drop 2 digits
     → bytes_of whole ≡ option_map (λ more. front ++ more) (bytes_of digits)
-        → bytes_of whole ≡ option_map (λ more. next ++ more) (bytes_of left)
+    → bytes_of whole ≡ option_map (λ more. next ++ more) (bytes_of left)
 bytes_of_kept whole front digits next left a b h p q e d is = rw (e, d) (is ∙ bytes_of_more front digits a b h p q)
 
 -- a digit is below 16
@@ -56,7 +56,7 @@ IsDecoded-bytes_of [] = (refl, omega arith)
 IsDecoded-bytes_of (x ∷ []) = tt
 IsDecoded-bytes_of (x ∷ y ∷ digits) =
     IsDecoded-pair x y digits (digit_value x) (digit_value y) (bytes_of digits) (digit_value-below x)
-        (digit_value-below y) (IsDecoded-bytes_of digits)
+    (digit_value-below y) (IsDecoded-bytes_of digits)
 
 -- the count is one byte, so more than 260 bytes are no record
 record_of-long : (bytes : List ℕ) → 260 < length bytes → get_or bytes 0 0 < 256 → record_of bytes ≡ None

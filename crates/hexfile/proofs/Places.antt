@@ -19,7 +19,7 @@ filled_more memory old address i bytes within fits is =
     ap (map Some) (take_more bytes i 0 within) ∙ map-append Some (take i bytes) (get_or bytes i 0 ∷ []) in
     rw (is, drop-cons old (address + i) None lt, more, ← next)
     (set_at front (get_or old (address + i) None) (drop (suc (address + i)) old) (Some (get_or bytes i 0))
-        (address + i) long ∙ simp append_assoc)
+    (address + i) long ∙ simp append_assoc)
 
 -- data that aren't past the last place end there at the latest
 pub end_within : (line : Record) → 0 < length line.bytes → is_past line ≡ false → line.address + length line.bytes ≤ 2048

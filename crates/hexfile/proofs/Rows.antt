@@ -11,8 +11,8 @@ flat_map-range_more f a zero = grind (arith, common_steps)
 flat_map-range_more f a (suc n) =
     let next : (a + 1) + n ≡ a + suc n = omega arith in
     ap (λ t. f a ++ t) (flat_map-range_more f (a + 1) n)
-        ∙ sym (append_assoc (f a) (flat_map f (range_with_len (a + 1) n)) (f ((a + 1) + n)))
-        ∙ ap (λ place. (f a ++ flat_map f (range_with_len (a + 1) n)) ++ f place) next
+    ∙ sym (append_assoc (f a) (flat_map f (range_with_len (a + 1) n)) (f ((a + 1) + n)))
+    ∙ ap (λ place. (f a ++ flat_map f (range_with_len (a + 1) n)) ++ f place) next
 
 -- one row more
 pub rows_more : (bytes before text next : List ℕ) (row : ℕ)
@@ -24,7 +24,7 @@ rows_more bytes before text next row so_far is =
     let count : row + 1 ≡ suc row = omega arith in
     let more : flat_map (row_at bytes) (range_with_len 0 (row + 1)) ≡ rows ++ row_at bytes row =
     ap (λ n. flat_map (row_at bytes) (range_with_len 0 n)) count ∙ flat_map-range_more (row_at bytes) 0 row
-        ∙ ap (λ number. rows ++ row_at bytes number) same in
+    ∙ ap (λ number. rows ++ row_at bytes number) same in
     is ∙ ap (λ t. t ++ row_at bytes row) so_far ∙ append_assoc before rows (row_at bytes row) ∙ ap (λ t. before ++ t) (sym more)
 
 -- all rows
@@ -44,8 +44,13 @@ row_short place row true h = omega arith
 row_short place row false h =
     let content = 16 ∷ place / 256 ∷ place % 256 ∷ 0 ∷ row in
     let whole = content ++ sum_byte content ∷ [] in
-    omega (arith, length-append (58 ∷ flat_map hex_byte whole)
-        (10 ∷ []), length-hex_bytes whole, length-append content (sum_byte content ∷ []))
+    omega (
+      arith,
+      length-append (58 ∷ flat_map hex_byte whole)
+          (10 ∷ []),
+      length-hex_bytes whole,
+      length-append content (sum_byte content ∷ []),
+    )
 
 -- and so rows have at most 44 characters each
 rows_short : (bytes : List ℕ) (number count : ℕ) → length (flat_map (row_at bytes) (range_with_len number count)) ≤ 44 * count
@@ -53,9 +58,14 @@ rows_short bytes number zero = omega arith
 rows_short bytes number (suc count) =
     let row = slice_range bytes (16 * number) (16 * number + 16) in
     let long : length row ≤ 16 = omega (arith, length-take (16 * number + 16 - 16 * number) (drop (16 * number) bytes)) in
-    omega (arith, length-append (row_at bytes number)
-        (flat_map (row_at bytes) (range_with_len (number + 1) count)), row_short (16 * number) row
-        (list_all (λ byte. byte == 0) row) long, rows_short bytes (number + 1) count)
+    omega (
+      arith,
+      length-append (row_at bytes number)
+          (flat_map (row_at bytes) (range_with_len (number + 1) count)),
+      row_short (16 * number) row
+          (list_all (λ byte. byte == 0) row) long,
+      rows_short bytes (number + 1) count,
+    )
 
 length-rows : (bytes : List ℕ) → length (rows_text bytes) ≤ 5632
 unfolding rows_text

@@ -31,11 +31,11 @@ module _ {F : Type 0} (breaks : F → Bool) (now : ℕ) (next : Option HostEvent
       let x : List Item = (event_turn now next (host_of d)).items in
       let y : List Item = (bios_turn now d.port.filled (event_turn now next (host_of d)).host).items in
       let z : List Item = said_of
-          (settled now (broken_off breaks now
-          (with_host (bios_turn now d.port.filled (event_turn now next (host_of d)).host).host d).port)).did in
+      (settled now (broken_off breaks now
+      (with_host (bios_turn now d.port.filled (event_turn now next (host_of d)).host).host d).port)).did in
       let b' : i2 ≡ (i0 ++ x) ++ y = b ∙ ap (λ (v : Desk F). i1 ++ (bios_turn now v.port.filled (host_of v)).items) e1
-          ∙ ap (λ v. v ++ y) a in
+      ∙ ap (λ v. v ++ y) a in
       let z' : said_of did ≡ z = ap said_of (c ∙ ap (λ r. (settled now r).did) e3)
-          ∙ ap (λ (v : Desk F). said_of (settled now (broken_off breaks now v.port)).did) both in
+      ∙ ap (λ (v : Desk F). said_of (settled now (broken_off breaks now v.port)).did) both in
       let last : ((i0 ++ x) ++ y) ++ z ≡ i0 ++ ((x ++ y) ++ z) = simp append_assoc in
       e ∙ ap (λ v. v ++ said_of did) b' ∙ ap (λ v. ((i0 ++ x) ++ y) ++ v) z' ∙ last

@@ -53,7 +53,7 @@ module _ (F : Type 0) (now : ℕ) (next : Option HostEvent) (d d1 d2 : Desk F) (
   pub host_fits : IsEmptyUnlessHeld d.port → IsEmptyUnlessHeld d2.port
   host_fits f =
       let after : IsEmptyUnlessHeld d1.port =
-          subst (λ (x : Desk F). IsEmptyUnlessHeld x.port) (sym e1) (event_fits F d.port.link now next (host_of d) f) in
+      subst (λ (x : Desk F). IsEmptyUnlessHeld x.port) (sym e1) (event_fits F d.port.link now next (host_of d) f) in
       subst (λ (x : Desk F). IsEmptyUnlessHeld x.port) (sym e2) (bios_fits F d1.port.link now d1.port.filled (host_of d1) after)
 
   module _ (breaks : F → Bool) (q : Port F) (e3 : q ≡ broken_off breaks now d2.port) where

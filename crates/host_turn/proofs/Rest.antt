@@ -26,7 +26,7 @@ no_input (Some x) h = absurd cc
 -- the settling, with an empty input buffer and nothing to stop for
 settles_free : {F : Type 0} (now : ℕ) (p : Port F) (l : Link F) (awaits : Bool) → is_free l ≡ true
     → (took_where now (held_since now awaits l) None (record p { link = l; awaits = awaits }))
-        ≡ record { port = record p { link = l; awaits = awaits }; did = Nothing }
+    ≡ record { port = record p { link = l; awaits = awaits }; did = Nothing }
 settles_free now p Free true h = refl
 settles_free now p Free false h = refl
 settles_free now p (Hold since) awaits h = absurd cc
@@ -68,7 +68,7 @@ rests {F = F} breaks now next d rest =
     let idle : is_idle p.core ≡ true = and-right (is_free p.link) (is_idle p.core) (and-left (is_at_rest d) (not (is_due now next)) rest) in
     let free : is_free p.link ≡ true = and-left (is_free p.link) (is_idle p.core) (and-left (is_at_rest d) (not (is_due now next)) rest) in
     let due : is_done now next p.core
-        ≡ false = not_done now next p.core (not-true (is_due now next) (and-right (is_at_rest d) (not (is_due now next)) rest)) in
+    ≡ false = not_done now next p.core (not-true (is_due now next) (and-right (is_at_rest d) (not (is_due now next)) rest)) in
     let buffers : (no_in && no_out) ≡ true = and-left (no_in && no_out) (not (is_disabled p.core)) idle in
     let empty_input : p.core.input ≡ None = no_input p.core.input (not-true (is_some p.core.input) (and-left no_in no_out buffers)) in
     let empty : p.core.output_full ≡ false = not-true p.core.output_full (and-right no_in no_out buffers) in
@@ -78,24 +78,27 @@ rests {F = F} breaks now next d rest =
     let no_read : bios_turn now p.filled h ≡ in_silence h =
     ap (λ c. if c && interrupt_enabled h.core && not h.masked && nat_le (p.filled + 64) now then read_by_bios h else in_silence h) empty in
     let turned : turn now p.filled next h ≡ in_silence h =
-    ap (λ (t : Turn). record { host = (bios_turn now p.filled t.host).host; items = t.items
-        ++ (bios_turn now p.filled t.host).items }) event
+    ap (λ (t : Turn). record {
+      host = (bios_turn now p.filled t.host).host;
+      items = t.items
+          ++ (bios_turn now p.filled t.host).items;
+    }) event
     ∙ ap (λ (t : Turn). record { host = t.host; items = t.items }) no_read in
     let none : Option Taken = None in
     let takes : took_where now (held_since now p.awaits p.link)
-        (if p.core.output_full then none else taken_from p.core.input p.core) p ≡ record { port = p; did = Nothing } =
+    (if p.core.output_full then none else taken_from p.core.input p.core) p ≡ record { port = p; did = Nothing } =
     ap (λ c. took_where now (held_since now p.awaits p.link) (if c then none else taken_from p.core.input p.core) p) empty
     ∙ ap (λ i. took_where now (held_since now p.awaits p.link) (taken_from i p.core) p) empty_input
     ∙ settles_free now p p.link p.awaits free in
     let stop : (p.core.output_full || is_disabled p.core) ≡ false = ap (λ c. c || is_disabled p.core) empty ∙ on in
     let moved : moves_link now p ≡ p = ap (λ c. record p { link = link_after now c p.awaits p.link }) stop
-        ∙ ap (λ l. record p { link = l }) (stays now p.link p.awaits free) in
+    ∙ ap (λ l. record p { link = l }) (stays now p.link p.awaits free) in
     let all : settled now p ≡ record { port = p; did = Nothing } =
     ap (λ (t : Settled F). record { port = moves_link now t.port; did = t.did }) takes
-        ∙ ap (λ q. record { port = q; did = Nothing }) moved in
+    ∙ ap (λ q. record { port = q; did = Nothing }) moved in
     let one : settled now (broken_off breaks now p) ≡ record { port = p; did = Nothing } =
     ap (λ q. settled now q) (unbroken breaks now p (free_idle p.link free)) ∙ all in
     ap (λ (t : Turn). ends_cycle t (is_done now next p.core)
-        (settled now (broken_off breaks now (Rattle.host_turn.specs.Cycle.port_by t p)))) turned
+    (settled now (broken_off breaks now (Rattle.host_turn.specs.Cycle.port_by t p)))) turned
     ∙ ap (λ c. ends_cycle (in_silence h) c (settled now (broken_off breaks now p))) due
     ∙ ap (λ q. ends_cycle (in_silence h) false q) one

@@ -45,7 +45,7 @@ parted_on false byte [] n h none = subst (λ (k : ℕ). IsParted (byte ∷ []) (
 parted_on false byte (next ∷ text) n h none =
     let first : 1 + n ≡ suc n = omega arith in
     subst (λ (k : ℕ). IsParted (byte ∷ next ∷ text) (onto_first byte (lines_in (next ∷ text))) k) (sym first)
-        (ap (onto_first byte) (h (omega arith)))
+    (ap (onto_first byte) (h (omega arith)))
 
 no_line : (text : List ℕ) → length text ≡ 0 → line_length text ≡ 0
 no_line [] none = refl
@@ -63,12 +63,12 @@ pub end_some : (text : List ℕ) (start i : ℕ) → position is_lf (take (lengt
     → start + i + 1 ≡ start + line_length (drop start text)
 end_some text start i h =
     let ends : line_length (drop start text)
-        ≡ i + 1 = length_some (drop start text) i (ap (position is_lf) (sym (whole_rest text start)) ∙ h) in
+    ≡ i + 1 = length_some (drop start text) i (ap (position is_lf) (sym (whole_rest text start)) ∙ h) in
     omega (arith, ends)
 
 pub end_none : (text : List ℕ) (start : ℕ) → start < length text
     → position is_lf (take (length text - start) (drop start text)) ≡ None → length text ≡ start + line_length (drop start text)
 end_none text start below h =
     let ends : line_length (drop start text)
-        ≡ length (drop start text) = length_none (drop start text) (ap (position is_lf) (sym (whole_rest text start)) ∙ h) in
+    ≡ length (drop start text) = length_none (drop start text) (ap (position is_lf) (sym (whole_rest text start)) ∙ h) in
     omega (arith, ends, below, length-drop start text)

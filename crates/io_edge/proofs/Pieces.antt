@@ -50,7 +50,7 @@ parts : (front b : List ℕ) → lines_in ((front ++ 10 ∷ []) ++ b) ≡ lines_
 parts [] b = refl
 parts (byte ∷ front) b =
     parts_on byte (byte == 10) (lines_in (front ++ 10 ∷ [])) (lines_in b) (lines_in ((front ++ 10 ∷ []) ++ b))
-        (has_line front) (parts front b)
+    (has_line front) (parts front b)
 
 lines_of_both : (a b : List ℕ) → AreLines a → lines_in (a ++ b) ≡ lines_in a ++ lines_in b
 lines_of_both a b (inl none) = ap (λ v. lines_in (v ++ b)) none ∙ sym (ap (λ v. lines_in v ++ lines_in b) none)
@@ -113,13 +113,13 @@ both_told failed (Some sink) after text h k = (k, h)
 -- what `say` answers
 pub is_said : (before after : Shown) (text : List ℕ) → TakesAll before.taken after.taken text → after.faults ≡ before.faults
     → IfSome before.told (λ sink. (said text sink).failed ≡ false)
-        → IfSome before.told (λ sink. after.told ≡ Some (said text sink).sink) → IsSaid before after text
+    → IfSome before.told (λ sink. after.told ≡ Some (said text sink).sink) → IsSaid before after text
 is_said before after text all steady stood so =
     record { all = all; steady = steady; lines = both_told false before.told after.told text stood so }
 
 pub is_broken : (before after : Shown) (text : List ℕ) → TakesPart before.taken after.taken text → Rose before.faults after.faults
     → IfSome before.told (λ sink. (said text sink).failed ≡ true)
-        → IfSome before.told (λ sink. after.told ≡ Some (said text sink).sink) → IsBrokenOff before after text
+    → IfSome before.told (λ sink. after.told ≡ Some (said text sink).sink) → IsBrokenOff before after text
 is_broken before after text part rose failed so =
     record { part = part; failed = rose; lines = both_told true before.told after.told text failed so }
 

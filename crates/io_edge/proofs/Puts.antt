@@ -217,7 +217,7 @@ failed_after None now next text start end below is so failed after = tt
 failed_after (Some sink) now next text start end below is so failed after =
     let h = said_failed (Some sink) now text start end below is so failed in
     of_now (λ s. next ≡ Some (offered (take (end - start) (drop start text)) s).sink) now h.0 h.1 after
-        ∙ ap (λ (o : Offered). Some o.sink) (sym h.2)
+    ∙ ap (λ (o : Offered). Some o.sink) (sym h.2)
 
 -- all lines
 saying_ends : (before now : Option HeldBytes) (text : List ℕ) (start : ℕ) → length text ≤ start

@@ -17,7 +17,7 @@ takes_behind : (text : List ℕ) (i n : ℕ) (a b c : Option (List ℕ)) → Tak
 takes_behind text i n (Some before) b c first second =
     subst (λ (x : Option (List ℕ)). Takes x c (drop i text) n) first second
     ∙ ap (λ bytes. Some bytes)
-        (append_assoc before (take i text) (take n (drop i text)) ∙ ap (λ bytes. before ++ bytes) (sym (take-add i n text)))
+    (append_assoc before (take i text) (take n (drop i text)) ∙ ap (λ bytes. before ++ bytes) (sym (take-add i n text)))
 takes_behind text i n None b c first second = subst (λ (x : Option (List ℕ)). Takes x c (drop i text) n) first second
 
 -- of a piece of m bytes the same n are taken
@@ -38,7 +38,7 @@ pub takes_piece : (text : List ℕ) (start end : ℕ) (a b c : Option (List ℕ)
 takes_piece text start end a b c order inside first second =
     let piece = take (end - start) (drop start text) in
     let size : length piece
-        ≡ end - start = length-take-le (end - start) (drop start text) (grind (arith, length-drop start text, order, inside)) in
+    ≡ end - start = length-take-le (end - start) (drop start text) (grind (arith, length-drop start text, order, inside)) in
     let ends : start + length piece ≡ end = grind (arith, size, order) in
     subst (λ (n : ℕ). Takes a c text n) ends (takes_on text start (end - start) (length piece) a b c first (grind (arith)) second)
 

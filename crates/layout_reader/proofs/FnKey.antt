@@ -65,7 +65,7 @@ silent_in (e ∷ es) p own one has = at (e.place == p) refl (is_fn e) refl one h
 
     at : (a : Bool) → (e.place == p) ≡ a → (b : Bool) → is_fn e ≡ b → length (cond b (e ∷ filter is_fn es) (filter is_fn es)) ≤ 1
         → IsSome (cond a (Some e) (entry_at p es))
-            → (length (filter is_fn es) ≤ 1 → IsSome (entry_at p es) → is_silent es p ≡ is_place (place_in es) p)
+        → (length (filter is_fn es) ≤ 1 → IsSome (entry_at p es) → is_silent es p ≡ is_place (place_in es) p)
         → is_none (option_map code_of_key (option_and_then base_key (cond a (Some e) (entry_at p es))))
         ≡ is_place (option_map (λ (x : Entry). x.place) (cond b (Some e) (find is_fn es))) p
     at true same b f few has' more = here b same f

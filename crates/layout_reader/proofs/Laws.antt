@@ -98,5 +98,5 @@ sample-sound (suc n) h =
     subst (λ m. AreEntries (map sample_entry (range_with_len 0 m))) next
     (rw (map-range_with_len_more sample_entry 0 n n (omega arith))
     (AreEntries-push _ (sample_entry n) before
-        (record { place = omega arith; key = omega arith; sends = omega arith; fn_sends = omega arith; both = refl; of_fn = refl })
+    (record { place = omega arith; key = omega arith; sends = omega arith; fn_sends = omega arith; both = refl; of_fn = refl })
     (apart (λ (e : Entry). e.place) (λ k. refl) 0 n n (omega arith)) (apart (λ (e : Entry). e.key) (λ k. refl) 0 n n (omega arith)) refl))

@@ -69,36 +69,36 @@ module _ (pa pb : Edge → Bool) (sub : (e : Edge) → pb e ≡ false → pa e �
   one p before [] at alt d = stays_so p before
   one p before (e ∷ es) at alt d =
       elim (pa e) as (λ c. pa e ≡ c
-          → map change_of (filter win (e ∷ es)) ≡ change_at p (last_of before (filter pa (e ∷ es))) (last_of before (filter pb (e ∷ es)))) [
+      → map change_of (filter win (e ∷ es)) ≡ change_at p (last_of before (filter pa (e ∷ es))) (last_of before (filter pb (e ∷ es)))) [
         | true ↦ λ h. elim (pb e) as (λ c. pb e ≡ c
             → map change_of (filter win (e ∷ es))
             ≡ change_at p (last_of before (filter pa (e ∷ es))) (last_of before (filter pb (e ∷ es)))) [
-          | true ↦ λ g.
-              ap (λ v. map change_of v) (skip win e es (ap (λ c. c && not (pa e)) g ∙ ap not h))
+              | true ↦ λ g.
+                  ap (λ v. map change_of v) (skip win e es (ap (λ c. c && not (pa e)) g ∙ ap not h))
                   ∙ one p e.down es at.1 alt.1 (tail_dwells e es d)
-              ∙ ap (λ v. change_at p (last_of before v) (last_of e.down (filter pb es))) (sym (keep pa e es h))
-              ∙ ap (λ v. change_at p (last_of before (filter pa (e ∷ es))) (last_of before v)) (sym (keep pb e es g))
-          | false ↦ λ g. let k : pa e ≡ false = sub e g in absurd (cc (h, k))
-        ] refl
+                  ∙ ap (λ v. change_at p (last_of before v) (last_of e.down (filter pb es))) (sym (keep pa e es h))
+                  ∙ ap (λ v. change_at p (last_of before (filter pa (e ∷ es))) (last_of before v)) (sym (keep pb e es g))
+              | false ↦ λ g. let k : pa e ≡ false = sub e g in absurd (cc (h, k))
+            ] refl
         | false ↦ λ h.
             let rest : Nothing es = none e es h d in
             let a : filter pa (e ∷ es) ≡ [] = skip pa e es h ∙ rest.a in
             elim (pb e) as (λ c. pb e ≡ c
-                → map change_of (filter win (e ∷ es))
-                ≡ change_at p (last_of before (filter pa (e ∷ es))) (last_of before (filter pb (e ∷ es)))) [
+            → map change_of (filter win (e ∷ es))
+            ≡ change_at p (last_of before (filter pa (e ∷ es))) (last_of before (filter pb (e ∷ es)))) [
               | true ↦ λ g.
                   let b : filter pb (e ∷ es) ≡ e ∷ [] = keep pb e es g ∙ ap (λ v. e ∷ v) rest.b in
                   let w : filter win (e ∷ es) ≡ e ∷ [] = keep win e es (ap (λ c. c && not (pa e)) g ∙ ap not h) ∙ ap (λ v. e ∷ v) rest.w in
                   ap (λ v. map change_of v) w ∙ ap (λ (q : ℕ). (q, e.down) ∷ []) at.0 ∙ ap (λ (v : Bool). (p, v) ∷ []) alt.0
                   ∙ turns p before ∙ ap (λ v. change_at p before v) (sym alt.0)
                   ∙ ap (λ v. change_at p (last_of before v) e.down) (sym a)
-                      ∙ ap (λ v. change_at p (last_of before (filter pa (e ∷ es))) (last_of before v)) (sym b)
+                  ∙ ap (λ v. change_at p (last_of before (filter pa (e ∷ es))) (last_of before v)) (sym b)
               | false ↦ λ g.
                   let b : filter pb (e ∷ es) ≡ [] = skip pb e es g ∙ rest.b in
                   let w : filter win (e ∷ es) ≡ [] = skip win e es (ap (λ c. c && not (pa e)) g) ∙ rest.w in
                   ap (λ v. map change_of v) w ∙ stays_so p before
                   ∙ ap (λ v. change_at p (last_of before v) before) (sym a)
-                      ∙ ap (λ v. change_at p (last_of before (filter pa (e ∷ es))) (last_of before v)) (sym b)
+                  ∙ ap (λ v. change_at p (last_of before (filter pa (e ∷ es))) (last_of before v)) (sym b)
             ] refl
       ] refl
 

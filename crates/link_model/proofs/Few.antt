@@ -48,7 +48,7 @@ module _ (q : Edge → Bool) where
       → length (filter q (of_place p (e ∷ es))) ≤ (if e.place == p then digit (q e) else 0) + length (filter q (of_place p es))
   grows e es p =
       elim (e.place == p) as (λ c. (e.place == p) ≡ c
-          → length (filter q (of_place p (e ∷ es))) ≤ (if c then digit (q e) else 0) + length (filter q (of_place p es))) [
+      → length (filter q (of_place p (e ∷ es))) ≤ (if c then digit (q e) else 0) + length (filter q (of_place p es))) [
         | true ↦ λ h. let k : length (filter q (of_place p (e ∷ es)))
             ≡ length (filter q (e ∷ of_place p es)) =
             ap (λ v. length (filter q v)) (keep (λ (x : Edge). x.place == p) e es h) in
@@ -62,18 +62,18 @@ module _ (q : Edge → Bool) where
       → (if nat_lt e.place k then d else 0) + (if e.place == k then d else 0) ≤ (if nat_lt e.place (suc k) then d else 0)
   hit e k d =
       elim (nat_lt e.place k) as (λ a. nat_lt e.place k ≡ a
-          → (if a then d else 0) + (if e.place == k then d else 0) ≤ (if nat_lt e.place (suc k) then d else 0)) [
+      → (if a then d else 0) + (if e.place == k then d else 0) ≤ (if nat_lt e.place (suc k) then d else 0)) [
         | true ↦ λ h.
             let s : nat_lt e.place (suc k) ≡ true = grind (arith, nat_tests, h) in
             let n : (e.place == k) ≡ false = grind (arith, nat_tests, h) in
             subst (λ b. d + (if e.place == k then d else 0) ≤ (if b then d else 0)) (sym s)
-                (subst (λ b. d + (if b then d else 0) ≤ d) (sym n) (omega arith))
+            (subst (λ b. d + (if b then d else 0) ≤ d) (sym n) (omega arith))
         | false ↦ λ h. elim (e.place == k) as (λ a. (e.place == k) ≡ a
             → 0 + (if a then d else 0) ≤ (if nat_lt e.place (suc k) then d else 0)) [
-          | true ↦ λ g. let s : nat_lt e.place (suc k) ≡ true = grind (arith, nat_tests, g) in
-              subst (λ b. 0 + d ≤ (if b then d else 0)) (sym s) (omega arith)
-          | false ↦ λ g. omega arith
-        ] refl
+              | true ↦ λ g. let s : nat_lt e.place (suc k) ≡ true = grind (arith, nat_tests, g) in
+                  subst (λ b. 0 + d ≤ (if b then d else 0)) (sym s) (omega arith)
+              | false ↦ λ g. omega arith
+            ] refl
       ] refl
 
   parted_more : (e : Edge) (es : List Edge) (k : ℕ)
@@ -81,10 +81,10 @@ module _ (q : Edge → Bool) where
   parted_more e es zero = omega arith
   parted_more e es (suc k) =
       let a : length (parted (e ∷ es) k ++ filter q (of_place k (e ∷ es)))
-          ≡ length (parted (e ∷ es) k) + length (filter q (of_place k (e ∷ es))) =
-          length-append (parted (e ∷ es) k) (filter q (of_place k (e ∷ es))) in
+      ≡ length (parted (e ∷ es) k) + length (filter q (of_place k (e ∷ es))) =
+      length-append (parted (e ∷ es) k) (filter q (of_place k (e ∷ es))) in
       let b : length (parted es k ++ filter q (of_place k es))
-          ≡ length (parted es k) + length (filter q (of_place k es)) = length-append (parted es k) (filter q (of_place k es)) in
+      ≡ length (parted es k) + length (filter q (of_place k es)) = length-append (parted es k) (filter q (of_place k es)) in
       let ih = parted_more e es k in
       let g = grows e es k in
       let h = hit e k (digit (q e)) in
@@ -235,10 +235,10 @@ module _ (starts : ℕ → ℕ) (last : ℕ) (cadence : KeepsCadenceTo starts la
       ap (λ v. map change_of v) (filter_same p (is_seen starts n) (λ e. read_now p n e && not (read_before p n e))
       (λ e at. seen_so n b e ∙ ap (λ r. read_now r n e && not (read_before r n e)) at) (of_place p edges) (are_at p edges))
       ∙ one (read_before p n) (read_now p n) (sub p n b) (far p n b l) p false (of_place p edges) (are_at p edges)
-          (ok.alternate p) (ok.dwell p)
+      (ok.alternate p) (ok.dwell p)
       ∙ ap (λ v. change_at p v (now p)) (downs_so edges n p) in
       let same : tick_edges starts edges n ≡ shown held now = map_by_place change_of each 96
-          ∙ same_by_place (λ p. map change_of (each p)) (shown_at held now) at_place 96 (omega arith) in
+      ∙ same_by_place (λ p. map change_of (each p)) (shown_at held now) at_place 96 (omega arith) in
       let a : length (tick_edges starts edges n) ≡ length (by_place each 96) = length-map (by_place each 96) change_of in
       let c = no_longer (is_seen starts n) edges 96 in
       let d = four (is_seen starts n) (base n) (above n b) (under n b) edges ok.edges_in_order ok.thin ok.in_matrix in

@@ -29,7 +29,7 @@ tick_edges_known Q starts edges n h =
 -- one tick more
 pub whole_next : {S : Type 0} (kb : Machine S) (edges : List Edge) (host : List HostEvent) (starts : ℕ → ℕ) (n : ℕ) (before after : Whole S)
     → before ≡ whole_at kb edges host starts n → after ≡ next_tick kb edges host starts n before
-        → after ≡ whole_at kb edges host starts (n + 1)
+    → after ≡ whole_at kb edges host starts (n + 1)
 whole_next kb edges host starts n before after so_far next =
     next ∙ ap (λ w. next_tick kb edges host starts n w) so_far ∙ ap (λ k. whole_at kb edges host starts k) (sym (add-one n))
 

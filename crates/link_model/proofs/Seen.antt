@@ -88,9 +88,9 @@ held_by : (held now : ℕ → Bool) (p k : ℕ) → last_change (by_place (shown
 held_by held now p zero = let z : nat_lt p 0 ≡ false = grind (arith, nat_tests) in ap (λ c. if c then now p else held p) (sym z)
 held_by held now p (suc k) =
     let all = last_more (by_place (shown_at held now) k) (shown_at held now k) p (held p)
-        ∙ ap (λ v. last_change (shown_at held now k) p v) (held_by held now p k) in
+    ∙ ap (λ v. last_change (shown_at held now k) p v) (held_by held now p k) in
     elim (k == p) as (λ b. (k == p) ≡ b
-        → last_change (by_place (shown_at held now) (suc k)) p (held p) ≡ (if nat_lt p (suc k) then now p else held p)) [
+    → last_change (by_place (shown_at held now) (suc k)) p (held p) ≡ (if nat_lt p (suc k) then now p else held p)) [
       | true ↦ λ h.
           let s : k ≡ p = eqb-true k p h in
           let off : nat_lt p k ≡ false = grind (arith, nat_tests, s) in
@@ -98,7 +98,7 @@ held_by held now p (suc k) =
           let y : (p == p) ≡ true = grind (arith, nat_tests) in
           all ∙ ap (λ c. last_change (shown_at held now k) p (if c then now p else held p)) off
           ∙ ap (λ j. last_change (shown_at held now j) p (held p)) s ∙ same_place p (held p) (now p) y
-              ∙ ap (λ c. if c then now p else held p) (sym on)
+          ∙ ap (λ c. if c then now p else held p) (sym on)
       | false ↦ λ h.
           let t : nat_lt p k ≡ nat_lt p (suc k) = elim (nat_lt p k) as (λ c. nat_lt p k ≡ c → c ≡ nat_lt p (suc k)) [
             | true ↦ λ g. let n : nat_lt p (suc k) ≡ true = grind (arith, nat_tests, g) in sym n

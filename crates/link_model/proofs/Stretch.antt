@@ -45,7 +45,7 @@ module _ (events : List HostEvent) (from : ℕ) (s : Side UnderWay) where
       let b : (now - from) + from ≡ now = omega (arith, l) in
       e ∙ sym (cycle_is now m) ∙ ap (λ v. byte_cycle events now Quiet v) r
       ∙ sym (quiet_more events (now - from) 1 (to - from) from s a
-          ∙ ap (λ k. byte_cycle events k Quiet (quietly events (now - from) from s)) b)
+      ∙ ap (λ k. byte_cycle events k Quiet (quietly events (now - from) from s)) b)
 
 -- one more event is done, where it was and there is one
 and_true : (b : Bool) (n : ℕ) → (if b && true then n + 1 else n) ≡ (if b then n + 1 else n)
@@ -61,8 +61,8 @@ pub count_is : (events : List HostEvent) (now n : ℕ) (d : Desk UnderWay) (b : 
 count_is events now n d b h =
     ap (λ v. if v && nat_lt n (length events) then n + 1 else n) h
     ∙ (elim (nat_lt n (length events)) as (λ c. nat_lt n (length events) ≡ c
-        → (if (cycled is_open now (slice_get events n) d).done && c then n + 1 else n)
-        ≡ (if (cycled is_open now (slice_get events n) d).done then n + 1 else n)) [
+    → (if (cycled is_open now (slice_get events n) d).done && c then n + 1 else n)
+    ≡ (if (cycled is_open now (slice_get events n) d).done then n + 1 else n)) [
       | true ↦ λ g. and_true (cycled is_open now (slice_get events n) d).done n
       | false ↦ λ g.
           let past : length events ≤ n = grind (arith, nat_tests, g) in

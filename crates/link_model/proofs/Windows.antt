@@ -112,11 +112,11 @@ module _ (q : Edge → Bool) (p : ℕ) where
 
   pub seen_next : (es : List Edge) (i : ℕ) (e : Edge) (s0 before after : List (ℕ × Bool)) → i < length es → e ≡ get_or es i e
       → before ≡ s0 ++ map change_of (filter q (of_place p (take i es)))
-          → after ≡ before ++ (if (e.place == p) && q e then change_of e ∷ [] else [])
+      → after ≡ before ++ (if (e.place == p) && q e then change_of e ∷ [] else [])
       → after ≡ s0 ++ map change_of (filter q (of_place p (take (i + 1) es)))
   seen_next es i e s0 before after within is so_far next =
       let t : take (i + 1) es
-          ≡ take i es ++ e ∷ [] = rw add-one (take-suc es i e within ∙ ap (λ (v : Edge). take i es ++ v ∷ []) (sym is)) in
+      ≡ take i es ++ e ∷ [] = rw add-one (take-suc es i e within ∙ ap (λ (v : Edge). take i es ++ v ∷ []) (sym is)) in
       let f : List (ℕ × Bool) = map change_of (filter q (of_place p (take i es))) in
       let o : List (ℕ × Bool) = if (e.place == p) && q e then change_of e ∷ [] else [] in
       next ∙ ap (λ v. v ++ o) so_far ∙ append_assoc s0 f o ∙ ap (λ v. s0 ++ v)
@@ -139,8 +139,8 @@ tick_edges_so starts n edges some cadence has =
     (λ p. filter (sees (start_before starts n) (starts n)) (of_place p some))
     (λ p. filter (is_seen starts n) (of_place p edges))
     (λ p l. has p l ∙ sym
-        (filter_same p (is_seen starts n) (sees (start_before starts n) (starts n))
-        (λ e at. sees_so starts n cadence e) (of_place p edges) (are_at p edges)))
+    (filter_same p (is_seen starts n) (sees (start_before starts n) (starts n))
+    (λ e at. sees_so starts n cadence e) (of_place p edges) (are_at p edges)))
     96 (omega arith))
 
 -- an edge before one up to a stamp is up to it too

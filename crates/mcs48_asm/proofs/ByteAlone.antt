@@ -28,13 +28,13 @@ byte_alone place n below =
     let known : list_all is_known_word (words_of text) ≡ true = ap (list_all is_known_word) whole.1 ∙ good-known (words_of v) second.1 in
     let values : values_of (parts_of (v ∷ [])) ≡ Some (Number n ∷ []) =
     ap values_of (one-parts v (token-comma v first.0))
-        ∙ ap (λ o. option_and_then (λ value. Some (value ∷ [])) (number_or_name o v)) numeral.number in
+    ∙ ap (λ o. option_and_then (λ value. Some (value ∷ [])) (number_or_name o v)) numeral.number in
     let line =
     plain-line text (Data (Number n ∷ [])) plain known (
     ap (λ ws. statement_in ws (tokens_of text)) whole.1
     ∙ ap (statement_in (codes "DB" ∷ words_of v)) (whole.0 ∙ ap (λ ts. codes "DB" ∷ ts) (token-one v first.0))
     ∙ ap (λ b. cond b (ok_or (equate_of (codes "DB" ∷ v ∷ [])) Misfit) (ok_or (data_of (codes "DB" ∷ v ∷ [])) Misfit))
-        (good-first (words_of v) second.1)
+    (good-first (words_of v) second.1)
     ∙ ap (λ o. ok_or (option_map Data o) Misfit) values
     ) in
     let low : n % 256 ≡ n = omega arith in

@@ -65,7 +65,7 @@ placed-capped p (line ∷ lines) =
     let s = start_of p line.statement in
     let more = map line_capped lines in
     ap (λ s. record { start = s; line = line_capped line } ∷ kept_places
-        (capped (s + count_of (statement_capped line.statement))) more) (start-capped p line.statement)
+    (capped (s + count_of (statement_capped line.statement))) more) (start-capped p line.statement)
     ∙ ap (λ c. at_capped (record { start = s; line = line }) ∷ kept_places (capped (capped s + c)) more) (count-capped line.statement)
     ∙ ap (λ n. at_capped (record { start = s; line = line }) ∷ kept_places n more) (capped-add s (count_of line.statement))
     ∙ ap (λ ps. at_capped (record { start = s; line = line }) ∷ ps) (placed-capped (s + count_of line.statement) lines)
@@ -76,7 +76,7 @@ labelled-capped at = label at.start at.line.flaw at.line.statement at.line.label
   where
     label : (start : ℕ) (flaw : Option Flaw) (s : Statement) (l : Option (List ℕ))
         → labelled (at_capped (record { start = start; line = record { flaw = flaw; label = l; statement = s } }))
-            ≡ map def_capped (labelled (record { start = start; line = record { flaw = flaw; label = l; statement = s } }))
+        ≡ map def_capped (labelled (record { start = start; line = record { flaw = flaw; label = l; statement = s } }))
     label start flaw s None = refl
     label start flaw s (Some q) = refl
 
@@ -120,7 +120,7 @@ value-capped (d ∷ ds) q = found (bytes_eq q d.name) d ds q (value-capped ds q)
     found : (t : Bool) (d : Definition) (ds : List Definition) (q : List ℕ)
         → value_named (map def_capped ds) q ≡ option_map capped (value_named ds q)
         → option_map (λ d. d.value) (cond t (Some (def_capped d)) (find (λ d. bytes_eq q d.name) (map def_capped ds)))
-            ≡ option_map capped (option_map (λ d. d.value) (cond t (Some d) (find (λ d. bytes_eq q d.name) ds)))
+        ≡ option_map capped (option_map (λ d. d.value) (cond t (Some d) (find (λ d. bytes_eq q d.name) ds)))
     found true d ds q h = refl
     found false d ds q h = h
 
@@ -155,7 +155,7 @@ above-some limit (Some n) h = lt-capped limit n h
 
 above-low : (limit : ℕ) (o : Option ℕ) → 255 ≤ limit
     → option_map_or (λ n. nat_lt limit n) (option_map (λ v. v % 256) (option_map capped o)) false
-        ≡ option_map_or (λ n. nat_lt limit n) (option_map (λ v. v % 256) o) false
+    ≡ option_map_or (λ n. nat_lt limit n) (option_map (λ v. v % 256) o) false
 above-low limit None h = refl
 above-low limit (Some n) h = low-small limit (capped n) h ∙ sym (low-small limit n h)
 
@@ -196,10 +196,10 @@ refused-capped : (names : Meanings) (at : Placed) → is_refused (names_capped n
 refused-capped names at =
     let large = ap (list_any (is_too_large (names_capped names))) (arguments-capped at.line.statement)
     ∙ any-map (is_too_large (names_capped names)) (is_too_large names) argument_capped (arguments at.line.statement)
-        (λ a. past-capped names a.role a.value) in
+    (λ a. past-capped names a.role a.value) in
     let label = ap (list_any reserved) (labelled-capped at) ∙ any-map reserved reserved def_capped (labelled at) (λ d. refl) in
     let equate = ap (list_any reserved) (equated-capped at.line.statement)
-        ∙ any-map reserved reserved def_capped (equated at.line.statement) (λ d. refl) in
+    ∙ any-map reserved reserved def_capped (equated at.line.statement) (λ d. refl) in
     let both = ap (λ b. is_some at.line.label && b) (equate-capped at.line.statement) in
     cc (large, wrong-capped at.line.statement, label, equate, both)
 
@@ -221,7 +221,7 @@ unknown-capped : (names : Meanings) (at : Placed) → has_unknown_name (names_ca
 unknown-capped names at =
     ap (list_any (λ a. is_none (meaning (names_capped names) a.value))) (arguments-capped at.line.statement)
     ∙ any-map (λ a. is_none (meaning (names_capped names) a.value))
-        (λ a. is_none (meaning names a.value)) argument_capped (arguments at.line.statement) (λ a. none-capped names a.value)
+    (λ a. is_none (meaning names a.value)) argument_capped (arguments at.line.statement) (λ a. none-capped names a.value)
 
 again-capped : (seen : Meanings) (at : Placed) → is_defined_again (names_capped seen) (at_capped at) ≡ is_defined_again seen at
 again-capped seen at =
@@ -259,8 +259,8 @@ outside-some (Some n) start h = outside-number n start h
 
 outside-low : (o : Option ℕ) (start : ℕ) → start ≤ 2048
     → option_map_or (λ n. not (n / 256 == (capped start + 1) / 256))
-        (option_map (λ v. v % 256) (option_map capped o)) false
-        ≡ option_map_or (λ n. not (n / 256 == (start + 1) / 256)) (option_map (λ v. v % 256) o) false
+    (option_map (λ v. v % 256) (option_map capped o)) false
+    ≡ option_map_or (λ n. not (n / 256 == (start + 1) / 256)) (option_map (λ v. v % 256) o) false
 outside-low None start h = refl
 outside-low (Some n) start h =
     ap (λ s. not (capped n % 256 / 256 == (s + 1) / 256)) (small-capped start (omega arith))
@@ -276,15 +276,15 @@ outside-capped names start Target (Low q) h = outside-low (names q) start h
 
 off-at : (names : Meanings) (start : ℕ) (s : Statement) → start ≤ 2048
     → list_any (λ a. is_outside (names_capped names) (capped start) a.role a.value) (arguments (statement_capped s))
-        ≡ list_any (λ a. is_outside names start a.role a.value) (arguments s)
+    ≡ list_any (λ a. is_outside names start a.role a.value) (arguments s)
 off-at names start s h =
     ap (list_any (λ a. is_outside (names_capped names) (capped start) a.role a.value)) (arguments-capped s)
     ∙ any-map (λ a. is_outside (names_capped names) (capped start) a.role a.value)
-        (λ a. is_outside names start a.role a.value) argument_capped (arguments s) (λ a. outside-capped names start a.role a.value h)
+    (λ a. is_outside names start a.role a.value) argument_capped (arguments s) (λ a. outside-capped names start a.role a.value h)
 
 off-capped : (names : Meanings) (place : ℕ) (s : Statement) → place ≤ 2048
     → list_any (λ a. is_outside (names_capped names) (capped (start_of place s)) a.role a.value)
-        (arguments (statement_capped s)) ≡ list_any (λ a. is_outside names (start_of place s) a.role a.value) (arguments s)
+    (arguments (statement_capped s)) ≡ list_any (λ a. is_outside names (start_of place s) a.role a.value) (arguments s)
 off-capped names place Nothing h = refl
 off-capped names place (Instruction opcode a) h = off-at names place (Instruction opcode a) h
 off-capped names place (Origin n) h = refl
@@ -304,7 +304,7 @@ covers-number s c k h = cases (cases_lt s 65536)
 covers-capped : (at : Placed) (k : ℕ) → k < 2048 → covers (at_capped at) k ≡ covers at k
 covers-capped at k h =
     ap (λ c. nat_le (capped at.start) k && nat_lt k (capped at.start + c)) (count-capped at.line.statement)
-        ∙ covers-number at.start (count_of at.line.statement) k h
+    ∙ covers-number at.start (count_of at.line.statement) k h
 
 filled-capped : (ps : List Placed) (k : ℕ) → k < 2048 → is_filled (map at_capped ps) k ≡ is_filled ps k
 filled-capped ps k h = any-map (λ at. covers at k) (λ at. covers at k) at_capped ps (λ at. covers-capped at k h)
@@ -314,14 +314,21 @@ filled_again-capped : (earlier : List Placed) (at : Placed)
 filled_again-capped earlier at =
     any_places-alike (λ k. covers (at_capped at) k && is_filled (map at_capped earlier) k) (λ k. covers at k && is_filled earlier k)
     (λ k h. ap (λ b. b && is_filled (map at_capped earlier) k) (covers-capped at k h)
-        ∙ ap (λ b. covers at k && b) (filled-capped earlier k h))
+    ∙ ap (λ b. covers at k && b) (filled-capped earlier k h))
 
 pub fault-capped : (names : Meanings) (earlier : List Placed) (place : ℕ) (line : Line) → place ≤ 2048
     → fault_behind (names_capped names) (map at_capped earlier)
-        (at_capped (record { start = start_of place line.statement; line = line }))
-        ≡ fault_behind names earlier (record { start = start_of place line.statement; line = line })
+    (at_capped (record { start = start_of place line.statement; line = line }))
+    ≡ fault_behind names earlier (record { start = start_of place line.statement; line = line })
 fault-capped names earlier place line h =
     let at : Placed = record { start = start_of place line.statement; line = line } in
     ap (λ m. fault_of (names_capped names) m (is_filled (map at_capped earlier)) (at_capped at)) (names-capped earlier)
-    ∙ cc (refused-capped names at, unknown-capped names at, again-capped
-        (value_named (definitions earlier)) at, off-capped names place line.statement h, past_end-capped at, filled_again-capped earlier at)
+    ∙ cc (
+      refused-capped names at,
+      unknown-capped names at,
+      again-capped
+          (value_named (definitions earlier)) at,
+      off-capped names place line.statement h,
+      past_end-capped at,
+      filled_again-capped earlier at,
+    )

@@ -58,7 +58,7 @@ parts-tokens [] = refl
 parts-tokens (c ∷ cs) =
     let cut = split-is_cons is_comma cs in
     go cut.first cut.rest (is_comma c) (is_blank c) (goes_on cs) refl refl refl cut.is
-        (parts-tokens cs ∙ ap (map tokens_of) cut.is) (goes-part cs ∙ ap (λ ps. goes_on (first_of ps)) cut.is)
+    (parts-tokens cs ∙ ap (map tokens_of) cut.is) (goes-part cs ∙ ap (λ ps. goes_on (first_of ps)) cut.is)
   where
     go : (p : List ℕ) (ps : List (List ℕ)) (k b g : Bool) → is_comma c ≡ k → is_blank c ≡ b → goes_on cs ≡ g
         → slice_split is_comma cs ≡ p ∷ ps → parts_of (tokens_of cs) ≡ tokens_of p ∷ map tokens_of ps
@@ -79,7 +79,7 @@ parts-tokens (c ∷ cs) =
         ∙ slice_split-cons_no is_comma_token (c ∷ []) (tokens_of cs) comma
         ∙ ap (onto_first (c ∷ [])) are
         ∙ ap (λ t. t ∷ map tokens_of ps)
-            (sym (ap (λ g. before_tokens c g (tokens_of p)) (sym first ∙ goes) ∙ before-apart c (tokens_of p) blank))
+        (sym (ap (λ g. before_tokens c g (tokens_of p)) (sym first ∙ goes) ∙ before-apart c (tokens_of p) blank))
         ∙ sym (ap (map tokens_of) (slice_split-cons_no is_comma c cs comma ∙ ap (onto_first c) cut))
     go p ps false false true comma blank goes cut are first =
         let front = goes-token cs goes in
@@ -88,5 +88,5 @@ parts-tokens (c ∷ cs) =
         ∙ ap (λ ts. parts_of (onto_first c ts)) front.is
         ∙ onto-parts c front.word front.rest (tokens_of p) (map tokens_of ps) comma front.comma (sym (ap parts_of front.is) ∙ are)
         ∙ ap (λ t. t ∷ map tokens_of ps)
-            (sym (ap (λ g. before_tokens c g (tokens_of p)) (sym first ∙ goes) ∙ before-joined c (tokens_of p) blank comma))
+        (sym (ap (λ g. before_tokens c g (tokens_of p)) (sym first ∙ goes) ∙ before-joined c (tokens_of p) blank comma))
         ∙ sym (ap (map tokens_of) (slice_split-cons_no is_comma c cs comma ∙ ap (onto_first c) cut))

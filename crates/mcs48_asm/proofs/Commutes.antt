@@ -88,7 +88,7 @@ values-some (Some v) (Some vs) = refl
 
 pub parts-turn : (text part more : List ℕ) → slice_split is_comma text ≡ part ∷ slice_split is_comma more
     → is_some (values_of (parts_of (tokens_of text)))
-        ≡ (is_some (value_of (tokens_of part)) && is_some (values_of (parts_of (tokens_of more))))
+    ≡ (is_some (value_of (tokens_of part)) && is_some (values_of (parts_of (tokens_of more))))
 parts-turn text part more split =
     ap (λ parts. is_some (values_of parts)) (parts-tokens text ∙ ap (map tokens_of) split)
     ∙ values-some (value_of (tokens_of part)) (values_of (map tokens_of (slice_split is_comma more)))

@@ -61,7 +61,7 @@ shown-numeral numeral n is =
     let plain : IsPlain numeral = all_weaker is_word_character is_plain word-plain numeral digits in
     let words : words_of (48 ∷ numeral) ≡ (48 ∷ numeral) ∷ [] = words-whole 48 numeral is.word in
     let good : is_good_word (48 ∷ numeral)
-        ≡ true = and_from _ _ (known-number (is_name (48 ∷ numeral)) (number_of (48 ∷ numeral)) n is.number) refl in
+    ≡ true = and_from _ _ (known-number (is_name (48 ∷ numeral)) (number_of (48 ∷ numeral)) n is.number) refl in
     let all : list_all is_good_word (words_of (48 ∷ numeral)) ≡ true = ap (list_all is_good_word) words ∙ and_from _ _ good refl in (
       and_from _ _ digits (and_from _ _ plain all),
       and_from _ _ is.word (and_from _ _ (and_from _ _ refl (and_from _ _ refl plain)) all),
@@ -237,11 +237,11 @@ pub read-same : (place : ℕ) (forms operands : List Operand) → all_same forms
 read-same place [] [] same few all = refl
 read-same place (f ∷ []) (o ∷ []) same few all =
     ap (read_parts (f ∷ [])) (one-parts (operand_text place o) (comma-free place o all.0))
-        ∙ same-read place f o (and_parts (is_same f o) _ same).0 all.0
+    ∙ same-read place f o (and_parts (is_same f o) _ same).0 all.0
 read-same place (f ∷ g ∷ []) (o ∷ u ∷ []) same few all =
     let first = and_parts (is_same f o) _ same in
     ap (read_parts (f ∷ g ∷ []))
-        (two-parts (operand_text place o) (operand_text place u) (comma-free place o all.0) (comma-free place u all.1.0))
+    (two-parts (operand_text place o) (operand_text place u) (comma-free place o all.0) (comma-free place u all.1.0))
     ∙ ap (λ r. both r (read g (operand_text place u ∷ []))) (same-read place f o first.0 all.0)
     ∙ ap (both (Some (said_by place o))) (same-read place g u (and_parts (is_same g u) _ first.1).0 all.1.0)
 read-same place [] (o ∷ os) same few all = absurd (cc)
@@ -282,13 +282,13 @@ read-unlike place (f ∷ g ∷ h ∷ hs) [] unlike few all = refl
 read-unlike place [] (o ∷ []) unlike few all = ap (read_parts []) (one-parts (operand_text place o) (comma-free place o all.0))
 read-unlike place (f ∷ []) (o ∷ []) unlike few all =
     ap (read_parts (f ∷ [])) (one-parts (operand_text place o) (comma-free place o all.0))
-        ∙ unlike-none place f o (or-left (is_unlike f o) unlike) all.0
+    ∙ unlike-none place f o (or-left (is_unlike f o) unlike) all.0
 read-unlike place (f ∷ g ∷ gs) (o ∷ []) unlike few all =
     ap (read_parts (f ∷ g ∷ gs)) (one-parts (operand_text place o) (comma-free place o all.0)) ∙ one-too-few f g gs (operand_text place o)
 read-unlike place forms (o ∷ u ∷ []) unlike few all =
     read_all-parts forms (operand_text place o) _
-        ∙ ap (λ ps. read_parts forms ps)
-        (two-parts (operand_text place o) (operand_text place u) (comma-free place o all.0) (comma-free place u all.1.0)) ∙ go forms unlike
+    ∙ ap (λ ps. read_parts forms ps)
+    (two-parts (operand_text place o) (operand_text place u) (comma-free place o all.0) (comma-free place u all.1.0)) ∙ go forms unlike
   where
     two : (f g : Operand) (t : Bool) → is_unlike f o ≡ t → (t || (is_unlike g u || false)) ≡ true
         → both (read f (operand_text place o ∷ [])) (read g (operand_text place u ∷ [])) ≡ None

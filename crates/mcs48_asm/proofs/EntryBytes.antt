@@ -71,21 +71,21 @@ value-listed place v x len b n f range code below fits = absurd (cc)
 value-reads : (text : List ℕ) (place x : ℕ) (v : Operand) (len b n : ℕ) → is_fixed v ≡ false → Range (v ∷ [])
     → bytes_with (with_number x v) (own_byte v) ≡ taken len b n → b < 256 → n < 256
     → place + len ≤ 2048 → IsPlain text → line_of text ≡ said (Instruction (x % 256) (said_by place v).argument)
-        → IsRead text place (take len (b ∷ n ∷ []))
+    → IsRead text place (take len (b ∷ n ∷ []))
 value-reads text place x (Immediate m) len b n f range code first below fits plain line =
     let is = two-is x m len b n code in
     let opcode : x % 256 ≡ b = omega (arith, is.0) in
     let low : m % 256 ≡ n = omega (arith, is.2) in
     subst (λ k. IsRead text place (take k (b ∷ n ∷ []))) is.1
     (valued text place b role.Byte m b n plain
-        (line ∙ ap (λ k. said (Instruction k (Some (record { role = role.Byte; value = Number m })))) opcode)
+    (line ∙ ap (λ k. said (Instruction k (Some (record { role = role.Byte; value = Number m })))) opcode)
     (byte-suits place m (omega (arith, is.2))) (ap (λ k. b ∷ k ∷ []) low))
 value-reads text place x (Address a) len b n f range code first below fits plain line =
     let is = two-is (x + 32 * (a / 256)) (a % 256) len b n code in
     let opcode : (x % 256 + 32 * (a / 256)) % 256 ≡ b = omega (arith, is.0) in
     subst (λ k. IsRead text place (take k (b ∷ n ∷ []))) is.1
     (valued text place (x % 256) role.Address a b n plain line (λ names. (le-ltb 2047 a (omega arith), refl))
-        (ap (λ k. k ∷ a % 256 ∷ []) opcode ∙ ap (λ k. b ∷ k ∷ []) is.2))
+    (ap (λ k. k ∷ a % 256 ∷ []) opcode ∙ ap (λ k. b ∷ k ∷ []) is.2))
 value-reads text place x (Target m) len b n f range code first below fits plain line =
     let is = two-is x m len b n code in
     let opcode : x % 256 ≡ b = omega (arith, is.0) in
@@ -93,7 +93,7 @@ value-reads text place x (Target m) len b n f range code first below fits plain 
     let small : m < 256 = omega (arith, is.2) in
     subst (λ k. IsRead text place (take k (b ∷ n ∷ []))) is.1
     (valued text place b role.Target (target place m) b n plain
-        (line ∙ ap (λ k. said (Instruction k (Some (record { role = role.Target; value = Number (target place m) })))) opcode)
+    (line ∙ ap (λ k. said (Instruction k (Some (record { role = role.Target; value = Number (target place m) })))) opcode)
     (target-suits place m within small) (ap (λ k. b ∷ k ∷ []) (target-low place m small ∙ is.2)))
 value-reads text place x v len b n f range code first below fits plain line = absurd (cc)
 
@@ -152,7 +152,7 @@ module _ (place len b n : ℕ) (word : List ℕ) (first cycles : ℕ) (low : b <
       go true f =
           let add = adds place first o f in
           let line = entry-line place (made (o ∷ [])) entry
-              (fixed-listed place o [] f (and_parts (is_word_shown o) _ (entry-shown (made (o ∷ [])) entry)).0 range, tt) in
+          (fixed-listed place o [] f (and_parts (is_word_shown o) _ (entry-shown (made (o ∷ [])) entry)).0 range, tt) in
           bare-reads _ place (first + (said_by place o).offset) (with_number first o) len b n line.0
           (line.1 ∙ ap (λ a. said (Instruction ((first + (said_by place o).offset) % 256) a)) add.argument) add.number
           (sym (ap (λ k. bytes_with (with_number first o) (option_or k None)) add.byte) ∙ code) low
@@ -161,7 +161,7 @@ module _ (place len b n : ℕ) (word : List ℕ) (first cycles : ℕ) (low : b <
           let line = entry-line place (made (o ∷ [])) entry (value-listed place o first len b n f range only below fits, tt) in
           let opcode : first + (said_by place o).offset ≡ first = omega (arith, value-offset place o f) in
           value-reads _ place first o len b n f range only low below fits line.0
-              (line.1 ∙ ap (λ k. said (Instruction (k % 256) (said_by place o).argument)) opcode)
+          (line.1 ∙ ap (λ k. said (Instruction (k % 256) (said_by place o).argument)) opcode)
 
   two-reads : (o u : Operand) → is_right_entry (made (o ∷ u ∷ [])) ≡ true → Range (o ∷ u ∷ [])
       → entry_code (made (o ∷ u ∷ [])) ≡ taken len b n
@@ -188,12 +188,12 @@ module _ (place len b n : ℕ) (word : List ℕ) (first cycles : ℕ) (low : b <
           let add = adds place first o paired.0 in
           let more = adds place (with_number first o) u f in
           let line = entry-line place (made (o ∷ u ∷ [])) entry
-              (before, (fixed-listed place u [] f (and_parts (is_word_shown u) true shown.1).0 later, tt)) in
+          (before, (fixed-listed place u [] f (and_parts (is_word_shown u) true shown.1).0 later, tt)) in
           bare-reads _ place (first + ((said_by place o).offset + (said_by place u).offset))
-              (with_number (with_number first o) u) len b n line.0
+          (with_number (with_number first o) u) len b n line.0
           (line.1 ∙ ap (λ a. said
-              (Instruction ((first + ((said_by place o).offset + (said_by place u).offset)) % 256)
-              (option_or a (said_by place u).argument))) add.argument
+          (Instruction ((first + ((said_by place o).offset + (said_by place u).offset)) % 256)
+          (option_or a (said_by place u).argument))) add.argument
           ∙ ap (λ a. said (Instruction ((first + ((said_by place o).offset + (said_by place u).offset)) % 256) a)) more.argument)
           (omega (arith, add.number, more.number))
           (sym (ap (λ k. bytes_with (with_number (with_number first o) u) (option_or k (option_or (own_byte u) None))) add.byte
@@ -203,14 +203,14 @@ module _ (place len b n : ℕ) (word : List ℕ) (first cycles : ℕ) (low : b <
           let x : ℕ = with_number first o in
           let only =
           sym (ap (λ k. bytes_with (with_number x u) (option_or k (option_or (own_byte u) None))) add.byte
-              ∙ ap (bytes_with (with_number x u)) (or-none (own_byte u))) ∙ code in
+          ∙ ap (bytes_with (with_number x u)) (or-none (own_byte u))) ∙ code in
           let line = entry-line place (made (o ∷ u ∷ [])) entry (before, (value-listed place u x len b n f later only below fits, tt)) in
           let opcode : first + ((said_by place o).offset + (said_by place u).offset)
-              ≡ x = omega (arith, value-offset place u f, add.number) in
+          ≡ x = omega (arith, value-offset place u f, add.number) in
           value-reads _ place x u len b n f later only low below fits line.0
           (line.1 ∙ ap (λ a. said
-              (Instruction ((first + ((said_by place o).offset + (said_by place u).offset)) % 256)
-              (option_or a (said_by place u).argument))) add.argument
+          (Instruction ((first + ((said_by place o).offset + (said_by place u).offset)) % 256)
+          (option_or a (said_by place u).argument))) add.argument
           ∙ ap (λ k. said (Instruction (k % 256) (said_by place u).argument)) opcode)
 
   all-reads : (operands : List Operand) → is_right_entry (made operands) ≡ true → Range operands

@@ -34,21 +34,21 @@ fit-hit place (form ∷ forms) word first operands h few all =
   where
     go : (t s : Bool) → all_same form.operands operands ≡ s
         → cond t (cond s (form.first == first) (any_unlike form.operands operands && hits forms word first operands))
-            (hits forms word first operands) ≡ true
+        (hits forms word first operands) ≡ true
         → (hits forms word first operands ≡ true
-            → first_fit forms (word ∷ operand_tokens place operands) ≡ Some (instruction_with first (said_all place operands)))
+        → first_fit forms (word ∷ operand_tokens place operands) ≡ Some (instruction_with first (said_all place operands)))
         → option_or (cond t (option_map (instruction_with form.first)
-            (read_all form.operands (operand_tokens place operands))) None) (first_fit forms (word ∷ operand_tokens place operands))
+        (read_all form.operands (operand_tokens place operands))) None) (first_fit forms (word ∷ operand_tokens place operands))
         ≡ Some (instruction_with first (said_all place operands))
     go false s same h more = more h
     go true true same h more =
         ap (λ o. option_or (option_map (instruction_with form.first) o)
-            (first_fit forms (word ∷ operand_tokens place operands))) (read-same place form.operands operands same few all)
+        (first_fit forms (word ∷ operand_tokens place operands))) (read-same place form.operands operands same few all)
         ∙ ap (λ k. Some (instruction_with k (said_all place operands))) (eqb-true form.first first h)
     go true false same h more =
         let both = and_parts (any_unlike form.operands operands) (hits forms word first operands) h in
         ap (λ o. option_or (option_map (instruction_with form.first) o)
-            (first_fit forms (word ∷ operand_tokens place operands))) (read-unlike place form.operands operands both.0 few all)
+        (first_fit forms (word ∷ operand_tokens place operands))) (read-unlike place form.operands operands both.0 few all)
         ∙ more both.1
 
 -- a word before another character
@@ -115,7 +115,7 @@ pub plain-line : (text : List ℕ) (statement : Statement) → IsPlain text
 plain-line text statement plain words statement_is =
     let allowed : list_all is_allowed text ≡ true = all_weaker is_plain is_allowed plain-allowed text plain in
     ap (λ t. cond (is_spelled t) (line_of_parts (slice_split is_colon t)) (flawed Syntax))
-        (uncut is_plain is_semicolon plain-semicolon text plain)
+    (uncut is_plain is_semicolon plain-semicolon text plain)
     ∙ ap (λ b. cond b (line_of_parts (slice_split is_colon text)) (flawed Syntax)) (and_from _ _ allowed words)
     ∙ ap line_of_parts (one_part is_plain is_colon plain-colon text plain)
     ∙ ap (line_with None) statement_is
@@ -133,20 +133,20 @@ is_first word = list_all is_word_character word &&
 abbrev pub is_entry : Entry → Bool
 is_entry entry =
     is_first entry.word &&
-        (nat_le (length entry.operands) 2 &&
-        (list_all is_word_shown entry.operands && hits instructions entry.word entry.first entry.operands))
+    (nat_le (length entry.operands) 2 &&
+    (list_all is_word_shown entry.operands && hits instructions entry.word entry.first entry.operands))
 
 statement-is : (word : List ℕ) (words tokens : List (List ℕ)) (statement : Statement)
     → bytes_eq (first_of words) (codes "EQU") ≡ false → bytes_eq word (codes "ORG") ≡ false → bytes_eq word (codes "DB") ≡ false
     → is_instruction word ≡ true → first_fit instructions (word ∷ tokens) ≡ Some statement
-        → statement_in (word ∷ words) (word ∷ tokens) ≡ Ok statement
+    → statement_in (word ∷ words) (word ∷ tokens) ≡ Ok statement
 statement-is word words tokens statement equ org db is found =
     rw (equ, org, db, is, found) refl
 
 word-line : (place : ℕ) (word : List ℕ) (first : ℕ) (operands : List Operand) → is_first word ≡ true
     → nat_le (length operands) 2 ≡ true → hits instructions word first operands ≡ true → AllListed place operands
     → IsPlain (word ++ operands_text place operands)
-        × (line_of (word ++ operands_text place operands) ≡ said (instruction_with first (said_all place operands)))
+    × (line_of (word ++ operands_text place operands) ≡ said (instruction_with first (said_all place operands)))
 word-line place [] first operands h few hit all = absurd (cc)
 word-line place (c ∷ cs) first operands h few hit all =
     let word : List ℕ = c ∷ cs in
@@ -163,13 +163,13 @@ word-line place (c ∷ cs) first operands h few hit all =
     ∙ and_from _ _ (all_weaker is_word_character is_plain word-plain word made.0) tail.plain in
     let known : list_all is_known_word (words_of text) ≡ true =
     ap (list_all is_known_word) whole.1
-        ∙ and_from _ _ (and_parts (is_known_word word) _ good.0).0 (good-known (words_of (operands_text place operands)) tail.good) in (
+    ∙ and_from _ _ (and_parts (is_known_word word) _ good.0).0 (good-known (words_of (operands_text place operands)) tail.good) in (
       plain,
       plain-line text (instruction_with first (said_all place operands)) plain known (
           ap (λ ws. statement_in ws (tokens_of text)) whole.1
           ∙ ap (statement_in (word ∷ words_of (operands_text place operands))) (whole.0 ∙ ap (λ ts. word ∷ ts) tail.tokens)
           ∙ statement-is word (words_of (operands_text place operands)) (operand_tokens place operands)
-              (instruction_with first (said_all place operands))
+          (instruction_with first (said_all place operands))
           (good-first (words_of (operands_text place operands)) tail.good) (not-true _ org.0) (not-true _ db.0) db.1
           (fit-hit place instructions word first operands hit few all)
           ),
@@ -177,7 +177,7 @@ word-line place (c ∷ cs) first operands h few hit all =
 
 pub entry-line : (place : ℕ) (entry : Entry) → is_entry entry ≡ true → AllListed place entry.operands
     → IsPlain (entry_text place entry)
-        × (line_of (entry_text place entry) ≡ said (instruction_with entry.first (said_all place entry.operands)))
+    × (line_of (entry_text place entry) ≡ said (instruction_with entry.first (said_all place entry.operands)))
 entry-line place entry h all =
     let first = and_parts (is_first entry.word) _ h in
     let few = and_parts (nat_le (length entry.operands) 2) _ first.1 in

@@ -29,12 +29,12 @@ or_cond false x o p z h = h
 pub kept_value-insert : (entries : List (Bor (List ℕ) × ℕ)) (key : Bor (List ℕ)) (value : ℕ) (other : List ℕ)
     → kept_value entries key.now ≡ None
     → kept_value (insert_entry (λ (a : Bor (List ℕ)) (b : Bor (List ℕ)). bytes_eq a.now b.now) entries key value)
-        other ≡ option_or (kept_value entries other) (cond (bytes_eq other key.now) (Some value) None)
+    other ≡ option_or (kept_value entries other) (cond (bytes_eq other key.now) (Some value) None)
 kept_value-insert [] key value other h = refl
 kept_value-insert (entry ∷ entries) key value other h =
     let absent = absent_test (bytes_eq key.now entry.0.now) entry.1 (kept_value entries key.now) h in
     rw absent.0 (or_cond (bytes_eq other entry.0.now) entry.1 (kept_value entries other) _ _
-        (kept_value-insert entries key value other absent.1))
+    (kept_value-insert entries key value other absent.1))
 
 or_some : (o z : Option ℕ) → is_some o ≡ true → o ≡ option_or o z
 or_some (Some x) z h = refl

@@ -60,7 +60,7 @@ same-statement names Nothing h w = refl
 same-statement names (Instruction opcode None) h w = refl
 same-statement names (Instruction opcode (Some a)) h w =
     ap (λ v. Instruction opcode (Some (record { role = a.role; value = v })))
-        (same-value names a.role a.value (or_parts (is_past names a.role a.value) false h).0)
+    (same-value names a.role a.value (or_parts (is_past names a.role a.value) false h).0)
 same-statement names (Origin n) h w = ap Origin (small-capped n (let l : n ≤ 2048 = not_past 2048 n w in omega arith))
 same-statement names (Data vs) h w = ap Data (same-data names vs h)
 same-statement names (Equate q n) h w = ap (Equate q) (small-capped n (let l : n ≤ 65535 = not_past 65535 n w in omega arith))
@@ -78,10 +78,10 @@ near names earlier place line h none =
     let seen = value_named (definitions earlier) in
     let sound = sound-line names seen (is_filled earlier) at none in
     let numbers = two (list_any (is_too_large names) (arguments line.statement)) (has_wrong_number line.statement)
-        (list_any reserved (labelled at)) (list_any reserved (equated line.statement)) (has_labelled_equate line) sound.numbers in
+    (list_any reserved (labelled at)) (list_any reserved (equated line.statement)) (has_labelled_equate line) sound.numbers in
     let begins = start-near place line.statement h numbers.1 in
     let begun : capped (start_of place line.statement)
-        ≡ start_of place line.statement = small-capped (start_of place line.statement) (omega (arith, begins)) in
+    ≡ start_of place line.statement = small-capped (start_of place line.statement) (omega (arith, begins)) in
     let stated : statement_capped line.statement ≡ line.statement = same-statement names line.statement numbers.0 numbers.1 in
     record {
       same = λ i. record { start = begun i; line = record { flaw = line.flaw; label = line.label; statement = stated i } };
@@ -91,38 +91,38 @@ near names earlier place line h none =
 -- the first fault is the same
 first : (names : Meanings) (earlier : List Placed) (place : ℕ) (lines : List Line) → place ≤ 2048
     → first_fault (names_capped names) (map at_capped earlier) (map at_capped (placed place lines))
-        ≡ first_fault names earlier (placed place lines)
+    ≡ first_fault names earlier (placed place lines)
 first names earlier place [] h = refl
 first names earlier place (line ∷ lines) h =
     let at : Placed = record { start = start_of place line.statement; line = line } in
     go (fault_behind names earlier at) at (fault-capped names earlier place line h) refl
     (λ none. ap (λ ps. first_fault (names_capped names) ps
-        (map at_capped (placed (at.start + count_of line.statement) lines))) (sym (map-append at_capped earlier (at ∷ [])))
+    (map at_capped (placed (at.start + count_of line.statement) lines))) (sym (map-append at_capped earlier (at ∷ [])))
     ∙ first names (earlier ++ at ∷ []) (at.start + count_of line.statement) lines (near names earlier place line h none).behind)
   where
     go : (o : Option Flaw) (at : Placed)
         → fault_behind (names_capped names) (map at_capped earlier) (at_capped at) ≡ fault_behind names earlier at
         → fault_behind names earlier at ≡ o
         → (o ≡ None → first_fault (names_capped names) (map at_capped earlier ++ at_capped at ∷ [])
-            (map at_capped (placed (at.start + count_of line.statement) lines))
-            ≡ first_fault names (earlier ++ at ∷ []) (placed (at.start + count_of line.statement) lines))
+        (map at_capped (placed (at.start + count_of line.statement) lines))
+        ≡ first_fault names (earlier ++ at ∷ []) (placed (at.start + count_of line.statement) lines))
         → first_fault (names_capped names) (map at_capped earlier)
-            (at_capped at ∷ map at_capped (placed (at.start + count_of line.statement) lines))
-            ≡ first_fault names earlier (at ∷ placed (at.start + count_of line.statement) lines)
+        (at_capped at ∷ map at_capped (placed (at.start + count_of line.statement) lines))
+        ≡ first_fault names earlier (at ∷ placed (at.start + count_of line.statement) lines)
     go (Some x) at same is more =
         ap (λ o. option_or (option_map (λ flaw. (length (map at_capped earlier) + 1, number_of flaw)) o)
-            (first_fault (names_capped names) (map at_capped earlier ++ at_capped at ∷ [])
-            (map at_capped (placed (at.start + count_of line.statement) lines)))) (same ∙ is)
+        (first_fault (names_capped names) (map at_capped earlier ++ at_capped at ∷ [])
+        (map at_capped (placed (at.start + count_of line.statement) lines)))) (same ∙ is)
         ∙ ap (λ n. Some (n + 1, number_of x)) (length-map earlier at_capped)
         ∙ sym (ap (λ o. option_or (option_map (λ flaw. (length earlier + 1, number_of flaw)) o)
-            (first_fault names (earlier ++ at ∷ []) (placed (at.start + count_of line.statement) lines))) is)
+        (first_fault names (earlier ++ at ∷ []) (placed (at.start + count_of line.statement) lines))) is)
     go None at same is more =
         ap (λ o. option_or (option_map (λ flaw. (length (map at_capped earlier) + 1, number_of flaw)) o)
-            (first_fault (names_capped names) (map at_capped earlier ++ at_capped at ∷ [])
-            (map at_capped (placed (at.start + count_of line.statement) lines)))) (same ∙ is)
+        (first_fault (names_capped names) (map at_capped earlier ++ at_capped at ∷ [])
+        (map at_capped (placed (at.start + count_of line.statement) lines)))) (same ∙ is)
         ∙ more refl
         ∙ sym (ap (λ o. option_or (option_map (λ flaw. (length earlier + 1, number_of flaw)) o)
-            (first_fault names (earlier ++ at ∷ []) (placed (at.start + count_of line.statement) lines))) is)
+        (first_fault names (earlier ++ at ∷ []) (placed (at.start + count_of line.statement) lines))) is)
 
 -- lines without a fault are the same
 option-none : (o : Option Flaw) (n : ℕ) (p : Option (ℕ × ℕ))
@@ -137,10 +137,10 @@ whole names earlier place (line ∷ lines) h none =
     let at : Placed = record { start = start_of place line.statement; line = line } in
     let next = at.start + count_of line.statement in
     let parts = option-none (fault_behind names earlier at) (length earlier + 1)
-        (first_fault names (earlier ++ at ∷ []) (placed next lines)) none in
+    (first_fault names (earlier ++ at ∷ []) (placed next lines)) none in
     let here = near names earlier place line h parts.0 in
     ap (λ p. p ∷ map at_capped (placed next lines)) here.same
-        ∙ ap (λ ps. at ∷ ps) (whole names (earlier ++ at ∷ []) next lines here.behind parts.1)
+    ∙ ap (λ ps. at ∷ ps) (whole names (earlier ++ at ∷ []) next lines here.behind parts.1)
 
 answers : (ps : List Placed) (o : Option (ℕ × ℕ)) → first_fault (value_named (definitions ps)) [] ps ≡ o
     → first_fault (names_capped (value_named (definitions ps))) [] (map at_capped ps) ≡ o
@@ -149,14 +149,14 @@ answers ps None is capped_is same = sym (ap answer_of (same refl))
 answers ps (Some x) is capped_is same =
     ap (λ f. image_unless f (image_of (value_named (definitions ps)) ps)) is
     ∙ sym (ap (λ names. outcome_of names (map at_capped ps)) (names-capped ps)
-        ∙ ap (λ f. image_unless f (image_of (names_capped (value_named (definitions ps))) (map at_capped ps))) capped_is)
+    ∙ ap (λ f. image_unless f (image_of (names_capped (value_named (definitions ps))) (map at_capped ps))) capped_is)
 
 pub large-numbers : (lines : List Line) → answer_of (placed 0 lines) ≡ answer_of (kept_places 0 (map line_capped lines))
 large-numbers lines =
     let ps = placed 0 lines in
     let names = value_named (definitions ps) in
     answers ps (first_fault names [] ps) refl (first names [] 0 lines (omega arith))
-        (whole names [] 0 lines (omega arith)) ∙ sym (ap answer_of (placed-capped 0 lines))
+    (whole names [] 0 lines (omega arith)) ∙ sym (ap answer_of (placed-capped 0 lines))
 
 kept_lines : (ls : List (List ℕ)) → map kept_line ls ≡ map line_capped (map line_of ls)
 kept_lines [] = refl

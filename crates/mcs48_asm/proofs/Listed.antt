@@ -121,12 +121,12 @@ listed-step : (memory : List ℕ) (end most place : ℕ)
     (read : IsRead (text_at memory place) place (bytes_at memory place)) → IsSized memory place → place < end
     → placed place (listed memory end (suc most) place)
     ≡ said_at place read.statement ∷ placed (place + count_of read.statement)
-        (listed memory end most (place + size_of (instruction_at memory place)))
+    (listed memory end most (place + size_of (instruction_at memory place)))
 listed-step memory end most place read sized below =
     let next : ℕ = place + size_of (instruction_at memory place) in
     let others : List ℕ = lines_from memory end most next in
     ap (λ b. placed place (map line_of (lines (map to_ascii_uppercase (cond b (line_at memory place ++ others) [])))))
-        (lt-ltb place end below)
+    (lt-ltb place end below)
     ∙ ap (λ ls. placed place (map line_of ls)) (first_line-upper (text_at memory place) others read.plain)
     ∙ ap (λ line. placed place (line ∷ listed memory end most next)) read.line
     ∙ placed-said place read.statement (listed memory end most next) read.start (omega (arith, read.count, sized.within, sized.length_is))
@@ -136,7 +136,7 @@ listed-done : (memory : List ℕ) (end most place : ℕ) → end ≤ place → p
 listed-done memory end most place past =
     let others : List ℕ = lines_from memory end most (place + size_of (instruction_at memory place)) in
     ap (λ b. placed place (map line_of (lines (map to_ascii_uppercase (cond b (line_at memory place ++ others) [])))))
-        (le-ltb place end past)
+    (le-ltb place end past)
 
 -- the lines of a listing stand one behind the other
 listing-written : (memory : List ℕ) (end most place : ℕ)
@@ -201,7 +201,7 @@ free-push : (memory : List ℕ) (place : ℕ) (earlier : List Placed) (at : Plac
     → IsFree (is_filled (earlier ++ at ∷ [])) (place + count_of at.line.statement)
 free-push memory place earlier at w free k behind =
     is_filled-push earlier at k
-        ∙ or_from (is_filled earlier k) (covers at k) (free k (omega arith)) (covers-not memory place at k w (inr behind))
+    ∙ or_from (is_filled earlier k) (covers at k) (free k (omega arith)) (covers-not memory place at k w (inr behind))
 
 -- lines one behind the other have no fault
 written-faultless : (memory : List ℕ) (end place : ℕ) (names : Meanings) (earlier all : List Placed)
@@ -212,13 +212,13 @@ written-faultless memory end place names earlier (at ∷ rest) w free =
     ap (λ o. option_or (option_map (λ flaw. (length earlier + 1, number_of flaw)) o) (first_fault names (earlier ++ at ∷ []) rest))
     (written-sound memory place at names (value_named (definitions earlier)) (is_filled earlier) w.0 free)
     ∙ written-faultless memory end (place + count_of at.line.statement) names (earlier ++ at ∷ []) rest w.1
-        (free-push memory place earlier at w.0 free)
+    (free-push memory place earlier at w.0 free)
 
 -- a byte of a line, or of those behind it
 byte-step : (t : Bool) (memory : List ℕ) (place : ℕ) (names : Meanings) (at : Placed) (k x : ℕ)
     → IsWritten memory place at → covers at k ≡ t → place ≤ k
     → (place + count_of at.line.statement ≤ k → x ≡ slice_index memory k)
-        → cond t (slice_index (bytes_of names at.line.statement) (k - at.start)) x ≡ slice_index memory k
+    → cond t (slice_index (bytes_of names at.line.statement) (k - at.start)) x ≡ slice_index memory k
 byte-step true memory place names at k x w t from others =
     let both = and_parts (nat_le at.start k) (nat_lt k (at.start + count_of at.line.statement)) t in
     let below : k < at.start + count_of at.line.statement = ltb-true k (at.start + count_of at.line.statement) both.1 in
@@ -230,7 +230,7 @@ byte-step false memory place names at k x w t from others =
     others (⊎_elim
     (λ (below : k < place + count_of at.line.statement).
     absurd (both_ways (covers at k) t
-        (and_from (nat_le at.start k) (nat_lt k (at.start + count_of at.line.statement)) (le-leb at.start k (omega (arith, w.start)))
+    (and_from (nat_le at.start k) (nat_lt k (at.start + count_of at.line.statement)) (le-leb at.start k (omega (arith, w.start)))
     (lt-ltb k (at.start + count_of at.line.statement) (omega (arith, w.start, below))))))
     (λ (behind : place + count_of at.line.statement ≤ k). behind)
     (cases_lt k (place + count_of at.line.statement)))

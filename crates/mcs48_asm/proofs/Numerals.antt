@@ -49,7 +49,7 @@ pub address-number : (a : ℕ) → a < 2048 → number_of (address a) ≡ Some a
 address-number a h =
     three-in (hex_digit (a / 256 % 16)) (hex_digit (a % 256 / 16)) (hex_digit (a % 256 % 16))
     ∙ ap (λ p. three_digits p (digit_value (hex_digit (a % 256 / 16))) (digit_value (hex_digit (a % 256 % 16))))
-        (digit-back (a / 256 % 16) (omega arith))
+    (digit-back (a / 256 % 16) (omega arith))
     ∙ ap (λ p. three_digits (a / 256 % 16) p (digit_value (hex_digit (a % 256 % 16)))) (digit-back (a % 256 / 16) (omega arith))
     ∙ ap (three_digits (a / 256 % 16) (a % 256 / 16)) (digit-back (a % 256 % 16) (omega arith))
     ∙ three-are (a / 256 % 16) (a % 256 / 16) (a % 256 % 16) a (omega arith) (omega arith) (omega arith) (omega arith)

@@ -40,7 +40,7 @@ pub read_two-more : (first second : Operand) (text front back middle last : List
 read_two-more first second text front back middle last split other =
     let more = split-is_cons is_comma last in
     by-parts first (second ∷ []) text (front ∷ middle ∷ more.first ∷ more.rest)
-        (split ∙ ap (λ rest. front ∷ rest) (other ∙ ap (λ rest. middle ∷ rest) more.is))
+    (split ∙ ap (λ rest. front ∷ rest) (other ∙ ap (λ rest. middle ∷ rest) more.is))
 
 -- a text with two colons
 pub line_of_parts-more : (text front back middle last : List ℕ)

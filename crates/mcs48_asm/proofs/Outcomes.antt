@@ -15,7 +15,7 @@ pub same_names : (answer : Result Image AsmFault) (text : List ℕ) (names : Mea
     → ((q : List ℕ) → names q ≡ value_named (definitions (kept_places 0 (map kept_line (lines text)))) q)
     → IsOutcome answer (outcome_of names (kept_places 0 (map kept_line (lines text))))
     → IsOutcome answer (outcome_of (value_named (definitions (kept_places 0 (map kept_line (lines text)))))
-        (kept_places 0 (map kept_line (lines text))))
+    (kept_places 0 (map kept_line (lines text))))
 same_names answer text names h =
     let all = kept_places 0 (map kept_line (lines text)) in
     let same : names ≡ value_named (definitions all) = λ i q. h q i in

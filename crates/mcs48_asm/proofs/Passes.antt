@@ -46,10 +46,10 @@ fault-alike names seen other f g at s h =
 pub fault-behind : (names : Meanings) (all rest : List Placed) (seen : Meanings) (filled : List Bool) (bytes : List ℕ)
     (number : ℕ) (earlier : List Placed) (at : Placed)
     → Stands names all rest seen filled bytes number earlier
-        → fault_of names seen (λ place. slice_index_or filled place false) at ≡ fault_behind names earlier at
+    → fault_of names seen (λ place. slice_index_or filled place false) at ≡ fault_behind names earlier at
 fault-behind names all rest seen filled bytes number earlier at s =
     fault-alike names seen (value_named (definitions earlier)) (λ place. slice_index_or filled place false)
-        (is_filled earlier) at s.names_seen s.marks
+    (is_filled earlier) at s.names_seen s.marks
 
 -- a line without a fault has none of the faults by number, place and overlap
 pub record IsSound (refused past again : Bool) : Type 0 where
@@ -74,15 +74,15 @@ pub sound-line : (names seen : Meanings) (f : ℕ → Bool) (at : Placed) → fa
     → IsSound (is_refused names at) (is_past_end at) (is_filled_again f at)
 sound-line names seen f at h =
     sound at.line.flaw (is_refused names at) (has_unknown_name names at) (is_defined_again seen at)
-        (is_off_page names at) (is_past_end at) (is_filled_again f at) h
+    (is_off_page names at) (is_past_end at) (is_filled_again f at) h
 
 places-none : (f : ℕ → Bool) (k : ℕ) → list_any f places ≡ false → k < 2048 → f k ≡ false
 unfolding places
 places-none f k h l =
     false_from_ne_true (f k)
-        (λ t. let found : list_any f places
-        ≡ true = list_any_at f places k 0 (rw (length-range_with_len 0 2048) l)
-        (ap f (get_or-range_with_len 0 2048 k 0 l ∙ zero-add k) ∙ t) in absurd (cc))
+    (λ t. let found : list_any f places
+    ≡ true = list_any_at f places k 0 (rw (length-range_with_len 0 2048) l)
+    (ap f (get_or-range_with_len 0 2048 k 0 l ∙ zero-add k) ∙ t) in absurd (cc))
 
 pub and_true : (a b : Bool) → (a && b) ≡ false → a ≡ true → b ≡ false
 and_true true b h t = h
@@ -111,7 +111,7 @@ pub next : (names : Meanings) (all : List Placed) (at : Placed) (rest : List Pla
     → fault_of names seen (λ place. slice_index_or filled place false) at ≡ None
     → ((q : List ℕ) → seen' q ≡ option_or (seen q) (value_named (defined at) q))
     → ((k : ℕ) → slice_index bytes' k
-        ≡ cond (covers at k) (slice_index (bytes_of names at.line.statement) (k - at.start)) (slice_index bytes k))
+    ≡ cond (covers at k) (slice_index (bytes_of names at.line.statement) (k - at.start)) (slice_index bytes k))
     → ((k : ℕ) → slice_index_or filled' k false ≡ (covers at k || slice_index_or filled k false))
     → Stands names all rest seen' filled' bytes' (number + 1) (earlier ++ at ∷ [])
 next names all at rest seen seen' filled filled' bytes bytes' number earlier s none named written marked =
@@ -138,7 +138,7 @@ pub faulty : (names : Meanings) (all : List Placed) (at : Placed) (rest : List P
 faulty names all at rest seen filled bytes number earlier fault s h =
     let found : first_fault names [] all ≡ Some (length earlier + 1, number_of fault) =
     s.faults ∙ ap (λ o. option_or (option_map (λ flaw. (length earlier + 1, number_of flaw)) o)
-        (first_fault names (earlier ++ at ∷ []) rest))
+    (first_fault names (earlier ++ at ∷ []) rest))
     (sym (fault-behind names all (at ∷ rest) seen filled bytes number earlier at s) ∙ h) in
     ap (λ f. image_unless f (image_of names all)) found ∙ ap (λ n. Err (n + 1, number_of fault)) s.count
 
@@ -149,7 +149,7 @@ pub ended : (names : Meanings) (all : List Placed) (seen : Meanings) (filled : L
 ended names all seen filled bytes number earlier s l =
     let same : all ≡ earlier = s.whole ∙ append-nil earlier in
     let filled_so : bytes
-        ≡ map (byte_at names earlier) (range_with_len 0 2048) = fill_by_all (byte_at names earlier) bytes 2048 0 l s.image in
+    ≡ map (byte_at names earlier) (range_with_len 0 2048) = fill_by_all (byte_at names earlier) bytes 2048 0 l s.image in
     ap (λ f. image_unless f (image_of names all)) s.faults
     ∙ ap (λ xs. Ok (image_of names xs)) same
     ∙ ap (λ ps. Ok (map (byte_at names earlier) ps)) (sym (places-of 2048 refl))
@@ -159,8 +159,8 @@ ended names all seen filled bytes number earlier s l =
 pub placed-turn : (place start next : ℕ) (rest more front : List ℕ) (seen : Line) → lines rest ≡ front ∷ lines more
     → seen ≡ kept_line front → start ≡ start_of place seen.statement
     → next ≡ capped (start + count_of seen.statement)
-        → kept_places place (map kept_line (lines rest))
-        ≡ record { start = start; line = seen } ∷ kept_places next (map kept_line (lines more))
+    → kept_places place (map kept_line (lines rest))
+    ≡ record { start = start; line = seen } ∷ kept_places next (map kept_line (lines more))
 placed-turn place start next rest more front seen first says starts behind =
     let others = map kept_line (lines more) in
     ap (λ ls. kept_places place (map kept_line ls)) first

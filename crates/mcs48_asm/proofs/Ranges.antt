@@ -75,4 +75,4 @@ pub no_places : (f : ℕ → Bool) (start count : ℕ) → count ≡ 0
     → list_any (λ place. nat_le start place && nat_lt place (start + count) && f place) places ≡ false
 no_places f start count e =
     rw e (none (λ place. nat_le start place && nat_lt place (start + 0) && f place) places
-        (λ place. and_false (nat_le start place) (nat_lt place (start + 0)) (f place) (empty start place)))
+    (λ place. and_false (nat_le start place) (nat_lt place (start + 0)) (f place) (empty start place)))

@@ -26,4 +26,4 @@ none-first [] all name long = refl
 none-first (form ∷ forms) all name long =
     let both = and_parts (nat_le (length form.word) 5) (list_all (λ form. nat_le (length form.word) 5) forms) all in
     ap (λ b. b || list_any (λ form. bytes_eq form.word name) forms) (other-length form.word name both.0 long)
-        ∙ none-first forms both.1 name long
+    ∙ none-first forms both.1 name long

@@ -39,7 +39,7 @@ if_none refused off late no_refusal no_jump = rw (no_refusal, no_jump) refl
 -- an instruction with a value
 pub with_number : (text : List ℕ) (place opcode : ℕ) (role : Role) (n first second : ℕ) → IsPlain text
     → line_of text ≡ said (Instruction opcode (Some (record { role = role; value = Number n }))) → Suits place role n
-        → with_value opcode role n ≡ first ∷ second ∷ []
+    → with_value opcode role n ≡ first ∷ second ∷ []
     → IsRead text place (first ∷ second ∷ [])
 with_number text place opcode role n first second plain line suits bytes =
     record {

@@ -44,7 +44,7 @@ sized memory bytes place below =
     let first : ℕ = slice_index memory place in
     let second : ℕ = slice_index memory (place + 1) in
     let few = each_row (λ d. IsFew d.len) first second (λ (d : Decoded) (s : IsSound first second d). s.2)
-        (bytes place) (bytes (place + 1)) in
+    (bytes place) (bytes (place + 1)) in
     let room = that_fits-room (row_of first second) place few below in
     record {
       some = room.0;

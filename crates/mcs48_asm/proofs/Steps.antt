@@ -21,7 +21,7 @@ value_named-append (x ∷ xs) ys name = first (bytes_eq name x.name) xs ys name 
     first : (t : Bool) (xs ys : List Definition) (name : List ℕ) (x : Definition)
         → value_named (xs ++ ys) name ≡ option_or (value_named xs name) (value_named ys name)
         → option_map (λ d. d.value) (cond t (Some x) (find (λ d. bytes_eq name d.name) (xs ++ ys)))
-            ≡ option_or (option_map (λ d. d.value) (cond t (Some x) (find (λ d. bytes_eq name d.name) xs))) (value_named ys name)
+        ≡ option_or (option_map (λ d. d.value) (cond t (Some x) (find (λ d. bytes_eq name d.name) xs))) (value_named ys name)
     first true xs ys name x h = refl
     first false xs ys name x h = h
 

@@ -135,8 +135,8 @@ split-before (c ∷ cs) m rest h = go (is_between c) (split-before cs m rest h)
   where
     go : (b : Bool) → slice_split is_between (cs ++ m ∷ rest) ≡ slice_split is_between cs ++ slice_split is_between rest
         → cond b ([] ∷ slice_split is_between (cs ++ m ∷ rest))
-            (onto_first c (slice_split is_between (cs ++ m ∷ rest)))
-            ≡ cond b ([] ∷ slice_split is_between cs) (onto_first c (slice_split is_between cs)) ++ slice_split is_between rest
+        (onto_first c (slice_split is_between (cs ++ m ∷ rest)))
+        ≡ cond b ([] ∷ slice_split is_between cs) (onto_first c (slice_split is_between cs)) ++ slice_split is_between rest
     go true more = ap (λ parts. [] ∷ parts) more
     go false more = ap (onto_first c) more ∙ onto-append c cs (slice_split is_between rest)
 

@@ -207,10 +207,10 @@ pub coded_operation : (op : Op) → IsOp op → (code : Code) → code ≡ code_
     IsSomeAnd (row_of_code code) (λ d. d.op ≡ op)
 coded_operation op within code is =
     rw is (weakened (row_of_code (code_of op)) (λ d. (d.op ≡ op) × (d.len ≡ (code_of op).len)) (λ d. d.op ≡ op)
-        (λ d parts. parts.0) (coded op within))
+    (λ d parts. parts.0) (coded op within))
 
 pub coded_length : (op : Op) → IsOp op → (code : Code) → code ≡ code_of op →
     IsSomeAnd (row_of_code code) (λ d. d.len ≡ code.len)
 coded_length op within code is =
     rw is (weakened (row_of_code (code_of op)) (λ d. (d.op ≡ op) × (d.len ≡ (code_of op).len))
-        (λ d. d.len ≡ (code_of op).len) (λ d parts. parts.1) (coded op within))
+    (λ d. d.len ≡ (code_of op).len) (λ d parts. parts.1) (coded op within))

@@ -355,8 +355,24 @@ sound_F = (
 )
 
 sound_lines : Sixteen (λ h. Sixteen (λ k. SoundAt (16 * h + k)))
-sound_lines = (sound_0, sound_1, sound_2, sound_3, sound_4, sound_5, sound_6, sound_7, sound_8, sound_9, sound_A,
-    sound_B, sound_C, sound_D, sound_E, sound_F)
+sound_lines = (
+  sound_0,
+  sound_1,
+  sound_2,
+  sound_3,
+  sound_4,
+  sound_5,
+  sound_6,
+  sound_7,
+  sound_8,
+  sound_9,
+  sound_A,
+  sound_B,
+  sound_C,
+  sound_D,
+  sound_E,
+  sound_F,
+)
 
 -- each row is sound
 pub sound : (b n : ℕ) → b < 256 → n < 256 → IfSome (row_of b n) (IsSound b n)

@@ -58,7 +58,7 @@ pub returned_fine : (m : Cpu) → IsFine m → IsFine (returned m)
 returned_fine m h =
     let low : get_or m.ram (8 + 2 * popped m) 0 < 256 = read_byte m.ram (8 + 2 * popped m) h.ram in
     with_pc (record m { sp = popped m }) (popped_high m % 16 * 256 + get_or m.ram (8 + 2 * popped m) 0)
-        (omega (arith, low)) (with_sp m (popped m) (omega arith) h)
+    (omega (arith, low)) (with_sp m (popped m) (omega arith) h)
 
 pub flow_fine : (op : FlowOp) (bytes : List ℕ) (pins : Pins) (m : Cpu) → All IsByte bytes → small_flow op ≡ true
     → IsFine m → IsFine (flow op bytes pins m)

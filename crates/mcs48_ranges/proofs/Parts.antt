@@ -41,8 +41,19 @@ with_pc m v l h =
 
 pub with_cell : (m : Cpu) (i v : ℕ) → v < 256 → IsFine m → IsFine (record m { ram = set m.ram i v })
 with_cell m i v l h =
-    record { pc = h.pc; a = h.a; ram = All-set IsByte m.ram i v l h.ram; long = length-set m.ram i v
-        ∙ h.long; t = h.t; pre = h.pre; p1 = h.p1; p2 = h.p2; bus = h.bus; sp = h.sp }
+    record {
+      pc = h.pc;
+      a = h.a;
+      ram = All-set IsByte m.ram i v l h.ram;
+      long = length-set m.ram i v
+          ∙ h.long;
+      t = h.t;
+      pre = h.pre;
+      p1 = h.p1;
+      p2 = h.p2;
+      bus = h.bus;
+      sp = h.sp;
+    }
 
 pub with_sp : (m : Cpu) (v : ℕ) → v < 8 → IsFine m → IsFine (record m { sp = v })
 with_sp m v l h =

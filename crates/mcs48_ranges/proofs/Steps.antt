@@ -64,13 +64,15 @@ executed_fine bytes pins m next b p h (Some r) row e =
     let is : record { cpu = left; cycles = r.cycles } ≡ next = cc in
     subst (λ n. IsFine n.cpu) is
     (timer_fine m.run r.cycles pins (effect r.op bytes pins (past m)) s.few
-        (effect_fine r.op bytes pins (past m) b p s.operands (past_fine m h)))
+    (effect_fine r.op bytes pins (past m) b p s.operands (past_fine m h)))
 
 stepped_by : (bytes : List ℕ) (pins : Pins) (m : Cpu) (next : Stepped) → All IsByte bytes → IsFinePins pins → IsFine m
     → (x y : Bool)
-    → (elim x as (λ v. Option Stepped)
-        [ true ↦ Some (entered 3 pins m) | false ↦ elim y as (λ v. Option Stepped)
-        [ true ↦ Some (entered 7 pins (record m { rq = false })) | false ↦ executed (row_at bytes m.pc) bytes pins m ] ]) ≡ Some next
+    → (elim x as (λ v. Option Stepped) [
+      | true ↦ Some (entered 3 pins m)
+      | false ↦ elim y as (λ v. Option Stepped)
+          [ true ↦ Some (entered 7 pins (record m { rq = false })) | false ↦ executed (row_at bytes m.pc) bytes pins m ]
+    ]) ≡ Some next
     → IsFine next.cpu
 stepped_by bytes pins m next b p h true y e =
     let is : entered 3 pins m ≡ next = cc in subst (λ n. IsFine n.cpu) is (entered_fine 3 pins m (omega arith) h)

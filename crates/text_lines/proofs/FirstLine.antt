@@ -28,4 +28,4 @@ pub lines-first : (text front rest : List ℕ)
 lines-first text front rest split =
     let parts = split-is_cons (λ c. c == 10) rest in
     ap lines_of_parts (split ∙ ap (λ more. front ∷ more) parts.is)
-        ∙ sym (ap (λ more. strip_carriage_return front ∷ lines_of_parts more) parts.is)
+    ∙ sym (ap (λ more. strip_carriage_return front ∷ lines_of_parts more) parts.is)

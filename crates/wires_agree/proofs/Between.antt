@@ -93,7 +93,7 @@ pub one_free : (events : List HostEvent) (now : ℕ) (latch : Lines) (b : Pc) �
 unfolding board_cycle
 one_free events now latch b up h =
     ap (λ s. is_busy (goes_on is_breakable events now s).port.link) (looks_still now latch b up h)
-        ∙ stays_free is_breakable events now b.side h
+    ∙ stays_free is_breakable events now b.side h
 
 -- any number of cycles
 pub between : BetweenFrames
@@ -102,7 +102,7 @@ between events latch (suc n) now b up h =
     let next : Pc = board_cycle events now (latch now) b in
     let high : (latch now).clk ≡ true = up now (omega arith) (omega arith) in
     let rest = between events latch n (suc now) next (λ o l u. up o (omega (arith, l)) (omega (arith, u)))
-        (one_free events now (latch now) b high h) in
+    (one_free events now (latch now) b high h) in
     (rest.0 ∙ ap (λ m. quietly events n (suc now) m) (one_cycle events now (latch now) b high h), rest.1)
 
 -- the look, while the clock was low and the keyboard keeps it low
@@ -116,15 +116,15 @@ pub low_span : (events : List HostEvent) (latch : ℕ → Lines) (n now : ℕ) (
     → ((o : ℕ) → now ≤ o → o < now + n → (latch o).clk ≡ false) → b.clock ≡ false
     → is_busy b.side.port.link ≡ false
     → (seen_in_bytes (board_cycles events latch n now b).side ≡ quietly events n now (seen_in_bytes b.side))
-        × (is_busy (board_cycles events latch n now b).side.port.link ≡ false)
+    × (is_busy (board_cycles events latch n now b).side.port.link ≡ false)
 low_span events latch zero now b low c h = (refl, h)
 low_span events latch (suc n) now b low c h =
     let next : Pc = board_cycle events now (latch now) b in
     let same : (looked now (wires (latch now) b) b).side ≡ b.side = looks_low now (latch now) b c in
     let free : is_busy next.side.port.link
-        ≡ false = ap (λ s. is_busy s.port.link) (board_by events now (latch now) b b.side same)
-        ∙ stays_free is_breakable events now b.side h in
+    ≡ false = ap (λ s. is_busy s.port.link) (board_by events now (latch now) b b.side same)
+    ∙ stays_free is_breakable events now b.side h in
     let down : next.clock ≡ false = clock_by events now (latch now) b
-        ∙ ap (λ k. k && (drive b.side.port.link).clk) (low now (omega arith) (omega arith)) in
+    ∙ ap (λ k. k && (drive b.side.port.link).clk) (low now (omega arith) (omega arith)) in
     let rest = low_span events latch n (suc now) next (λ o l u. low o (omega (arith, l)) (omega (arith, u))) down free in
     (rest.0 ∙ ap (λ m. quietly events n (suc now) m) (still_cycle events now (latch now) b same), rest.1)

@@ -83,9 +83,11 @@ module _ (events : List HostEvent) (latch : ℕ → Lines) (now byte : ℕ) (b :
       → (seen_in_bytes (pc_at k).side ≡ quietly events n (t + now) v) × (is_busy (pc_at k).side.port.link ≡ false)
   on t n k v e up idle is =
       let more : pc_at k ≡ board_cycles events latch n (t + now) (pc_at t) = cycles_more events latch t n k now b e in
-      let rest = between events latch n (t + now) (pc_at t) (λ o l u. up o l (omega (arith, u, e))) idle in
-      (ap (λ (v : Pc). seen_in_bytes v.side) more ∙ rest.0
-          ∙ ap (λ s. quietly events n (t + now) s) is, ap (λ (v : Pc). is_busy v.side.port.link) more ∙ rest.1)
+      let rest = between events latch n (t + now) (pc_at t) (λ o l u. up o l (omega (arith, u, e))) idle in (
+        ap (λ (v : Pc). seen_in_bytes v.side) more ∙ rest.0
+            ∙ ap (λ s. quietly events n (t + now) s) is,
+        ap (λ (v : Pc). is_busy v.side.port.link) more ∙ rest.1,
+      )
 
   -- a frame that was broken off by its last look
   late : (up : (o : ℕ) → 306 + now ≤ o → o < 321 + now → (latch o).clk ≡ true) → is_busy (pc_at 306).side.port.link ≡ false
@@ -115,29 +117,29 @@ module _ (events : List HostEvent) (latch : ℕ → Lines) (now byte : ℕ) (b :
       let to = on t n 288 (up_to events true j 17 now m) e (λ o a u. up o a (omega (arith, u))) idle is in
       let there : seen_in_bytes (pc_at 288).side ≡ quietly events 287 (suc now) y =
       to.0 ∙ ap (λ v. quietly events n (t + now) v) (quiet_cells events now m j 17 l)
-          ∙ ap (λ j'. quietly events n j' (quietly events (32 * j + 17) (suc now) y)) z
+      ∙ ap (λ j'. quietly events n j' (quietly events (32 * j + 17) (suc now) y)) z
       ∙ sym (quiet_more events (32 * j + 17) n 287 (suc now) y f) in
       let far : (o : ℕ) → 288 + now ≤ o → o < 321 + now → (latch o).clk ≡ true = λ o a u. up o (omega (arith, a, l)) u in
       let one = on 288 1 289 (quietly events 287 (suc now) y) refl (λ o a u. far o a (omega (arith, u))) to.1 there in
       let shut : seen_in_bytes (pc_at 289).side ≡ byte_cycle events (288 + now) Closes (quietly events 287 (suc now) y) =
       one.0 ∙ sym (closes_idle events (288 + now) (quietly events 287 (suc now) y)
-          (ap (λ s. is_busy s.port.link) (sym there) ∙ busy_seen (pc_at 288).side.port.link to.1)) in
+      (ap (λ s. is_busy s.port.link) (sym there) ∙ busy_seen (pc_at 288).side.port.link to.1)) in
       on 289 31 320 (byte_cycle events (288 + now) Closes (quietly events 287 (suc now) y)) refl
-          (λ o a u. far o (omega (arith, a)) (omega (arith, u))) one.1 shut
+      (λ o a u. far o (omega (arith, a)) (omega (arith, u))) one.1 shut
 
   -- and so nothing arrives
   pub broken : (j : ℕ) → j < 10 → (up : (o : ℕ) → 32 * j + 18 + now ≤ o → o < 321 + now → (latch o).clk ≡ true)
       → is_busy (pc_at (32 * j + 18)).side.port.link ≡ false
       → seen_in_bytes (pc_at (32 * j + 18)).side ≡ up_to events true j 17 now m
       → (seen_in_bytes (pc_at 321).side ≡ byte_cycle events (320 + now) (Arrives byte) (sends events now m))
-          × (is_busy (pc_at 321).side.port.link ≡ false)
+      × (is_busy (pc_at 321).side.port.link ≡ false)
       × (is_busy (sends events now m).port.link ≡ false)
   broken j below up idle is =
       let to = at_last (nat_lt j 9) refl in
       let far : (o : ℕ) → 320 + now ≤ o → o < 321 + now → (latch o).clk ≡ true = λ o a u. up o (omega (arith, a, below)) u in
       let one = on 320 1 321 (sends events now m) refl far to.1 to.0 in
       let idle' : is_busy (sends events now m).port.link ≡ false = ap (λ s. is_busy s.port.link) (sym to.0)
-          ∙ busy_seen (pc_at 320).side.port.link to.1 in
+      ∙ busy_seen (pc_at 320).side.port.link to.1 in
       (one.0 ∙ sym (arrives_idle events (320 + now) byte (sends events now m) idle'), one.1, idle')
     where
       at_last : (c : Bool) → nat_lt j 9 ≡ c → (seen_in_bytes (pc_at 320).side ≡ sends events now m)
@@ -177,7 +179,7 @@ module _ (events : List HostEvent) (latch : ℕ → Lines) (now byte : ℕ) (bit
 
   arrived : (v : Pc) → v.side.port.link ≡ Busy (w 9)
       → port_by without_bits (received (320 + now) (arriving flip byte) v.side.port)
-          ≡ happened_at (320 + now) (Arrives byte) (port_by without_bits v.side.port)
+      ≡ happened_at (320 + now) (Arrives byte) (port_by without_bits v.side.port)
   arrived v e =
       received_same without_bits (320 + now) (arriving flip byte) v.side.port
       ∙ sym (ap (λ l. arrived_in (320 + now) byte (link_by without_bits l) (port_by without_bits v.side.port)) e)
@@ -185,28 +187,28 @@ module _ (events : List HostEvent) (latch : ℕ → Lines) (now byte : ℕ) (bit
   -- a frame that passes all its cells arrives
   pub whole : IsThrough events latch now bits is b q Free w true at (sent_way bits b.side.port) 9
       → (seen_in_bytes (board_cycles events latch 321 now b).side
-          ≡ byte_cycle events (320 + now) (Arrives byte) (sends events now (seen_in_bytes b.side)))
+      ≡ byte_cycle events (320 + now) (Arrives byte) (sends events now (seen_in_bytes b.side)))
       × IsBehind (board_cycles events latch 321 now b)
       × ((sends events now (seen_in_bytes b.side)).port.link ≡ Busy (without_bits (w 9)))
   whole through =
       let b' : Pc = board_cycles events latch 320 now b in
       let came : Option ℕ = arriving flip byte in
       let more : board_cycles events latch 321 now b
-          ≡ board_cycle events (320 + now) (latch (320 + now)) b' = cycles_more events latch 320 1 321 now b refl in
+      ≡ board_cycle events (320 + now) (latch (320 + now)) b' = cycles_more events latch 320 1 321 now b refl in
       let edge : edge_at (320 + now) (bits 10 && true) (Busy (w 9)) b'.side.port ≡ received (320 + now) came b'.side.port =
       ap (λ d. received (320 + now) (byte_of (turned flip (bits_to bits 10 ++ d ∷ []))) b'.side.port)
-          (and-true (bits 10)) ∙ ap (λ o. received (320 + now) o b'.side.port) comes in
+      (and-true (bits 10)) ∙ ap (λ o. received (320 + now) o b'.side.port) comes in
       let c = fall_cycle events (320 + now) (latch (320 + now)) b' (Busy (w 9))
-          (received (320 + now) came b'.side.port) (Arrives byte) through.there is.ends
+      (received (320 + now) came b'.side.port) (Arrives byte) through.there is.ends
       (ap (λ d. edge_at (320 + now) (d && true) (Busy (w 9)) b'.side.port) is.last ∙ edge) (arrived b' through.there.link_is) in
       let sent : seen_in_bytes b'.side ≡ sends events now (seen_in_bytes b.side) = through.agrees
-          ∙ all_cells events now (seen_in_bytes b.side) 31 in (
+      ∙ all_cells events now (seen_in_bytes b.side) 31 in (
         ap (λ (v : Pc). seen_in_bytes v.side) more ∙ c.0 ∙ ap (λ v. byte_cycle events (320 + now) (Arrives byte) v) sent,
         record {
           low = ap (λ (v : Pc). v.clock) more ∙ c.2;
           free = ap (λ (v : Pc). is_busy v.side.port.link) more ∙ ap (λ v. is_busy v.port.link) c.1
               ∙ stays_free is_breakable events (320 + now)
-                  (record b'.side { port = received (320 + now) came b'.side.port }) (behind_idle (320 + now) came b'.side.port.core);
+              (record b'.side { port = received (320 + now) came b'.side.port }) (behind_idle (320 + now) came b'.side.port.core);
         },
         ap (λ m. m.port.link) (sym sent) ∙ ap (λ l. link_by without_bits l) through.there.link_is,
       )

@@ -37,7 +37,7 @@ event_by events now e m = refl
 -- a cycle at which the clock falls, by what the edge does to the port and what happens in byte time
 pub fall_cycle : (events : List HostEvent) (now : ℕ) (latch : Lines) (b : Pc) (l : Link Wire) (p : Port Wire) (e : Event)
     → IsAt b l true → latch.clk ≡ false → edge_at now (latch.dat && (drive l).dat) l b.side.port ≡ p
-        → port_by without_bits p ≡ happened_at now e (port_by without_bits b.side.port)
+    → port_by without_bits p ≡ happened_at now e (port_by without_bits b.side.port)
     → (seen_in_bytes (board_cycle events now latch b).side ≡ byte_cycle events now e (seen_in_bytes b.side))
     × ((board_cycle events now latch b).side ≡ goes_on is_breakable events now (record b.side { port = p }))
     × ((board_cycle events now latch b).clock ≡ false)
@@ -45,10 +45,10 @@ fall_cycle events now latch b l p e at low edge same =
     let line : (wires latch b).clk ≡ false = ap (λ c. c && (drive b.side.port.link).clk) low in
     let seen : (looked now (wires latch b) b).side ≡ record b.side { port = p } =
     fall now (wires latch b) b at.clock_is line
-        ∙ ap (λ k. record b.side { port = edge_at now (latch.dat && (drive k).dat) k b.side.port }) at.link_is
-        ∙ ap (λ q. record b.side { port = q }) edge in
+    ∙ ap (λ k. record b.side { port = edge_at now (latch.dat && (drive k).dat) k b.side.port }) at.link_is
+    ∙ ap (λ q. record b.side { port = q }) edge in
     let whole : (board_cycle events now latch b).side
-        ≡ goes_on is_breakable events now (record b.side { port = p }) = board_by events now latch b (record b.side { port = p }) seen in (
+    ≡ goes_on is_breakable events now (record b.side { port = p }) = board_by events now latch b (record b.side { port = p }) seen in (
       ap seen_in_bytes whole ∙ sym (in_bytes_same events now (record b.side { port = p }))
           ∙ ap (λ q. goes_on is_open events now (record (seen_in_bytes b.side) { port = q })) same
           ∙ sym (event_by events now e (seen_in_bytes b.side)),
@@ -63,16 +63,16 @@ pub cell : (events : List HostEvent) (latch : ℕ → Lines) (now : ℕ) (dat : 
     → port_by without_bits q ≡ happened_at now e (port_by without_bits b.side.port)
     → (n : ℕ) → n ≤ 31
     → (seen_in_bytes (board_cycles events latch (suc n) now b).side
-        ≡ quietly events n (suc now) (byte_cycle events now e (seen_in_bytes b.side)))
+    ≡ quietly events n (suc now) (byte_cycle events now e (seen_in_bytes b.side)))
     × On (board_cycles events latch (suc n) now b) w (latch (n + now)).clk now
 cell events latch now dat b l w q e is at edge busy same n short =
     let first = fall_cycle events now (latch now) b l q e at is.falls
-        (ap (λ d. edge_at now (d && (drive l).dat) l b.side.port) is.level ∙ edge) same in
+    (ap (λ d. edge_at now (d && (drive l).dat) l b.side.port) is.level ∙ edge) same in
     let next : Pc = board_cycle events now (latch now) b in
     elim (busy_or_breaks is_breakable events now (record b.side { port = q }) w busy) [
       | inl stays ↦
           let there : IsAt next (Busy w) (latch now).clk =
-              record { link_is = ap (λ s. s.port.link) first.1 ∙ stays; clock_is = first.2 ∙ sym is.falls } in
+          record { link_is = ap (λ s. s.port.link) first.1 ∙ stays; clock_is = first.2 ∙ sym is.falls } in
           let rest = busy_span events latch n now next w short there (λ o lo hi. is.once o lo (omega (arith, hi, short))) in (
             rest.0 ∙ ap (λ m. quietly events n (suc now) m) first.0,
             elim rest.1 [
@@ -82,7 +82,7 @@ cell events latch now dat b l w q e is at edge busy same n short =
           )
       | inr broken ↦
           let rest = pulled_span events latch n (suc now) next now (ap (λ s. pulled s.port.link) first.1 ∙ broken.1)
-              (omega (arith, short)) in (
+          (omega (arith, short)) in (
             rest.0 ∙ ap (λ m. quietly events n (suc now) m) first.0,
             inr (broken.0, record { since = now; from = omega arith; is = rest.1 }),
           )

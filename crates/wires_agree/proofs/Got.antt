@@ -56,19 +56,19 @@ module _ (events : List HostEvent) (latch : ℕ → Lines) (now byte : ℕ) (bit
   level zero n below short =
       let x : ℕ = 32 * 0 + now in
       let c = cell events latch x (bits 0) b (Request byte) (w 0) q (Begins false) (is.cells 0 below) at
-          (way.first x) way.begins (way.starts x) n short in
+      (way.first x) way.begins (way.starts x) n short in
       let more : pc_at (32 * 0 + suc n)
-          ≡ board_cycles events latch (suc n) x b = cycles_more events latch (32 * 0) (suc n) (32 * 0 + suc n) now b refl in
+      ≡ board_cycles events latch (suc n) x b = cycles_more events latch (32 * 0) (suc n) (32 * 0 + suc n) now b refl in
       ap (λ (v : Pc). v.side.port.link) more ∙ still_on (board_cycles events latch (suc n) x b) 1 (latch (n + x)).clk x c.1
   level (suc k) n below short =
       let x : ℕ = 32 * suc k + now in
       let b' : Pc = pc_at (32 * suc k) in
       let t = through k (omega (arith, below)) in
       let c = cell events latch x (bits (suc k)) b' (Busy (w k)) (w (suc k))
-          (record b'.side.port { link = Busy (w (suc k)) }) (at_edge false (suc k)) (is.cells (suc k) below) t.there
+      (record b'.side.port { link = Busy (w (suc k)) }) (at_edge false (suc k)) (is.cells (suc k) below) t.there
       (way.next k x b'.side.port (omega (arith, below))) refl (way.kind k x b'.side.port (omega (arith, below)) t.there.link_is) n short in
       let more : pc_at (32 * suc k + suc n)
-          ≡ board_cycles events latch (suc n) x b' = cycles_more events latch (32 * suc k) (suc n) (32 * suc k + suc n) now b refl in
+      ≡ board_cycles events latch (suc n) x b' = cycles_more events latch (32 * suc k) (suc n) (32 * suc k + suc n) now b refl in
       ap (λ (v : Pc). v.side.port.link) more ∙ still_on (board_cycles events latch (suc n) x b') (suc k + 1) (latch (n + x)).clk x c.1
 
   -- in byte time nothing comes over the link in its cells
@@ -83,7 +83,7 @@ module _ (events : List HostEvent) (latch : ℕ → Lines) (now byte : ℕ) (bit
       let z : 32 * k + 31 + suc now ≡ x = omega arith in
       ap (λ v. quietly events (suc n) x v) (quiet_cells k 31 m)
       ∙ sym (quiet_more events (32 * k + 31) (suc n) (32 * suc k + n) (suc now) y e
-          ∙ ap (λ j. quietly events (suc n) j (quietly events (32 * k + 31) (suc now) y)) z)
+      ∙ ap (λ j. quietly events (suc n) j (quietly events (32 * k + 31) (suc now) y)) z)
 
   -- and so it is handed over
   pub got_frame : (seen_in_bytes (pc_at 321).side ≡ carried events (Got byte) now (seen_in_bytes b.side)) × IsBehind (pc_at 321)

@@ -74,19 +74,19 @@ sent_in_bytes events latch now bits b is here high k n below short lets =
 pub got_in_bytes : GotInBytes
 got_in_bytes events latch now byte bits b is here high k n below short =
     ((through events latch now byte bits b is (record { link_is = here; clock_is = high }) k below).up_to_here k
-        (omega arith)).in_cell n short
+    (omega arith)).in_cell n short
 
 pub sent_ends : SentEndsInBytes
 sent_ends events latch now byte n bits b is right here high flip lets down =
     let at : IsAt b Free true = record { link_is = here; clock_is = high } in
     let comes = flips_seen bits byte b.side.port.flip right flip in
     elim (stands events latch now bits is b (behind_first (bits 0) b.side.port) Free
-        (λ k. Recv b.side.port.flip (bits_to bits (suc k))) true at (sent_way bits b.side.port) 9 (omega arith)) [
+    (λ k. Recv b.side.port.flip (bits_to bits (suc k))) true at (sent_way bits b.side.port) 9 (omega arith)) [
       | inl passes ↦
           let e = whole events latch now byte bits is b at comes passes in
           behind_low events latch now n b
-              (Rattle.byte_time.specs.ByteTime.carried events
-              (Rattle.byte_time.specs.declared.meeting.Meeting.TheVariants.Sent byte) now (seen_in_bytes b.side)) e.1 e.0 down
+          (Rattle.byte_time.specs.ByteTime.carried events
+          (Rattle.byte_time.specs.declared.meeting.Meeting.TheVariants.Sent byte) now (seen_in_bytes b.side)) e.1 e.0 down
       | inr off ↦
           let j : ℕ = off.0 in
           let o = off.1 in
@@ -97,5 +97,5 @@ pub got_ends : GotEndsInBytes
 got_ends events latch now byte n bits b is here high down =
     let e = got_frame events latch now byte bits b is (record { link_is = here; clock_is = high }) in
     behind_low events latch now n b
-        (Rattle.byte_time.specs.ByteTime.carried events
-        (Rattle.byte_time.specs.declared.meeting.Meeting.TheVariants.Got byte) now (seen_in_bytes b.side)) e.1 e.0 down
+    (Rattle.byte_time.specs.ByteTime.carried events
+    (Rattle.byte_time.specs.declared.meeting.Meeting.TheVariants.Got byte) now (seen_in_bytes b.side)) e.1 e.0 down

@@ -63,7 +63,7 @@ module _ (events : List HostEvent) (latch : ℕ → Lines) (start rest : ℕ) (a
         → ended_as events meeting (288 + start) (seen_in_bytes at288.side) ≡ final
         → seen_in_bytes at609.side ≡ carried events meeting (288 + start) (seen_in_bytes at288.side)
         → (seen_in_bytes at_end.side ≡ quietly events rest (609 + start) (seen_in_bytes at609.side))
-            × (is_busy at_end.side.port.link ≡ false)
+        × (is_busy at_end.side.port.link ≡ false)
         → (k : ℕ) → k ≡ 353 + rest → Ticked events latch start rest at256 tested offer final k
     joins tested offer meeting final is meets passes ends k e = record {
       meets = ap (λ v. ended_as events (meeting_in tested offer (seen_in_bytes at256.side) v) (288 + start) v) (sym to288.0)
@@ -72,14 +72,14 @@ module _ (events : List HostEvent) (latch : ℕ → Lines) (start rest : ℕ) (a
       agrees = ap (λ v. seen_in_bytes v.side) (whole_run k e) ∙ ends.0 ∙ ap (λ v. quietly events rest (609 + start) v) passes
           ∙ ap (λ v. quietly events rest (609 + start) (carried events v (288 + start) (seen_in_bytes at288.side))) (sym is)
           ∙ ap (λ v. quietly events rest (609 + start)
-              (carried events (meeting_in tested offer (seen_in_bytes at256.side) v) (288 + start) v)) to288.0;
+          (carried events (meeting_in tested offer (seen_in_bytes at256.side) v) (288 + start) v)) to288.0;
     }
 
     -- behind a frame the clock is low for 15 more cycles, and then high
     behind : (more : ℕ) → rest ≡ 15 + more → IsBehind at609
         → ((o : ℕ) → 609 + start ≤ o → o < 609 + start + 15 → (latch o).clk ≡ false) → IsUp latch (624 + start) (609 + rest + start)
         → (seen_in_bytes at_end.side ≡ quietly events rest (609 + start) (seen_in_bytes at609.side))
-            × (is_busy at_end.side.port.link ≡ false)
+        × (is_busy at_end.side.port.link ≡ false)
     behind more er is low high =
         let p : 15 + more ≡ rest = sym er in
         let q : 15 + (609 + start) ≡ 624 + start = omega arith in
@@ -87,10 +87,10 @@ module _ (events : List HostEvent) (latch : ℕ → Lines) (start rest : ℕ) (a
         let b' : Pc = board_cycles events latch 15 (609 + start) at609 in
         let later_on = between events latch more (624 + start) b' (λ o l u. high o l (omega (arith, u, er))) first.1 in
         let all : at_end ≡ board_cycles events latch more (624 + start) b' =
-            cycles_more events latch 15 more rest (609 + start) at609 p ∙ ap (λ j. board_cycles events latch more j b') q in (
+        cycles_more events latch 15 more rest (609 + start) at609 p ∙ ap (λ j. board_cycles events latch more j b') q in (
           ap (λ v. seen_in_bytes v.side) all ∙ later_on.0 ∙ ap (λ v. quietly events more (624 + start) v) first.0
               ∙ sym (quiet_more events 15 more rest (609 + start) (seen_in_bytes at609.side) p
-                  ∙ ap (λ j. quietly events more j (quietly events 15 (609 + start) (seen_in_bytes at609.side))) q),
+              ∙ ap (λ j. quietly events more j (quietly events 15 (609 + start) (seen_in_bytes at609.side))) q),
           ap (λ v. is_busy v.side.port.link) all ∙ later_on.1,
         )
 
@@ -99,37 +99,40 @@ module _ (events : List HostEvent) (latch : ℕ → Lines) (start rest : ℕ) (a
         → meeting_of (link_by without_bits at256.side.port.link) (Some byte) (link_by without_bits at288.side.port.link) ≡ Sent byte
     begins byte earlier later =
         ap (λ l. meeting_of (link_by without_bits l) (Some byte) (link_by without_bits at288.side.port.link)) earlier
-            ∙ ap (λ l. meeting_of Free (Some byte) (link_by without_bits l)) later
+        ∙ ap (λ l. meeting_of Free (Some byte) (link_by without_bits l)) later
 
     -- the keyboard sends, and its byte arrives, or comes wrong
     pub sent_tick : (byte more : ℕ) (bits : ℕ → Bool) → at256.side.port.link ≡ Free → at288.side.port.link ≡ Free
         → IsFlip at288.side.port.flip → (frame : IsFrame latch (288 + start) bits)
         → byte_of (bits_to bits 11) ≡ Some byte → ((i : ℕ) → i < 10 → leaves_clock events latch start at256 i ≡ true)
         → rest ≡ 15 + more → ((o : ℕ) → 609 + start ≤ o → o < 609 + start + 15 → (latch o).clk ≡ false)
-            → IsUp latch (624 + start) (609 + rest + start)
+        → IsUp latch (624 + start) (609 + rest + start)
         → (k : ℕ) → k ≡ 353 + rest → Ticked events latch start rest at256 true (Some byte) (Sent byte) k
     sent_tick byte more bits earlier later flip frame right leaves er low high k e =
         let at : IsAt at288 Free true = free_at events latch (256 + start) at256 up288 earlier later in
         let comes = flips_seen bits byte at288.side.port.flip right flip in
         let way = sent_way bits at288.side.port in
         elim (stands events latch (288 + start) bits frame at288 (behind_first (bits 0) at288.side.port) Free
-            (λ k. Recv at288.side.port.flip (bits_to bits (suc k))) true at way 9 (omega arith)) [
+        (λ k. Recv at288.side.port.flip (bits_to bits (suc k))) true at way 9 (omega arith)) [
           | inl through ↦
               let passes = whole events latch (288 + start) byte bits frame at288 at comes through in
               joins true (Some byte) (Sent byte) (Sent byte) (begins byte earlier later)
-                  (ap (λ l. sent_or_cut byte l) passes.2) passes.0 (behind more er passes.1 low high) k e
+              (ap (λ l. sent_or_cut byte l) passes.2) passes.0 (behind more er passes.1 low high) k e
           | inr off ↦
               let j : ℕ = off.0 in
               let b = off.1 in
-              absurd (cc (leaves j b.few, pulled_is_low
-                  (board_cycles events latch (32 * j + 18) (288 + start) at288).side.port.link b.since b.pulls))
+              absurd (cc (
+                leaves j b.few,
+                pulled_is_low
+                    (board_cycles events latch (32 * j + 18) (288 + start) at288).side.port.link b.since b.pulls,
+              ))
         ]
 
     -- the keyboard takes the controller's byte
     pub got_tick : (byte more : ℕ) (offer : Option ℕ) (bits : ℕ → Bool) → at256.side.port.link ≡ Request byte
         → IsFrame latch (288 + start) bits
         → rest ≡ 15 + more → ((o : ℕ) → 609 + start ≤ o → o < 609 + start + 15 → (latch o).clk ≡ false)
-            → IsUp latch (624 + start) (609 + rest + start)
+        → IsUp latch (624 + start) (609 + rest + start)
         → (k : ℕ) → k ≡ 353 + rest → Ticked events latch start rest at256 true offer (Got byte) k
     got_tick byte more offer bits earlier frame er low high k e =
         let at : IsAt at288 (Request byte) true = request_at events latch (256 + start) at256 byte up288 earlier in
@@ -147,8 +150,8 @@ module _ (events : List HostEvent) (latch : ℕ → Lines) (start rest : ℕ) (a
         let first = between events latch 321 (288 + start) at288 (λ o l u. high o l (omega (arith, u))) to288.1 in
         let last = between events latch rest (609 + start) at609 (λ o l u. high o (omega (arith, l)) (omega (arith, u))) first.1 in
         joins tested offer meeting meeting met
-            (none_ends events meeting (288 + start) (seen_in_bytes at288.side) none)
-            (first.0 ∙ sym (none_passes events meeting (288 + start) (seen_in_bytes at288.side) none)) last k e
+        (none_ends events meeting (288 + start) (seen_in_bytes at288.side) none)
+        (first.0 ∙ sym (none_passes events meeting (288 + start) (seen_in_bytes at288.side) none)) last k e
 
     -- the controller pulls before the first edge: the keyboard lets go again before offset 320
     pub cut_tick : (byte : ℕ) → at256.side.port.link ≡ Free → (at288.side.port.link ≡ Free → ⊥)
@@ -166,18 +169,18 @@ module _ (events : List HostEvent) (latch : ℕ → Lines) (start rest : ℕ) (a
               let idle' : is_busy b'.side.port.link ≡ false = not_busy b'.side.port.link pulls.since first.1 in
               let later_on = between events latch 289 (320 + start) b' (λ o l u. high o l (omega (arith, u))) idle' in
               let at : at609 ≡ board_cycles events latch 289 (320 + start) b' =
-                  cycles_more events latch 32 289 321 (288 + start) at288 p ∙ ap (λ j. board_cycles events latch 289 j b') q in
+              cycles_more events latch 32 289 321 (288 + start) at288 p ∙ ap (λ j. board_cycles events latch 289 j b') q in
               let m : Side UnderWay = seen_in_bytes at288.side in
               let passes : seen_in_bytes at609.side ≡ quietly events 321 (288 + start) m =
               ap (λ v. seen_in_bytes v.side) at ∙ later_on.0 ∙ ap (λ v. quietly events 289 (320 + start) v) first.0
               ∙ sym (quiet_more events 32 289 321 (288 + start) m p
-                  ∙ ap (λ j. quietly events 289 j (quietly events 32 (288 + start) m)) q) in
+              ∙ ap (λ j. quietly events 289 j (quietly events 32 (288 + start) m)) q) in
               let last = between events latch rest (609 + start) at609
-                  (λ o l u. high o (omega (arith, l)) (omega (arith, u))) (ap (λ v. is_busy v.side.port.link) at ∙ later_on.1) in
+              (λ o l u. high o (omega (arith, l)) (omega (arith, u))) (ap (λ v. is_busy v.side.port.link) at ∙ later_on.1) in
               let met : meeting_of (link_by without_bits at256.side.port.link) (Some byte)
-                  (link_by without_bits at288.side.port.link) ≡ Cut =
+              (link_by without_bits at288.side.port.link) ≡ Cut =
               ap (λ l. meeting_of (link_by without_bits l) (Some byte) (link_by without_bits at288.side.port.link))
-                  earlier ∙ cut_of byte at288.side.port.link pulls.since pulls.is in
+              earlier ∙ cut_of byte at288.side.port.link pulls.since pulls.is in
               joins true (Some byte) Cut Cut met refl passes last k e
         ]
 

@@ -50,8 +50,8 @@ module _ (events : List HostEvent) (latch : ℕ → Lines) where
       let high : (latch now).clk ≡ true = up now (omega arith) (omega arith) in
       requests n (suc now) (board_cycle events now (latch now) b) byte (λ o l u. up o (omega (arith, l)) (omega (arith, u)))
       (ap (λ s. s.port.link)
-          (board_by events now (latch now) b b.side (looks_still now (latch now) b high (ap is_busy e)))
-          ∙ stays_request events now b.side byte e)
+      (board_by events now (latch now) b b.side (looks_still now (latch now) b high (ap is_busy e)))
+      ∙ stays_request events now b.side byte e)
 
   -- a link that is free and free again within 64 cycles was free all the time
   free_between : (m r k now : ℕ) (b : Pc) → m + r ≡ k → k ≤ 64
@@ -63,7 +63,7 @@ module _ (events : List HostEvent) (latch : ℕ → Lines) where
       let high : (latch now).clk ≡ true = up now (omega arith) (omega arith) in
       let next : Pc = board_cycle events now (latch now) b in
       let is : next.side ≡ goes_on is_breakable events now b.side =
-          board_by events now (latch now) b b.side (looks_still now (latch now) b high (ap is_busy here)) in
+      board_by events now (latch now) b b.side (looks_still now (latch now) b high (ap is_busy here)) in
       elim (free_begins Wire is_breakable events now b.side here) [
         | inl free ↦ free_between m r k (suc now) next (omega (arith, e)) (omega (arith, short))
             (λ o l u. up o (omega (arith, l)) (omega (arith, u))) (ap (λ s. s.port.link) is ∙ free) there
@@ -81,7 +81,7 @@ module _ (events : List HostEvent) (latch : ℕ → Lines) where
       let a : n + 1 ≡ suc n = omega arith in
       let high : (latch (n + now)).clk ≡ true = up (n + now) (omega arith) (omega arith) in
       ap (λ v. v.clock) (cycles_more events latch n 1 (suc n) now b a)
-          ∙ clock_by events (n + now) (latch (n + now)) (board_cycles events latch n now b)
+      ∙ clock_by events (n + now) (latch (n + now)) (board_cycles events latch n now b)
       ∙ ap (λ c. c && (drive (board_cycles events latch n now b).side.port.link).clk) high ∙ d
 
   -- up to the first edge: free after both looks, or requesting
@@ -109,13 +109,13 @@ free_or_pulls events latch (suc n) now b short up here =
     let high : (latch now).clk ≡ true = up now (omega arith) (omega arith) in
     let next : Pc = board_cycle events now (latch now) b in
     let is : next.side ≡ goes_on is_breakable events now b.side =
-        board_by events now (latch now) b b.side (looks_still now (latch now) b high (ap is_busy here)) in
+    board_by events now (latch now) b b.side (looks_still now (latch now) b high (ap is_busy here)) in
     elim (free_begins Wire is_breakable events now b.side here) [
       | inl free ↦ elim (free_or_pulls events latch n (suc now) next (omega (arith, short))
           (λ o l u. up o (omega (arith, l)) (omega (arith, u))) (ap (λ s. s.port.link) is ∙ free)) [
-        | inl still ↦ inl still
-        | inr p ↦ inr (record { since = p.since; from = omega (arith, p.from); is = p.is })
-      ]
+            | inl still ↦ inl still
+            | inr p ↦ inr (record { since = p.since; from = omega (arith, p.from); is = p.is })
+          ]
       | inr pulls ↦
           let on = pulled_span events latch n (suc now) next now (ap (λ s. pulled s.port.link) is ∙ pulls) (omega (arith, short)) in
           inr (record { since = now; from = omega arith; is = on.1 })

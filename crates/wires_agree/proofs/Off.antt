@@ -85,7 +85,7 @@ pub all_broken : BrokenTick
 all_broken events latch line start rest byte j k bits b up earlier later frame below same leaves low high e =
     let c : Pc = at_meeting events latch start b in
     let at : IsAt c Free true =
-        free_at events latch (256 + start) b (up288 events latch start rest b up (ap is_busy earlier)) earlier later in
+    free_at events latch (256 + start) b (up288 events latch start rest b up (ap is_busy earlier)) earlier later in
     let off = in_cell events latch line start j bits b frame at below same leaves low in
     let now : ℕ = 288 + start in
     let t : ℕ = 32 * j + 18 in
@@ -98,5 +98,5 @@ all_broken events latch line start rest byte j k bits b up earlier later frame b
     let at609 : Pc = board_cycles events latch 321 now c in
     let last = between events latch rest (609 + start) at609 (λ o l u. high o (omega (arith, l, below)) (omega (arith, u))) passes.1 in
     joins events latch start rest b up (ap is_busy earlier) true (Some byte) (Sent byte) Cut
-        (begins events latch start rest b up (ap is_busy earlier) byte earlier later)
+    (begins events latch start rest b up (ap is_busy earlier) byte earlier later)
     (cut_where byte (Rattle.byte_time.specs.ByteTime.sends events now (seen_in_bytes c.side)).port.link passes.2) passes.0 last k e

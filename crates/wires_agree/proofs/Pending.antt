@@ -37,7 +37,7 @@ edge_flip now dat (Ask byte since) p h = h
 edge_flip now dat (Request byte) p h = h
 edge_flip now dat (Busy (Recv flip bits)) p h =
     choice (length bits == 10) (received now (byte_of (turned flip (bits ++ dat ∷ []))) p)
-        (record p { link = Busy (Recv flip (bits ++ dat ∷ [])) }) h h
+    (record p { link = Busy (Recv flip (bits ++ dat ∷ [])) }) h h
 edge_flip now dat (Busy (Send byte edges)) p h =
     choice (edges == 10) (handed_over p) (record p { link = Busy (Send byte (edges + 1)) }) h h
 
@@ -108,7 +108,7 @@ cycle_flip events now latch b are f =
     let line : Lines = wires latch b in
     goes_flip events now (looked now line b).side are
     (choice (b.clock && not line.clk) (edge_at now line.dat b.side.port.link b.side.port) b.side.port
-        (edge_flip now line.dat b.side.port.link b.side.port f) f)
+    (edge_flip now line.dat b.side.port.link b.side.port f) f)
 
 pub flips_stay : FlipsStay
 flips_stay events latch zero now b are f = f

@@ -42,20 +42,20 @@ module _ (F : Type 0) (opens : F → Bool) where
 looks_pulled : (now : ℕ) (latch : Lines) (b : Pc) (h : ℕ) → pulled b.side.port.link ≡ Some h → (looked now (wires latch b) b).side ≡ b.side
 looks_pulled now latch b h e =
     ap (λ q. record b.side { port = q })
-        (look_keeps (b.clock && not (wires latch b).clk) now (wires latch b).dat b.side.port b.side.port.link h e)
+    (look_keeps (b.clock && not (wires latch b).clk) now (wires latch b).dat b.side.port b.side.port.link h e)
 
 -- cycles in which the controller pulls, whatever the keyboard does
 pub pulled_span : (events : List HostEvent) (latch : ℕ → Lines) (n now : ℕ) (b : Pc) (h : ℕ)
     → pulled b.side.port.link ≡ Some h → now + n ≤ h + 64
     → (seen_in_bytes (board_cycles events latch n now b).side ≡ quietly events n now (seen_in_bytes b.side))
-        × (pulled (board_cycles events latch n now b).side.port.link ≡ Some h)
+    × (pulled (board_cycles events latch n now b).side.port.link ≡ Some h)
 pulled_span events latch zero now b h e l = (refl, e)
 pulled_span events latch (suc n) now b h e l =
     let next : Pc = board_cycle events now (latch now) b in
     let same : (looked now (wires (latch now) b) b).side ≡ b.side = looks_pulled now (latch now) b h e in
     let on : pulled next.side.port.link
-        ≡ Some h = ap (λ s. pulled s.port.link) (board_by events now (latch now) b b.side same)
-        ∙ stays_pulled Wire is_breakable events now b.side h e (omega (arith, l)) in
+    ≡ Some h = ap (λ s. pulled s.port.link) (board_by events now (latch now) b b.side same)
+    ∙ stays_pulled Wire is_breakable events now b.side h e (omega (arith, l)) in
     let rest = pulled_span events latch n (suc now) next h on (omega (arith, l)) in
     (rest.0 ∙ ap (λ m. quietly events n (suc now) m) (still_cycle events now (latch now) b same), rest.1)
 

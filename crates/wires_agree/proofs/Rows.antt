@@ -28,7 +28,7 @@ asked = at 0 Mask ∷ at 0 (Write64 0xaa) ∷ at 10 AskStatus ∷ at 10 Read60 �
 
 self_test : (board_cycles asked high 20 4096 pc_at_start).side.log
     ≡ record { cycle = 4106; item = Status 0x1d } ∷ record { cycle = 4107; item = Read 0x55 } ∷
-        record { cycle = 4108; item = Status 0x1c } ∷ []
+    record { cycle = 4108; item = Status 0x1c } ∷ []
 unfolding asked board_cycle goes_on
 self_test = refl
 
@@ -36,7 +36,7 @@ self_test = refl
 abbrev sends : ℕ → ℕ → Lines
 sends from o =
     if nat_le from o && nat_lt o
-        (from + 352) then record { clk = nat_le 16 ((o - from) % 32); dat = slice_index_or (frame_bits 0x1c) ((o - from) / 32) true }
+    (from + 352) then record { clk = nat_le 16 ((o - from) % 32); dat = slice_index_or (frame_bits 0x1c) ((o - from) / 32) true }
     else record { clk = true; dat = true }
 
 reads : List HostEvent

@@ -65,7 +65,7 @@ module _ {F G : Type 0} (f : F → G) where
   takes_same now p =
       let input : Option Taken = if p.core.output_full then None else taken p.core in
       ap (λ h. took_where now h input (port_by f p)) (held_same now p.awaits p.link)
-          ∙ where_same now (held_since now p.awaits p.link) input p
+      ∙ where_same now (held_since now p.awaits p.link) input p
 
   moves_same : (now : ℕ) (p : Port F) → moves_link now (port_by f p) ≡ port_by f (moves_link now p)
   moves_same now p = ap (λ l. record (port_by f p) { link = l }) (after_same now (p.core.output_full || is_disabled p.core) p.awaits p.link)
@@ -86,8 +86,14 @@ module _ {F G : Type 0} (f : F → G) where
 
   pub received_same : (now : ℕ) (came : Option ℕ) (p : Port F) → port_by f (received now came p) ≡ received now came (port_by f p)
   received_same now came p =
-      ap (λ l. record { core = core_after came p.core; filled = filled_by now
-          (core_after came p.core) p.filled; link = l; awaits = false; flip = p.flip })
+      ap (λ l. record {
+        core = core_after came p.core;
+        filled = filled_by now
+            (core_after came p.core) p.filled;
+        link = l;
+        awaits = false;
+        flip = p.flip;
+      })
       (behind_same now came p.core)
 
   module _ (here : F → Bool) (there : G → Bool) (alike : (x : F) → there (f x) ≡ here x) where
@@ -106,7 +112,7 @@ module _ {F G : Type 0} (f : F → G) where
     broken_same : (now : ℕ) (p : Port F) → broken_off there now (port_by f p) ≡ port_by f (broken_off here now p)
     broken_same now p =
         ap (λ c. if c && not p.awaits && is_some p.core.input then record (port_by f p) { link = Hold now } else
-            port_by f p) (breaks_same p.link)
+        port_by f p) (breaks_same p.link)
         ∙ broken_by (may_break here p.link && not p.awaits && is_some p.core.input) now p
 
     -- a cycle goes on alike, whatever is known of a byte under way

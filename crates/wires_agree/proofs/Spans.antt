@@ -41,7 +41,7 @@ pub still_cycle : (events : List HostEvent) (now : ℕ) (latch : Lines) (b : Pc)
     → seen_in_bytes (board_cycle events now latch b).side ≡ byte_cycle events now Quiet (seen_in_bytes b.side)
 still_cycle events now latch b e =
     ap (λ s. seen_in_bytes s) (board_by events now latch b b.side e) ∙ sym (in_bytes_same events now b.side)
-        ∙ sym (quiet_by events now (seen_in_bytes b.side))
+    ∙ sym (quiet_by events now (seen_in_bytes b.side))
 
 pub and-true : (a : Bool) → (a && true) ≡ a
 and-true true = refl
@@ -67,11 +67,11 @@ On b w c begin = IsAt b (Busy w) c ⊎ ((is_breakable w ≡ true) × Pulls begin
 pub busy_cycle : (events : List HostEvent) (now : ℕ) (latch : Lines) (b : Pc) (w : Wire) (c : Bool)
     → IsAt b (Busy w) c → (c && not latch.clk) ≡ false
     → (seen_in_bytes (board_cycle events now latch b).side ≡ byte_cycle events now Quiet (seen_in_bytes b.side))
-        × On (board_cycle events now latch b) w latch.clk now
+    × On (board_cycle events now latch b) w latch.clk now
 busy_cycle events now latch b w c at h =
     let line : (wires latch b).clk ≡ latch.clk = line_clock latch b w at.link_is in
     let same : (looked now (wires latch b) b).side
-        ≡ b.side = no_fall now (wires latch b) b (ap (λ k. k && not (wires latch b).clk) at.clock_is ∙ ap (λ k. c && not k) line ∙ h) in
+    ≡ b.side = no_fall now (wires latch b) b (ap (λ k. k && not (wires latch b).clk) at.clock_is ∙ ap (λ k. c && not k) line ∙ h) in
     let is : (board_cycle events now latch b).side ≡ goes_on is_breakable events now b.side = board_by events now latch b b.side same in (
       still_cycle events now latch b same,
       elim (busy_or_breaks is_breakable events now b.side w at.link_is) [

@@ -38,8 +38,8 @@ module _ (F : Type 0) (opens : F → Bool) where
       let no : is_done now (Some event) at_start ≡ false = ap (λ c. c && not (waits event.act at_start)) early in
       let silent : event_turn now (Some event) h ≡ in_silence h = ap (λ c. if c then acted event.act h else in_silence h) no in
       let all : turn now 0 (Some event) h
-          ≡ in_silence h = ap (λ
-          (t : Turn). record { host = (bios_turn now 0 t.host).host; items = t.items ++ (bios_turn now 0 t.host).items }) silent in
+      ≡ in_silence h = ap (λ
+      (t : Turn). record { host = (bios_turn now 0 t.host).host; items = t.items ++ (bios_turn now 0 t.host).items }) silent in
       ap (λ c. after now c (turn now 0 (Some event) h)) no ∙ ap (λ t. after now false t) all
 
   pub rests : (events : List HostEvent) (now : ℕ) → now < 4096 → goes_on opens events now (side_at_start F) ≡ side_at_start F
@@ -55,14 +55,14 @@ waits_for_stamp_0 events latch (suc n) now l up =
     let high : (latch now).clk ≡ true = up now (omega arith) (omega arith) in
     let side : (board_cycle events now (latch now) pc_at_start).side ≡ side_at_start Wire =
     board_by events now (latch now) pc_at_start (side_at_start Wire)
-        (looks_still now (latch now) pc_at_start high refl) ∙ rests Wire is_breakable events now (omega (arith, l)) in
+    (looks_still now (latch now) pc_at_start high refl) ∙ rests Wire is_breakable events now (omega (arith, l)) in
     let clock : (board_cycle events now (latch now) pc_at_start).clock
-        ≡ true = clock_by events now (latch now) pc_at_start ∙ ap (λ c. c && true) high in
+    ≡ true = clock_by events now (latch now) pc_at_start ∙ ap (λ c. c && true) high in
     let same : board_cycle events now (latch now) pc_at_start
-        ≡ pc_at_start = ap (λ s. record { side = s; clock = (board_cycle events now (latch now) pc_at_start).clock })
-        side ∙ ap (λ c. record { side = side_at_start Wire; clock = c }) clock in
+    ≡ pc_at_start = ap (λ s. record { side = s; clock = (board_cycle events now (latch now) pc_at_start).clock })
+    side ∙ ap (λ c. record { side = side_at_start Wire; clock = c }) clock in
     ap (λ b. board_cycles events latch n (suc now) b) same
-        ∙ waits_for_stamp_0 events latch n (suc now) (omega (arith, l)) (λ o l u. up o (omega (arith, l)) (omega (arith, u)))
+    ∙ waits_for_stamp_0 events latch n (suc now) (omega (arith, l)) (λ o l u. up o (omega (arith, l)) (omega (arith, u)))
 
 -- the bits of a frame, as the controller takes them, are those of its byte
 pub byte_of_bits : (byte : ℕ) → byte < 256 → byte_of (bits_to (λ k. slice_index_or (frame_bits byte) k true) 11) ≡ Some byte

@@ -55,8 +55,8 @@ sent_way bits p = record {
   next = λ k now v l.
       let q : List Bool = bits_to bits (suc k) in
       ap (λ c. if c then received now
-          (byte_of (turned p.flip (q ++ (bits (suc k) && true) ∷ []))) v else record v
-          { link = Busy (Recv p.flip (q ++ (bits (suc k) && true) ∷ [])) }) (not_ten (length q) k (length-bits bits (suc k)) l)
+      (byte_of (turned p.flip (q ++ (bits (suc k) && true) ∷ []))) v else record v
+      { link = Busy (Recv p.flip (q ++ (bits (suc k) && true) ∷ [])) }) (not_ten (length q) k (length-bits bits (suc k)) l)
       ∙ ap (λ d. record v { link = Busy (Recv p.flip (q ++ d ∷ [])) }) (and-true (bits (suc k)));
   kind = kinds;
   last = ap (λ n. nat_lt n 10) (length-bits bits 10);
@@ -67,7 +67,7 @@ sent_way bits p = record {
 
     kinds : (k now : ℕ) (v : Port Wire) → k < 9 → v.link ≡ Busy (Recv p.flip (bits_to bits (suc k)))
         → port_by without_bits (record v { link = Busy (Recv p.flip (bits_to bits (suc (suc k)))) })
-            ≡ happened_at now (at_edge true (suc k)) (port_by without_bits v)
+        ≡ happened_at now (at_edge true (suc k)) (port_by without_bits v)
     kinds k now v l e = by_case (k == 8) refl
       where
         by_case : (c : Bool) → (k == 8) ≡ c
@@ -76,7 +76,7 @@ sent_way bits p = record {
         by_case true t =
             let k8 : suc (suc k) ≡ 10 = grind (arith, nat_tests, t) in
             let shut : nat_lt (length (bits_to bits (suc (suc k)))) 10
-                ≡ false = ap (λ n. nat_lt n 10) (length-bits bits (suc (suc k)) ∙ k8) in
+            ≡ false = ap (λ n. nat_lt n 10) (length-bits bits (suc (suc k)) ∙ k8) in
             ap (λ o. as_seen p.flip o (port_by without_bits v)) shut
             ∙ sym (ap (λ c. happened_at now (if c then Closes else Quiet) (port_by without_bits v)) t
             ∙ ap (λ l. record (port_by without_bits v) { link = closed (Rattle.wires_agree.specs.Without.link_by without_bits l) }) e)
@@ -97,7 +97,7 @@ got_way byte bits p = record {
       let a : k + 1 ≡ suc k = omega arith in
       let z : k + 1 + 1 ≡ suc k + 1 = omega arith in
       ap (λ c. if c then handed_over v else record v { link = Busy (Send byte (k + 1 + 1)) }) (not_ten (k + 1) k a l)
-          ∙ ap (λ n. record v { link = Busy (Send byte n) }) z;
+      ∙ ap (λ n. record v { link = Busy (Send byte n) }) z;
   kind = λ k now v l e. ap
       (λ l. record (port_by without_bits v) { link = Rattle.wires_agree.specs.Without.link_by without_bits l }) (sym e);
   last = refl;

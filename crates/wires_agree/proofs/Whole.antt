@@ -131,22 +131,22 @@ module _ (events : List HostEvent) (latch : ℕ → Lines) (now : ℕ) (bits : �
   -- broken off behind the look of cell k: the look of the next cell sees it
   next_cell : (k : ℕ) → k < 10 → ((i : ℕ) → i < suc k → IsOn i) → is_breakable (w k) ≡ true
       → seen_in_bytes (pc_at (32 * suc k)).side ≡ model k 31 → (since : ℕ) → 32 * k + now + 18 ≤ since
-          → pulled (pc_at (32 * suc k)).side.port.link ≡ Some since
+      → pulled (pc_at (32 * suc k)).side.port.link ≡ Some since
       → IsBroken (suc k)
   next_cell k below before opens agrees since late pulls =
       let x : ℕ = 32 * suc k + now in
       let b' : Pc = pc_at (32 * suc k) in
       let rest = pulled_span events latch 18 x b' since pulls (omega (arith, late)) in
       let more : pc_at (32 * suc k + 18)
-          ≡ board_cycles events latch 18 x b' = cycles_more events latch (32 * suc k) 18 (32 * suc k + 18) now b refl in
+      ≡ board_cycles events latch 18 x b' = cycles_more events latch (32 * suc k) 18 (32 * suc k + 18) now b refl in
       let idle : is_busy (model k 31).port.link ≡ false = ap (λ m. is_busy m.port.link) (sym agrees)
-          ∙ idle_seen b'.side.port.link since pulls in
+      ∙ idle_seen b'.side.port.link since pulls in
       record {
         few = not_last k below opens;
         in_cell = λ n short.
             ap (λ (v : Pc). seen_in_bytes v.side) (cycles_more events latch (32 * suc k) (suc n) (32 * suc k + suc n) now b refl)
             ∙ (pulled_span events latch (suc n) x b' since pulls (omega (arith, late, short))).0
-                ∙ ap (λ m. quietly events (suc n) x m) agrees
+            ∙ ap (λ m. quietly events (suc n) x m) agrees
             ∙ ap (λ m. quietly events n (suc x) m) (sym (idle_edge events from k x (model k 31) idle));
         since = since;
         late = omega (arith, late);
@@ -164,16 +164,16 @@ module _ (events : List HostEvent) (latch : ℕ → Lines) (now : ℕ) (bits : �
       let c : IsCell latch x (bits k) = is.cells k below in
       let here : IsAt (pc_at y) (Busy (w k)) (latch (17 + x)).clk = record { link_is = on.busy; clock_is = clock } in
       let rest = busy_span events latch 14 (17 + x) (pc_at y) (w k) (omega arith) here
-          (λ o lo hi. c.once o (omega (arith, lo)) (omega (arith, hi))) in
+      (λ o lo hi. c.once o (omega (arith, lo)) (omega (arith, hi))) in
       let z : suc (17 + x) ≡ y + now = omega arith in
       let e : y + 14 ≡ 32 * suc k = omega arith in
       let more : pc_at (32 * suc k)
-          ≡ board_cycles events latch 14 (y + now) (pc_at y) = cycles_more events latch y 14 (32 * suc k) now b e in
+      ≡ board_cycles events latch 14 (y + now) (pc_at y) = cycles_more events latch y 14 (32 * suc k) now b e in
       let same : board_cycles events latch 14 (suc (17 + x)) (pc_at y)
-          ≡ pc_at (32 * suc k) = ap (λ j. board_cycles events latch 14 j (pc_at y)) z ∙ sym more in
+      ≡ pc_at (32 * suc k) = ap (λ j. board_cycles events latch 14 j (pc_at y)) z ∙ sym more in
       let agrees : seen_in_bytes (pc_at (32 * suc k)).side ≡ model k 31 =
       ap (λ (v : Pc). seen_in_bytes v.side) (sym same) ∙ rest.0
-          ∙ ap (λ m. quietly events 14 (suc (17 + x)) m) (on.in_cell 17 (omega arith)) ∙ longer k in
+      ∙ ap (λ m. quietly events 14 (suc (17 + x)) m) (on.in_cell 17 (omega arith)) ∙ longer k in
       elim rest.1 [
         | inl stays ↦
             let f : 14 + (17 + x) ≡ 31 + x = omega arith in
@@ -187,8 +187,11 @@ module _ (events : List HostEvent) (latch : ℕ → Lines) (now : ℕ) (bits : �
             })
         | inr broken ↦
             let p = broken.1 in
-            inr (suc k, next_cell k below (with_this k before on) broken.0 agrees p.since (omega (arith, p.from))
-                (ap (λ (v : Pc). pulled v.side.port.link) (sym same) ∙ p.is))
+            inr (
+              suc k,
+              next_cell k below (with_this k before on) broken.0 agrees p.since (omega (arith, p.from))
+                  (ap (λ (v : Pc). pulled v.side.port.link) (sym same) ∙ p.is),
+            )
       ]
 
   -- from a cell's first cycle to its end
@@ -196,7 +199,7 @@ module _ (events : List HostEvent) (latch : ℕ → Lines) (now : ℕ) (bits : �
       → edge_at (32 * k + now) (bits k && (drive l').dat) l' (pc_at (32 * k)).side.port ≡ q' → q'.link ≡ Busy (w k)
       → port_by without_bits q' ≡ happened_at (32 * k + now) (at_edge from k) (port_by without_bits (pc_at (32 * k)).side.port)
       → ((n : ℕ) → quietly events n (suc (32 * k + now))
-          (byte_cycle events (32 * k + now) (at_edge from k) (seen_in_bytes (pc_at (32 * k)).side)) ≡ model k n)
+      (byte_cycle events (32 * k + now) (at_edge from k) (seen_in_bytes (pc_at (32 * k)).side)) ≡ model k n)
       → Stands k
   passes k below before l' q' here edge busy same joins =
       let x : ℕ = 32 * k + now in
@@ -264,7 +267,7 @@ module _ (events : List HostEvent) (now : ℕ) (m : Side UnderWay) where
       ap (λ c. quietly events n (suc x) (byte_cycle events x (if c then Closes else Quiet) (up_to events true k 31 now m))) no
       ∙ ap (λ v. quietly events (suc n) x v) (quiet_cells k 31 (omega (arith, l)))
       ∙ sym (quiet_more events (32 * k + 31) (suc n) (32 * suc k + n) (suc now) y e
-          ∙ ap (λ j. quietly events (suc n) j (quietly events (32 * k + 31) (suc now) y)) z)
+      ∙ ap (λ j. quietly events (suc n) j (quietly events (32 * k + 31) (suc now) y)) z)
 
   pub all_cells : (n : ℕ)
       → up_to events true 9 n now m

@@ -6,7 +6,7 @@ use Rattle.board_lines.proofs.matrix.turn_row.Goals as goal
 pub returns-then-down : goal.returns-then-down
 returns-then-down c =
     row_down c.args.rows c.args.row c.ranges.rows.fits c.requires
-        ∙ ap (λ v. set (column_keys c.args.rows) c.args.row v) (sym c.if-down.true)
+    ∙ ap (λ v. set (column_keys c.args.rows) c.args.row v) (sym c.if-down.true)
 
 pub returns-else-down : goal.returns-else-down
 returns-else-down c =

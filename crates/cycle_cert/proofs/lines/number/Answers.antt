@@ -11,7 +11,7 @@ returns-then-number-limit c =
     let so_far = c.loop-character.invariant.0 in
     let is = sym c.in_ok-decimal_digit.ensures.value in
     let next = number_after-next 10 decimal_digit c.loop-character.number c.loop-character.character-index digit
-        c.args.text.now c.loop-character-test.true is in
+    c.args.text.now c.loop-character-test.true is in
     let past : c.args.limit < 10 * c.loop-character.number + digit = omega (arith, c.if-number-limit.true, c.from.ensures) in
     sym (number_past c.args.limit (10 * c.loop-character.number + digit) c.args.text.now
-        (drop (c.loop-character.character-index + 1) c.args.text.now) (so_far ∙ next) past)
+    (drop (c.loop-character.character-index + 1) c.args.text.now) (so_far ∙ next) past)

@@ -11,4 +11,4 @@ loop-number-preserved c =
     let number = c.loop-number.number in
     let more = map-range_with_len_more (code_byte c.args.layout.now) 0 number number (omega arith) in
     rw (c.from.ensures, c.code_of.ensures, more)
-        (grind (arith, common_steps, c.loop-number.invariant, c.loop-number-test.true, take_more_set))
+    (grind (arith, common_steps, c.loop-number.invariant, c.loop-number-test.true, take_more_set))

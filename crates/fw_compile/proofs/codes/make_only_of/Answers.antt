@@ -12,7 +12,7 @@ loop-column-preserved c =
     let column = c.loop-column.column in
     let more = map-range_with_len_more (make_only_byte c.args.layout.now) 0 column column (omega arith) in
     rw (c.from.ensures, c.make_only_byte.ensures, more)
-        (grind (arith, common_steps, c.loop-column.invariant, c.loop-column-test.true, take_more_set))
+    (grind (arith, common_steps, c.loop-column.invariant, c.loop-column-test.true, take_more_set))
 
 pub returns : goal.returns
 returns c =

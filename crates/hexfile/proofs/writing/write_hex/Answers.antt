@@ -14,7 +14,7 @@ pub returns : goal.returns
 returns c =
     let bytes = c.args.image.now.bytes in
     let text = text_is bytes c.new-text.result.items c.push_rows.new.text.items c.extend_from_slice.new.self.items
-        c.new-text.ensures.items c.in_ok-push_rows.ensures.rows c.in_ok-extend_from_slice.ensures.items in
+    c.new-text.ensures.items c.in_ok-push_rows.ensures.rows c.in_ok-extend_from_slice.ensures.items in
     record {
       text = text;
       back = rw text (text_back bytes (search rules) c.in_ok-push_rows.ensures.bytes);

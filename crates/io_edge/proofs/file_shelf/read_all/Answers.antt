@@ -18,4 +18,4 @@ spent_on max n (Some left) (Some here) (Some after) read size within lost spent 
 pub returns-in_err-read_some-clause-spent : goal.returns-in_err-read_some-clause-spent
 returns-in_err-read_some-clause-spent g c =
     spent_on _ _ _ _ _ c.loop-turn.bytes.items
-        (sym c.loop-turn.bytes.ok.0) c.loop-turn.invariant.size c.loop-turn.invariant.read c.in_err-read_some.ensures.spent
+    (sym c.loop-turn.bytes.ok.0) c.loop-turn.invariant.size c.loop-turn.invariant.read c.in_err-read_some.ensures.spent

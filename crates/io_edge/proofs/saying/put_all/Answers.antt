@@ -24,13 +24,13 @@ pub returns-in_err-done-clause-one_failed : goal.returns-in_err-done-clause-one_
 returns-in_err-done-clause-one_failed g c =
     on_err _ _ (ended_failed _ _ _ _
     (offering_fails _ _ _ _ _ _ c.loop-done-test.true c.loop-done.invariant.offering c.in_err-done.ensures.answer
-        c.in_err-done.ensures.after))
+    c.in_err-done.ensures.after))
 
 pub returns-in_err-done-clause-after : goal.returns-in_err-done-clause-after
 returns-in_err-done-clause-after g c =
     ended_after _ _ _ _
     (offering_fails _ _ _ _ _ _ c.loop-done-test.true c.loop-done.invariant.offering c.in_err-done.ensures.answer
-        c.in_err-done.ensures.after)
+    c.in_err-done.ensures.after)
 
 pub returns-clause-none_failed : goal.returns-clause-none_failed
 returns-clause-none_failed g c = ended_failed _ _ _ _ (offering_ends _ _ _ _ c.loop-done-test.false c.loop-done.invariant.offering)

@@ -28,18 +28,18 @@ loop-start-preserved g c = record {
 pub returns-in_err-put_all-clause-part : goal.returns-in_err-put_all-clause-part
 returns-in_err-put_all-clause-part g c =
     on_err _ _ (takes_part _ _ _ _ _ _
-        (grind (arith, c.line_end-end.ensures.more)) c.line_end-end.ensures.within c.loop-start.invariant.taken
-        c.in_err-put_all.ensures.part)
+    (grind (arith, c.line_end-end.ensures.more)) c.line_end-end.ensures.within c.loop-start.invariant.taken
+    c.in_err-put_all.ensures.part)
 
 pub returns-in_err-put_all-clause-one_failed : goal.returns-in_err-put_all-clause-one_failed
 returns-in_err-put_all-clause-one_failed g c =
     on_err _ _ (failed_said _ _ _ _ _ c.loop-start-test.true c.line_end-end.ensures.first
-        c.loop-start.invariant.saying c.in_err-put_all.ensures.one_failed)
+    c.loop-start.invariant.saying c.in_err-put_all.ensures.one_failed)
 
 pub returns-in_err-put_all-clause-after : goal.returns-in_err-put_all-clause-after
 returns-in_err-put_all-clause-after g c =
     failed_after _ _ _ _ _ _ c.loop-start-test.true c.line_end-end.ensures.first c.loop-start.invariant.saying
-        c.in_err-put_all.ensures.one_failed c.in_err-put_all.ensures.after
+    c.in_err-put_all.ensures.one_failed c.in_err-put_all.ensures.after
 
 pub returns-clause-none_failed : goal.returns-clause-none_failed
 returns-clause-none_failed g c = whole_said _ _ _ _ c.loop-start-test.false c.loop-start.invariant.saying
@@ -53,13 +53,13 @@ returns-in_err-put_all-clause-broken g c =
     let after = shown (g.K.Sink.taken c.put_all.new.out) (g.K.Sink.told c.put_all.new.out) (g.K.Sink.faults c.put_all.new.out) in
     on_err _ _ (is_broken before after c.args.text.now
     (takes_part _ _ _ _ _ _
-        (grind (arith, c.line_end-end.ensures.more)) c.line_end-end.ensures.within c.loop-start.invariant.taken
-        c.in_err-put_all.ensures.part)
+    (grind (arith, c.line_end-end.ensures.more)) c.line_end-end.ensures.within c.loop-start.invariant.taken
+    c.in_err-put_all.ensures.part)
     (subst (λ n. Rose n after.faults) c.loop-start.invariant.steady c.in_err-put_all.ensures.failed)
     (failed_said _ _ _ _ _ c.loop-start-test.true c.line_end-end.ensures.first c.loop-start.invariant.saying
-        c.in_err-put_all.ensures.one_failed)
+    c.in_err-put_all.ensures.one_failed)
     (failed_after _ _ _ _ _ _ c.loop-start-test.true c.line_end-end.ensures.first c.loop-start.invariant.saying
-        c.in_err-put_all.ensures.one_failed c.in_err-put_all.ensures.after))
+    c.in_err-put_all.ensures.one_failed c.in_err-put_all.ensures.after))
 
 pub returns-clause-said : goal.returns-clause-said
 returns-clause-said g c =
@@ -71,4 +71,4 @@ returns-clause-said g c =
     is_said before after c.args.text.now
     (subst (Takes before.taken after.taken c.args.text.now) whole c.loop-start.invariant.taken) c.loop-start.invariant.steady
     (whole_said _ _ _ _ c.loop-start-test.false c.loop-start.invariant.saying)
-        (whole_after _ _ _ _ c.loop-start-test.false c.loop-start.invariant.saying)
+    (whole_after _ _ _ _ c.loop-start-test.false c.loop-start.invariant.saying)

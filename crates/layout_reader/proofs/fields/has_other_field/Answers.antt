@@ -12,17 +12,17 @@ loop-name-init c = rw (c.into_iter-name-iterator.ensures.into_iter_gives, c.keys
 pub returns-then-not-has : goal.returns-then-not-has
 returns-then-not-has c =
     let step : c.loop-name.name-iterator
-        ≡ c.in-Some.name.now ∷ c.next.new.self = rest_more deref _ _ _ _ c.in-Some.is c.next.ensures.steps in
+    ≡ c.in-Some.name.now ∷ c.next.new.self = rest_more deref _ _ _ _ c.in-Some.is c.next.ensures.steps in
     let other : is_field c.args.level (string_bytes c.in-Some.name.now)
-        ≡ false = rw (← c.as_str.ensures.value) (sym c.has.ensures ∙ c.if-not-has.true) in
+    ≡ false = rw (← c.as_str.ensures.value) (sym c.has.ensures ∙ c.if-not-has.true) in
     sym (sym c.loop-name.invariant ∙ rw (step, other) refl)
 
 pub loop-name-preserved : goal.loop-name-preserved
 loop-name-preserved c =
     let step : c.loop-name.name-iterator
-        ≡ c.in-Some.name.now ∷ c.next.new.self = rest_more deref _ _ _ _ c.in-Some.is c.next.ensures.steps in
+    ≡ c.in-Some.name.now ∷ c.next.new.self = rest_more deref _ _ _ _ c.in-Some.is c.next.ensures.steps in
     let known : is_field c.args.level (string_bytes c.in-Some.name.now)
-        ≡ true = rw (← c.as_str.ensures.value) (sym c.has.ensures ∙ c.if-not-has.false) in
+    ≡ true = rw (← c.as_str.ensures.value) (sym c.has.ensures ∙ c.if-not-has.false) in
     rw (step, known) at c.loop-name.invariant
 
 pub returns : goal.returns

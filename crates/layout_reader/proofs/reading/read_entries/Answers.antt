@@ -19,7 +19,7 @@ loop-element-preserved c =
     let earlier = c.loop-element.entries.items in
     let entry = c.in-Ok.entry in
     let here : drop i elements ≡ element ∷ drop (i + 1) elements = drop_more elements i element (omega arith)
-        ∙ ap (λ (y : Value). y ∷ drop (i + 1) elements) (sym c.element-item.is) in
+    ∙ ap (λ (y : Value). y ∷ drop (i + 1) elements) (sym c.element-item.is) in
     let pushed : is_ok c.push.result ≡ true = ok_unless_err c.push.result (sym c.is_err.ensures.value ∙ c.if-is_err.false) in
     let grown : c.push.new.self.items ≡ earlier ++ entry ∷ [] = rw pushed at c.push.ensures.items in
     let gives : entry_from c.args.format earlier (view element) ≡ Ok entry = rw (← c.as_slice.ensures.value) (sym c.in-Ok.ensures.entry) in

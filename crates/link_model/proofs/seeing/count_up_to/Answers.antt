@@ -8,5 +8,5 @@ use Rattle.link_model.proofs.seeing.count_up_to.Goals as goal
 pub returns-clause-point : goal.returns-clause-point
 returns-clause-point c =
     c.partition_point.ensures.partitioned (λ (e : Edge). nat_le e.stamp c.args.stamp)
-        (always_returns_same _ _ _ (λ a r f k. search (rules, of_calls)))
+    (always_returns_same _ _ _ (λ a r f k. search (rules, of_calls)))
     (λ i j d l m up. no_later c.args.edges.now c.requires c.args.stamp i j d l m up)

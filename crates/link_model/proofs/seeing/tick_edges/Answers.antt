@@ -13,6 +13,6 @@ returns c =
     let now : ℕ = listed c.args.starts.now c.args.n in
     c.in_ok-seen.ensures
     ∙ ap (λ (b : Option ℕ). map change_of (by_place (λ p. filter (sees b now) (of_place p c.window.result.now)) 96))
-        c.start_before-before.ensures
+    c.start_before-before.ensures
     ∙ tick_edges_so (listed c.args.starts.now) c.args.n c.args.edges.now c.window.result.now c.requires.cadence
     (subst (λ (b : Option ℕ). HasSeen b now c.window.result.now c.args.edges.now) c.start_before-before.ensures c.window.ensures)

@@ -13,7 +13,7 @@ invariant-loop-line l = record {
   lines_left : l.number + length l.rest ≤ length l.text;
   pass : (earlier : List Placed)
       × Stands (kept_value l.names.entries) (kept_places 0 (map kept_line (lines l.text)))
-          (kept_places l.place (map kept_line (lines l.rest))) (kept_value l.seen.entries) l.filled l.bytes l.number earlier;
+      (kept_places l.place (map kept_line (lines l.rest))) (kept_value l.seen.entries) l.filled l.bytes l.number earlier;
 }
 
 abbrev pub decreases-loop-line : goal.decreases-loop-line

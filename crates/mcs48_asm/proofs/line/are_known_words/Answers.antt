@@ -25,7 +25,7 @@ pub returns : goal.returns
 returns c =
     all_from_yields_List (λ part. length part == 0 || is_known_word part) _ _ _ c.all.ensures.ran
     (YieldsList-from_slice_split _
-        (λ character. not (is_word_character character)) c.args.text.now c.split.ensures.rest c.split.ensures.done c.split.ensures.closure
+    (λ character. not (is_word_character character)) c.args.text.now c.split.ensures.rest c.split.ensures.done c.split.ensures.closure
     (λ x b q k. search (rules, tests)))
     (λ x b q k. search (rules, tests))
     ∙ known-parts (slice_split (λ character. not (is_word_character character)) c.args.text.now)

@@ -7,5 +7,5 @@ pub returns-in-Some-split_once : goal.returns-in-Some-split_once
 returns-in-Some-split_once c =
     c.flawed.ensures
     ∙ ap line_capped (line_of_parts-more c.args.text.now c.in-Some.label.now c.in-Some.rest.now
-        c.in-Some-split_once.field-0.0.now c.in-Some-split_once.field-0.1.now
+    c.in-Some-split_once.field-0.0.now c.in-Some-split_once.field-0.1.now
     c.in-Some.ensures.pieces c.in-Some-split_once.ensures.pieces)

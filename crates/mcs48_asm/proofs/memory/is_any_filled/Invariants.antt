@@ -6,6 +6,6 @@ use Rattle.mcs48_asm.proofs.memory.is_any_filled.Given as goal
 abbrev pub invariant-loop-place : goal.invariant-loop-place
 invariant-loop-place l =
     list_any (λ place. nat_le l.start place && nat_lt place l.end && slice_index_or l.filled place false)
-        (range_with_len 0 (length l.filled))
+    (range_with_len 0 (length l.filled))
     ≡ list_any (λ place. nat_le l.start place && nat_lt place l.end && slice_index_or l.filled place false)
-        (range_with_len l.place (length l.filled - l.place))
+    (range_with_len l.place (length l.filled - l.place))

@@ -10,7 +10,7 @@ use Rattle.mcs48_asm.proofs.names.names_in.Given as goal
 abbrev pub invariant-loop-line : goal.invariant-loop-line
 invariant-loop-line l =
     (name : List ℕ) → option_or (kept_value l.names.entries name)
-        (value_named (definitions (kept_places l.place (map kept_line (lines l.rest)))) name)
+    (value_named (definitions (kept_places l.place (map kept_line (lines l.rest)))) name)
     ≡ value_named (definitions (kept_places 0 (map kept_line (lines l.text)))) name
 
 abbrev pub decreases-loop-line : goal.decreases-loop-line

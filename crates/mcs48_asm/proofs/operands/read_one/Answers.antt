@@ -12,5 +12,5 @@ returns-in-None c = c.read.ensures.reading
 pub returns-in-Some : goal.returns-in-Some
 returns-in-Some c =
     ap (option_map reading_capped)
-        (read_one-more (operand_seen c.args.operand) c.args.text.now c.in-Some.field-0.0.now c.in-Some.field-0.1.now
-        c.in-Some.ensures.pieces)
+    (read_one-more (operand_seen c.args.operand) c.args.text.now c.in-Some.field-0.0.now c.in-Some.field-0.1.now
+    c.in-Some.ensures.pieces)

@@ -15,7 +15,7 @@ pub returns-then-are_values : goal.returns-then-are_values
 returns-then-are_values c =
     let parts = parts-tokens c.args.values.now in
     let values : is_some (values_of (map tokens_of (slice_split is_comma c.args.values.now)))
-        ≡ true = ap (λ parts. is_some (values_of parts)) (sym parts) ∙ (cc) in
+    ≡ true = ap (λ parts. is_some (values_of parts)) (sym parts) ∙ (cc) in
     ap (λ o. ok_or o Misfit) (data-kept (slice_split is_comma c.args.values.now) values)
     ∙ ap (λ parts. ok_or (option_map statement_capped (option_map Data (values_of parts))) Misfit) (sym parts)
     ∙ found-capped (option_map Data (values_of (parts_of (tokens_of c.args.values.now))))

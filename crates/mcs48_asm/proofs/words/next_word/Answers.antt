@@ -7,14 +7,14 @@ pub returns-then-is_word_character-clause-first : goal.returns-then-is_word_char
 returns-then-is_word_character-clause-first c =
     let letter = sym c.is_word_character.ensures ∙ c.if-is_word_character.true in
     let words = c.loop-rest.invariant
-        ∙ words-cut c.loop-rest.rest.now c.run_length.result c.in-len1-up.len_at_least letter c.run_length.ensures.run
-        c.run_length.ensures.ends in
+    ∙ words-cut c.loop-rest.rest.now c.run_length.result c.in-len1-up.len_at_least letter c.run_length.ensures.run
+    c.run_length.ensures.ends in
     c.split_at.ensures.front ∙ sym (ap first_of words)
 
 pub returns-then-is_word_character-clause-others : goal.returns-then-is_word_character-clause-others
 returns-then-is_word_character-clause-others c =
     let letter = sym c.is_word_character.ensures ∙ c.if-is_word_character.true in
     let words = c.loop-rest.invariant
-        ∙ words-cut c.loop-rest.rest.now c.run_length.result c.in-len1-up.len_at_least letter c.run_length.ensures.run
-        c.run_length.ensures.ends in
+    ∙ words-cut c.loop-rest.rest.now c.run_length.result c.in-len1-up.len_at_least letter c.run_length.ensures.run
+    c.run_length.ensures.ends in
     ap (λ rest. first_of (words_of rest)) c.split_at.ensures.back ∙ sym (ap second_of words)

@@ -9,4 +9,4 @@ returns-then-first-eq44-clause-token c = before-comma c.args.first (goes_on c.ar
 pub returns-else-first-eq44-clause-token : goal.returns-else-first-eq44-clause-token
 returns-else-first-eq44-clause-token c =
     token-cut c.args.first c.args.behind.now c.run_length.result c.requires
-        (ne_eqb c.args.first 44 c.if-first-eq44.false) c.run_length.ensures.run c.run_length.ensures.ends
+    (ne_eqb c.args.first 44 c.if-first-eq44.false) c.run_length.ensures.run c.run_length.ensures.ends

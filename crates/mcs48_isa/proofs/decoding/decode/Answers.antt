@@ -35,15 +35,15 @@ returns-clause-short c =
 pub returns-clause-back : goal.returns-clause-back
 returns-clause-back c =
     subst (λ r. IfSome r (λ d. code_of d.op ≡ taken d.len (slice_index c.args.b 0) (slice_index c.args.b 1)))
-        (sym (c.decoded.ensures ∙ c.read_row.ensures))
+    (sym (c.decoded.ensures ∙ c.read_row.ensures))
     (each_row (λ d. code_of d.op ≡ taken d.len (slice_index c.args.b 0) (slice_index c.args.b 1))
-        (slice_index c.args.b 0) (slice_index c.args.b 1) (λ d s. s.3) (omega arith) (omega arith))
+    (slice_index c.args.b 0) (slice_index c.args.b 1) (λ d s. s.3) (omega arith) (omega arith))
 
 pub returns-clause-cycles : goal.returns-clause-cycles
 returns-clause-cycles c =
     subst (λ r. IfSome r (λ d. d.cycles ≡ (entry_of d.op).cycles)) (sym (c.decoded.ensures ∙ c.read_row.ensures))
     (each_row (λ d. d.cycles ≡ (entry_of d.op).cycles) (slice_index c.args.b 0) (slice_index c.args.b 1) (λ d s. s.4)
-        (omega arith) (omega arith))
+    (omega arith) (omega arith))
 
 pub returns-clause-empty : goal.returns-clause-empty
 returns-clause-empty c =

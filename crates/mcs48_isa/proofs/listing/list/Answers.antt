@@ -26,6 +26,11 @@ returns-clause-within c =
     let held = c.loop-place.invariant.text in
     let long : length bytes ≡ 2048 = search rules in
     let whole : length (c.loop-place.text.items ++ lines_from bytes (end_of bytes) held.0 c.loop-place.place)
-        ≡ length (listing_of bytes) = ap length held.2 in
-    omega (arith, whole, length-append c.loop-place.text.items
-        (lines_from bytes (end_of bytes) held.0 c.loop-place.place), listing-within bytes long)
+    ≡ length (listing_of bytes) = ap length held.2 in
+    omega (
+      arith,
+      whole,
+      length-append c.loop-place.text.items
+          (lines_from bytes (end_of bytes) held.0 c.loop-place.place),
+      listing-within bytes long,
+    )

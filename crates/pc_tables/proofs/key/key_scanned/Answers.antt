@@ -11,7 +11,7 @@ returns-then-key_row-scan c =
     let n = c.loop-number.number in
     let within : n < length keys = omega (arith, key_count) in
     let e : c.key_row-in-loop-number.inside.scan
-        ≡ scan_at n = ap (λ (r : Row). r.scan) (c.key_row-in-loop-number.view_is ∙ c.key_row.ensures) in
+    ≡ scan_at n = ap (λ (r : Row). r.scan) (c.key_row-in-loop-number.view_is ∙ c.key_row.ensures) in
     let here : (scan_at n == scan) ≡ true = grind (arith, nat_tests) in
     sym (position-found (λ (key : Row). key.scan == scan) keys n (row [] 0 0) within c.loop-number.invariant here)
 

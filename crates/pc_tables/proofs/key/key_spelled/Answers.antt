@@ -11,7 +11,7 @@ returns-then-eq c =
     let n = c.loop-number.number in
     let within : n < length keys = omega (arith, key_count) in
     let e : c.as_bytes.result.now ≡ name_at n = c.as_bytes.ensures.value
-        ∙ ap (λ (r : Row). r.name) (c.key_row-in-loop-number.view_is ∙ c.key_row.ensures) in
+    ∙ ap (λ (r : Row). r.name) (c.key_row-in-loop-number.view_is ∙ c.key_row.ensures) in
     let here : bytes_eq (name_at n) name ≡ true =
     ap (λ text. bytes_eq text name) (sym e) ∙ sym c.eq.ensures ∙ c.if-eq.true in
     record { key = sym (position-found (λ (key : Row). bytes_eq key.name name) keys n (row [] 0 0) within c.loop-number.invariant here) }

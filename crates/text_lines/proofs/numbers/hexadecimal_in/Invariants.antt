@@ -6,4 +6,4 @@ use Rattle.text_lines.proofs.numbers.hexadecimal_in.Given as goal
 abbrev pub invariant-loop-character : goal.invariant-loop-character
 invariant-loop-character l =
     (number_after 16 digit_value 0 l.text ≡ number_after 16 digit_value l.number (drop l.character-index l.text))
-        × (l.number < 16 ^ l.character-index)
+    × (l.number < 16 ^ l.character-index)

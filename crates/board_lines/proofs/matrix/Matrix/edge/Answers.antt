@@ -7,7 +7,7 @@ pub returns : goal.returns
 returns c = record {
   keys =
       edge_turned c.self.inside.columns c.args.place c.number.result c.number-2.result c.turn_row.result c.args.down
-          c.self.told c.number.ensures.range
+      c.self.told c.number.ensures.range
       c.number.ensures.number c.number-2.ensures.number c.turn_row.ensures
       ∙ ap (λ keys. turned c.args.place c.args.down keys) c.self.view_is;
 }

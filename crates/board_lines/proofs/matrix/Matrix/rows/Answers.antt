@@ -8,7 +8,7 @@ returns-then-column-lt12 c = record {
   rows =
       c.shown.ensures.rows
       ∙ reads_column c.self.inside.columns c.args.p1 c.self.told c.if-column-lt12.true
-          (subst (λ b. b < 256) c.shown.ensures.rows c.shown.ensures.byte)
+      (subst (λ b. b < 256) c.shown.ensures.rows c.shown.ensures.byte)
       ∙ ap (λ keys. rows_of keys c.args.p1) c.self.view_is;
 }
 

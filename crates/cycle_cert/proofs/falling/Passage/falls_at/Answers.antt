@@ -11,8 +11,8 @@ returns c =
     let p = c.args.self.now in
     let is_open_here : is_open p c.args.first c.args.second ≡ true = sym c.is_open.ensures ∙ c.if-not-is_open.false in
     let left : c.cycles_at.result
-        ≡ cycles_at p.after (heaviest p.op p.after.register c.args.second) = c.cycles_at.ensures.cycles
-        ∙ ap (cycles_at p.after) c.heaviest-left.ensures in
+    ≡ cycles_at p.after (heaviest p.op p.after.register c.args.second) = c.cycles_at.ensures.cycles
+    ∙ ap (cycles_at p.after) c.heaviest-left.ensures in
     let right = c.cycles_at-2.ensures.cycles in
     let more = c.from.ensures in
     rw (left, right, more) (sym (falls_where_open p c.args.first c.args.second is_open_here))

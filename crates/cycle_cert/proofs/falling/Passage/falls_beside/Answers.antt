@@ -7,7 +7,7 @@ use Rattle.cycle_cert.proofs.falling.Passage.falls_beside.Goals as goal
 pub returns-then-not-falls_at : goal.returns-then-not-falls_at
 returns-then-not-falls_at c =
     sym (not_each (falls_at c.args.self.now c.args.first) c.loop-value.value c.loop-value-test.true
-        (sym c.falls_at.ensures ∙ c.if-not-falls_at.true))
+    (sym c.falls_at.ensures ∙ c.if-not-falls_at.true))
 
 pub loop-value-preserved : goal.loop-value-preserved
 loop-value-preserved c = below_more _ _ c.loop-value.invariant (sym c.falls_at.ensures ∙ c.if-not-falls_at.false)

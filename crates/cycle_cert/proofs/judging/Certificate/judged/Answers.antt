@@ -13,6 +13,6 @@ returns-clause-sound c =
     let bytes = c.args.bytes.now in
     let cert = said_by c.args.self.now in
     let none_left : drop c.loop-entry.entry-index c.entries-entries.result.now
-        ≡ [] = drop_of_length-le c.entries-entries.result.now c.loop-entry-test.false in
+    ≡ [] = drop_of_length-le c.entries-entries.result.now c.loop-entry-test.false in
     let clear : first_fault bytes cert cert.entries ≡ None = sym c.loop-entry.invariant ∙ ap (first_fault bytes cert) none_left in
     keeps_bounds bytes cert (All-from_get_or IsByte bytes 0 (λ i below. c.fits-bytes i)) clear c.entries-entries.ensures.registers

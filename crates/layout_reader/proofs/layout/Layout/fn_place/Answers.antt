@@ -10,14 +10,20 @@ pub returns-in-Some : goal.returns-in-Some
 unfolding fn_place
 returns-in-Some c =
     let found = find_from_yields_List is_fn _ _ c.find.result c.find.ensures.ran
-        (YieldsList-from_slice c.self.inside.entries.items cc) (λ x b q k. search (rules, tests)) in
-    record { silent = subst IsSilentAtFn c.self.view_is (is_silent_at_fn _ c.self.invariant); place = rw
-        (← c.self.view_is, ← rw c.in-Some.is at found) refl }
+    (YieldsList-from_slice c.self.inside.entries.items cc) (λ x b q k. search (rules, tests)) in
+    record {
+      silent = subst IsSilentAtFn c.self.view_is (is_silent_at_fn _ c.self.invariant);
+      place = rw
+          (← c.self.view_is, ← rw c.in-Some.is at found) refl;
+    }
 
 pub returns-in-None : goal.returns-in-None
 unfolding fn_place
 returns-in-None c =
     let found = find_from_yields_List is_fn _ _ c.find.result c.find.ensures.ran
-        (YieldsList-from_slice c.self.inside.entries.items cc) (λ x b q k. search (rules, tests)) in
-    record { silent = subst IsSilentAtFn c.self.view_is (is_silent_at_fn _ c.self.invariant); place = rw
-        (← c.self.view_is, ← rw c.in-None.is at found) refl }
+    (YieldsList-from_slice c.self.inside.entries.items cc) (λ x b q k. search (rules, tests)) in
+    record {
+      silent = subst IsSilentAtFn c.self.view_is (is_silent_at_fn _ c.self.invariant);
+      place = rw
+          (← c.self.view_is, ← rw c.in-None.is at found) refl;
+    }

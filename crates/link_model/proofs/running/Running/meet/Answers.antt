@@ -13,7 +13,7 @@ carry-requires-clause-may_begin c =
     let stays : (byte : ℕ) → c.link-earlier.result ≡ Request byte → c.link.result ≡ Request byte = λ byte e.
     c.link.ensures ∙ ap (λ (v : Side UnderWay). v.port.link) c.in_ok-run_on.ensures
     ∙ quiet_request c.args.events.now (c.args.start + 288 - (c.args.start + 256))
-        (c.args.start + 256) c.args.self.now byte (sym c.link-earlier.ensures ∙ e) in
+    (c.args.start + 256) c.args.self.now byte (sym c.link-earlier.ensures ∙ e) in
     subst (λ (l : Link UnderWay). MayBegin c.meeting_of-begins.result l) c.link.ensures
     (subst (λ (m : Meeting). MayBegin m c.link.result) (sym c.meeting_of-begins.ensures.meeting)
     (may_begin c.args.tested c.args.offer c.link-earlier.result c.link.result stays))

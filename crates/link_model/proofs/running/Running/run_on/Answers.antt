@@ -16,7 +16,7 @@ cycles-preserved-then-now-to c =
           (run_leaps c.args.events.now c.args.from c.args.self.now c.cycles.now c.sleep-now.result c.cycles.self
           c.cycles.invariant.from c.sleep-now.ensures.from c.cycles.invariant.runs
           (subst (λ o. SleepsTo is_open o (desk_of c.cycles.self) c.cycles.now c.sleep-now.result) c.next-next.ensures
-              c.sleep-now.ensures.sleeps))
+          c.sleep-now.ensures.sleeps))
           c.in_ok-cycle.ensures;
     }
 
@@ -27,5 +27,5 @@ cycles-preserved c = record {
   runs = run_leaps c.args.events.now c.args.from c.args.self.now c.cycles.now c.sleep-now.result c.cycles.self
       c.cycles.invariant.from c.sleep-now.ensures.from c.cycles.invariant.runs
       (subst (λ o. SleepsTo is_open o (desk_of c.cycles.self) c.cycles.now c.sleep-now.result) c.next-next.ensures
-          c.sleep-now.ensures.sleeps);
+      c.sleep-now.ensures.sleeps);
 }
