@@ -93,8 +93,7 @@ column_shown columns column c l =
       at 2 (omega arith),
       at 3 (omega arith),
       at 4 (omega arith),
-      at 5
-          (omega arith),
+      at 5 (omega arith),
       at 6 (omega arith),
       at 7 (omega arith),
     ) in

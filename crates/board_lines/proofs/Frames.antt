@@ -101,16 +101,16 @@ right_is f l r = absurd (omega (arith, l))
 
 -- the frame of bits that are a byte's
 pub framed : (bits : List Bool) (odd : Bool) (b : ℕ) → b < 256 → bits ≡ data_bits b
-    → odd ≡ is_odd (get_or bits 0 false ∷ get_or bits 1 false ∷ get_or bits 2 false ∷ get_or bits 3 false ∷ get_or
-    bits 4 false ∷ get_or bits 5 false ∷ get_or bits 6 false ∷ get_or bits 7 false ∷ [])
-    → byte_of (false ∷ get_or bits 0 false ∷ get_or bits 1 false ∷ get_or bits 2 false ∷ get_or bits 3 false ∷ get_or
-    bits 4 false ∷ get_or bits 5 false ∷ get_or bits 6 false ∷ get_or bits 7 false ∷ not odd ∷ true ∷ []) ≡ Some b
+    → odd ≡ is_odd (get_or bits 0 false ∷ get_or bits 1 false ∷ get_or bits 2 false ∷ get_or bits 3 false
+    ∷ get_or bits 4 false ∷ get_or bits 5 false ∷ get_or bits 6 false ∷ get_or bits 7 false ∷ [])
+    → byte_of (false ∷ get_or bits 0 false ∷ get_or bits 1 false ∷ get_or bits 2 false ∷ get_or bits 3 false
+    ∷ get_or bits 4 false ∷ get_or bits 5 false ∷ get_or bits 6 false ∷ get_or bits 7 false ∷ not odd ∷ true ∷ []) ≡ Some b
 framed bits odd b l e o =
-    ap (λ p. byte_of (false ∷ get_or bits 0 false ∷ get_or bits 1 false ∷ get_or bits 2 false ∷ get_or bits 3 false ∷
-    get_or bits 4 false ∷ get_or bits 5 false ∷ get_or bits 6 false ∷ get_or bits 7 false ∷ not p ∷ true ∷ [])) o
+    ap (λ p. byte_of (false ∷ get_or bits 0 false ∷ get_or bits 1 false ∷ get_or bits 2 false ∷ get_or bits 3 false
+    ∷ get_or bits 4 false ∷ get_or bits 5 false ∷ get_or bits 6 false ∷ get_or bits 7 false ∷ not p ∷ true ∷ [])) o
     ∙ ap (λ (d : List Bool). byte_of
-    (false ∷ get_or d 0 false ∷ get_or d 1 false ∷ get_or d 2 false ∷ get_or d 3 false ∷ get_or d 4 false ∷ get_or
-    d 5 false ∷ get_or d 6 false ∷ get_or d 7 false
-    ∷ not (is_odd (get_or d 0 false ∷ get_or d 1 false ∷ get_or d 2 false ∷ get_or d 3 false ∷ get_or d 4 false ∷
-    get_or d 5 false ∷ get_or d 6 false ∷ get_or d 7 false ∷ [])) ∷ true ∷ [])) e
+    (false ∷ get_or d 0 false ∷ get_or d 1 false ∷ get_or d 2 false ∷ get_or d 3 false ∷ get_or d 4 false
+    ∷ get_or d 5 false ∷ get_or d 6 false ∷ get_or d 7 false
+    ∷ not (is_odd (get_or d 0 false ∷ get_or d 1 false ∷ get_or d 2 false ∷ get_or d 3 false ∷ get_or d 4 false
+    ∷ get_or d 5 false ∷ get_or d 6 false ∷ get_or d 7 false ∷ [])) ∷ true ∷ [])) e
     ∙ read_back b l

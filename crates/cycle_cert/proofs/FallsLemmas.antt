@@ -149,8 +149,8 @@ falls_beside p ne =
     true_or_false (list_all each byte_values ≡ each (lightest p)) (each (lightest p))
     (λ y. each_value each
     (λ v l. each_value (falls_at p v)
-    (λ z m. falls_by p v z (fits p.when p.before.register v) (fits p.when p.after.register z) refl refl
-    (at_value (falls_at p (lightest p)) z y m))) ∙ sym y)
+    (λ z m. falls_by p v z (fits p.when p.before.register v)
+    (fits p.when p.after.register z) refl refl (at_value (falls_at p (lightest p)) z y m))) ∙ sym y)
     (λ n. not_each each (lightest p) (lightest_small p.before.register p.when) n ∙ sym n) in
     sym (k ∙ ap (λ b. if b then list_all (λ value. falls_at p value value) byte_values else list_all
     (λ first. list_all (falls_at p first) byte_values) byte_values) f ∙ both_ways)

@@ -144,8 +144,8 @@ module _ (bytes : List ℕ) (cert : Certificate) (program : All IsByte bytes) (c
   }
     where
       regular : Regular d
-      regular = row_regular (get_or bytes (m.pc % 2048) 0) (get_or bytes ((m.pc + 1) % 2048) 0) d
-          (read_byte bytes ((m.pc + 1) % 2048) program) row
+      regular = row_regular (get_or bytes (m.pc % 2048) 0)
+          (get_or bytes ((m.pc + 1) % 2048) 0) d (read_byte bytes ((m.pc + 1) % 2048) program) row
 
       done : Cpu
       done = effect d.op bytes pins (past m)

@@ -35,8 +35,8 @@ no_event y (Some e) s end l =
 
 no_read : (y filled : ℕ) (h : Host) (end : ℕ) → y < read_wake filled h.masked h.core end → interrupts y filled h ≡ false
 no_read y filled h end l =
-    elim (h.core.output_full && interrupt_enabled h.core && not h.masked) as (λ g. y <
-    (if g then filled + 64 else end) → (g && nat_le (filled + 64) y) ≡ false) [
+    elim (h.core.output_full && interrupt_enabled h.core
+    && not h.masked) as (λ g. y < (if g then filled + 64 else end) → (g && nat_le (filled + 64) y) ≡ false) [
       | true ↦ λ k. grind (arith, nat_tests, k)
       | false ↦ λ k. refl
     ] l

@@ -64,8 +64,8 @@ placed-capped p [] = refl
 placed-capped p (line ∷ lines) =
     let s = start_of p line.statement in
     let more = map line_capped lines in
-    ap (λ s. record { start = s; line = line_capped line } ∷ kept_places
-    (capped (s + count_of (statement_capped line.statement))) more) (start-capped p line.statement)
+    ap (λ s. record { start = s; line = line_capped line }
+    ∷ kept_places (capped (s + count_of (statement_capped line.statement))) more) (start-capped p line.statement)
     ∙ ap (λ c. at_capped (record { start = s; line = line }) ∷ kept_places (capped (capped s + c)) more) (count-capped line.statement)
     ∙ ap (λ n. at_capped (record { start = s; line = line }) ∷ kept_places n more) (capped-add s (count_of line.statement))
     ∙ ap (λ ps. at_capped (record { start = s; line = line }) ∷ ps) (placed-capped (s + count_of line.statement) lines)

@@ -57,8 +57,9 @@ pub parts-tokens : (text : List ℕ) → parts_of (tokens_of text) ≡ map token
 parts-tokens [] = refl
 parts-tokens (c ∷ cs) =
     let cut = split-is_cons is_comma cs in
-    go cut.first cut.rest (is_comma c) (is_blank c) (goes_on cs) refl refl refl cut.is
-    (parts-tokens cs ∙ ap (map tokens_of) cut.is) (goes-part cs ∙ ap (λ ps. goes_on (first_of ps)) cut.is)
+    go cut.first cut.rest (is_comma c) (is_blank c)
+    (goes_on cs) refl refl refl cut.is (parts-tokens cs ∙ ap (map tokens_of) cut.is)
+    (goes-part cs ∙ ap (λ ps. goes_on (first_of ps)) cut.is)
   where
     go : (p : List ℕ) (ps : List (List ℕ)) (k b g : Bool) → is_comma c ≡ k → is_blank c ≡ b → goes_on cs ≡ g
         → slice_split is_comma cs ≡ p ∷ ps → parts_of (tokens_of cs) ≡ tokens_of p ∷ map tokens_of ps

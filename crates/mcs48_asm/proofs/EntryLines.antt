@@ -126,15 +126,15 @@ is_word_shown (Is word) = is_shown word
 is_word_shown operand = true
 
 abbrev pub is_first : List ℕ → Bool
-is_first word = list_all is_word_character word &&
-    (goes_on word && (is_good_word word &&
-    (not (bytes_eq word (codes "ORG")) && (not (bytes_eq word (codes "DB")) && is_instruction word))))
+is_first word = list_all is_word_character word
+    && (goes_on word && (is_good_word word
+    && (not (bytes_eq word (codes "ORG")) && (not (bytes_eq word (codes "DB")) && is_instruction word))))
 
 abbrev pub is_entry : Entry → Bool
 is_entry entry =
     is_first entry.word &&
-    (nat_le (length entry.operands) 2 &&
-    (list_all is_word_shown entry.operands && hits instructions entry.word entry.first entry.operands))
+    (nat_le (length entry.operands) 2
+    && (list_all is_word_shown entry.operands && hits instructions entry.word entry.first entry.operands))
 
 statement-is : (word : List ℕ) (words tokens : List (List ℕ)) (statement : Statement)
     → bytes_eq (first_of words) (codes "EQU") ≡ false → bytes_eq word (codes "ORG") ≡ false → bytes_eq word (codes "DB") ≡ false

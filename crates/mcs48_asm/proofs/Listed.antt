@@ -120,8 +120,8 @@ said-written memory place read sized = record {
 listed-step : (memory : List ℕ) (end most place : ℕ)
     (read : IsRead (text_at memory place) place (bytes_at memory place)) → IsSized memory place → place < end
     → placed place (listed memory end (suc most) place)
-    ≡ said_at place read.statement ∷ placed (place + count_of read.statement)
-    (listed memory end most (place + size_of (instruction_at memory place)))
+    ≡ said_at place read.statement
+    ∷ placed (place + count_of read.statement) (listed memory end most (place + size_of (instruction_at memory place)))
 listed-step memory end most place read sized below =
     let next : ℕ = place + size_of (instruction_at memory place) in
     let others : List ℕ = lines_from memory end most next in

@@ -70,8 +70,8 @@ lines-within : (bytes : List ℕ) (end most place : ℕ) → length (lines_from 
 lines-within bytes end zero place = omega arith
 lines-within bytes end (suc most) place =
     let next : ℕ = place + size_of (instruction_at bytes place) in
-    either-within (nat_lt place end) (line_at bytes place) (lines_from bytes end most next) most
-    (line-short bytes place) (lines-within bytes end most next)
+    either-within (nat_lt place end) (line_at bytes place)
+    (lines_from bytes end most next) most (line-short bytes place) (lines-within bytes end most next)
 
 end-within : (bytes : List ℕ) → end_of bytes ≤ length bytes
 end-within [] = omega arith

@@ -55,8 +55,8 @@ module _ (events : List HostEvent) (latch : ℕ → Lines) (now byte : ℕ) (bit
   level : (k n : ℕ) → k < 10 → n ≤ 31 → (pc_at (32 * k + suc n)).side.port.link ≡ Busy (w k)
   level zero n below short =
       let x : ℕ = 32 * 0 + now in
-      let c = cell events latch x (bits 0) b (Request byte) (w 0) q (Begins false) (is.cells 0 below) at
-      (way.first x) way.begins (way.starts x) n short in
+      let c = cell events latch x (bits 0) b (Request byte) (w 0) q (Begins false)
+      (is.cells 0 below) at (way.first x) way.begins (way.starts x) n short in
       let more : pc_at (32 * 0 + suc n)
       ≡ board_cycles events latch (suc n) x b = cycles_more events latch (32 * 0) (suc n) (32 * 0 + suc n) now b refl in
       ap (λ (v : Pc). v.side.port.link) more ∙ still_on (board_cycles events latch (suc n) x b) 1 (latch (n + x)).clk x c.1

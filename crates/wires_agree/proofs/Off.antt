@@ -97,6 +97,6 @@ all_broken events latch line start rest byte j k bits b up earlier later frame b
     (ap (λ (v : Pc). seen_in_bytes v.side) is ∙ off.in_cell 17 (omega arith)) in
     let at609 : Pc = board_cycles events latch 321 now c in
     let last = between events latch rest (609 + start) at609 (λ o l u. high o (omega (arith, l, below)) (omega (arith, u))) passes.1 in
-    joins events latch start rest b up (ap is_busy earlier) true (Some byte) (Sent byte) Cut
-    (begins events latch start rest b up (ap is_busy earlier) byte earlier later)
+    joins events latch start rest b up (ap is_busy earlier) true (Some byte)
+    (Sent byte) Cut (begins events latch start rest b up (ap is_busy earlier) byte earlier later)
     (cut_where byte (Rattle.byte_time.specs.ByteTime.sends events now (seen_in_bytes c.side)).port.link passes.2) passes.0 last k e

@@ -107,8 +107,8 @@ unfolding board_cycle
 cycle_flip events now latch b are f =
     let line : Lines = wires latch b in
     goes_flip events now (looked now line b).side are
-    (choice (b.clock && not line.clk) (edge_at now line.dat b.side.port.link b.side.port) b.side.port
-    (edge_flip now line.dat b.side.port.link b.side.port f) f)
+    (choice (b.clock && not line.clk)
+    (edge_at now line.dat b.side.port.link b.side.port) b.side.port (edge_flip now line.dat b.side.port.link b.side.port f) f)
 
 pub flips_stay : FlipsStay
 flips_stay events latch zero now b are f = f

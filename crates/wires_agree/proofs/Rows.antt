@@ -27,8 +27,8 @@ asked : List HostEvent
 asked = at 0 Mask ∷ at 0 (Write64 0xaa) ∷ at 10 AskStatus ∷ at 10 Read60 ∷ at 10 AskStatus ∷ []
 
 self_test : (board_cycles asked high 20 4096 pc_at_start).side.log
-    ≡ record { cycle = 4106; item = Status 0x1d } ∷ record { cycle = 4107; item = Read 0x55 } ∷
-    record { cycle = 4108; item = Status 0x1c } ∷ []
+    ≡ record { cycle = 4106; item = Status 0x1d } ∷ record { cycle = 4107; item = Read 0x55 }
+    ∷ record { cycle = 4108; item = Status 0x1c } ∷ []
 unfolding asked board_cycle goes_on
 self_test = refl
 

@@ -111,8 +111,8 @@ module _ {F G : Type 0} (f : F → G) where
 
     broken_same : (now : ℕ) (p : Port F) → broken_off there now (port_by f p) ≡ port_by f (broken_off here now p)
     broken_same now p =
-        ap (λ c. if c && not p.awaits && is_some p.core.input then record (port_by f p) { link = Hold now } else
-        port_by f p) (breaks_same p.link)
+        ap (λ c. if c && not p.awaits
+        && is_some p.core.input then record (port_by f p) { link = Hold now } else port_by f p) (breaks_same p.link)
         ∙ broken_by (may_break here p.link && not p.awaits && is_some p.core.input) now p
 
     -- a cycle goes on alike, whatever is known of a byte under way

@@ -163,8 +163,8 @@ module _ (events : List HostEvent) (latch : ℕ → Lines) (now : ℕ) (bits : �
       let y : ℕ = 32 * k + 18 in
       let c : IsCell latch x (bits k) = is.cells k below in
       let here : IsAt (pc_at y) (Busy (w k)) (latch (17 + x)).clk = record { link_is = on.busy; clock_is = clock } in
-      let rest = busy_span events latch 14 (17 + x) (pc_at y) (w k) (omega arith) here
-      (λ o lo hi. c.once o (omega (arith, lo)) (omega (arith, hi))) in
+      let rest = busy_span events latch 14 (17 + x) (pc_at y) (w k)
+      (omega arith) here (λ o lo hi. c.once o (omega (arith, lo)) (omega (arith, hi))) in
       let z : suc (17 + x) ≡ y + now = omega arith in
       let e : y + 14 ≡ 32 * suc k = omega arith in
       let more : pc_at (32 * suc k)

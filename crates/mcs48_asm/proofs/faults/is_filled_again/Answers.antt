@@ -8,10 +8,10 @@ use Rattle.mcs48_asm.proofs.faults.is_filled_again.Goals as goal
 pub returns-then-count-gt0 : goal.returns-then-count-gt0
 returns-then-count-gt0 c =
     c.is_any_filled.ensures
-    ∙ any_places (λ place. nat_le c.args.start place && nat_lt place
-    (c.args.start + c.count_of-count.result) && slice_index_or c.args.filled.now place false) _ c.requires
-    ∙ ap (λ n. list_any (λ place. nat_le c.args.start place && nat_lt place
-    (c.args.start + n) && slice_index_or c.args.filled.now place false) places) c.count_of-count.ensures.number
+    ∙ any_places (λ place. nat_le c.args.start place && nat_lt place (c.args.start + c.count_of-count.result)
+    && slice_index_or c.args.filled.now place false) _ c.requires
+    ∙ ap (λ n. list_any (λ place. nat_le c.args.start place && nat_lt place (c.args.start + n)
+    && slice_index_or c.args.filled.now place false) places) c.count_of-count.ensures.number
 
 pub returns-else-count-gt0 : goal.returns-else-count-gt0
 returns-else-count-gt0 c =

@@ -25,16 +25,16 @@ unfilled start end place b h = rw (h, and_false) refl
 
 pub loop-place-init : goal.loop-place-init
 loop-place-init c =
-    any_range-skip (λ place. nat_le c.args.start place && nat_lt place c.args.end && slice_index_or c.args.filled.now
-    place false) (length c.args.filled.now) c.args.start
+    any_range-skip (λ place. nat_le c.args.start place && nat_lt place c.args.end
+    && slice_index_or c.args.filled.now place false) (length c.args.filled.now) c.args.start
     (λ place h. before c.args.start c.args.end place (slice_index_or c.args.filled.now place false) h)
 
 pub loop-place-preserved : goal.loop-place-preserved
 loop-place-preserved c =
     let within : c.loop-place.place < length c.args.filled.now = omega arith in
     c.loop-place.invariant
-    ∙ any_range-false (λ place. nat_le c.args.start place && nat_lt place c.args.end && slice_index_or
-    c.args.filled.now place false) (length c.args.filled.now) c.loop-place.place
+    ∙ any_range-false (λ place. nat_le c.args.start place && nat_lt place c.args.end
+    && slice_index_or c.args.filled.now place false) (length c.args.filled.now) c.loop-place.place
     within (unfilled c.args.start c.args.end c.loop-place.place _ c.if-filled-place.false)
 
 pub returns : goal.returns
