@@ -566,7 +566,7 @@ a_over: MOV A,@R1
         MOV @R1,A
         JMP edges
 
-; -- power: what isn't 00 at power-on. Times are the cycles since reset.
+; -- power: what isn't 00 at power-on; the timer's request is cleared. Times are the cycles since reset.
 ; needs: nothing. leaves: TEST, LAST, RATE, R0.
 ; cycles: 20.
 power:  MOV R1,#TEST        ; 393
@@ -577,7 +577,7 @@ power:  MOV R1,#TEST        ; 393
         MOVP3 A,@A          ; 403
         MOV R1,#RATE        ; 405
         MOV @R1,A           ; 407
-        NOP                 ; 408
+        DIS TCNTI           ; 408: no request is left that was latched at power-on
         MOV R0,#14          ; 409
         JMP begin           ; 411
 

@@ -1,7 +1,7 @@
 -- From power-on to the first tick start.
 use Rattle.std.proofs.Common.{◌≡◌, ◌<◌, ℕ, List, All, refl, inl, ap, sym, subst, arith}
 use Rattle.mcs48_core.specs.Cpu.{Cpu}
-use Rattle.mcs48_core.specs.Reset.{reset_cpu, reset_in}
+use Rattle.mcs48_core.specs.Reset.{reset_in}
 use Rattle.fw_kernel.specs.declared.labels.TheConstants.{TICK}
 use Rattle.fw_kernel.specs.Places.{HasKernel}
 use Rattle.joint_run.specs.Run.{Board, World}
@@ -11,7 +11,7 @@ use Rattle.fw_logic.specs.Boards.{power_on}
 use Rattle.fw_logic.proofs.Fine.{calm_fine}
 use Rattle.fw_logic.proofs.Service.{begun}
 use Rattle.fw_logic.proofs.Laws.{comes_as}
-use Rattle.fw_logic.proofs.Starting.{IsFirst, first_start, powered, empty_ring}
+use Rattle.fw_logic.proofs.Starting.{IsFirst, first_start, powered, empty_ring, reset_by}
 use Rattle.fw_keys.specs.Frameless.{IsStarted, FromPowerOn, shown_by, layers_by}
 use Rattle.fw_keys.proofs.Begun.{started_is}
 
@@ -29,7 +29,7 @@ module _ (d : Board) (bytes : List ℕ) (hk : HasKernel bytes) (small : All IsBy
         pre = fine.pre;
         p1 = omega arith;
         p2 = omega arith;
-        bus = omega arith;
+        bus = fine.bus;
         sp = omega arith;
       }
 
@@ -40,7 +40,7 @@ module _ (d : Board) (bytes : List ℕ) (hk : HasKernel bytes) (small : All IsBy
       let a = h.goal in
       let fine_there : IsFine h.end.cpu =
       calm_fine d TICK bytes small low h.steps (power_on d m board) h.end reset_fine h.run in
-      let B : Cpu = begun a.late a.tf a.last (powered bytes) empty_ring (record reset_cpu { a = 142 }) in
+      let B : Cpu = begun a.late a.tf a.last (powered bytes) empty_ring (record (reset_by a.bus) { a = 142 }) in
       let cpu : h.end.cpu ≡ B = ap (λ (u : World d.State). u.cpu) a.is in
       record {
         steps = h.steps;
@@ -50,7 +50,7 @@ module _ (d : Board) (bytes : List ℕ) (hk : HasKernel bytes) (small : All IsBy
           a,
           record {
             started = subst (λ c. IsStarted c) (sym cpu)
-                (started_is a.late a.most a.tf a.last (powered bytes) empty_ring (record reset_cpu { a = 142 })
+                (started_is a.late a.most a.tf a.last (powered bytes) empty_ring (record (reset_by a.bus) { a = 142 })
                 (subst (λ c. IsFine c) cpu fine_there)
                 (record {
                   most = omega arith;

@@ -34,14 +34,19 @@ empty_ring = 0 ∷ 0 ∷ 0 ∷ 0 ∷ 0 ∷ 0 ∷ 0 ∷ 0 ∷ 0 ∷ 0 ∷ 0 ∷ 0
 abbrev pub powered : List ℕ → ℕ → ℕ
 powered bytes = put (put (put (put empty 69 64) 76 170) 73 (slice_index bytes 864)) 25 73
 
--- the first tick start: both latches are as after reset; data memory is cleared but for what power-on sets and the way
--- back
+-- the processor after reset, with the bus latch that it was switched on with
+abbrev pub reset_by : ℕ → Cpu
+reset_by bus = record reset_cpu { bus = bus }
+
+-- the first tick start: the latches of both ports are as after reset; data memory is cleared but for what power-on sets
+-- and the way back
 pub record IsFirst (d : Board) (bytes : List ℕ) (board : d.State) (w : World d.State) : Type 0 where
   pub late : ℕ
   pub tf : Bool
   pub last : Bool
+  pub bus : ℕ
   pub is : w ≡ record {
-    cpu = begun late tf last (powered bytes) empty_ring (record reset_cpu { a = 142 });
+    cpu = begun late tf last (powered bytes) empty_ring (record (reset_by bus) { a = 142 });
     board = after_cycles (4096 + late) 0 (d.cycle 255) board;
     cycle = 4096 + late;
   }
@@ -55,31 +60,33 @@ module _ (d : Board) (bytes : List ℕ) (has : HasKernel bytes) where
   abbrev reset_at : Cpu → (ℕ → ℕ) → d.State → Stage d.State
   reset_at m f board = record { cpu = reset_with m f; board = board; off = 0 }
 
-  -- the timer is written and stands still; its interrupt isn't enabled yet
-  abbrev set_cpu : ℕ → Bool → Cpu
-  set_cpu pre last =
-      record (plain (powered bytes) empty_ring reset_cpu) { pc = 250; a = 142; t = 142; pre = pre; last_t1 = last }
+  -- the timer is written and stands still; its interrupt isn't enabled yet, and no request is latched
+  abbrev set_cpu : ℕ → ℕ → Bool → Cpu
+  set_cpu bus pre last =
+      record (plain (powered bytes) empty_ring (reset_by bus)) { pc = 250; a = 142; t = 142; pre = pre; last_t1 = last }
 
-  abbrev IsSet : ℕ → d.State → Stage d.State → Type 0
-  IsSet pre board e =
-      (e.cpu ≡ set_cpu pre e.cpu.last_t1) × (e.off ≡ 444) × (e.board ≡ after_cycles 444 0 (d.cycle 255) board)
+  abbrev IsSet : ℕ → ℕ → d.State → Stage d.State → Type 0
+  IsSet bus pre board e =
+      (e.cpu ≡ set_cpu bus pre e.cpu.last_t1) × (e.off ≡ 444) × (e.board ≡ after_cycles 444 0 (d.cycle 255) board)
 
   sets : (m : Cpu) (f : ℕ → ℕ) (board : d.State)
-      → Path d (kernel_in false bytes) 0 (Until 250 ∷ []) (reset_at m f board) (IsSet m.pre board)
+      → Path d (kernel_in false bytes) 0 (Until 250 ∷ []) (reset_at m f board) (IsSet m.bus m.pre board)
   sets m f board = (refl, refl, refl)
 
   -- EN TCNTI and STRT T
-  starts : (pre : ℕ) (board : d.State) (last : Bool) (Q : World d.State → Type 0)
+  starts : (bus pre : ℕ) (board : d.State) (last : Bool) (Q : World d.State → Type 0)
       → ((last' : Bool) → Comes d TICK bytes (record {
-        cpu = waiting 142 0 false last' false (plain (powered bytes) empty_ring (record reset_cpu { a = 142 }));
+        cpu = waiting 142 0 false last' false (plain (powered bytes) empty_ring (record (reset_by bus) { a = 142 }));
         board = after_cycles 446 0 (d.cycle 255) board;
         cycle = 446;
       }) Q)
-      → Comes d TICK bytes (record { cpu = set_cpu pre last; board = after_cycles 444 0 (d.cycle 255) board; cycle = 444 }) Q
-  starts pre board last Q rest =
-      let at : World d.State = record { cpu = set_cpu pre last; board = after_cycles 444 0 (d.cycle 255) board; cycle = 444 } in
+      → Comes d TICK bytes
+      (record { cpu = set_cpu bus pre last; board = after_cycles 444 0 (d.cycle 255) board; cycle = 444 }) Q
+  starts bus pre board last Q rest =
+      let at : World d.State =
+      record { cpu = set_cpu bus pre last; board = after_cycles 444 0 (d.cycle 255) board; cycle = 444 } in
       let pins = seen d at in
-      let on : Cpu = record (set_cpu pre pins.t1) { pc = 251; tim_on = true } in
+      let on : Cpu = record (set_cpu bus pre pins.t1) { pc = 251; tim_on = true } in
       let next : World d.State = record { cpu = on; board = after_cycles 445 0 (d.cycle 255) board; cycle = 445 } in
       let row = (has_rows true bytes has 250 (record { op = Control EnTcnti; len = 1; cycles = 1 }) refl).0 in
       let row' = (has_rows true bytes has 251 (record { op = Control StrtT; len = 1; cycles = 1 }) refl).0 in
@@ -87,7 +94,7 @@ module _ (d : Board) (bytes : List ℕ) (has : HasKernel bytes) where
       (stepped_is bytes pins at.cpu (record { op = Control EnTcnti; len = 1; cycles = 1 }) (inr (refl, refl)) row)
       (comes_by d TICK bytes Q next (record {
         cpu = waiting 142 0 false (seen d next).t1 false
-            (plain (powered bytes) empty_ring (record reset_cpu { a = 142 }));
+            (plain (powered bytes) empty_ring (record (reset_by bus) { a = 142 }));
         cycles = 1;
       }) refl (ap (λ r. executed r bytes (seen d next) on) row') (rest (seen d next).t1))
 
@@ -95,21 +102,21 @@ module _ (d : Board) (bytes : List ℕ) (has : HasKernel bytes) where
       → Comes d TICK bytes (world_at 0 (reset_at m f board)) (IsFirst d bytes board)
   first_from m f board =
       let h =
-      sound d (kernel_in false bytes) (has_rows false bytes has) 0 (Until 250 ∷ []) (IsSet m.pre board)
+      sound d (kernel_in false bytes) (has_rows false bytes has) 0 (Until 250 ∷ []) (IsSet m.bus m.pre board)
       (reset_at m f board) (sets m f board) (inr (refl, refl)) in
-      let k : Cpu = record reset_cpu { a = 142 } in
+      let k : Cpu = record (reset_by m.bus) { a = 142 } in
       let b : d.State = after_cycles 446 0 (d.cycle 255) board in
       let e = h.end in
       let same : world_at 0 e
-      ≡ record { cpu = set_cpu m.pre e.cpu.last_t1; board = after_cycles 444 0 (d.cycle 255) board; cycle = 444 } =
+      ≡ record { cpu = set_cpu m.bus m.pre e.cpu.last_t1; board = after_cycles 444 0 (d.cycle 255) board; cycle = 444 } =
       ap (λ c. world_at 0 (record { cpu = c; board = e.board; off = e.off })) h.goal.0
-      ∙ ap (λ o. world_at 0 (record { cpu = set_cpu m.pre e.cpu.last_t1; board = e.board; off = o })) h.goal.1
-      ∙ ap (λ v. world_at 0 (record { cpu = set_cpu m.pre e.cpu.last_t1; board = v; off = 444 })) h.goal.2 in
+      ∙ ap (λ o. world_at 0 (record { cpu = set_cpu m.bus m.pre e.cpu.last_t1; board = e.board; off = o })) h.goal.1
+      ∙ ap (λ v. world_at 0 (record { cpu = set_cpu m.bus m.pre e.cpu.last_t1; board = v; off = 444 })) h.goal.2 in
       comes_then d TICK bytes (λ w. w ≡ world_at 0 e) (IsFirst d bytes board)
       (world_at 0 (reset_at m f board))
       (record { steps = h.steps; end = world_at 0 e; run = h.run; goal = refl })
       (λ w is. subst (λ v. Comes d TICK bytes v (IsFirst d bytes board)) (sym (is ∙ same))
-      (starts m.pre board e.cpu.last_t1 (IsFirst d bytes board)
+      (starts m.bus m.pre board e.cpu.last_t1 (IsFirst d bytes board)
       (λ last.
       comes_as d TICK bytes (IsBegun d (powered bytes) empty_ring k b 446 (32 * 142 + 0)) (IsFirst d bytes board)
       (record { cpu = waiting 142 0 false last false (plain (powered bytes) empty_ring k); board = b; cycle = 446 })
@@ -121,6 +128,7 @@ module _ (d : Board) (bytes : List ℕ) (has : HasKernel bytes) where
         late = i.late;
         tf = i.tf;
         last = i.last;
+        bus = m.bus;
         is =
             i.is ∙ ap (λ v. record { cpu = c; board = v; cycle = 446 + i.waited })
             (sym (ticks_add 446 i.waited 0 (d.cycle 255) board))

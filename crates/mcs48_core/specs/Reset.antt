@@ -31,7 +31,18 @@ reset_cpu = record {
   last_t1 = true;
 }
 
--- reset in a processor, whatever it held: it leaves A, both carries, T, the prescaler and data memory, in which a part
--- that was just switched on may hold anything; all else is as above
+-- reset in a processor, whatever it held: it leaves A, both carries, T, the prescaler, data memory, the timer's request
+-- and the latch of the bus, and T1's last level is any. In all of these a part that was just switched on may hold
+-- anything; all else is as above
 abbrev pub reset_in : Cpu → Cpu
-reset_in m = record reset_cpu { a = m.a; c = m.c; ac = m.ac; ram = m.ram; t = m.t; pre = m.pre }
+reset_in m = record reset_cpu {
+  a = m.a;
+  c = m.c;
+  ac = m.ac;
+  ram = m.ram;
+  t = m.t;
+  pre = m.pre;
+  rq = m.rq;
+  bus = m.bus;
+  last_t1 = m.last_t1;
+}
