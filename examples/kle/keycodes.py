@@ -80,6 +80,8 @@ CHORDS = {"S", "C", "A", "G", "LSFT", "RSFT", "LCTL", "RCTL", "LALT", "RALT", "A
 # Characters that QMK has codes for, and no key but one with Shift types.
 SHIFTED = {"TILD", "EXLM", "AT", "HASH", "DLR", "PERC", "CIRC", "AMPR", "ASTR", "LPRN", "RPRN", "UNDS", "PLUS", "LCBR",
            "RCBR", "PIPE", "COLN", "DQUO", "DQT", "LABK", "LT", "RABK", "GT", "QUES"}
+# Keys for a layer each, and for a third together.
+TOGETHER = {"FN_MO13": 1, "FN_MO23": 2, "TL_LOWR": 1, "TL_UPPR": 2}
 # Layers that are selected in another way than by a key that is held.
 SWITCHES = {"TG", "TO", "DF", "PDF", "LM"}
 
@@ -121,9 +123,8 @@ def plain(code: str) -> Meaning:
         return Below()
     if code in KEPT:
         return KEPT[code]
-    held = re.fullmatch(r"(?:FN_MO|TL_LOWR|TL_UPPR)(13|23)?", code)
-    if held:
-        return Momentary(2 if code in ("FN_MO23", "TL_UPPR") else 1, "the layer of both Fn keys together is lost")
+    if code in TOGETHER:
+        return Momentary(TOGETHER[code], "the layer of both Fn keys together is lost")
     word = code[3:] if code.startswith("KC_") else ""
     if word in SHIFTED:
         return Unsaid(CHORD)

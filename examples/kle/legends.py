@@ -21,7 +21,8 @@ LETTERS = {letter: letter for letter in "abcdefghijklmnopqrstuvwxyz"}
 # Legends of more than a character, in lower case, by the key that they are of.
 WORDS = {word: key for key, words in {
     "backspace": "backspace|back space|bksp|bs|back|\u232b|r\u00fcck|l\u00f6schen", "tab": "tab|\u21b9",
-    "ctrl": "ctrl|control|lctrl|rctrl|left ctrl|right ctrl|strg", "enter": "enter|return|eingabe|\u23ce", "lshift": "lshift|left shift", "rshift": "rshift|right shift",
+    "ctrl": "ctrl|control|lctrl|rctrl|left ctrl|right ctrl|strg", "enter": "enter|return|eingabe|\u23ce",
+    "lshift": "lshift|left shift", "rshift": "rshift|right shift",
     "alt": "alt|lalt|ralt|left alt|right alt|altgr|alt gr", "space": "space|spacebar|leertaste",
     "caps": "caps|caps lock|capslock|feststell", "esc": "esc|escape", "num": "num|num lock|numlock|nmlk|numlk",
     "scroll": "scroll|scroll lock|scrolllock|scrlk|rollen", "sysreq": "sysreq|sys req|s-abf",
@@ -34,7 +35,8 @@ MOVES = {word: key for key, words in {
     "kp0": "ins|insert|einfg", "kpdot": "del|delete|entf"}.items() for word in words.split("|")}
 SHIFTS = {"shift", "\u21e7", "umschalt"}
 # Keys of the keypad whose legend another key has too.
-KEYPAD = {"-": "kpminus", "+": "kpplus", ".": "kpdot", "*": "prtsc", "/": "", **{digit: "kp" + digit for digit in "0123456789"}}
+KEYPAD = {"-": "kpminus", "+": "kpplus", ".": "kpdot", "*": "prtsc", "/": "",
+          **{digit: "kp" + digit for digit in "0123456789"}}
 
 
 @dataclass(frozen=True)
@@ -79,6 +81,12 @@ def is_symbols(key: Key) -> bool:
     """Whether a key has nothing but characters for legends."""
     characters, words = parted(key)
     return bool(characters) and not words
+
+
+def is_move(key: Key) -> bool:
+    """Whether a key is one of arrows and the like that the 84 have on the keypad alone."""
+    characters, words = parted(key)
+    return not characters and any(word in MOVES for word in words)
 
 
 def country_of(keys: list[Key]) -> Country:

@@ -51,13 +51,15 @@ def exchanged(board: Board, places: list[Place]) -> tuple[bool, str]:
     return True, "it doesn't say how its diodes stand: " + ask % ("its row", "row", "COL2ROW", "")
 
 
-def distinct(board: Board, places: list[Place]) -> None:
-    """No two keys have one place."""
-    seen: dict[Place, str] = {}
-    for key, place in zip(board.keys, places):
+def judge(board: Board, places: list[Place]) -> None:
+    """No two keys have one place, and none is outside the matrix, where its size is known."""
+    seen: set[Place] = set()
+    for place in places:
         if place in seen:
             raise Refused("two keys have the place %s in the matrix" % place)
-        seen[place] = key.where
+        if place.row >= (board.rows or place.row + 1) or place.column >= (board.columns or place.column + 1):
+            raise Refused("a key has the place %s, and its matrix %s rows of %s columns" % (place, board.rows, board.columns))
+        seen.add(place)
 
 
 def wiring_of(board: Board, choices: Choices) -> Wiring:
@@ -71,7 +73,7 @@ def wiring_of(board: Board, choices: Choices) -> Wiring:
         without = next(key for key in board.keys if not key.place)
         raise Refused("%s has no place in the matrix; with --count the keys are counted, for a board that is wired so"
                       % without.where)
-    distinct(board, places)
+    judge(board, places)
     if choices.diodes and board.diodes and choices.diodes is not board.diodes:
         raise Refused("it says that its diodes are %s" % board.diodes.value)
     board.diodes = board.diodes or choices.diodes
