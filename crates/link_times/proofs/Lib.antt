@@ -10,3 +10,4 @@ pub mod Fitting
 pub mod Breaking
 pub mod Holding
 pub mod Reading
+pub mod Latency

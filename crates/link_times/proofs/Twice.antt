@@ -18,7 +18,7 @@ use Rattle.link_times.proofs.Exact.{Comes, comes_by}
 
 module _ (layout : KeyLayout) (history : KeyHistory) (starts : ℕ → ℕ) where
   -- a tick of a run
-  comes_at : (n : ℕ)
+  pub comes_at : (n : ℕ)
       → Comes (keys_of layout) (edges_at layout history starts n) (meeting_at layout history starts n)
       (keyboard_at layout history starts n) (keyboard_at layout history starts (suc n))
   comes_at n =
