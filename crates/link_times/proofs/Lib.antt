@@ -1,0 +1,13 @@
+pub mod Entering
+pub mod Answering
+pub mod Exact
+pub mod Twice
+pub mod Flowing
+pub mod Shadow
+pub mod Resting
+pub mod QuietFlow
+pub mod Fitting
+pub mod Breaking
+pub mod Holding
+pub mod Reading
+pub mod Latency

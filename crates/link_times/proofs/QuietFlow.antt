@@ -1,0 +1,92 @@
+-- With a quiet host there is no reply and no reset, and one byte passes a tick.
+use Rattle.std.proofs.Common.{◌≡◌, ℕ, suc, zero, ◌+◌, ◌-◌, ◌≤◌, ◌<◌, inr, Bool, true, false, ◌==◌, Some, None, refl, ap, ◌∙◌, subst, arith}
+use Rattle.std.specs.Prelude.{if◌then◌else◌, slice_get}
+use Rattle.std.specs.declared.option.Option.{Option}
+use Rattle.board_lines.specs.Cadence.{KeepsCadenceTo}
+use Rattle.byte_time.specs.declared.meeting.Meeting.{Meeting}
+use Rattle.byte_time.specs.declared.meeting.Meeting.TheVariants.{Got, Inhibited, Idle, Sent, Cut}
+use Rattle.kbd_model.specs.Codes.{keys_of}
+use Rattle.kbd_model.specs.Keyboard.{Keyboard, offer}
+use Rattle.kbd_model.specs.Once.{is_reset_due, waiting}
+use Rattle.kbd_model.specs.Tick.{met}
+use Rattle.key_file.specs.Histories.{KeyHistory}
+use Rattle.layout_reader.specs.Layouts.{KeyLayout}
+use Rattle.link_model.specs.Machine.{met_as}
+use Rattle.quiet_log.specs.Once.{meeting_at}
+use Rattle.quiet_log.proofs.Calm.{calm_meeting}
+use Rattle.link_times.specs.Coming.{keyboard_at, test_left}
+use Rattle.link_times.specs.Flowing.{IsHostQuiet}
+use Rattle.link_times.proofs.Flowing.{one_byte, reply_behind, sent_reply}
+use Rattle.link_times.proofs.Resting.{meets_at, sends_at}
+use Rattle.link_times.proofs.Twice.{comes_exactly}
+
+-- a test that has ended stays so, where no reset is due
+stays_over : (m : Meeting) (k : Keyboard) → k.test ≡ 0 → is_reset_due k.reply ≡ false → test_left m k ≡ 0
+stays_over (Got byte) k t r = omega (arith, t)
+stays_over Inhibited k t r = omega (arith, t)
+stays_over Idle k t r = omega (arith, t)
+stays_over (Sent byte) k t r =
+    let z : k.test - 1 ≡ 0 = omega (arith, t) in ap (λ c. if c then 64 else k.test - 1) r ∙ z
+stays_over Cut k t r = omega (arith, t)
+
+module _ (layout : KeyLayout) (history : KeyHistory) (quiet : IsHostQuiet history) (starts : ℕ → ℕ) (last : ℕ)
+    (cadence : KeepsCadenceTo starts last) where
+  -- no reply waits
+  pub no_reply : (n : ℕ) → n ≤ last → (keyboard_at layout history starts n).reply ≡ None
+  no_reply zero l = refl
+  no_reply (suc n) l =
+      let k : Keyboard = keyboard_at layout history starts n in
+      let m : Meeting = calm_meeting (k.test == 0) (offer k) in
+      reply_behind layout history starts n m
+      (meets_at layout history quiet starts last n cadence (omega (arith, l)))
+      ∙ by k (no_reply n (omega (arith, l))) (k.test == 0) (offer k) refl
+    where
+      by : (k : Keyboard) → k.reply ≡ None → (t : Bool) (o : Option ℕ) → offer k ≡ o
+          → (met (met_as (calm_meeting t o)) (keys_of layout) k).reply ≡ None
+      by k r true None e = r
+      by k r true (Some byte) e = sent_reply (keys_of layout) k byte e
+      by k r false o e = r
+
+  -- and a test that has ended stays so
+  pub tested_on : (n count : ℕ) → count + n ≤ last → (keyboard_at layout history starts n).test ≡ 0
+      → (keyboard_at layout history starts (count + n)).test ≡ 0
+  tested_on n zero l t =
+      let z : n ≡ zero + n = omega arith in
+      subst (λ v. (keyboard_at layout history starts v).test ≡ 0) z t
+  tested_on n (suc count) l t =
+      let z : suc (count + n) ≡ suc count + n = omega arith in
+      let h : (keyboard_at layout history starts (count + n)).test ≡ 0 = tested_on n count (omega (arith, l)) t in
+      let r : is_reset_due (keyboard_at layout history starts (count + n)).reply ≡ false =
+      ap (λ v. is_reset_due v) (no_reply (count + n) (omega (arith, l))) in
+      subst (λ v. (keyboard_at layout history starts v).test ≡ 0) z
+      ((comes_exactly layout history starts (count + n)).test
+      ∙ stays_over (meeting_at layout history starts (count + n)) (keyboard_at layout history starts (count + n)) h r)
+
+  pub byte_a_tick : (n i byte : ℕ) → i + n ≤ last → (keyboard_at layout history starts n).test ≡ 0
+      → slice_get (waiting (keyboard_at layout history starts n)) i ≡ Some byte
+      → meeting_at layout history starts (i + n) ≡ Sent byte
+  byte_a_tick n i byte l t e =
+      one_byte layout history starts i n byte
+      (λ j a b o g.
+      let z : j - n + n ≡ j = omega (arith, a) in
+      let u : (keyboard_at layout history starts j).test ≡ 0 =
+      subst (λ v. (keyboard_at layout history starts v).test ≡ 0) z
+      (tested_on n (j - n) (omega (arith, a, b, l)) t) in
+      sends_at layout history quiet starts last j o cadence (omega (arith, b, l)) u g)
+      (inr (ap (λ v. is_reset_due v) (no_reply n (omega (arith, l)))))
+      e
+
+pub quiet_sends : (layout : KeyLayout) (history : KeyHistory) (starts : ℕ → ℕ) (last n : ℕ) → IsHostQuiet history
+    → KeepsCadenceTo starts last → n < last → (keyboard_at layout history starts n).test ≡ 0
+    → (byte : ℕ) → offer (keyboard_at layout history starts n) ≡ Some byte
+    → meeting_at layout history starts n ≡ Sent byte
+quiet_sends layout history starts last n quiet cadence l t byte o =
+    sends_at layout history quiet starts last n byte cadence (omega (arith, l)) t o
+
+pub quiet_byte_a_tick : (layout : KeyLayout) (history : KeyHistory) (starts : ℕ → ℕ) (last n i byte : ℕ)
+    → IsHostQuiet history → KeepsCadenceTo starts last → i + n < last
+    → (keyboard_at layout history starts n).test ≡ 0
+    → slice_get (waiting (keyboard_at layout history starts n)) i ≡ Some byte
+    → meeting_at layout history starts (i + n) ≡ Sent byte
+quiet_byte_a_tick layout history starts last n i byte quiet cadence l t e =
+    byte_a_tick layout history quiet starts last cadence n i byte (omega (arith, l)) t e

@@ -1,0 +1,98 @@
+-- In each run what comes is this, and no more: tick by tick, and over ticks in a row.
+use Rattle.std.proofs.Common.{◌≡◌, ℕ, suc, zero, ◌+◌, List, [], ◌∷◌, ◌++◌, length, drop, refl, ap, sym, ◌∙◌, subst, arith, append_assoc}
+use Rattle.std.specs.List.Sorted.{IsPermutation}
+use Rattle.byte_time.specs.declared.meeting.Meeting.{Meeting}
+use Rattle.key_file.specs.Histories.{KeyHistory}
+use Rattle.layout_reader.specs.Layouts.{KeyLayout}
+use Rattle.kbd_model.specs.Codes.{keys_of}
+use Rattle.kbd_model.specs.Keyboard.{Keyboard}
+use Rattle.kbd_model.specs.Once.{waiting}
+use Rattle.link_model.specs.Expected.{Whole}
+use Rattle.link_model.specs.Machine.{LayeredKeyboard}
+use Rattle.quiet_log.specs.Once.{came, at_tick, meeting_at, all_arrived, all_taken_away, all_came}
+use Rattle.quiet_log.proofs.Counted.{all_counted}
+use Rattle.quiet_log.proofs.Once.{arrives_as_offered, tested_or_idle}
+use Rattle.quiet_log.proofs.Silent.{silent_in_test}
+use Rattle.link_times.specs.Coming.{keyboard_at, edges_at, first_at, rest_at, behind_at, all_come, IsExact}
+use Rattle.link_times.proofs.Exact.{Comes, comes_by}
+
+module _ (layout : KeyLayout) (history : KeyHistory) (starts : ℕ → ℕ) where
+  -- a tick of a run
+  pub comes_at : (n : ℕ)
+      → Comes (keys_of layout) (edges_at layout history starts n) (meeting_at layout history starts n)
+      (keyboard_at layout history starts n) (keyboard_at layout history starts (suc n))
+  comes_at n =
+      let w : Whole LayeredKeyboard = at_tick layout history starts n in
+      comes_by (keys_of layout) (edges_at layout history starts n) (keyboard_at layout history starts n)
+      (silent_in_test layout history starts n) (meeting_at layout history starts n)
+      (tested_or_idle layout history.host (4096 + starts n) w)
+      (λ byte h. (arrives_as_offered layout history.host (4096 + starts n) byte w h).1)
+
+  exact : (n : ℕ) → IsExact layout history starts n
+  exact n = let c = comes_at n in record { waits = c.waits; test = c.test }
+
+  -- what stands behind a list is what is left when that is dropped
+  behind_dropped : (xs more : List ℕ) → drop (length xs) (xs ++ more) ≡ more
+  behind_dropped [] more = refl
+  behind_dropped (x ∷ xs) more = behind_dropped xs more
+
+  -- so what came is what comes
+  came_is : (n : ℕ)
+      → came (meeting_at layout history starts n) (keyboard_at layout history starts n)
+      (keyboard_at layout history starts (suc n))
+      ≡ first_at layout history starts n ++ behind_at layout history starts n
+  came_is n =
+      let c = comes_at n in
+      let first : List ℕ = first_at layout history starts n in
+      let rest : List ℕ = rest_at layout history starts n in
+      let more : List ℕ = behind_at layout history starts n in
+      ap (λ v. v ++ drop (length (v ++ rest)) (waiting (keyboard_at layout history starts (suc n)))) c.first
+      ∙ ap (λ v. first ++ drop (length (first ++ rest)) v) (c.waits ∙ sym (append_assoc first rest more))
+      ∙ ap (λ v. first ++ v) (behind_dropped (first ++ rest) more)
+
+  all_is : (n count : ℕ) → all_came layout history starts n count ≡ all_come layout history starts n count
+  all_is n zero = refl
+  all_is n (suc count) =
+      let z : suc (count + n) ≡ suc count + n = omega arith in
+      let m : Meeting = meeting_at layout history starts (count + n) in
+      let k : Keyboard = keyboard_at layout history starts (count + n) in
+      ap (λ v. v ++ came m k (keyboard_at layout history starts (suc count + n))) (all_is n count)
+      ∙ ap (λ v. all_come layout history starts n count ++ came m k (keyboard_at layout history starts v)) (sym z)
+      ∙ ap (λ v. all_come layout history starts n count ++ v) (came_is (count + n))
+
+  all_once : (n count : ℕ)
+      → IsPermutation (waiting (keyboard_at layout history starts n) ++ all_come layout history starts n count)
+      (all_arrived layout history starts n count
+      ++ (all_taken_away layout history starts n count ++ waiting (keyboard_at layout history starts (count + n))))
+  all_once n count =
+      subst (λ v. IsPermutation (waiting (keyboard_at layout history starts n) ++ v)
+      (all_arrived layout history starts n count
+      ++ (all_taken_away layout history starts n count ++ waiting (keyboard_at layout history starts (count + n)))))
+      (all_is n count) (all_counted layout history starts n count)
+
+  nothing_else : (n : ℕ)
+      → IsPermutation (all_come layout history starts 0 n)
+      (all_arrived layout history starts 0 n
+      ++ (all_taken_away layout history starts 0 n ++ waiting (keyboard_at layout history starts n)))
+  nothing_else n =
+      let z : n + 0 ≡ n = omega arith in
+      subst (λ v. IsPermutation (all_come layout history starts 0 n)
+      (all_arrived layout history starts 0 n
+      ++ (all_taken_away layout history starts 0 n ++ waiting (keyboard_at layout history starts v))))
+      z (all_once 0 n)
+
+pub comes_exactly : (layout : KeyLayout) (history : KeyHistory) (starts : ℕ → ℕ) (n : ℕ)
+    → IsExact layout history starts n
+comes_exactly layout history starts n = exact layout history starts n
+
+pub all_comes_once : (layout : KeyLayout) (history : KeyHistory) (starts : ℕ → ℕ) (n count : ℕ)
+    → IsPermutation (waiting (keyboard_at layout history starts n) ++ all_come layout history starts n count)
+    (all_arrived layout history starts n count
+    ++ (all_taken_away layout history starts n count ++ waiting (keyboard_at layout history starts (count + n))))
+all_comes_once layout history starts n count = all_once layout history starts n count
+
+pub nothing_else_arrives : (layout : KeyLayout) (history : KeyHistory) (starts : ℕ → ℕ) (n : ℕ)
+    → IsPermutation (all_come layout history starts 0 n)
+    (all_arrived layout history starts 0 n
+    ++ (all_taken_away layout history starts 0 n ++ waiting (keyboard_at layout history starts n)))
+nothing_else_arrives layout history starts n = nothing_else layout history starts n

@@ -1,0 +1,9 @@
+use Rattle.link_times.proofs.Latency as latency
+use Rattle.link_times.proofs.Reading.{reads_what_arrives}
+use Rattle.link_times.proofs.keys_come_in_time.Goals as goal
+
+pub returns-clause-reads : goal.returns-clause-reads
+returns-clause-reads c = reads_what_arrives
+
+pub returns-clause-soon : goal.returns-clause-soon
+returns-clause-soon c = latency.keys_come_in_time

@@ -1,0 +1,12 @@
+use Rattle.link_times.proofs.Flowing as flow
+use Rattle.link_times.proofs.QuietFlow.{quiet_byte_a_tick, quiet_sends}
+use Rattle.link_times.proofs.one_byte_a_tick.Goals as goal
+
+pub returns-clause-flows : goal.returns-clause-flows
+returns-clause-flows c = flow.one_byte_a_tick
+
+pub returns-clause-sends : goal.returns-clause-sends
+returns-clause-sends c = quiet_sends
+
+pub returns-clause-quiet : goal.returns-clause-quiet
+returns-clause-quiet c = quiet_byte_a_tick

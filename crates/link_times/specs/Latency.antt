@@ -1,0 +1,85 @@
+-- A key's latency: how long it takes from the edge of a key to INT 09h's read of each byte of its code.
+use Rattle.std.specs.Prelude.{◌≡◌, ◌≤◌, ◌<◌, ℕ, suc, ◌+◌, ◌*◌, ◌/◌, Bool, true, false, List, [], ◌∷◌, ◌++◌, length}
+use Rattle.std.specs.Prelude.{Some, slice_get, Contains}
+use Rattle.std.specs.declared.option.Option.{Option}
+use Rattle.board_lines.specs.Cadence.{KeepsCadenceTo}
+use Rattle.board_lines.specs.declared.event.Edge.{Edge}
+use Rattle.byte_time.specs.declared.meeting.Meeting.TheVariants.{Sent}
+use Rattle.ctl_core.specs.Translation.{translation}
+use Rattle.kbd_model.specs.Codes.{keys_of}
+use Rattle.kbd_model.specs.Once.{waiting}
+use Rattle.kbd_model.specs.Tick.{is_scanning}
+use Rattle.key_file.specs.Histories.{KeyHistory}
+use Rattle.layout_reader.specs.Layouts.{KeyLayout}
+use Rattle.link_model.specs.Expected.{expected}
+use Rattle.link_model.specs.Machine.{keyboard}
+use Rattle.link_model.specs.TickEdges.{is_seen}
+use Rattle.pc_tables.specs.declared.item.Item.TheVariants.{Port}
+use Rattle.quiet_log.specs.Once.{at_tick, meeting_at}
+use Rattle.link_times.specs.Coming.{code_of, edges_at, keyboard_at}
+use Rattle.link_times.specs.Flowing.{IsHostQuiet}
+
+-- the stamp at which INT 09h reads what arrives in tick n: 64 cycles behind its arrival, which is at offset 608
+abbrev pub read_stamp : (ℕ → ℕ) → ℕ → ℕ
+read_stamp starts n = starts n + 608 + 64
+
+-- what the controller puts out for a byte that arrives in tick n: nothing for F0, the translated code for any other
+abbrev pub put_out_in : KeyLayout → KeyHistory → (ℕ → ℕ) → ℕ → ℕ → Option ℕ
+put_out_in layout history starts n byte =
+    (translation true (at_tick layout history starts n).side.port.core.break_mark byte).byte
+
+-- a byte arrives in tick n; what is put out for it INT 09h reads in the same tick, and the log says so with its number
+pub record IsReadIn (layout : KeyLayout) (history : KeyHistory) (starts : ℕ → ℕ) (last n byte : ℕ) : Type 0 where
+  pub arrives : meeting_at layout history starts n ≡ Sent byte
+  pub reads : (code : ℕ) → put_out_in layout history starts n byte ≡ Some code
+      → Contains (at_tick layout history starts (suc n)).side.log
+      (record { cycle = 4096 + read_stamp starts n; item = Port code })
+  pub says : (code : ℕ) → put_out_in layout history starts n byte ≡ Some code
+      → Contains (expected (keyboard layout) history.edges history.host starts last)
+      (record { tick = n; item = Port code })
+
+-- with a quiet host so it is of each byte that arrives
+abbrev pub ReadsWhatArrives : Type 0
+ReadsWhatArrives =
+    (layout : KeyLayout) (history : KeyHistory) (starts : ℕ → ℕ) (last n byte : ℕ) → IsHostQuiet history
+    → KeepsCadenceTo starts last → n < last → meeting_at layout history starts n ≡ Sent byte
+    → IsReadIn layout history starts last n byte
+
+-- bytes stand behind so many others in a list
+pub record StandsBehind (place : ℕ) (bytes list : List ℕ) : Type 0 where
+  pub before : List ℕ
+  pub behind : List ℕ
+  pub is : list ≡ before ++ (bytes ++ behind)
+  pub number : length before ≡ place
+
+-- an edge of a key that tick n sees, and the code that it enters, in its layer; no code of that tick is lost
+pub record Strikes (layout : KeyLayout) (history : KeyHistory) (starts : ℕ → ℕ) (n : ℕ) (edge : Edge) (code : List ℕ)
+    : Type 0 where
+  pub seen : is_seen starts n edge ≡ true
+  pub on_fn : Bool
+  pub among : Contains (edges_at layout history starts n)
+      (record { place = edge.place; down = edge.down; on_fn = on_fn })
+  pub sends : code_of (keys_of layout) (record { place = edge.place; down = edge.down; on_fn = on_fn }) ≡ code ∷ []
+  pub scanning : is_scanning (keyboard_at layout history starts (suc n)) ≡ true
+  pub room : (keyboard_at layout history starts (suc n)).queue.overrun ≡ false
+
+-- its code waits at the next tick's start behind so many bytes. Byte i of it is read i + place ticks later: at most two
+-- ticks and 660 cycles behind the edge, and a tick for each byte before it; 16 fewer for each column before the key's.
+-- The edge may come a cycle behind the read of its column, at offset 16, and so waits for the next tick's; what it
+-- enters goes in the tick behind that, which may start 5 cycles late: 5 + 608 + 64 - 17
+pub record ComesInTime (layout : KeyLayout) (history : KeyHistory) (starts : ℕ → ℕ) (last n : ℕ) (edge : Edge)
+    (code : List ℕ) : Type 0 where
+  pub place : ℕ
+  pub stands : StandsBehind place code (waiting (keyboard_at layout history starts (suc n)))
+  pub reads : (i byte : ℕ) → slice_get code i ≡ Some byte → i + place + suc n < last
+      → IsReadIn layout history starts last (i + place + suc n) byte
+  pub soon : (i : ℕ) → i + place + suc n ≤ last
+      → read_stamp starts (i + place + suc n) + 16 * (edge.place / 8)
+      ≤ edge.stamp + 2 * 2048 + 660 + 2048 * (i + place)
+
+-- so it is of each edge, with a quiet host
+abbrev pub KeysComeInTime : Type 0
+KeysComeInTime =
+    (layout : KeyLayout) (history : KeyHistory) (starts : ℕ → ℕ) (last n : ℕ) (edge : Edge) (code : List ℕ)
+    → IsHostQuiet history → KeepsCadenceTo starts last → n < last → Strikes layout history starts n edge code
+    → ComesInTime layout history starts last n edge code

@@ -1,0 +1,4 @@
+pub mod Coming
+pub mod Flowing
+pub mod Holding
+pub mod Latency
