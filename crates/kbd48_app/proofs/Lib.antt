@@ -40,3 +40,4 @@ pub mod Logs
 pub mod BoardExits
 pub mod Boarded
 pub mod Tells
+pub mod InTime

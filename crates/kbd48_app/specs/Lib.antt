@@ -24,3 +24,4 @@ pub mod Reached
 pub mod Causes
 pub mod ListingLaw
 pub mod Complete
+pub mod InTime

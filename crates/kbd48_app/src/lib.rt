@@ -17,6 +17,7 @@ mod feeding;
 mod fetching;
 mod judging;
 mod kind;
+mod latency;
 mod law;
 mod refusal;
 mod sampling;
@@ -31,6 +32,7 @@ mod tracing;
 mod words;
 
 pub use exit::Exit;
+pub use latency::keys_are_printed_in_time;
 pub use law::{
     board_tells_run, each_key_gives_its_scan_code, list_and_asm_are_inverse,
     run_and_expect_print_alike,
