@@ -12,13 +12,12 @@ use Rattle.text_lines.specs.Fields.{fields}
 use Rattle.first_fault.specs.FirstFault.{Fault, and_then, at_item, first_broken, outcome_from, unless}
 use Rattle.key_file.specs.declared.event.Event.{Event}
 use Rattle.key_file.specs.declared.event.Event.TheVariants.{EdgeOf, HostOf, End}
-use Rattle.key_file.specs.declared.fault.KeyFault.{KeyFault}
 use Rattle.key_file.specs.declared.rule.Rule.{Rule}
 use Rattle.key_file.specs.Cursors.{sound, said_in, edge_before, host_before, edges_in, host_in}
 use Rattle.key_file.specs.Fields.{said_by}
 use Rattle.key_file.specs.Histories.{KeyHistory, Before, at_first, with_event}
 use Rattle.key_file.specs.Briefs.{brief_of}
-use Rattle.key_file.specs.KeyFile.{history_of, take_event, take_said, take_line, finish, history_at, with_fault_told}
+use Rattle.key_file.specs.KeyFile.{history_of, take_said, take_line, finish, history_at, with_fault_told}
 use Rattle.key_file.specs.Rules.{judgements}
 
 -- a history has the events so far and those that lines give
@@ -102,7 +101,7 @@ given_from layout number before [] history h = ended layout before number histor
 given_from layout number before (line ∷ more) history h =
     given_by layout number before line more history (λ after g. given_from layout (number + 1) after more history g) (said_by layout (fields line)) refl h
 
-untold : (r : Result KeyHistory (Fault Rule)) (history : KeyHistory) → with_fault_told r ≡ Ok history → r ≡ Ok history
+pub untold : (r : Result KeyHistory (Fault Rule)) (history : KeyHistory) → with_fault_told r ≡ Ok history → r ≡ Ok history
 untold (Ok h) history is = let same : h ≡ history = cc is in ap (λ x. Ok x) same
 untold (Err fault) history is = absurd cc
 

@@ -9,3 +9,8 @@ pub mod Taken
 pub mod Outcomes
 pub mod Cursors
 pub mod Took
+pub mod Kept
+pub mod Left
+pub mod Told
+pub mod Telling
+pub mod Following

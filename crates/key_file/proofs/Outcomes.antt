@@ -1,5 +1,5 @@
 -- What lines come to, the first of which is taken or refused.
-use Rattle.std.proofs.Common.{◌≡◌, ◌≤◌, ℕ, ◌+◌, List, ◌∷◌, length, Ok, Err, refl, ap, sym, ◌∙◌, suc, arith}
+use Rattle.std.proofs.Common.{◌≡◌, ◌≤◌, ℕ, ◌+◌, List, ◌∷◌, length, Ok, Err, refl, ap, ◌∙◌, suc, arith}
 use Rattle.std.specs.Str.Lines.{lines}
 use Rattle.std.specs.declared.result.Result.{Result}
 use Rattle.layout_reader.specs.Layouts.{KeyLayout}

@@ -35,7 +35,7 @@ dwells-push (x ∷ []) y dwells last = (last x refl, tt)
 dwells-push (x ∷ z ∷ zs) y dwells last = (dwells.0, dwells-push (z ∷ zs) y dwells.1 last)
 
 -- the fourth edge from the end is the same behind one edge more at the start
-fourth-cons : (x : Edge) (xs : List Edge) → 4 ≤ length xs → from_end 4 (x ∷ xs) ≡ from_end 4 xs
+pub fourth-cons : (x : Edge) (xs : List Edge) → 4 ≤ length xs → from_end 4 (x ∷ xs) ≡ from_end 4 xs
 fourth-cons x xs long =
     let here : nat_le 4 (length xs) ≡ true = grind (arith, nat_tests, long) in
     let more : nat_le 4 (suc (length xs)) ≡ true = grind (arith, nat_tests, long) in

@@ -13,6 +13,7 @@ mod event;
 mod fault;
 mod feed;
 mod history;
+mod laws;
 mod line;
 mod list_feed;
 mod reading;
@@ -25,6 +26,7 @@ pub use checking::check_history;
 pub use fault::{FileFault, KeyFault};
 pub use feed::Feed;
 pub use history::History;
+pub use laws::told_histories;
 pub use list_feed::ListFeed;
 pub use reading::read_history;
 

@@ -1,5 +1,5 @@
-use Rattle.std.proofs.Common.{◌∙◌, sym, arith}
-use Rattle.key_file.proofs.Outcomes.{come-first, come-next, come-fault}
+use Rattle.std.proofs.Common.{arith}
+use Rattle.key_file.proofs.Outcomes.{come-first, come-next}
 use Rattle.key_file.proofs.checking.check_history.Goals as goal
 
 pub loop-line-init : goal.loop-line-init

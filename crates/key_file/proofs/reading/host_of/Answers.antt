@@ -1,6 +1,6 @@
 use Rattle.std.proofs.Common.{◌≡◌, ◌++◌, ◌∷◌, [], take, Some, None, ap, sym, subst, ◌∙◌}
 use Rattle.std.specs.List.{slice_get}
-use Rattle.key_file.proofs.Took.{take_one_more, take_to_end, was_there}
+use Rattle.key_file.proofs.Took.{take_one_more, take_to_end}
 use Rattle.key_file.proofs.reading.host_of.Goals as goal
 
 pub loop-event-preserved : goal.loop-event-preserved

@@ -1,6 +1,6 @@
-use Rattle.std.proofs.Common.{◌≡◌, ◌<◌, ◌+◌, ◌∷◌, [], length, None, Some, refl, sym, ap, ◌∙◌, arith}
+use Rattle.std.proofs.Common.{◌<◌, ◌∷◌, [], length, Some, refl, ◌∙◌, arith}
 use Rattle.std.proofs.lemmas.List.{length-append, length-set}
-use Rattle.key_file.proofs.Briefly.{latest-push, latest_shifted}
+use Rattle.key_file.proofs.Briefly.{latest_shifted}
 use Rattle.key_file.proofs.LastEdges.{last-push, places-push}
 use Rattle.key_file.proofs.brief.Brief.push_edge.Goals as goal
 

@@ -1,4 +1,4 @@
-use Rattle.std.proofs.Common.{◌+◌, ap, sym, ◌∙◌}
+use Rattle.std.proofs.Common.{ap, sym, ◌∙◌}
 use Rattle.std.specs.List.{slice_get}
 use Rattle.key_file.proofs.Cursors.{first_left, none_left}
 use Rattle.key_file.proofs.byte_feed.ByteFeedFeed.next_host.Goals as goal
