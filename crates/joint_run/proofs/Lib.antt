@@ -1,4 +1,5 @@
 pub mod Cycling
+pub mod Ending
 pub mod Made
 pub mod Numbers
 pub mod OneStep

@@ -124,6 +124,14 @@ pub record IsSeen (due : Due) (old : Machine) (w : World Beside) (seen : Seen) :
   pub items : seen.items.items ≡ w.board.pc.side.log
   pub lines : seen.lines ≡ lines_in_step due old w
 
+-- the state that a step of so many cycles comes to, of which the processor's part is made and the cycles are to pass
+abbrev pub ended : ℕ → Due → Machine → World Beside
+ended cycles due m = record {
+  cpu = m.mcu;
+  board = passed cycles m.cycle m.mcu.p2 due.host.items m.outside;
+  cycle = m.cycle + cycles;
+}
+
 -- a call of `step`: where the processor is stuck the counter and the byte are answered, and nothing has changed
 abbrev pub IsJointStep : Due → Machine → Option (World Beside) → Result Seen Stuck → Machine → Type 0
 IsJointStep due old (Some w) (Ok seen) new = (new ≡ machine_after due old w) × IsSeen due old w seen

@@ -1,17 +1,20 @@
 //! The joint machine as its callers see it.
 
-ghost use Rattle.std.specs.Prelude.{◌≡◌, ◌<◌, ◌^◌, IfOk, OnErr, OnOk, true};
+ghost use Rattle.std.specs.Prelude.{◌≡◌, ◌+◌, ◌<◌, ◌≤◌, ◌^◌, ℕ, IfOk, OnErr, OnOk, Some, true};
 ghost use Rattle.int09.specs.Bios.{start};
 ghost use Rattle.joint_run.specs.Cycle.{is_let_go, outside_wires};
-ghost use Rattle.joint_run.specs.Due.{due_step, powered_on, told, IsJointStep};
+ghost use Rattle.joint_run.specs.Due.{due_step, ended, machine_after, powered_on, told, IsJointStep, IsSeen};
+ghost use Rattle.joint_run.specs.Edgeless.{without_edges};
 ghost use Rattle.joint_run.specs.History.{IsFirstOfRun, IsStepOfRun};
+ghost use Rattle.mcs48_core.specs.Leap.{spun};
+ghost use Rattle.mcs48_core.specs.Step.{stepped, IsStep};
 
 use crate::due::{Due, Seen};
 use crate::machine::Machine;
 use crate::outside::Outside;
 use board_lines::{Lines, Matrix};
 use int09::Bios;
-use mcs48_core::{Mcu, Stuck, reset};
+use mcs48_core::{Mcu, Pins, Stuck, reset};
 use mcs48_isa::Image;
 use std::marker::Model;
 
@@ -96,6 +99,55 @@ impl Joint {
         self.machine.step::<SITE>(due, seen)
     }
 
+    /// The processor's part of a step alone, with these levels at its pins: no cycle passes, and no step is counted. For a
+    /// caller that knows what the cycles come to, or lets them pass by `end_step`. `SITE` is as in `step_inlined`.
+    #[inline(always)]
+    pub fn step_processor<const SITE: u8>(&mut self, given: Pins) -> Result<u8, Stuck>
+        ensures step { IsStep self.old.image.bytes self.old.mcu (stepped self.old.image.bytes given self.old.mcu) result self.new.mcu }
+        ensures parts { self.new ≡ record self.old { mcu = self.new.mcu } }
+        ensures some { IfOk result (λ cycles. 0 < cycles) }
+        ensures few { IfOk result (λ cycles. cycles < 3) }
+    {
+        self.machine.step_processor::<SITE>(given)
+    }
+
+    /// Steps of the processor alone, with these levels at its pins, each of which is a jump to where it stands: as many as
+    /// there are before an interrupt is due, but at most `most`. Answers how many.
+    #[inline(always)]
+    pub fn leap_processor(&mut self, given: &Pins, most: u64) -> u64
+        ensures few { result ≤ most }
+        ensures start { spun 0 self.old.mcu ≡ self.old.mcu }
+        ensures steps { (j : ℕ) → j < result → stepped self.old.image.bytes given.now (spun j self.old.mcu)
+            ≡ Some (record { cpu = spun (j + 1) self.old.mcu; cycles = 2 }) }
+        ensures end { self.new ≡ record self.old { mcu = spun result self.old.mcu } }
+    {
+        self.machine.leap_processor(given, most)
+    }
+
+    /// So many steps, of so many cycles together, are done, whose parts the processor has made, and in whose cycles nothing
+    /// changes.
+    pub fn count(&mut self, steps: u64, cycles: u64)
+        requires each { steps ≤ cycles }
+        requires near { self.old.cycle + cycles < 2 ^ 63 }
+        ensures counted { self.new ≡ record self.old { cycle = self.old.cycle + cycles; steps = self.old.steps + steps } }
+    {
+        self.machine.cycle += cycles;
+        self.machine.steps += steps;
+    }
+
+    /// The cycles of a step pass, 1 or 2, whose part the processor has made, and in which no edge is made. It is told in
+    /// `seen`.
+    pub fn end_step(&mut self, cycles: u8, due: &Due, seen: &mut Seen)
+        requires near { self.old.cycle < 2 ^ 62 }
+        requires some { 0 < cycles }
+        requires few { cycles < 3 }
+        ensures ended { self.new ≡ machine_after (without_edges due.now) self.old (ended cycles due.now self.old) }
+        ensures seen { IsSeen (without_edges due.now) self.old (ended cycles due.now self.old) seen.new }
+        ensures cycles { seen.new.cycles ≡ cycles }
+    {
+        self.machine.end_step(cycles, due, seen);
+    }
+
     /// How many cycles are done; the next step begins with the cycle of this number.
     pub fn cycle(&self) -> u64
         ensures cycle { result ≡ self.now.cycle }
@@ -134,6 +186,20 @@ impl Joint {
     {
         let p2 = self.machine.mcu.p2;
         self.machine.outside.is_let_go(p2)
+    }
+
+    /// The keys that are down.
+    pub fn matrix(&self) -> &Matrix
+        ensures matrix { result.now ≡ self.now.matrix }
+    {
+        &self.machine.matrix
+    }
+
+    /// What stands outside the processor.
+    pub fn outside(&self) -> &Outside
+        ensures outside { result.now ≡ self.now.outside }
+    {
+        &self.machine.outside
     }
 
     /// INT 09h.

@@ -19,3 +19,4 @@ pub use due::{Due, Seen};
 pub use host_turn::Stamped;
 pub use joint::Joint;
 pub use law::starts_are_numbered;
+pub use outside::{Outside, lights};

@@ -1,11 +1,12 @@
 //! The joint machine's parts, and a step of them.
 
-ghost use Rattle.std.specs.Prelude.{◌≡◌, ◌<◌, ◌≤◌, ◌^◌, [], length, false, IfOk, OnErr, OnOk};
+ghost use Rattle.std.specs.Prelude.{◌≡◌, ◌+◌, ◌<◌, ◌≤◌, ◌^◌, ℕ, [], length, false, IfOk, OnErr, OnOk, Some};
 ghost use Rattle.board_lines.specs.Matrix.{turned_by};
 ghost use Rattle.ctl_link.specs.Empty.{IsEmptyUnlessHeld};
-ghost use Rattle.joint_run.specs.Due.{beside, due_step, made_first, told, IsJointStep};
+ghost use Rattle.joint_run.specs.Due.{beside, due_step, ended, machine_after, made_first, told, IsJointStep, IsSeen};
 ghost use Rattle.joint_run.specs.Edgeless.{without_edges};
 ghost use Rattle.joint_run.specs.Joint.{pins_by};
+ghost use Rattle.mcs48_core.specs.Leap.{spun};
 ghost use Rattle.mcs48_core.specs.Step.{stepped, IsStep};
 
 use crate::due::{Due, Seen};
@@ -85,6 +86,18 @@ fn execute<const SITE: u8>(image: &Image, mcu: &mut Mcu, given: Pins) -> Result<
     mcu.step_inlined::<SITE>(image, given)
 }
 
+/// The processor's jumps to where it stands, over this program.
+#[inline(always)]
+fn leap(image: &Image, mcu: &mut Mcu, given: &Pins, most: u64) -> u64
+    ensures few { result ≤ most }
+    ensures start { spun 0 mcu.old ≡ mcu.old }
+    ensures steps { (j : ℕ) → j < result
+        → stepped image.now.bytes given.now (spun j mcu.old) ≡ Some (record { cpu = spun (j + 1) mcu.old; cycles = 2 }) }
+    ensures end { mcu.new ≡ spun result mcu.old }
+{
+    mcu.leap(image, given, most)
+}
+
 /// The latch of port 2.
 fn port_2(mcu: &Mcu) -> u8
     ensures { result ≡ mcu.now.p2 }
@@ -102,22 +115,43 @@ fn empty_out(items: &mut ArrayVec<Stamped, 16>)
 }
 
 impl Machine {
-    /// One joint step in which no edge is made, told in `seen`. Where the processor is stuck nothing has changed.
+    /// The processor's part of a step alone, with these levels at its pins: no cycle passes.
     #[inline(always)]
-    fn step_on<const SITE: u8>(&mut self, due: &Due, seen: &mut Seen) -> Result<(), Stuck>
+    pub(crate) fn step_processor<const SITE: u8>(&mut self, given: Pins) -> Result<u8, Stuck>
+        ensures step { IsStep self.old.image.bytes self.old.mcu (stepped self.old.image.bytes given self.old.mcu) result self.new.mcu }
+        ensures parts { self.new ≡ record self.old { mcu = self.new.mcu } }
+        ensures some { IfOk result (λ cycles. 0 < cycles) }
+        ensures few { IfOk result (λ cycles. cycles < 3) }
+    {
+        execute::<SITE>(&self.image, &mut self.mcu, given)
+    }
+
+    /// Jumps of the processor to where it stands, as `Mcu::leap` makes them: no cycle passes.
+    #[inline(always)]
+    pub(crate) fn leap_processor(&mut self, given: &Pins, most: u64) -> u64
+        ensures few { result ≤ most }
+        ensures start { spun 0 self.old.mcu ≡ self.old.mcu }
+        ensures steps { (j : ℕ) → j < result → stepped self.old.image.bytes given.now (spun j self.old.mcu)
+            ≡ Some (record { cpu = spun (j + 1) self.old.mcu; cycles = 2 }) }
+        ensures end { self.new ≡ record self.old { mcu = spun result self.old.mcu } }
+    {
+        leap(&self.image, &mut self.mcu, given, most)
+    }
+
+    /// The cycles of a step pass, whose part the processor has made, and in which no edge was made. It is told in `seen`.
+    #[inline(always)]
+    pub(crate) fn end_step(&mut self, cycles: u8, due: &Due, seen: &mut Seen)
         requires near { self.old.cycle < 2 ^ 62 }
+        requires some { 0 < cycles }
+        requires few { cycles < 3 }
         requires steps { self.old.steps ≤ self.old.cycle }
         requires empty { IsEmptyUnlessHeld self.old.outside.desk.port }
-        ensures step { let rest = without_edges due.now in
-            IsJointStep rest self.old (due_step rest self.old) (told result seen.new) self.new }
-        ensures unchanged { OnErr result (self.new ≡ self.old) }
-        ensures some { OnOk result (0 < seen.new.cycles) }
-        ensures few { OnOk result (seen.new.cycles < 3) }
+        ensures ended { self.new ≡ machine_after (without_edges due.now) self.old (ended cycles due.now self.old) }
+        ensures seen { IsSeen (without_edges due.now) self.old (ended cycles due.now self.old) seen.new }
+        ensures cycles { seen.new.cycles ≡ cycles }
         ensures steps { self.new.steps ≤ self.new.cycle }
         ensures empty { IsEmptyUnlessHeld self.new.outside.desk.port }
     {
-        let given = pins(&self.matrix, &self.outside, &self.mcu);
-        let cycles = execute::<SITE>(&self.image, &mut self.mcu, given)?;
         let p2 = port_2(&self.mcu);
         empty_out(&mut seen.items);
         let (host, first, last) = self.outside.pass(
@@ -133,6 +167,25 @@ impl Machine {
         seen.edges = 0;
         seen.host = host;
         seen.lines = [first, last];
+    }
+
+    /// One joint step in which no edge is made, told in `seen`. Where the processor is stuck nothing has changed.
+    #[inline(always)]
+    fn step_on<const SITE: u8>(&mut self, due: &Due, seen: &mut Seen) -> Result<(), Stuck>
+        requires near { self.old.cycle < 2 ^ 62 }
+        requires steps { self.old.steps ≤ self.old.cycle }
+        requires empty { IsEmptyUnlessHeld self.old.outside.desk.port }
+        ensures step { let rest = without_edges due.now in
+            IsJointStep rest self.old (due_step rest self.old) (told result seen.new) self.new }
+        ensures unchanged { OnErr result (self.new ≡ self.old) }
+        ensures some { OnOk result (0 < seen.new.cycles) }
+        ensures few { OnOk result (seen.new.cycles < 3) }
+        ensures steps { self.new.steps ≤ self.new.cycle }
+        ensures empty { IsEmptyUnlessHeld self.new.outside.desk.port }
+    {
+        let given = pins(&self.matrix, &self.outside, &self.mcu);
+        let cycles = self.step_processor::<SITE>(given)?;
+        self.end_step(cycles, due, seen);
         Ok(())
     }
 

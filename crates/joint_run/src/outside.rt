@@ -19,18 +19,20 @@ use host_turn::{Desk, Stamped};
 use int09::Bios;
 use pc_tables::Item;
 
-/// The controller with its wire state, the host's mask and INT 09h; the level of the clock at the controller's last
-/// look; and the lights that the keyboard shows.
+/// What stands outside the processor.
 #[derive(Drop)]
 pub struct Outside {
+    /// The controller with its wire state, the host's mask and INT 09h.
     pub desk: Desk<Wire>,
+    /// The level of the clock at the controller's last look.
     pub clock: bool,
+    /// The lights that the keyboard shows.
     pub shown: u8,
 }
 
 /// The lights that port 2 lights: Scroll as bit 0, Num as bit 1, Caps as bit 2, each where its latch bit is 0.
-pub(crate) fn lights(p2: u8) -> u8
-    ensures { result ≡ lights_of p2 }
+pub fn lights(p2: u8) -> u8
+    ensures lights { result ≡ lights_of p2 }
 {
     !p2 >> 4 & 7
 }

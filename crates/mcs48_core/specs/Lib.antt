@@ -10,5 +10,6 @@ pub mod Ports
 pub mod Control
 pub mod Timer
 pub mod Step
+pub mod Leap
 pub mod StateText
 pub mod Path

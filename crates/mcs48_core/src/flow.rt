@@ -25,7 +25,7 @@ impl Mcu {
     }
 
     /// Bit 11 of a jump or a call.
-    fn bank_bit(&self) -> u16
+    pub(crate) fn bank_bit(&self) -> u16
         ensures bit { result ≡ bank_bit self.now }
         ensures small { result < 2 }
     {

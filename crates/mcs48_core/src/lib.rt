@@ -9,6 +9,7 @@ mod arithmetic;
 mod control;
 mod flow;
 mod law;
+mod leaping;
 mod levels;
 mod moves;
 mod ports;

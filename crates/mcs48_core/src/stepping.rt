@@ -2,7 +2,7 @@
 
 ghost use Rattle.std.specs.Prelude.{◌≡◌, ◌<◌, IfOk, OnErr};
 ghost use Rattle.mcs48_isa.specs.Operands.{IsOp};
-ghost use Rattle.mcs48_core.specs.Step.{effect, entered, executed, row_at, stepped, IsStep};
+ghost use Rattle.mcs48_core.specs.Step.{effect, entered, executed, row_at, stepped, takes_external, takes_timer, IsStep};
 
 use crate::levels::Pins;
 use crate::processor::Mcu;
@@ -39,6 +39,22 @@ impl Mcu {
             Op::PortIo(op) => self.transfer(op, here, pins),
             Op::Control(op) => self.control(op, here),
         }
+    }
+
+    /// Whether an external interrupt is due.
+    #[inline(always)]
+    pub(crate) fn takes_external(&self, pins: &Pins) -> bool
+        ensures { result ≡ takes_external pins.now self.now }
+    {
+        !self.svc && self.ext_on && !pins.int_pin
+    }
+
+    /// Whether an interrupt of the timer is due, if no external one is. Most often none is requested.
+    #[inline(always)]
+    pub(crate) fn takes_timer(&self) -> bool
+        ensures { result ≡ takes_timer self.now }
+    {
+        self.rq && !self.svc && self.tim_on
     }
 
     /// Enters the service of an interrupt: a step of 2 cycles that executes no instruction.
@@ -115,10 +131,10 @@ impl Mcu {
         ensures some { IfOk result (λ cycles. 0 < cycles) }
         ensures few { IfOk result (λ cycles. cycles < 3) }
     {
-        if !self.svc && self.ext_on && !pins.int_pin {
+        if self.takes_external(&pins) {
             return Ok(self.enter(EXTERNAL_ENTRY, &pins));
         }
-        if !self.svc && self.tim_on && self.rq {
+        if self.takes_timer() {
             self.rq = false;
             return Ok(self.enter(TIMER_ENTRY, &pins));
         }
