@@ -63,6 +63,14 @@ pub record Strikes (layout : KeyLayout) (history : KeyHistory) (starts : ℕ →
   pub scanning : is_scanning (keyboard_at layout history starts (suc n)) ≡ true
   pub room : (keyboard_at layout history starts (suc n)).queue.overrun ≡ false
 
+-- each edge of the history that tick n sees is among its edges, in one of the two layers
+abbrev pub EdgesAreAmong : Type 0
+EdgesAreAmong =
+    (layout : KeyLayout) (history : KeyHistory) (starts : ℕ → ℕ) (n : ℕ) (edge : Edge)
+    → Contains history.edges edge → edge.place < 96 → is_seen starts n edge ≡ true
+    → (on_fn : Bool)
+    × Contains (edges_at layout history starts n) (record { place = edge.place; down = edge.down; on_fn = on_fn })
+
 -- its code waits at the next tick's start behind so many bytes. Byte i of it is read i + place ticks later: at most two
 -- ticks and 660 cycles behind the edge, and a tick for each byte before it; 16 fewer for each column before the key's.
 -- The edge may come a cycle behind the read of its column, at offset 16, and so waits for the next tick's; what it
