@@ -13,3 +13,4 @@ pub mod Holding
 pub mod Reading
 pub mod Among
 pub mod Latency
+pub mod Meeting
