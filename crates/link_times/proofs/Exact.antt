@@ -7,6 +7,7 @@ use Rattle.byte_time.specs.declared.meeting.Meeting.{Meeting}
 use Rattle.byte_time.specs.declared.meeting.Meeting.TheVariants.{Got, Inhibited, Idle, Sent, Cut}
 use Rattle.kbd_model.specs.declared.edge.TickEdge.{TickEdge}
 use Rattle.kbd_model.specs.declared.meeting.Meeting.TheVariants as kbd
+use Rattle.kbd_model.specs.declared.state.Repeat.{Repeat}
 use Rattle.kbd_model.specs.declared.state.Reply.{Reply}
 use Rattle.kbd_model.specs.Codes.{Keys}
 use Rattle.kbd_model.specs.Keyboard.{Keyboard, offer}
@@ -16,9 +17,17 @@ use Rattle.kbd_model.specs.Tick.{met, tested_if, is_scanning, scanned, ticked, i
 use Rattle.kbd_model.proofs.Once.{got_leaves, sent_leaves, reset_leaves}
 use Rattle.link_model.specs.Machine.{met_as}
 use Rattle.quiet_log.specs.Once.{left, put_before, IsSilentInTest}
-use Rattle.link_times.specs.Coming.{codes_of, comes_first, repeat_code, repeats_still, tick_codes, queue_left, added, test_left}
+use Rattle.link_times.specs.Coming.{codes_of, comes_first, repeat_code, repeats_still, repeats_then, tick_codes, queue_left, added, test_left, waits_less}
 use Rattle.link_times.proofs.Entering.{entered, queue_adds, scans_enter}
+use Rattle.link_times.proofs.Repeating.{scans_rate, scans_repeat}
 use Rattle.link_times.proofs.Answering.{Answers, answers}
+
+-- which key repeats then
+abbrev pub repeats_behind : Keys → List TickEdge → Meeting → Keyboard → Keyboard → Option Repeat
+repeats_behind keys edges meeting k after =
+    if is_scanning after
+    then repeats_then keys after.rate edges (waits_less after.rate (repeats_still meeting k))
+    else None
 
 -- what a tick comes to
 pub record Comes (keys : Keys) (edges : List TickEdge) (meeting : Meeting) (k after : Keyboard) : Type 0 where
@@ -28,6 +37,7 @@ pub record Comes (keys : Keys) (edges : List TickEdge) (meeting : Meeting) (k af
   pub test : after.test ≡ test_left meeting k
   pub queue : after.queue
       ≡ entered (tick_codes keys meeting edges k (is_scanning after)) (queue_left meeting k)
+  pub repeats : after.repeats ≡ repeats_behind keys edges meeting k after
 
 -- the meeting: the queue behind it, the key that repeats, and the test
 record Meets (keys : Keys) (meeting : Meeting) (k : Keyboard) : Type 0 where
@@ -43,6 +53,7 @@ record Behind (keys : Keys) (edges : List TickEdge) (meeting : Meeting) (k after
   test : after.test ≡ (met (met_as meeting) keys k).test
   queue : after.queue
       ≡ entered (tick_codes keys meeting edges k (is_scanning after)) (queue_left meeting k)
+  repeats : after.repeats ≡ repeats_behind keys edges meeting k after
 
 -- more behind what waits
 waits_more : (r aa q more : List ℕ) → r ++ (aa ++ (q ++ more)) ≡ (r ++ (aa ++ q)) ++ more
@@ -159,11 +170,14 @@ module _ (keys : Keys) (edges : List TickEdge) (k : Keyboard) where
       × ((after meeting).reply ≡ b.reply) × ((after meeting).aa_due ≡ b.aa_due) × ((after meeting).test ≡ b.test)
       × ((after meeting).queue
       ≡ entered (tick_codes keys meeting edges k (is_scanning (after meeting))) (queue_left meeting k))
+      × ((after meeting).repeats ≡ repeats_behind keys edges meeting k (after meeting))
   queue_then meeting b q r e =
       let inhibited : Bool = is_inhibited (met_as meeting) in
       let s = scans_enter (is_scanning b) keys inhibited edges b in
       let on : is_scanning (after meeting) ≡ is_scanning b = ap (λ v. is_scanning v) e ∙ s.scanning in
       let c = codes_are meeting b r on in
+      let rate : (after meeting).rate ≡ b.rate =
+      ap (λ (v : Keyboard). v.rate) e ∙ scans_rate (is_scanning b) keys inhibited edges b in
       (
         ap (λ (v : Keyboard). queued v.queue) e
         ∙ ap (λ v. queued v) s.queue
@@ -178,6 +192,13 @@ module _ (keys : Keys) (edges : List TickEdge) (k : Keyboard) where
         ap (λ (v : Keyboard). v.test) e ∙ s.test,
         ap (λ (v : Keyboard). v.queue) e ∙ s.queue ∙ ap (λ v. entered v b.queue) (sym c)
         ∙ ap (λ v. entered (tick_codes keys meeting edges k (is_scanning (after meeting))) v) q,
+        ap (λ (v : Keyboard). v.repeats) e ∙ scans_repeat (is_scanning b) keys inhibited edges b
+        ∙ ap (λ c. if c then repeats_then keys b.rate edges (waits_less b.rate b.repeats) else None) (sym on)
+        ∙ ap (λ v. if is_scanning (after meeting) then repeats_then keys v edges (waits_less v b.repeats) else None)
+        (sym rate)
+        ∙ ap (λ v. if is_scanning (after meeting)
+        then repeats_then keys (after meeting).rate edges (waits_less (after meeting).rate v)
+        else None) r,
       )
 
   -- where the test had ended, step 3 does nothing
@@ -200,6 +221,7 @@ module _ (keys : Keys) (edges : List TickEdge) (k : Keyboard) where
         aa_due = h.2;
         test = h.3;
         queue = h.4;
+        repeats = h.5;
       }
 
   -- nothing passes, and the test had ended
@@ -218,12 +240,12 @@ module _ (keys : Keys) (edges : List TickEdge) (k : Keyboard) where
   inhibited : k.test ≡ 0 → Comes keys edges Inhibited k (after Inhibited)
   inhibited t =
       let h = unchanged Inhibited t refl refl refl in
-      record { first = refl; waits = h.waits; test = h.test ∙ one_fewer k.test t; queue = h.queue }
+      record { first = refl; waits = h.waits; test = h.test ∙ one_fewer k.test t; queue = h.queue; repeats = h.repeats }
 
   cut : k.test ≡ 0 → Comes keys edges Cut k (after Cut)
   cut t =
       let h = unchanged Cut t refl refl refl in
-      record { first = refl; waits = h.waits; test = h.test ∙ one_fewer k.test t; queue = h.queue }
+      record { first = refl; waits = h.waits; test = h.test ∙ one_fewer k.test t; queue = h.queue; repeats = h.repeats }
 
   -- a byte from the system
   gets : (byte : ℕ) → k.test ≡ 0 → Comes keys edges (Got byte) k (after (Got byte))
@@ -242,6 +264,7 @@ module _ (keys : Keys) (edges : List TickEdge) (k : Keyboard) where
             ∙ ap (λ v. (comes_first (Got byte) k ++ (byte_if k.aa_due 0xaa ++ queued v)) ++ more) g.queue;
         test = h.test ∙ n.test ∙ one_fewer k.test t;
         queue = h.queue;
+        repeats = h.repeats;
       }
 
   -- the byte that was offered is sent
@@ -260,7 +283,7 @@ module _ (keys : Keys) (edges : List TickEdge) (k : Keyboard) where
       let test : (after (Sent byte)).test ≡ (if is_reset_due k.reply then 64 else k.test - 1) =
       h.test ∙ ap (λ (v : Keyboard). v.test) s ∙ gone_test k.reply keys k'
       ∙ ap (λ v. if is_reset_due k.reply then 64 else v) (one_fewer k.test t) in
-      record { first = refl; waits = h.waits ∙ ap (λ v. v ++ more) (left_by (is_reset_due k.reply) refl); test = test; queue = h.queue }
+      record { first = refl; waits = h.waits ∙ ap (λ v. v ++ more) (left_by (is_reset_due k.reply) refl); test = test; queue = h.queue; repeats = h.repeats }
     where
       left_by : (c : Bool) → is_reset_due k.reply ≡ c
           → waiting (met kbd.Sent keys k) ≡ (if is_reset_due k.reply then queued (clear k.queue) else drop 1 (waiting k))
@@ -288,6 +311,7 @@ module _ (keys : Keys) (edges : List TickEdge) (k : Keyboard) where
             ∙ stand more silent;
         test = h.3 ∙ tested_test k;
         queue = h.4;
+        repeats = h.5;
       }
     where
       stand : (more : List ℕ) → IsSilentInTest k

@@ -1,5 +1,6 @@
 pub mod Entering
 pub mod Answering
+pub mod Repeating
 pub mod Exact
 pub mod Twice
 pub mod Flowing
@@ -10,4 +11,6 @@ pub mod Fitting
 pub mod Breaking
 pub mod Holding
 pub mod Reading
+pub mod Among
 pub mod Latency
+pub mod Meeting

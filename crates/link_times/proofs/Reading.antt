@@ -49,7 +49,7 @@ contains_at f (y ∷ ys) x (suc k) l e =
     let b : r.0 < length (map f ys) = r.1 in
     (suc r.0, omega (arith, b), r.2)
 
-contains_map : {X Y : Type 0} (f : X → Y) (xs : List X) (x : X) → Contains xs x → Contains (map f xs) (f x)
+pub contains_map : {X Y : Type 0} (f : X → Y) (xs : List X) (x : X) → Contains xs x → Contains (map f xs) (f x)
 contains_map f xs x c = contains_at f xs x c.0 c.1 c.2
 
 module _ (events : List HostEvent) where

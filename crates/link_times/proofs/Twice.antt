@@ -3,17 +3,19 @@ use Rattle.std.proofs.Common.{◌≡◌, ℕ, suc, zero, ◌+◌, List, [], ◌�
 use Rattle.std.specs.List.Sorted.{IsPermutation}
 use Rattle.byte_time.specs.declared.meeting.Meeting.{Meeting}
 use Rattle.key_file.specs.Histories.{KeyHistory}
-use Rattle.layout_reader.specs.Layouts.{KeyLayout}
+use Rattle.layout_reader.specs.Layouts.{KeyLayout, is_fn_place}
 use Rattle.kbd_model.specs.Codes.{keys_of}
 use Rattle.kbd_model.specs.Keyboard.{Keyboard}
 use Rattle.kbd_model.specs.Once.{waiting}
 use Rattle.link_model.specs.Expected.{Whole}
+use Rattle.link_model.specs.TickEdges.{tick_edges}
 use Rattle.link_model.specs.Machine.{LayeredKeyboard}
 use Rattle.quiet_log.specs.Once.{came, at_tick, meeting_at, all_arrived, all_taken_away, all_came}
 use Rattle.quiet_log.proofs.Counted.{all_counted}
 use Rattle.quiet_log.proofs.Once.{arrives_as_offered, tested_or_idle}
 use Rattle.quiet_log.proofs.Silent.{silent_in_test}
 use Rattle.link_times.specs.Coming.{keyboard_at, edges_at, first_at, rest_at, behind_at, all_come, IsExact}
+use Rattle.link_times.proofs.Repeating.{layered_same}
 use Rattle.link_times.proofs.Exact.{Comes, comes_by}
 
 module _ (layout : KeyLayout) (history : KeyHistory) (starts : ℕ → ℕ) where
@@ -29,7 +31,13 @@ module _ (layout : KeyLayout) (history : KeyHistory) (starts : ℕ → ℕ) wher
       (λ byte h. (arrives_as_offered layout history.host (4096 + starts n) byte w h).1)
 
   exact : (n : ℕ) → IsExact layout history starts n
-  exact n = let c = comes_at n in record { waits = c.waits; test = c.test }
+  exact n = let c = comes_at n in record {
+    waits = c.waits;
+    test = c.test;
+    edges = layered_same (is_fn_place layout) (tick_edges starts history.edges n)
+        (at_tick layout history starts n).keys.layers;
+    repeats = c.repeats;
+  }
 
   -- what stands behind a list is what is left when that is dropped
   behind_dropped : (xs more : List ℕ) → drop (length xs) (xs ++ more) ≡ more

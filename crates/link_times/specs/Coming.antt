@@ -1,7 +1,7 @@
 -- Nothing comes twice: what comes to wait in a tick is a reply, the AA of the test's end, and the codes of its keys,
 -- each once; nothing of it is read off the state that the tick leaves, but whether scanning is on then.
 use Rattle.std.specs.Prelude.{◌≡◌, ℕ, ◌+◌, ◌-◌, ◌==◌, nat_lt, nat_le, Bool, not, ◌&&◌, ◌||◌}
-use Rattle.std.specs.Prelude.{if◌then◌else◌, List, [], ◌∷◌, ◌++◌, length, Some, None, is_some}
+use Rattle.std.specs.Prelude.{if◌then◌else◌, List, [], ◌∷◌, ◌++◌, length, map, Some, None, is_some}
 use Rattle.std.specs.List.Sorted.{IsPermutation}
 use Rattle.std.specs.declared.option.Option.{Option}
 use Rattle.std.proofs.Common.{zero, suc}
@@ -16,7 +16,8 @@ use Rattle.kbd_model.specs.Laws.{Enters, let_in}
 use Rattle.kbd_model.specs.Layers.{layered}
 use Rattle.kbd_model.specs.Once.{byte_if, clears_queue, is_reset_due, waiting}
 use Rattle.kbd_model.specs.Queue.{KeyQueue, enter, drop_first, clear}
-use Rattle.kbd_model.specs.Tick.{is_ready, is_scanning, is_inhibited}
+use Rattle.kbd_model.specs.Typematic.{delay, period}
+use Rattle.kbd_model.specs.Tick.{ended_at, is_ready, is_scanning, is_inhibited}
 use Rattle.key_file.specs.Histories.{KeyHistory}
 use Rattle.layout_reader.specs.Layouts.{KeyLayout, is_fn_place}
 use Rattle.link_model.specs.Machine.{met_as}
@@ -104,6 +105,27 @@ test_left Idle k = k.test - 1
 test_left (Sent byte) k = if is_reset_due k.reply then 64 else k.test - 1
 test_left Cut k = k.test - 1
 
+-- the key that repeats has a tick less to wait; with its code a period begins
+abbrev pub waits_less : ℕ → Option Repeat → Option Repeat
+waits_less rate None = None
+waits_less rate (Some r) = Some (record r { count = if r.count == 1 then period rate else r.count - 1 })
+
+-- an edge: a key that goes down is the one that repeats, a delay from now on; one that goes up repeats no more; the Fn
+-- key changes nothing
+abbrev pub repeats_by : Keys → ℕ → TickEdge → Option Repeat → Option Repeat
+repeats_by keys rate e r =
+    if keys.is_fn e.place then r
+    else if e.down then Some (record { place = e.place; count = delay rate; on_fn = e.on_fn })
+    else ended_at e.place r
+
+abbrev pub repeats_then : Keys → ℕ → List TickEdge → Option Repeat → Option Repeat
+repeats_then keys rate [] r = r
+repeats_then keys rate (e ∷ edges) r = repeats_then keys rate edges (repeats_by keys rate e r)
+
+-- an edge without its layer: its place, and whether its key went down
+abbrev pub change_in : TickEdge → ℕ × Bool
+change_in e = (e.place, e.down)
+
 -- the model of a layout and a history in tick n: its keyboard, the edges that it sees, and what they add
 module _ (layout : KeyLayout) (history : KeyHistory) (starts : ℕ → ℕ) where
   abbrev pub keyboard_at : ℕ → Keyboard
@@ -127,18 +149,29 @@ module _ (layout : KeyLayout) (history : KeyHistory) (starts : ℕ → ℕ) wher
   abbrev pub behind_at : ℕ → List ℕ
   behind_at n = added (codes_at n) (queue_left (meeting_at layout history starts n) (keyboard_at n))
 
+  abbrev pub repeats_at : ℕ → Option Repeat
+  repeats_at n =
+      let after : Keyboard = keyboard_at (suc n) in
+      let still : Option Repeat = repeats_still (meeting_at layout history starts n) (keyboard_at n) in
+      if is_scanning after
+      then repeats_then (keys_of layout) after.rate (edges_at n) (waits_less after.rate still)
+      else None
+
   -- what comes in so many ticks from one on
   abbrev pub all_come : ℕ → ℕ → List ℕ
   all_come n zero = []
   all_come n (suc count) = all_come n count ++ (first_at (count + n) ++ behind_at (count + n))
 
 -- after a tick there waits what comes first, then the rest of what waited, and then what its codes added, and nothing
--- else; and the test has a tick less
+-- else. Its edges are those that it sees, each once, and so its codes are; the test has a tick less; the key that
+-- repeats has one less too, and waits a period behind its code: so AA and a repeat come once each time
 pub record IsExact (layout : KeyLayout) (history : KeyHistory) (starts : ℕ → ℕ) (n : ℕ) : Type 0 where
   pub waits : waiting (keyboard_at layout history starts (suc n))
       ≡ first_at layout history starts n ++ (rest_at layout history starts n ++ behind_at layout history starts n)
   pub test : (keyboard_at layout history starts (suc n)).test
       ≡ test_left (meeting_at layout history starts n) (keyboard_at layout history starts n)
+  pub edges : map change_in (edges_at layout history starts n) ≡ tick_edges starts history.edges n
+  pub repeats : (keyboard_at layout history starts (suc n)).repeats ≡ repeats_at layout history starts n
 
 -- so it is in each tick of each run
 abbrev pub ComesExactly : Type 0

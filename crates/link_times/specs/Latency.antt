@@ -2,7 +2,7 @@
 use Rattle.std.specs.Prelude.{◌≡◌, ◌≤◌, ◌<◌, ℕ, suc, ◌+◌, ◌*◌, ◌/◌, Bool, true, false, List, [], ◌∷◌, ◌++◌, length}
 use Rattle.std.specs.Prelude.{Some, slice_get, Contains}
 use Rattle.std.specs.declared.option.Option.{Option}
-use Rattle.board_lines.specs.Cadence.{KeepsCadenceTo}
+use Rattle.board_lines.specs.Cadence.{KeepsCadence, KeepsCadenceTo}
 use Rattle.board_lines.specs.declared.event.Edge.{Edge}
 use Rattle.byte_time.specs.declared.meeting.Meeting.TheVariants.{Sent}
 use Rattle.ctl_core.specs.Translation.{translation}
@@ -63,6 +63,14 @@ pub record Strikes (layout : KeyLayout) (history : KeyHistory) (starts : ℕ →
   pub scanning : is_scanning (keyboard_at layout history starts (suc n)) ≡ true
   pub room : (keyboard_at layout history starts (suc n)).queue.overrun ≡ false
 
+-- each edge of the history that tick n sees is among its edges, in one of the two layers
+abbrev pub EdgesAreAmong : Type 0
+EdgesAreAmong =
+    (layout : KeyLayout) (history : KeyHistory) (starts : ℕ → ℕ) (n : ℕ) (edge : Edge)
+    → Contains history.edges edge → edge.place < 96 → is_seen starts n edge ≡ true
+    → (on_fn : Bool)
+    × Contains (edges_at layout history starts n) (record { place = edge.place; down = edge.down; on_fn = on_fn })
+
 -- its code waits at the next tick's start behind so many bytes. Byte i of it is read i + place ticks later: at most two
 -- ticks and 660 cycles behind the edge, and a tick for each byte before it; 16 fewer for each column before the key's.
 -- The edge may come a cycle behind the read of its column, at offset 16, and so waits for the next tick's; what it
@@ -83,3 +91,16 @@ KeysComeInTime =
     (layout : KeyLayout) (history : KeyHistory) (starts : ℕ → ℕ) (last n : ℕ) (edge : Edge) (code : List ℕ)
     → IsHostQuiet history → KeepsCadenceTo starts last → n < last → Strikes layout history starts n edge code
     → ComesInTime layout history starts last n edge code
+
+-- and no less would do: where the edge comes one cycle behind the read of its column, in a tick that starts at its
+-- multiple, and the tick that reads the byte starts five cycles late, it is read just then
+pub record IsMet (n before : ℕ) (edge : Edge) : Type 0 where
+  pub starts : ℕ → ℕ
+  pub cadence : KeepsCadence starts
+  pub seen : is_seen starts (suc n) edge ≡ true
+  pub read : read_stamp starts (before + suc (suc n)) + 16 * (edge.place / 8)
+      ≡ edge.stamp + 2 * 2048 + 660 + 2048 * before
+
+abbrev pub LatencyIsMet : Type 0
+LatencyIsMet =
+    (n before : ℕ) (edge : Edge) → edge.stamp ≡ 2048 * n + 17 + 16 * (edge.place / 8) → IsMet n before edge

@@ -9,7 +9,7 @@
 ghost use Rattle.link_times.specs.Coming.{AllComesOnce, ComesExactly, NothingElseArrives};
 ghost use Rattle.link_times.specs.Flowing.{OneByteATick, QuietByteATick, QuietSends};
 ghost use Rattle.link_times.specs.Holding.{GoesAtLast, NothingElseHolds};
-ghost use Rattle.link_times.specs.Latency.{KeysComeInTime, ReadsWhatArrives};
+ghost use Rattle.link_times.specs.Latency.{EdgesAreAmong, KeysComeInTime, LatencyIsMet, ReadsWhatArrives};
 
 /// Nothing comes twice. After a tick there waits what comes first (the reply to a byte from the system; AA in the test's
 /// last tick), then the rest of what waited, and then what the tick's codes added: those of the key that repeats and of
@@ -39,10 +39,13 @@ pub fn nothing_waits_for_ever()
 {}
 
 /// A key's latency, where the host only takes words and reads the status: what a byte comes to is read by INT 09h 64
-/// cycles behind its arrival, and the log says so with the tick; and each byte of the code of an edge is read at most
-/// 2 * 2,048 + 660 cycles behind the edge, and a tick more for each byte that waited before it. A place's column takes off
-/// 16 cycles for each column before it. Nothing is done when it is called; the laws are its contract.
+/// cycles behind its arrival, and the log says so with the tick. Each edge that a tick sees is among its edges; and each
+/// byte of its code is read at most 2 * 2,048 + 660 cycles behind the edge, and a tick more for each byte that waited
+/// before it, less 16 cycles for each column that is read before the key's; and an edge one cycle behind its column's read
+/// may take just as long. Nothing is done when it is called; the laws are its contract.
 pub fn keys_come_in_time()
     ensures reads { ReadsWhatArrives }
+    ensures among { EdgesAreAmong }
     ensures soon { KeysComeInTime }
+    ensures met { LatencyIsMet }
 {}
