@@ -1,5 +1,3 @@
-pub mod Kept
-pub mod Following
 pub mod Numerals
 pub mod Parted
 pub mod Said
