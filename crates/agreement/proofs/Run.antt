@@ -1,5 +1,6 @@
 -- For every layout and every accepted history run and model agree.
-use Rattle.std.proofs.Common.{◌≡◌, ◌≤◌, ◌<◌, ℕ, suc, ◌+◌, ◌-◌, ◌*◌, ◌/◌, ◌==◌, true, false, All, List, length, refl, ap, sym, ◌∙◌, subst, arith}
+use Rattle.std.proofs.Common.{◌≡◌, ◌≤◌, ◌<◌, ℕ, suc, ◌+◌, ◌-◌, ◌*◌, ◌/◌, ◌%◌, ◌==◌, true, false, nat_le, slice_index, if◌then◌else◌, Some, All, List, length, refl, ap, sym, ◌∙◌, subst, arith}
+use Rattle.std.proofs.lemmas.Bool.Decides.{nat_tests}
 use Rattle.std.proofs.lemmas.List.Elements.{All-replicate}
 use Rattle.fw_compile.specs.Image.{image_of}
 use Rattle.fw_kernel.specs.declared.labels.TheConstants.{TICK}
@@ -9,13 +10,18 @@ use Rattle.fw_link.proofs.Watching.{watching, watched, driven_good, drives_tick}
 use Rattle.fw_link.proofs.Wired.{IsReleased}
 use Rattle.fw_link.specs.Latch.{Frame, tick_latch}
 use Rattle.fw_link.proofs.TickLatch.{lines_by}
+use Rattle.fw_logic.proofs.Executing.{before_first, all_fit}
 use Rattle.fw_logic.proofs.Laws.{comes_as}
+use Rattle.fw_logic.proofs.Passing.{Passes}
+use Rattle.fw_logic.proofs.Sweep.{selects_from, column_from}
+use Rattle.fw_logic.proofs.Turns.{IsMain}
+use Rattle.fw_logic.specs.Executed.{IsFit}
 use Rattle.ctl_link.specs.declared.link.Link.TheVariants.{Request}
 use Rattle.board_lines.specs.declared.event.Edge.{Edge}
 use Rattle.board_lines.specs.declared.event.HostEvent.{HostEvent}
 use Rattle.joint_run.specs.Joint.{Beside, joint_board}
-use Rattle.joint_run.specs.Run.{Board, World}
-use Rattle.joint_run.specs.Starts.{at_tick, Comes, Tick}
+use Rattle.joint_run.specs.Run.{Board, World, joint_step, run_at}
+use Rattle.joint_run.specs.Starts.{at_tick, calm, Comes, Tick}
 use Rattle.kbd_model.specs.Keyboard.{Keyboard, offer, is_held}
 use Rattle.key_file.specs.Accepted.{IsAcceptedFor}
 use Rattle.key_file.specs.Histories.{KeyHistory}
@@ -27,6 +33,7 @@ use Rattle.mcs48_core.specs.Cpu.{Cpu}
 use Rattle.mcs48_core.specs.Reset.{reset_cpu}
 use Rattle.mcs48_ranges.specs.Sizes.{IsByte, IsFine}
 use Rattle.agreement.specs.Agreement.{AgreementLaw, AnyMemoryLaw, switched_on}
+use Rattle.agreement.specs.Executed.{ExecutedLaw}
 use Rattle.agreement.specs.Memory.{Holds, MemoryLaw}
 use Rattle.agreement.specs.Wires.{DrivesFrame, WiresLaw}
 use Rattle.agreement.proofs.Above.{edges_over, low_over}
@@ -47,8 +54,8 @@ use Rattle.agreement.proofs.Offering.{offers_byte, lit_released, lit_shows}
 use Rattle.agreement.proofs.Sides.{model_looks}
 use Rattle.agreement.proofs.Placed.{IsOfLayout, down_placed, shown_placed}
 use Rattle.agreement.proofs.Ties.{Ties}
-use Rattle.agreement.proofs.Together.{together, goes_with}
-use Rattle.agreement.proofs.Whole.{keeps_time, at_starts, agrees, drives}
+use Rattle.agreement.proofs.Together.{together, goes_with, asks_for}
+use Rattle.agreement.proofs.Whole.{keeps_time, at_starts, at_run, agrees, drives}
 
 module _ (layout : KeyLayout) (history : KeyHistory) (fine : IsKeyLayout layout)
     (ok : IsAcceptedFor layout history) where
@@ -61,11 +68,13 @@ module _ (layout : KeyLayout) (history : KeyHistory) (fine : IsKeyLayout layout)
   abbrev bytes : List ℕ
   bytes = image_of layout
 
-  -- the joint state is tied to the model, whose bytes are bytes, and whose held keys are at places of the layout
+  -- the joint state is tied to the model, whose bytes are bytes, and whose held keys are at places of the layout; port 1
+  -- is as reset leaves it at the first start, and then selects no column
   record Tied (w : World Beside) (m : Whole LayeredKeyboard) : Type 0 where
     pub ties : Ties bytes (silent_keys layout) w m
     pub in_bytes : IsInBytes m.side
     pub placed : (p : ℕ) → p < 96 → is_held m.keys.keyboard p ≡ true → HasEntry layout p
+    pub column : w.cpu.p1 ≡ (if nat_le w.cycle 4097 then 255 else 44)
 
   fits : (w : World Beside) (m : Whole LayeredKeyboard) → Tied w m → HasPlaces m.keys.keyboard
   fits w m t = subst (λ k. HasPlaces k) t.ties.keyboard (places_shown w.cpu.ram)
@@ -74,7 +83,8 @@ module _ (layout : KeyLayout) (history : KeyHistory) (fine : IsKeyLayout layout)
       (λ e. IsOnTime 0 e × Tied e (at_first (keyboard layout) events e.cycle))
   tied_first m small =
       comes_as (joint_board edges events) TICK bytes
-      (λ e. IsOnTime 0 e × Ties bytes (silent_keys layout) e (at_first (keyboard layout) events e.cycle))
+      (λ e. IsOnTime 0 e × Ties bytes (silent_keys layout) e (at_first (keyboard layout) events e.cycle)
+      × (e.cpu.p1 ≡ 255))
       (λ e. IsOnTime 0 e × Tied e (at_first (keyboard layout) events e.cycle)) (switched_on edges events m)
       (λ e h. (
         h.0,
@@ -82,6 +92,12 @@ module _ (layout : KeyLayout) (history : KeyHistory) (fine : IsKeyLayout layout)
           ties = h.1;
           in_bytes = first_in_bytes events ok.accepted.written LayeredKeyboard (keyboard layout) e.cycle;
           placed = λ p l held. absurd (let off : false ≡ true = sym (none_held layout p) ∙ held in cc);
+          column =
+              let pre : e.cpu.pre ≤ 3 = h.1.started.entered.late in
+              let time : e.cycle + 2 ≡ 4096 + 2048 * 0 + e.cpu.pre = h.0 in
+              let low : e.cycle ≤ 4097 = omega (arith, pre, time) in
+              let first : nat_le e.cycle 4097 ≡ true = grind (arith, nat_tests, low) in
+              h.2 ∙ sym (ap (λ b. if b then 255 else 44) first);
         },
       ))
       (begins edges events ok.accepted.flips bytes (has_kernel layout) (are_bytes layout fine) (bus_low edges events) m small
@@ -119,41 +135,6 @@ module _ (layout : KeyLayout) (history : KeyHistory) (fine : IsKeyLayout layout)
         (look_in_bytes events ok.accepted.written m.shown m.keys.keyboard.lights w.cycle m.side tied.in_bytes))
         request
 
-    tied_next : Tick (joint_board edges events) TICK bytes w
-        (λ e. IsOnTime (suc n) e × Tied e (by_columns (keyboard layout) edges events w.cycle e.cycle m))
-    tied_next =
-        let released = lit_released edges events w tie.started in
-        let t =
-        every_tick edges events (joint_board edges events) (λ b. b) (itself edges events) bytes (has_kernel layout)
-        (is_alike layout fine) (are_bytes layout fine) (bus_low edges events) layout (same_keys layout)
-        (no_prefix layout fine) n w m time tie columns of_layout (subst (λ v. length v ≤ 4) (sym columns) four) released lamps ok.accepted.flips
-        (λ byte is. offers_byte w.cpu tie.started byte (ap offer tie.keyboard ∙ is)) asked in
-        record {
-          at = t.at;
-          first = t.first;
-          step = t.step;
-          rest = comes_as (joint_board edges events) TICK bytes
-              (Went edges events (joint_board edges events) (λ b. b) (itself edges events) bytes layout
-              (same_keys layout) (no_prefix layout fine) n w m time tie columns of_layout released lamps ok.accepted.flips
-              (frame_in events (λ f. lines_by f (lit_latch edges events w) w.cycle released) w.cycle
-              (at_look edges events w) (m.keys.keyboard.test == 0) (offer m.keys.keyboard)))
-              (λ e. IsOnTime (suc n) e × Tied e (by_columns (keyboard layout) edges events w.cycle e.cycle m)) t.first
-              (λ e h. (
-                h.0.0,
-                record {
-                  ties = h.0.1;
-                  in_bytes = tick_in_bytes events ok.accepted.written LayeredKeyboard (keyboard layout)
-                      (shown (is_held m.keys.keyboard) (columns_in edges w.cycle)) w.cycle (e.cycle - w.cycle - 609) m
-                      tied.in_bytes;
-                  placed = λ p l held.
-                      now_placed p
-                      (sym (holds_now layout (meeting_from (keyboard layout) events w.cycle m) m.keys (columns_in edges w.cycle) p
-                      (fits w m tied) l) ∙ held);
-                },
-              ))
-              t.rest;
-        }
-
     -- the latch of the tick, by the cycle
     abbrev lit : ℕ
     lit = lit_latch edges events w
@@ -170,6 +151,54 @@ module _ (layout : KeyLayout) (history : KeyHistory) (fine : IsKeyLayout layout)
 
     abbrev joint : Board
     joint = joint_board edges events
+
+    went : Tick joint TICK bytes w
+        (Went edges events joint (λ b. b) (itself edges events) bytes layout (same_keys layout) (no_prefix layout fine) n w m
+        time tie columns of_layout released lamps ok.accepted.flips frame)
+    went =
+        every_tick edges events joint (λ b. b) (itself edges events) bytes (has_kernel layout)
+        (is_alike layout fine) (are_bytes layout fine) (bus_low edges events) layout (same_keys layout)
+        (no_prefix layout fine) n w m time tie columns of_layout (subst (λ v. length v ≤ 4) (sym columns) four) released lamps ok.accepted.flips
+        (λ byte is. offers_byte w.cpu tie.started byte (ap offer tie.keyboard ∙ is)) asked
+
+    -- by the service's end
+    passes : Passes joint bytes w
+    passes = went.rest.goal.3
+
+    abbrev next : World Beside
+    next = went.rest.end
+
+    column_next : next.cpu.p1 ≡ 44
+    column_next =
+        column_from joint bytes (has_kernel layout) w tie.started.entered passes went.rest.steps went.first next went.step
+        went.rest.run (is_tick edges events next went.rest.goal.0.1.started)
+
+    tied_next : Tick joint TICK bytes w
+        (λ e. IsOnTime (suc n) e × Tied e (by_columns (keyboard layout) edges events w.cycle e.cycle m))
+    tied_next = record {
+      at = went.at;
+      first = went.first;
+      step = went.step;
+      rest = record { steps = went.rest.steps; end = next; run = went.rest.run; goal = (went.rest.goal.0.0, there) };
+    }
+      where
+        there : Tied next (by_columns (keyboard layout) edges events w.cycle next.cycle m)
+        there = record {
+          ties = went.rest.goal.0.1;
+          in_bytes = tick_in_bytes events ok.accepted.written LayeredKeyboard (keyboard layout)
+              (shown (is_held m.keys.keyboard) (columns_in edges w.cycle)) w.cycle (next.cycle - w.cycle - 609) m
+              tied.in_bytes;
+          placed = λ p l held.
+              now_placed p
+              (sym (holds_now layout (meeting_from (keyboard layout) events w.cycle m) m.keys (columns_in edges w.cycle) p
+              (fits w m tied) l) ∙ held);
+          column =
+              let pre : 2 ≤ next.cpu.pre = went.rest.goal.0.1.started.entered.early in
+              let at : next.cycle + 2 ≡ 4096 + 2048 * suc n + next.cpu.pre = went.rest.goal.0.0 in
+              let high : 4097 < next.cycle = omega (arith, pre, at) in
+              let later : nat_le next.cycle 4097 ≡ false = grind (arith, nat_tests, high) in
+              column_next ∙ sym (ap (λ b. if b then 255 else 44) later);
+        }
 
     abbrev W : Board
     W = watching joint latch
@@ -196,10 +225,19 @@ module _ (layout : KeyLayout) (history : KeyHistory) (fine : IsKeyLayout layout)
           before = (tie.released.byte, tie.released.clock, tie.released.data_wire);
           lit = lit;
           behind = (released.byte, released.clock, released.data_wire);
+          lamps = (
+              slice_index w.cpu.ram 77 / 16 % 8,
+              omega arith,
+              ap (λ v. 255 - v) tie.started.inv.lamps,
+          );
           idle = tie.idle;
           goes_with = goes_with edges events w tie.lit released frame
               (together events lit w.cycle released (at_look edges events w) (offer m.keys.keyboard) asked
               (λ byte is. offers_byte w.cpu tie.started byte (ap offer tie.keyboard ∙ is)) (m.keys.keyboard.test == 0));
+          asked = asks_for edges events w tie.lit released (offer m.keys.keyboard)
+              (meeting_from (keyboard layout) events w.cycle m) frame t.rest.goal.2 went.rest.goal.4;
+          none = tied.column;
+          columns = selects_from joint bytes (has_kernel layout) w tie.started.entered passes;
           cut = is_cut_by edges events w tie.lit released frame
               (cut_since events lit w.cycle released (at_look edges events w) (m.keys.keyboard.test == 0)
               (offer m.keys.keyboard));
@@ -216,6 +254,33 @@ module _ (layout : KeyLayout) (history : KeyHistory) (fine : IsKeyLayout layout)
               ))
               t;
         }
+
+  -- the first start
+  module _ (m : Cpu) (small : IsFine m) where
+    abbrev from : World Beside
+    from = switched_on edges events m
+
+    main : IsMain false from.cpu
+    main = record { place = refl; stays = refl }
+
+    comes_first : Comes (joint_board edges events) TICK bytes from (λ e. at_tick (joint_board edges events) TICK e ≡ true)
+    comes_first =
+        comes_as (joint_board edges events) TICK bytes
+        (λ e. IsOnTime 0 e × Tied e (at_first (keyboard layout) events e.cycle))
+        (λ e. at_tick (joint_board edges events) TICK e ≡ true) from
+        (λ e h. is_tick edges events e h.1.ties.started) (tied_first m small)
+
+    -- up to it port 1 is as reset leaves it
+    stays_dark : (k : ℕ) (one next : World Beside) → calm (joint_board edges events) TICK bytes k from ≡ Some one
+        → at_tick (joint_board edges events) TICK one ≡ false
+        → joint_step (joint_board edges events) bytes one ≡ Some next → next.cpu.p1 ≡ 255
+    stays_dark = before_first (joint_board edges events) bytes (has_kernel layout) from main comes_first
+
+    -- each state of the run is fit, where each tick start has its way through the tick
+    stays_fit : ((k : ℕ) (w : World Beside) → run_at (joint_board edges events) bytes from k ≡ Some w
+        → at_tick (joint_board edges events) TICK w ≡ true → Passes (joint_board edges events) bytes w)
+        → (k : ℕ) (w : World Beside) → run_at (joint_board edges events) bytes from k ≡ Some w → IsFit bytes w.cpu
+    stays_fit = all_fit (joint_board edges events) bytes (has_kernel layout) from main comes_first
 
 pub every_memory : AnyMemoryLaw
 every_memory layout history fine ok m small = (
@@ -259,6 +324,7 @@ every_wire layout history fine ok m small =
     (λ w m t. ap (λ (s : _). s.log) t.ties.side) (λ w m t. (t.ties.started.entered.serves, t.ties.started.entered.bank))
     (λ w m t. (t.ties.started.entered.early, t.ties.started.entered.late))
     (begins_let_go history.edges history.host (image_of layout) (has_kernel layout) (are_bytes layout fine) m small)
+    (stays_dark layout history fine ok m small)
     (tick_drives layout history fine ok)
 
 -- and data memory shows the model's keyboard
@@ -274,3 +340,17 @@ every_holding layout history fine ok m small =
     (λ w m t. (t.ties.started.entered.early, t.ties.started.entered.late)) (λ w m. Holds w m.keys)
     (λ n w m time t few. (t.ties.keyboard, t.ties.layers)) in
     record { starts = a.0; each = a.1; holds = a.2 }
+
+-- and each state of the run is fit
+pub every_execution : ExecutedLaw
+every_execution layout history fine ok m small =
+    stays_fit layout history fine ok m small
+    (at_run LayeredKeyboard (switched_on history.edges history.host m) (image_of layout) history ok.accepted
+    (keyboard layout)
+    (Tied layout history fine ok) (λ k. HasPlaces k.keyboard) (fits layout history fine ok) (λ p l. none_held layout p)
+    (holds_now layout) (tied_first layout history fine ok m small) (tied_next layout history fine ok)
+    (λ w m t. ap (λ (s : _). s.log) t.ties.side)
+    (λ w m t. (t.ties.started.entered.serves, t.ties.started.entered.bank))
+    (λ w m t. (t.ties.started.entered.early, t.ties.started.entered.late))
+    (λ w. Passes (joint_board history.edges history.host) (image_of layout) w)
+    (λ n w m time t few. passes layout history fine ok n w m time t few))
