@@ -1,5 +1,5 @@
 -- Between two tick starts: each state of the run is one of the service or of the main program.
-use Rattle.std.proofs.Common.{◌≡◌, ◌≤◌, ◌<◌, ◌⊎◌, ℕ, suc, zero, ◌+◌, ◌%◌, List, Bool, true, false, not, ◌&&◌, ◌==◌}
+use Rattle.std.proofs.Common.{◌≡◌, ◌≤◌, ◌⊎◌, ℕ, suc, zero, ◌+◌, ◌%◌, List, Bool, true, false, not, ◌&&◌, ◌==◌}
 use Rattle.std.proofs.Common.{Some, None, slice_index, refl, ap, sym, ◌∙◌, subst, arith, inl, inr}
 use Rattle.std.proofs.lemmas.Bool.Decides.{nat_tests}
 use Rattle.std.specs.declared.option.Option.{Option}
@@ -11,7 +11,7 @@ use Rattle.mcs48_core.specs.Step.{Stepped, stepped, row_at, takes_external, take
 use Rattle.fw_kernel.specs.declared.labels.TheConstants.{TICK, DONE, OFFER}
 use Rattle.fw_kernel.specs.Places.{HasKernel}
 use Rattle.joint_run.specs.Run.{Board, World, after_cycles, seen, joint_step, after_step}
-use Rattle.joint_run.specs.Starts.{at_tick, calm, calm_step, Comes}
+use Rattle.joint_run.specs.Starts.{at_tick, calm, Comes}
 use Rattle.fw_logic.proofs.Following.{Stays}
 use Rattle.fw_logic.proofs.Leads.{LetsNone}
 use Rattle.fw_logic.proofs.Image.{row_is}

@@ -1,6 +1,6 @@
 -- The places at which the kernel executes an instruction: of the main program, and of the service. Each row there leads
 -- to such a place again.
-use Rattle.std.proofs.Common.{◌≡◌, ◌≤◌, ◌<◌, ℕ, ◌/◌, ◌%◌, List, [], ◌∷◌, Bool, true, false, not, ◌&&◌, leb, ltb}
+use Rattle.std.proofs.Common.{◌≡◌, ◌<◌, ℕ, ◌/◌, ◌%◌, List, [], ◌∷◌, Bool, true, false, not, ◌&&◌, leb, ltb}
 use Rattle.std.proofs.Common.{if◌then◌else◌, slice_index, Some, None, refl, arith}
 use Rattle.std.proofs.lemmas.Bool.Decides.{nat_tests}
 use Rattle.std.specs.List.{list_all}

@@ -1,13 +1,11 @@
 -- The latch of port 1 along a path: of each instruction, in each of its cycles.
-use Rattle.std.proofs.Common.{◌≡◌, ◌≤◌, ◌<◌, ℕ, suc, zero, ◌+◌, ◌-◌, ◌%◌, List, Bool, true, false, ◌&&◌, ◌==◌, leb}
+use Rattle.std.proofs.Common.{◌≡◌, ◌≤◌, ◌<◌, ℕ, suc, zero, ◌+◌, ◌-◌, ◌%◌, Bool, true, false, ◌&&◌, ◌==◌}
 use Rattle.std.proofs.Common.{Some, None, refl, ap, sym, ◌∙◌, subst, arith}
 use Rattle.std.proofs.lemmas.Bool.Decides.{nat_tests}
 use Rattle.std.specs.declared.option.Option.{Option}
 use Rattle.bits.proofs.Every.{both, same_of}
 use Rattle.mcs48_isa.specs.declared.operation.Decoded.{Decoded}
-use Rattle.mcs48_core.specs.Cpu.{Cpu}
 use Rattle.mcs48_core.specs.Registers.{past}
-use Rattle.mcs48_core.specs.Step.{effect}
 use Rattle.joint_run.specs.Run.{Board, World, joint_step}
 use Rattle.joint_run.specs.Starts.{calm}
 use Rattle.fw_logic.proofs.Between.{first_of, same_next}

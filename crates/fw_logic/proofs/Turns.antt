@@ -1,7 +1,6 @@
 -- A step at the kernel's places: the main program goes on or is interrupted, the service goes on or ends.
-use Rattle.std.proofs.Common.{◌≡◌, ◌≤◌, ◌<◌, ◌⊎◌, ℕ, ◌+◌, ◌*◌, ◌%◌, List, Bool, true, false, not, ◌&&◌, leb}
+use Rattle.std.proofs.Common.{◌≡◌, ◌⊎◌, ℕ, ◌+◌, ◌*◌, ◌%◌, List, Bool, true, false, not, ◌&&◌}
 use Rattle.std.proofs.Common.{Some, slice_index, refl, ap, sym, ◌∙◌, subst, arith, inl, inr}
-use Rattle.std.proofs.lemmas.Bool.Decides.{nat_tests}
 use Rattle.std.specs.declared.option.Option.{Option}
 use Rattle.mcs48_isa.specs.declared.operation.Decoded.{Decoded}
 use Rattle.mcs48_isa.specs.declared.operation.Op.TheVariants.{Flow}
@@ -145,8 +144,7 @@ module _ (bytes : List ℕ) (has : HasKernel bytes) (on : Bool) where
       let there : Some after ≡ Some n = sym made ∙ step in
       let is : after ≡ n = cc in
       subst (λ (s : Stepped). IsServing on s.cpu
-      × (is_behind m.pc ≡ true → (is_behind s.cpu.pc ≡ true) × (s.cpu.p1 ≡ m.p1))) is
-      (
+      × (is_behind m.pc ≡ true → (is_behind s.cpu.pc ≡ true) × (s.cpu.p1 ≡ m.p1))) is (
         record {
           place = follows in_service r.row.op bytes pins m steady low (r.leads closed);
           stays = effect_stays r.row.op bytes pins (past m) steady ∙ h.stays;
