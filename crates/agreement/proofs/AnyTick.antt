@@ -106,6 +106,7 @@ module _ (d : Board) (bytes : List ℕ) (hk : HasKernel bytes) (alike : IsSilent
     layers = c.layers;
     repeating = c.repeating;
     latch = c.p2 ∙ p2;
+    passes = c.passes;
     board = is;
   }
 

@@ -131,7 +131,7 @@ module _ (edges : List Edge) (events : List HostEvent) (noise : AreFlips events)
   -- the first start is on time, and tied to the model there
   tied : (bytes : List ℕ) (layout : KeyLayout) (w : World Beside) → slice_index bytes 864 ≡ layout.rate
       → IsFirst (joint_board edges events) bytes beside_at_start w → FromPowerOn bytes w.cpu
-      → IsOnTime 0 w × Ties bytes (silent_keys layout) w (at_first (keyboard layout) events w.cycle)
+      → IsOnTime 0 w × Ties bytes (silent_keys layout) w (at_first (keyboard layout) events w.cycle) × (w.cpu.p1 ≡ 255)
   tied bytes layout w rate i f =
       let cycle : w.cycle ≡ 4096 + i.late = ap (λ (v : World Beside). v.cycle) i.is in
       let pre : w.cpu.pre ≡ i.late + 2 = ap (λ (v : World Beside). v.cpu.pre) i.is in
@@ -151,17 +151,20 @@ module _ (edges : List Edge) (events : List HostEvent) (noise : AreFlips events)
           lit = ap lights_of f.latch ∙ sym b.shown;
           released = subst (λ v. IsReleased v) (sym f.latch) high_latch;
         },
+        ap (λ (v : World Beside). v.cpu.p1) i.is,
       )
 
   module _ (bytes : List ℕ) (hk : HasKernel bytes) (small : All IsByte bytes)
       (low : (p1 p2 c : ℕ) (s : Beside) → ((joint_board edges events).pins p1 p2 c s).bus < 256) where
-    -- the run comes from power-on to a first start that is tied to the model's
+    -- the run comes from power-on to a first start that is tied to the model's; no column is selected
     pub begins : (m : Cpu) → IsFine m → (layout : KeyLayout) → slice_index bytes 864 ≡ layout.rate
         → Comes (joint_board edges events) TICK bytes (switched_on edges events m)
-        (λ e. IsOnTime 0 e × Ties bytes (silent_keys layout) e (at_first (keyboard layout) events e.cycle))
+        (λ e. IsOnTime 0 e × Ties bytes (silent_keys layout) e (at_first (keyboard layout) events e.cycle)
+        × (e.cpu.p1 ≡ 255))
     begins m fine layout rate =
         comes_as (joint_board edges events) TICK bytes
         (λ w. IsFirst (joint_board edges events) bytes beside_at_start w × FromPowerOn bytes w.cpu)
-        (λ e. IsOnTime 0 e × Ties bytes (silent_keys layout) e (at_first (keyboard layout) events e.cycle)) (switched_on edges events m)
+        (λ e. IsOnTime 0 e × Ties bytes (silent_keys layout) e (at_first (keyboard layout) events e.cycle)
+        × (e.cpu.p1 ≡ 255)) (switched_on edges events m)
         (λ w g. tied bytes layout w rate g.0 g.1)
         (first_started (joint_board edges events) bytes hk small low m fine beside_at_start)

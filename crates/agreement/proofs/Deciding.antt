@@ -111,7 +111,7 @@ module _ (edges : List Edge) (events : List HostEvent) (d : Board) (to : d.State
       → Tick d TICK bytes w (Happened d bytes (met_as meeting) NoFrame w) → Goes NoFrame
   still meeting is none fits t =
       goes edges events d to over bytes layout same codes n w m time tie columns of_layout released lamps noise
-      (met_as meeting) meeting NoFrame fits refl
+      (met_as meeting) meeting NoFrame fits refl (λ byte e. elim (subst IsNone e none) [ ])
       (λ rest more k all long.
       still_ticked events v w.cycle released rest k look all tests (offer m.keys.keyboard) meeting idle_look
       (is (seen_in_bytes (at_meeting events (λ o. latch_of v) w.cycle look).side)) none) t
@@ -146,7 +146,7 @@ module _ (edges : List Edge) (events : List HostEvent) (d : Board) (to : d.State
           flips_stay events whole 32 (256 + w.cycle) look noise
           (flip_at_look edges events d to over bytes layout same codes n w m time tie columns of_layout released lamps noise) in
           goes edges events d to over bytes layout same codes n w m time tie columns of_layout released lamps noise kbd.Sent
-          (met.Sent byte) (SentFrame byte) refl refl
+          (met.Sent byte) (SentFrame byte) refl refl (λ b e. absurd cc)
           (λ rest more k all long.
           at_model whole rest k (Some byte) (met.Sent byte) ended some
           (sent_ticked events v w.cycle released rest k look all byte more (offered byte some) long free there flip
@@ -168,7 +168,7 @@ module _ (edges : List Edge) (events : List HostEvent) (d : Board) (to : d.State
           let at : (at_meeting events (cell j) w.cycle look).side.port.link ≡ Free =
           ap (λ (c : Pc). c.side.port.link) (cut_meets v w.cycle byte released events j look first.below) ∙ there in
           goes edges events d to over bytes layout same codes n w m time tie columns of_layout released lamps noise kbd.Cut met.Cut
-          (CutFrame byte j) (some, first.below) refl
+          (CutFrame byte j) (some, first.below) refl (λ b e. absurd cc)
           (λ rest more k all long.
           at_model (cell j) rest k (Some byte) met.Cut ended some
           (broken_ticked events v w.cycle released rest k look all byte j first.below free at leaves pulls))
@@ -183,7 +183,7 @@ module _ (edges : List Edge) (events : List HostEvent) (d : Board) (to : d.State
           let off : (at_meeting events (cell 0) w.cycle look).side.port.link ≡ Free → ⊥ = λ e.
           gone (ap (λ (c : Pc). c.side.port.link) (sym (cut_meets v w.cycle byte released events 0 look first)) ∙ e) in
           goes edges events d to over bytes layout same codes n w m time tie columns of_layout released lamps noise kbd.Cut met.Cut
-          (CutFrame byte 0) (some, first) refl
+          (CutFrame byte 0) (some, first) refl (λ b e. absurd cc)
           (λ rest more k all long.
           at_model (cell 0) rest k (Some byte) met.Cut ended some
           (cut_ticked events v w.cycle released rest k look all byte free off))
@@ -238,6 +238,7 @@ module _ (edges : List Edge) (events : List HostEvent) (d : Board) (to : d.State
   when_asked byte ended request =
       goes edges events d to over bytes layout same codes n w m time tie columns of_layout released lamps noise
       (kbd.Got byte true) (met.Got byte) ReceivedFrame refl refl
+      (λ b e. let same : byte ≡ b = cc in request ∙ ap (λ n. Request n) same)
       (λ rest more k all long.
       at_model (over_lines ReceivedFrame) rest k (offer m.keys.keyboard) (met.Got byte) ended refl
       (got_ticked events v w.cycle released rest k look all byte more (offer m.keys.keyboard) long request))

@@ -1,5 +1,5 @@
 -- What a tick of the firmware does on any board, in the words of its law.
-use Rattle.std.proofs.Common.{◌≤◌, ◌<◌, ℕ, List, All, length, refl, sym, subst}
+use Rattle.std.proofs.Common.{◌≡◌, ◌≤◌, ◌<◌, ℕ, ◌-◌, ◌%◌, ◌==◌, ◌&&◌, not, true, List, All, length, refl, ap, sym, ◌∙◌, subst}
 use Rattle.fw_kernel.specs.Places.{HasKernel}
 use Rattle.fw_kernel.specs.declared.labels.TheConstants.{TICK}
 use Rattle.fw_keys.proofs.Carried.{edges_low}
@@ -8,11 +8,13 @@ use Rattle.fw_keys.specs.Edges.{image_keys, IsSilentAlike}
 use Rattle.fw_keys.specs.Frameless.{shown_by, layers_by, IsStarted, IsRepeating, edges_now, changed_now}
 use Rattle.fw_logic.specs.Ticks.{column_read}
 use Rattle.fw_link.specs.Latch.{Frame}
-use Rattle.fw_logic.proofs.Laws.{comes_as}
+use Rattle.fw_logic.proofs.Sweep.{selects_from, column_from}
 use Rattle.fw_logic.specs.Boards.{numbered}
+use Rattle.fw_logic.specs.Selecting.{column_latch, Selects}
 use Rattle.mcs48_ranges.specs.Sizes.{IsByte}
-use Rattle.joint_run.specs.Run.{Board, World}
-use Rattle.joint_run.specs.Starts.{Tick}
+use Rattle.joint_run.specs.Run.{Board, World, seen}
+use Rattle.joint_run.specs.Starts.{at_tick, Tick}
+use Rattle.mcs48_core.specs.Step.{takes_external, takes_timer}
 use Rattle.kbd_model.specs.Keyboard.{Keyboard}
 use Rattle.kbd_model.specs.declared.meeting.Meeting.{Meeting}
 use Rattle.agreement.proofs.AnyTick.{every}
@@ -23,8 +25,8 @@ module _ (d : Board) (bytes : List ℕ) (hk : HasKernel bytes) (alike : IsSilent
     (small : All IsByte bytes) (low : (p1 p2 c : ℕ) (s : d.State) → (d.pins p1 p2 c s).bus < 256) (w : World d.State)
     (s : IsStarted w.cpu) (repeats : IsRepeating bytes w.cpu.ram) (whole : HasWholeCodes w.cpu.ram)
     (few : length (edges_now d w) ≤ 4) (frame : Frame) (meeting : Meeting) where
-  so : (v : World d.State) → Happened d bytes meeting frame w v → Does d bytes frame meeting w v
-  so v h =
+  so : (v : World d.State) → Happened d bytes meeting frame w v → v.cpu.p1 ≡ 44 → Does d bytes frame meeting w v
+  so v h column =
       let sound : Sound (image_keys bytes) (layers_by w.cpu.ram) (shown_by w.cpu.ram) =
       record { codes = whole; place = repeats } in
       let kept = tick_sound (image_keys bytes) codes meeting (edges_now d w) (layers_by w.cpu.ram) (shown_by w.cpu.ram)
@@ -40,18 +42,33 @@ module _ (d : Board) (bytes : List ℕ) (hk : HasKernel bytes) (alike : IsSilent
         };
         codes = subst (λ (k : Keyboard). Rattle.kbd_model.proofs.Whole.IsWhole k.queue) (sym h.keyboard) kept.codes;
         board = h.board;
+        column = column;
       }
 
-  pub does : Finds d w frame meeting → Tick d TICK bytes w (Does d bytes frame meeting w)
+  -- it is the next tick's start
+  starts_there : (v : World d.State) → Happened d bytes meeting frame w v → at_tick d TICK v ≡ true
+  starts_there v h =
+      ap (λ p. (p % 2048 == TICK) && not (takes_external (seen d v) v.cpu) && not (takes_timer v.cpu))
+      h.started.entered.pc
+      ∙ ap (λ b. not (not b && v.cpu.ext_on && not (seen d v).int_pin) && not (not b && v.cpu.tim_on && v.cpu.rq))
+      h.started.entered.serves
+
+  pub does : Finds d w frame meeting
+      → Tick d TICK bytes w (Does d bytes frame meeting w)
+      × Selects d TICK bytes w (λ c. column_latch w.cpu.p1 (c - w.cycle))
   does q =
       let t = every d bytes hk alike small low w s repeats few frame meeting whole q in
-      record {
-        at = t.at;
-        first = t.first;
-        step = t.step;
-        rest =
-            comes_as d TICK bytes (Happened d bytes meeting frame w) (Does d bytes frame meeting w) t.first so t.rest;
-      }
+      let c = t.rest in
+      let column = column_from d bytes hk w s.entered c.goal.passes c.steps t.first c.end t.step c.run
+      (starts_there c.end c.goal) in (
+        record {
+          at = t.at;
+          first = t.first;
+          step = t.step;
+          rest = record { steps = c.steps; end = c.end; run = c.run; goal = so c.end c.goal column };
+        },
+        selects_from d bytes hk w s.entered c.goal.passes,
+      )
 
 pub tick_law : TickLaw
 tick_law bytes hk alike codes small pins tick low w s repeats whole few frame meeting =

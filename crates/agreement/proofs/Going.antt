@@ -5,6 +5,8 @@ use Rattle.board_lines.specs.declared.event.HostEvent.{HostEvent}
 use Rattle.board_lines.specs.declared.lines.Lines.{Lines}
 use Rattle.board_lines.specs.Flips.{AreFlips}
 use Rattle.byte_time.specs.declared.meeting.Meeting.{Meeting}
+use Rattle.byte_time.specs.declared.meeting.Meeting.TheVariants.{Got}
+use Rattle.ctl_link.specs.declared.link.Link.TheVariants.{Request}
 use Rattle.fw_kernel.specs.declared.labels.TheConstants.{TICK}
 use Rattle.fw_keys.proofs.Carried.{SameKeys, ticks_same, layers_alike, edges_low, low_edges}
 use Rattle.fw_keys.proofs.Edges.{IsWide}
@@ -17,6 +19,7 @@ use Rattle.fw_link.proofs.TickLatch.{lines_by}
 use Rattle.fw_link.proofs.Wired.{IsReleased}
 use Rattle.fw_link.specs.Latch.{Frame}
 use Rattle.fw_logic.proofs.Laws.{comes_as}
+use Rattle.fw_logic.proofs.Passing.{Passes}
 use Rattle.host_turn.specs.Run.{says_lights}
 use Rattle.joint_run.specs.Joint.{Beside, latch_of, lights_of}
 use Rattle.joint_run.specs.Run.{Board, World}
@@ -174,10 +177,16 @@ module _ (edges : List Edge) (events : List HostEvent) (d : Board) (to : d.State
         },
       )
 
-  -- the run comes there, and the board has gone on by the tick's latch
+  -- a byte that is received was requested at the look at the clock
+  abbrev pub Asks : Meeting → Type 0
+  Asks met = (byte : ℕ) → met ≡ Got byte → (at_look edges events u).side.port.link ≡ Request byte
+
+  -- the run comes there by the service's end, and the board has gone on by the tick's latch
   abbrev pub Went : Frame → World d.State → Type 0
   Went frame e =
-      Goal (under to e) × GoesBy d frame w e × IsFrameOf (offer m.keys.keyboard) (meeting_from (keyboard layout) events w.cycle m) frame
+      Goal (under to e) × GoesBy d frame w e
+      × IsFrameOf (offer m.keys.keyboard) (meeting_from (keyboard layout) events w.cycle m) frame × Passes d bytes w
+      × Asks (meeting_from (keyboard layout) events w.cycle m)
 
   by_frame : (meeting : KeyboardMeeting) (frame : Frame) (e : World d.State) → Happened d bytes meeting frame w e
       → GoesBy d frame w e
@@ -189,11 +198,11 @@ module _ (edges : List Edge) (events : List HostEvent) (d : Board) (to : d.State
       record { latch = h.latch; length = n; cycles = cycles; board = h.board n cycles }
 
   pub goes : (meeting : KeyboardMeeting) (met : Meeting) (frame : Frame) → IsFrameOf (offer m.keys.keyboard) met frame
-      → met_as met ≡ meeting
+      → met_as met ≡ meeting → Asks met
       → Wires (lines frame) met
       → Tick d TICK bytes w (Happened d bytes meeting frame w)
       → Tick d TICK bytes w (Went frame)
-  goes meeting met frame fits kind wires t = record {
+  goes meeting met frame fits kind asks wires t = record {
     at = t.at;
     first = t.first;
     step = t.step;
@@ -202,6 +211,8 @@ module _ (edges : List Edge) (events : List HostEvent) (d : Board) (to : d.State
           ends meeting met frame kind wires e h,
           by_frame meeting frame e h,
           subst (λ v. IsFrameOf (offer m.keys.keyboard) v frame) (sym (meets met frame wires)) fits,
+          h.passes,
+          λ byte is. asks byte (sym (meets met frame wires) ∙ is),
         ))
         t.rest;
   }

@@ -8,6 +8,7 @@ use Rattle.fw_keys.specs.Edges.{image_keys}
 use Rattle.fw_keys.specs.Frameless.{IsStarted, IsRepeating, shown_by, layers_by, edges_now, latch_now}
 use Rattle.fw_link.specs.Latch.{Frame, tick_latch}
 use Rattle.fw_link.proofs.Latches.{driven}
+use Rattle.fw_logic.proofs.Passing.{Passes}
 use Rattle.host_turn.specs.Run.{says_lights}
 use Rattle.joint_run.specs.Joint.{Beside, joint_board, latch_of, lights_of}
 use Rattle.joint_run.specs.Run.{Board, World}
@@ -44,6 +45,7 @@ pub record Happened (d : Board) (bytes : List ℕ) (meeting : Meeting) (frame : 
   pub layers : layers_by v.cpu.ram ≡ all_layers_after (image_keys bytes).is_fn (edges_now d w) (layers_by w.cpu.ram)
   pub repeating : IsRepeating bytes v.cpu.ram
   pub latch : v.cpu.p2 ≡ latch_now d w
+  pub passes : Passes d bytes w
   pub board : (n : ℕ) → v.cycle ≡ w.cycle + n
       → v.board ≡ driven d w.cycle (tick_latch w.cpu.p2 (latch_now d w) frame) n 0 w.board
 

@@ -32,3 +32,4 @@ pub mod InBytes
 pub mod Run
 pub mod FewEdges
 pub mod Whole
+pub mod Tied

@@ -1,54 +1,36 @@
--- For every layout and every accepted history run and model agree.
-use Rattle.std.proofs.Common.{◌≡◌, ◌≤◌, ◌<◌, ℕ, suc, ◌+◌, ◌-◌, ◌*◌, ◌/◌, ◌==◌, true, false, All, List, length, refl, ap, sym, ◌∙◌, subst, arith}
+-- For every layout and every accepted history run and model agree, and so do the other laws of the run hold.
+use Rattle.std.proofs.Common.{◌≡◌, ℕ, true, false, Some, List, refl, ap, arith}
 use Rattle.std.proofs.lemmas.List.Elements.{All-replicate}
 use Rattle.fw_compile.specs.Image.{image_of}
 use Rattle.fw_kernel.specs.declared.labels.TheConstants.{TICK}
-use Rattle.fw_keys.specs.Frameless.{edges_now}
-use Rattle.fw_link.proofs.Over.{IsOver, itself, under}
-use Rattle.fw_link.proofs.Watching.{watching, watched, driven_good, drives_tick}
-use Rattle.fw_link.proofs.Wired.{IsReleased}
-use Rattle.fw_link.specs.Latch.{Frame, tick_latch}
-use Rattle.fw_link.proofs.TickLatch.{lines_by}
+use Rattle.fw_logic.proofs.Executing.{before_first, all_fit}
 use Rattle.fw_logic.proofs.Laws.{comes_as}
-use Rattle.ctl_link.specs.declared.link.Link.TheVariants.{Request}
+use Rattle.fw_logic.proofs.Passing.{Passes}
+use Rattle.fw_logic.proofs.Turns.{IsMain}
+use Rattle.fw_logic.specs.Executed.{IsFit}
 use Rattle.board_lines.specs.declared.event.Edge.{Edge}
 use Rattle.board_lines.specs.declared.event.HostEvent.{HostEvent}
 use Rattle.joint_run.specs.Joint.{Beside, joint_board}
-use Rattle.joint_run.specs.Run.{Board, World}
-use Rattle.joint_run.specs.Starts.{at_tick, Comes, Tick}
-use Rattle.kbd_model.specs.Keyboard.{Keyboard, offer, is_held}
+use Rattle.joint_run.specs.Run.{World, joint_step, run_at}
+use Rattle.joint_run.specs.Starts.{at_tick, calm, Comes}
 use Rattle.key_file.specs.Accepted.{IsAcceptedFor}
 use Rattle.key_file.specs.Histories.{KeyHistory}
-use Rattle.layout_reader.specs.Layouts.{KeyLayout, IsKeyLayout, HasEntry}
-use Rattle.link_model.specs.Expected.{Whole, meeting_from}
+use Rattle.layout_reader.specs.Layouts.{KeyLayout, IsKeyLayout}
 use Rattle.link_model.specs.Machine.{LayeredKeyboard, keyboard}
-use Rattle.link_model.specs.TickEdges.{shown}
 use Rattle.mcs48_core.specs.Cpu.{Cpu}
 use Rattle.mcs48_core.specs.Reset.{reset_cpu}
 use Rattle.mcs48_ranges.specs.Sizes.{IsByte, IsFine}
 use Rattle.agreement.specs.Agreement.{AgreementLaw, AnyMemoryLaw, switched_on}
+use Rattle.agreement.specs.Executed.{ExecutedLaw}
 use Rattle.agreement.specs.Memory.{Holds, MemoryLaw}
-use Rattle.agreement.specs.Wires.{DrivesFrame, WiresLaw}
-use Rattle.agreement.proofs.Above.{edges_over, low_over}
-use Rattle.agreement.proofs.Beginning.{begins, is_tick, begins_let_go}
-use Rattle.agreement.proofs.Columns.{bus_low, edges_are}
-use Rattle.agreement.proofs.Compiled.{has_kernel, has_rate, is_alike, are_bytes, silent_keys, same_keys, no_prefix}
-use Rattle.agreement.proofs.Cutting.{cut_since, is_cut_by}
-use Rattle.agreement.proofs.Deciding.{every_tick}
-use Rattle.agreement.proofs.Frames.{frame_in}
-use Rattle.agreement.proofs.Going.{Went}
-use Rattle.agreement.proofs.Happened.{lit_latch, at_look}
-use Rattle.agreement.proofs.Holding.{HasPlaces, none_held, holds_now, places_shown}
-use Rattle.agreement.proofs.PortInBytes.{IsInBytes}
-use Rattle.agreement.proofs.InBytes.{look_in_bytes, tick_in_bytes, first_in_bytes, request_in_bytes}
+use Rattle.agreement.specs.Wires.{WiresLaw}
+use Rattle.agreement.proofs.Beginning.{is_tick, begins_let_go}
+use Rattle.agreement.proofs.Compiled.{has_kernel, are_bytes}
+use Rattle.agreement.proofs.Holding.{HasPlaces, none_held, holds_now}
 use Rattle.fw_logic.specs.Ticks.{IsOnTime}
-use Rattle.agreement.proofs.Model.{at_first, by_columns, columns_in}
-use Rattle.agreement.proofs.Offering.{offers_byte, lit_released, lit_shows}
-use Rattle.agreement.proofs.Sides.{model_looks}
-use Rattle.agreement.proofs.Placed.{IsOfLayout, down_placed, shown_placed}
-use Rattle.agreement.proofs.Ties.{Ties}
-use Rattle.agreement.proofs.Together.{together, goes_with}
-use Rattle.agreement.proofs.Whole.{keeps_time, at_starts, agrees, drives}
+use Rattle.agreement.proofs.Model.{at_first}
+use Rattle.agreement.proofs.Whole.{keeps_time, at_starts, at_run, agrees, drives}
+use Rattle.agreement.proofs.Tied.{Tied, fits, tied_first, tied_next, passes, tick_drives}
 
 module _ (layout : KeyLayout) (history : KeyHistory) (fine : IsKeyLayout layout)
     (ok : IsAcceptedFor layout history) where
@@ -61,161 +43,32 @@ module _ (layout : KeyLayout) (history : KeyHistory) (fine : IsKeyLayout layout)
   abbrev bytes : List ℕ
   bytes = image_of layout
 
-  -- the joint state is tied to the model, whose bytes are bytes, and whose held keys are at places of the layout
-  record Tied (w : World Beside) (m : Whole LayeredKeyboard) : Type 0 where
-    pub ties : Ties bytes (silent_keys layout) w m
-    pub in_bytes : IsInBytes m.side
-    pub placed : (p : ℕ) → p < 96 → is_held m.keys.keyboard p ≡ true → HasEntry layout p
+  -- the first start
+  module _ (m : Cpu) (small : IsFine m) where
+    abbrev from : World Beside
+    from = switched_on edges events m
 
-  fits : (w : World Beside) (m : Whole LayeredKeyboard) → Tied w m → HasPlaces m.keys.keyboard
-  fits w m t = subst (λ k. HasPlaces k) t.ties.keyboard (places_shown w.cpu.ram)
+    main : IsMain false from.cpu
+    main = record { place = refl; stays = refl }
 
-  tied_first : (m : Cpu) → IsFine m → Comes (joint_board edges events) TICK bytes (switched_on edges events m)
-      (λ e. IsOnTime 0 e × Tied e (at_first (keyboard layout) events e.cycle))
-  tied_first m small =
-      comes_as (joint_board edges events) TICK bytes
-      (λ e. IsOnTime 0 e × Ties bytes (silent_keys layout) e (at_first (keyboard layout) events e.cycle))
-      (λ e. IsOnTime 0 e × Tied e (at_first (keyboard layout) events e.cycle)) (switched_on edges events m)
-      (λ e h. (
-        h.0,
-        record {
-          ties = h.1;
-          in_bytes = first_in_bytes events ok.accepted.written LayeredKeyboard (keyboard layout) e.cycle;
-          placed = λ p l held. absurd (let off : false ≡ true = sym (none_held layout p) ∙ held in cc);
-        },
-      ))
-      (begins edges events ok.accepted.flips bytes (has_kernel layout) (are_bytes layout fine) (bus_low edges events) m small
-      layout (has_rate layout))
+    comes_first : Comes (joint_board edges events) TICK bytes from (λ e. at_tick (joint_board edges events) TICK e ≡ true)
+    comes_first =
+        comes_as (joint_board edges events) TICK bytes
+        (λ e. IsOnTime 0 e × Tied layout history fine ok e (at_first (keyboard layout) events e.cycle))
+        (λ e. at_tick (joint_board edges events) TICK e ≡ true) from
+        (λ e h. is_tick edges events e h.1.ties.started) (tied_first layout history fine ok m small)
 
-  module _ (n : ℕ) (w : World Beside) (m : Whole LayeredKeyboard) (time : IsOnTime n w) (tied : Tied w m)
-      (four : length (shown (is_held m.keys.keyboard) (columns_in edges w.cycle)) ≤ 4) where
-    abbrev tie : Ties bytes (silent_keys layout) w m
-    tie = tied.ties
+    -- up to it port 1 is as reset leaves it
+    stays_dark : (k : ℕ) (one next : World Beside) → calm (joint_board edges events) TICK bytes k from ≡ Some one
+        → at_tick (joint_board edges events) TICK one ≡ false
+        → joint_step (joint_board edges events) bytes one ≡ Some next → next.cpu.p1 ≡ 255
+    stays_dark = before_first (joint_board edges events) bytes (has_kernel layout) from main comes_first
 
-    columns : edges_now (joint_board edges events) w ≡ shown (is_held m.keys.keyboard) (columns_in edges w.cycle)
-    columns =
-        let early : 2 ≤ w.cpu.pre = tie.started.entered.early in
-        edges_are history w ok.accepted tie.started (omega (arith, time, early))
-        ∙ ap (λ k. shown (is_held k) (columns_in edges w.cycle)) tie.keyboard
-
-    lamps : m.keys.keyboard.lights ≡ Rattle.joint_run.specs.Joint.lights_of (lit_latch edges events w)
-    lamps = ap (λ (k : Keyboard). k.lights) (sym tie.keyboard) ∙ lit_shows edges events w tie.started
-
-    -- the edges that are shown are at places of the layout
-    now_placed : (p : ℕ) → columns_in edges w.cycle p ≡ true → HasEntry layout p
-    now_placed p is = down_placed layout p (w.cycle - 4096 + 16 + 16 * (p / 8)) edges ok.places is
-
-    of_layout : All (IsOfLayout layout) (shown (is_held m.keys.keyboard) (columns_in edges w.cycle))
-    of_layout =
-        shown_placed layout fine (is_held m.keys.keyboard) (columns_in edges w.cycle) tied.placed (λ p l is. now_placed p is)
-
-    -- a byte that the controller asks to be taken is one of the host's
-    asked : (byte : ℕ) → (at_look edges events w).side.port.link ≡ Request byte → byte < 256
-    asked byte request =
-        request_in_bytes (at_look edges events w).side byte
-        (subst (λ s. IsInBytes s)
-        (sym (model_looks edges events w tie.released (lit_released edges events w tie.started) tie.idle LayeredKeyboard
-        (keyboard layout) m tie.side tie.shown lamps))
-        (look_in_bytes events ok.accepted.written m.shown m.keys.keyboard.lights w.cycle m.side tied.in_bytes))
-        request
-
-    tied_next : Tick (joint_board edges events) TICK bytes w
-        (λ e. IsOnTime (suc n) e × Tied e (by_columns (keyboard layout) edges events w.cycle e.cycle m))
-    tied_next =
-        let released = lit_released edges events w tie.started in
-        let t =
-        every_tick edges events (joint_board edges events) (λ b. b) (itself edges events) bytes (has_kernel layout)
-        (is_alike layout fine) (are_bytes layout fine) (bus_low edges events) layout (same_keys layout)
-        (no_prefix layout fine) n w m time tie columns of_layout (subst (λ v. length v ≤ 4) (sym columns) four) released lamps ok.accepted.flips
-        (λ byte is. offers_byte w.cpu tie.started byte (ap offer tie.keyboard ∙ is)) asked in
-        record {
-          at = t.at;
-          first = t.first;
-          step = t.step;
-          rest = comes_as (joint_board edges events) TICK bytes
-              (Went edges events (joint_board edges events) (λ b. b) (itself edges events) bytes layout
-              (same_keys layout) (no_prefix layout fine) n w m time tie columns of_layout released lamps ok.accepted.flips
-              (frame_in events (λ f. lines_by f (lit_latch edges events w) w.cycle released) w.cycle
-              (at_look edges events w) (m.keys.keyboard.test == 0) (offer m.keys.keyboard)))
-              (λ e. IsOnTime (suc n) e × Tied e (by_columns (keyboard layout) edges events w.cycle e.cycle m)) t.first
-              (λ e h. (
-                h.0.0,
-                record {
-                  ties = h.0.1;
-                  in_bytes = tick_in_bytes events ok.accepted.written LayeredKeyboard (keyboard layout)
-                      (shown (is_held m.keys.keyboard) (columns_in edges w.cycle)) w.cycle (e.cycle - w.cycle - 609) m
-                      tied.in_bytes;
-                  placed = λ p l held.
-                      now_placed p
-                      (sym (holds_now layout (meeting_from (keyboard layout) events w.cycle m) m.keys (columns_in edges w.cycle) p
-                      (fits w m tied) l) ∙ held);
-                },
-              ))
-              t.rest;
-        }
-
-    -- the latch of the tick, by the cycle
-    abbrev lit : ℕ
-    lit = lit_latch edges events w
-
-    abbrev released : IsReleased lit
-    released = lit_released edges events w tie.started
-
-    abbrev frame : Frame
-    frame = frame_in events (λ f. lines_by f lit w.cycle released) w.cycle (at_look edges events w) (m.keys.keyboard.test == 0)
-        (offer m.keys.keyboard)
-
-    abbrev latch : ℕ → ℕ
-    latch c = tick_latch w.cpu.p2 lit frame (c - w.cycle)
-
-    abbrev joint : Board
-    joint = joint_board edges events
-
-    abbrev W : Board
-    W = watching joint latch
-
-    abbrev beneath : W.State → Beside
-    beneath s = s.under
-
-    above : IsOver edges events W beneath
-    above = record { pins = λ p1 p2 cycle s. refl; cycle = λ p2 cycle s. refl }
-
-    columns_above : edges_now W (watched w) ≡ shown (is_held m.keys.keyboard) (columns_in edges w.cycle)
-    columns_above = edges_over edges events W beneath above (watched w) ∙ columns
-
-    tick_drives : DrivesFrame edges events bytes (offer m.keys.keyboard) (meeting_from (keyboard layout) events w.cycle m) w
-    tick_drives =
-        let t =
-        every_tick edges events W beneath above bytes (has_kernel layout) (is_alike layout fine)
-        (are_bytes layout fine) (low_over edges events W beneath above) layout (same_keys layout) (no_prefix layout fine) n (watched w) m time
-        tie columns_above of_layout (subst (λ v. length v ≤ 4) (sym columns_above) four) released lamps ok.accepted.flips
-        (λ byte is. offers_byte w.cpu tie.started byte (ap offer tie.keyboard ∙ is)) asked in
-        record {
-          frame = frame;
-          of_meeting = t.rest.goal.2;
-          before = (tie.released.byte, tie.released.clock, tie.released.data_wire);
-          lit = lit;
-          behind = (released.byte, released.clock, released.data_wire);
-          idle = tie.idle;
-          goes_with = goes_with edges events w tie.lit released frame
-              (together events lit w.cycle released (at_look edges events w) (offer m.keys.keyboard) asked
-              (λ byte is. offers_byte w.cpu tie.started byte (ap offer tie.keyboard ∙ is)) (m.keys.keyboard.test == 0));
-          cut = is_cut_by edges events w tie.lit released frame
-              (cut_since events lit w.cycle released (at_look edges events w) (m.keys.keyboard.test == 0)
-              (offer m.keys.keyboard));
-          drives = drives_tick joint latch TICK bytes w
-              (Went edges events W beneath above bytes layout (same_keys layout) (no_prefix layout fine) n (watched w) m
-              time tie columns_above of_layout released lamps ok.accepted.flips frame)
-              (λ e. (at_tick joint TICK e ≡ true) × (e.cpu.p2 ≡ lit))
-              (λ e g. (
-                (is_tick edges events (under beneath e) g.0.1.started, g.1.latch),
-                ap (λ (s : W.State). s.good) g.1.board
-                    ∙ driven_good joint latch w.cycle (tick_latch w.cpu.p2 lit frame) g.1.length 0 (watched w).board
-                    (λ o a u. let p : o ≡ w.cycle + o - w.cycle = omega arith in ap (tick_latch w.cpu.p2 lit frame) p)
-                    refl,
-              ))
-              t;
-        }
+    -- each state of the run is fit, where each tick start has its way through the tick
+    stays_fit : ((k : ℕ) (w : World Beside) → run_at (joint_board edges events) bytes from k ≡ Some w
+        → at_tick (joint_board edges events) TICK w ≡ true → Passes (joint_board edges events) bytes w)
+        → (k : ℕ) (w : World Beside) → run_at (joint_board edges events) bytes from k ≡ Some w → IsFit bytes w.cpu
+    stays_fit = all_fit (joint_board edges events) bytes (has_kernel layout) from main comes_first
 
 pub every_memory : AnyMemoryLaw
 every_memory layout history fine ok m small = (
@@ -259,6 +112,7 @@ every_wire layout history fine ok m small =
     (λ w m t. ap (λ (s : _). s.log) t.ties.side) (λ w m t. (t.ties.started.entered.serves, t.ties.started.entered.bank))
     (λ w m t. (t.ties.started.entered.early, t.ties.started.entered.late))
     (begins_let_go history.edges history.host (image_of layout) (has_kernel layout) (are_bytes layout fine) m small)
+    (stays_dark layout history fine ok m small)
     (tick_drives layout history fine ok)
 
 -- and data memory shows the model's keyboard
@@ -274,3 +128,17 @@ every_holding layout history fine ok m small =
     (λ w m t. (t.ties.started.entered.early, t.ties.started.entered.late)) (λ w m. Holds w m.keys)
     (λ n w m time t few. (t.ties.keyboard, t.ties.layers)) in
     record { starts = a.0; each = a.1; holds = a.2 }
+
+-- and each state of the run is fit
+pub every_execution : ExecutedLaw
+every_execution layout history fine ok m small =
+    stays_fit layout history fine ok m small
+    (at_run LayeredKeyboard (switched_on history.edges history.host m) (image_of layout) history ok.accepted
+    (keyboard layout)
+    (Tied layout history fine ok) (λ k. HasPlaces k.keyboard) (fits layout history fine ok) (λ p l. none_held layout p)
+    (holds_now layout) (tied_first layout history fine ok m small) (tied_next layout history fine ok)
+    (λ w m t. ap (λ (s : _). s.log) t.ties.side)
+    (λ w m t. (t.ties.started.entered.serves, t.ties.started.entered.bank))
+    (λ w m t. (t.ties.started.entered.early, t.ties.started.entered.late))
+    (λ w. Passes (joint_board history.edges history.host) (image_of layout) w)
+    (λ n w m time t few. passes layout history fine ok n w m time t few))

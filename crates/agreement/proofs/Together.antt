@@ -1,11 +1,13 @@
 -- What the controller does in a frame that isn't cut: it is free where a byte is sent, and leaves the clock alone at each
 -- look; it requests to send one where one is received.
 use Rattle.std.proofs.Common.{◌≡◌, ◌<◌, ◌⊎◌, inl, inr, ℕ, ◌+◌, List, Bool, true, false, Some, None}
-use Rattle.std.proofs.Common.{refl, ap, ◌∙◌, arith}
+use Rattle.std.proofs.Common.{refl, ap, sym, ◌∙◌, subst, arith}
 use Rattle.std.specs.declared.option.Option.{Option}
 use Rattle.board_lines.specs.declared.event.Edge.{Edge}
 use Rattle.board_lines.specs.declared.event.HostEvent.{HostEvent}
 use Rattle.board_lines.specs.declared.lines.Lines.{Lines}
+use Rattle.byte_time.specs.declared.meeting.Meeting.{Meeting}
+use Rattle.byte_time.specs.declared.meeting.Meeting.TheVariants.{Got, Inhibited, Idle, Sent, Cut}
 use Rattle.ctl_link.specs.declared.link.Link.{Link}
 use Rattle.ctl_link.specs.declared.link.Link.TheVariants.{Free, Hold, Ask, Request, Busy}
 use Rattle.ctl_wire.specs.Wire.{drive}
@@ -26,7 +28,7 @@ use Rattle.agreement.proofs.Frames.{FailsFirst, free_or_not, first_fails, ten, f
 use Rattle.agreement.proofs.Frames.{frame_in}
 use Rattle.agreement.proofs.Happened.{at_look}
 use Rattle.agreement.proofs.OnWires.{at_cell, behind_clock}
-use Rattle.agreement.specs.Wires.{GoesWith, beside_in}
+use Rattle.agreement.specs.Wires.{GoesWith, IsAskedFor, IsFrameOf, beside_in}
 
 module _ (events : List HostEvent) (v start : ℕ) (released : IsReleased v) (look : Pc) where
   abbrev lines : Frame → ℕ → Lines
@@ -125,3 +127,18 @@ module _ (edges : List Edge) (events : List HostEvent) (w : World Beside)
     ap (λ (c : Pc). c.side.port.link) (at_first ReceivedFrame) ∙ h.2.link_is,
     ap (λ (c : Pc). c.clock) (at_first ReceivedFrame) ∙ h.2.clock_is,
   )
+
+  -- a byte that is received was requested at the look at the clock, and is at the first edge
+  pub asks_for : (offered : Option ℕ) (met : Meeting) (frame : Frame) → IsFrameOf offered met frame
+      → ((byte : ℕ) → met ≡ Got byte → (at_look edges events w).side.port.link ≡ Request byte)
+      → IsAskedFor (pc frame) met
+  asks_for offered (Got byte) frame fits asks =
+      let received : ℕ → Lines = lines_by ReceivedFrame v w.cycle released in
+      let there = request_at events received (256 + w.cycle) (at_look edges events w) byte
+      (λ o a u. (received_lines v w.cycle released 0).0 o a (omega (arith, u))) (asks byte refl) in
+      subst (λ f. (pc f 288).side.port.link ≡ Request byte) (sym fits)
+      (ap (λ (c : Pc). c.side.port.link) (at_first ReceivedFrame) ∙ there.link_is)
+  asks_for offered (Sent byte) frame fits asks = tt
+  asks_for offered Cut frame fits asks = tt
+  asks_for offered Inhibited frame fits asks = tt
+  asks_for offered Idle frame fits asks = tt

@@ -1,5 +1,5 @@
 -- From one law a tick to the whole run: each tick start of the run has the model's state beside it.
-use Rattle.std.proofs.Common.{◌≡◌, ◌≤◌, ◌<◌, ℕ, suc, zero, ◌+◌, ◌-◌, ◌*◌, Bool, true, false, List, length}
+use Rattle.std.proofs.Common.{◌≡◌, ◌≤◌, ◌<◌, ℕ, suc, zero, ◌+◌, ◌-◌, ◌*◌, Bool, true, false, List, length, Some}
 use Rattle.std.proofs.Common.{refl, ap, sym, ◌∙◌, subst, arith}
 use Rattle.board_lines.specs.Cadence.{KeepsCadence}
 use Rattle.byte_time.specs.declared.meeting.Meeting.{Meeting}
@@ -8,8 +8,8 @@ use Rattle.fw_logic.specs.JointRun.{KeepsTimeFrom}
 use Rattle.fw_logic.proofs.Clockwork as clockwork
 use Rattle.fw_logic.proofs.Clockwork.{IsClockwork}
 use Rattle.joint_run.specs.Joint.{Beside, joint_board, log_of}
-use Rattle.joint_run.specs.Run.{Board, World}
-use Rattle.joint_run.specs.Starts.{at_tick, Comes, Tick, IsStart}
+use Rattle.joint_run.specs.Run.{Board, World, joint_step, run_at}
+use Rattle.joint_run.specs.Starts.{at_tick, calm, starts_before, Comes, Tick, IsStart}
 use Rattle.fw_link.specs.Drives.{Drives}
 use Rattle.key_file.specs.Accepted.{IsAccepted}
 use Rattle.key_file.specs.Histories.{KeyHistory}
@@ -289,14 +289,28 @@ module _ (S : Type 0) (from : World Beside) (bytes : List ℕ) (history : KeyHis
       let a = at_starts (λ w m. log_of w.board ≡ m.side.log) (λ n w m time ties few. logs w m ties) in
       record { starts = a.0; each = a.1; log = a.2 }
 
+  -- what holds of each of these starts holds of each tick start that the run reaches
+  pub at_run : (P : World Beside → Type 0)
+      → ((n : ℕ) (w : World Beside) (m : Whole S) → IsOnTime n w → R w m
+      → length (shown (kb.held m.keys) (columns_in history.edges w.cycle)) ≤ 4 → P w)
+      → (k : ℕ) (w : World Beside) → run_at d bytes from k ≡ Some w → at_tick d TICK w ≡ true → P w
+  at_run P law k w run at =
+      let known = clockwork.known d bytes from IsStand clock (starts_before d TICK bytes from k) in
+      let n : ℕ = known.set.0 in
+      let s : Stand n = stand n in
+      subst P (sym known.set.1 ∙ clockwork.is_known d bytes from IsStand clock k w run at)
+      (law n s.w s.m s.time s.ties (few n s))
+
   -- and the wires of each tick are as the law of a tick says
   pub drives : Drives d TICK bytes from (λ c. 255) (λ e. at_tick d TICK e ≡ true)
+      → ((k : ℕ) (one next : World Beside) → calm d TICK bytes k from ≡ Some one → at_tick d TICK one ≡ false
+      → joint_step d bytes one ≡ Some next → next.cpu.p1 ≡ 255)
       → ((n : ℕ) (w : World Beside) (m : Whole S) → IsOnTime n w → R w m
       → length (shown (kb.held m.keys) (columns_in history.edges w.cycle)) ≤ 4
       → DrivesFrame history.edges history.host bytes (kb.offer m.keys) (meeting_from kb history.host w.cycle m) w)
       → DrivesWires from bytes kb history.edges history.host
-  drives begins law =
+  drives begins dark law =
       let a = at_starts
       (λ w m. DrivesFrame history.edges history.host bytes (kb.offer m.keys) (meeting_from kb history.host w.cycle m) w)
       law in
-      record { first = begins; starts = a.0; each = a.1; frames = a.2 }
+      record { first = begins; dark = dark; starts = a.0; each = a.1; frames = a.2 }

@@ -1,6 +1,6 @@
 -- A tick of the firmware, whatever the pins show: by what its looks find, what it drives, and what data memory shows
 -- at the next start.
-use Rattle.std.specs.Prelude.{◌≡◌, ◌≤◌, ◌<◌, ℕ, ◌+◌, ◌*◌, ◌==◌, Bool, true, false, List, All, length, Some}
+use Rattle.std.specs.Prelude.{◌≡◌, ◌≤◌, ◌<◌, ℕ, ◌+◌, ◌-◌, ◌*◌, ◌==◌, Bool, true, false, List, All, length, Some}
 use Rattle.mcs48_core.specs.declared.levels.Pins.{Pins}
 use Rattle.fw_kernel.specs.declared.labels.TheConstants.{TICK}
 use Rattle.fw_kernel.specs.Places.{HasKernel}
@@ -10,6 +10,7 @@ use Rattle.fw_keys.specs.Frameless.{latch_now, clock_now, data_now}
 use Rattle.fw_link.specs.Latch.{Frame, NoFrame, SentFrame, CutFrame, ReceivedFrame, tick_latch}
 use Rattle.fw_link.specs.Reading.{byte_in, right_in}
 use Rattle.fw_logic.specs.Boards.{numbered}
+use Rattle.fw_logic.specs.Selecting.{column_latch, Selects}
 use Rattle.joint_run.specs.Run.{Board, World, after_cycles}
 use Rattle.joint_run.specs.Starts.{Tick}
 use Rattle.kbd_model.specs.Keyboard.{offer}
@@ -62,13 +63,15 @@ abbrev pub HasWholeCodes : List ℕ → Type 0
 HasWholeCodes ram = whole (shown_by ram).queue.break_started (shown_by ram).queue.bytes ≡ true
 
 -- such a tick: the keyboard goes on by the meeting and the edges that the columns showed, and the board by the latch of
--- a tick with the frame, cycle by cycle
+-- a tick with the frame, cycle by cycle; at the next start port 1 selects no column
 pub record Does (d : Board) (bytes : List ℕ) (frame : Frame) (meeting : Meeting) (w v : World d.State) : Type 0 where
   pub goes_on : GoesOn d bytes meeting w v
   pub codes : HasWholeCodes v.cpu.ram
   pub board : (n : ℕ) → v.cycle ≡ w.cycle + n → v.board ≡ board_at d w frame n
+  pub column : v.cpu.p1 ≡ 44
 
--- a program whose every tick does so, whatever the pins show, where four edges are seen at most
+-- a program whose every tick does so, whatever the pins show, where four edges are seen at most; and in each cycle of
+-- the tick port 1 selects its column
 abbrev pub KeepsTicks : List ℕ → Type 0
 KeepsTicks bytes = (pins : ℕ → ℕ → ℕ → ℕ → Pins) (tick : ℕ → ℕ → ℕ → ℕ)
     → ((p1 p2 c s : ℕ) → (pins p1 p2 c s).bus < 256)
@@ -76,6 +79,7 @@ KeepsTicks bytes = (pins : ℕ → ℕ → ℕ → ℕ → Pins) (tick : ℕ →
     → length (edges_now (numbered pins tick) w) ≤ 4
     → (frame : Frame) (meeting : Meeting) → Finds (numbered pins tick) w frame meeting
     → Tick (numbered pins tick) TICK bytes w (Does (numbered pins tick) bytes frame meeting w)
+    × Selects (numbered pins tick) TICK bytes w (λ c. column_latch w.cpu.p1 (c - w.cycle))
 
 -- no code of an image is the prefix of a break
 abbrev pub HasNoPrefix : List ℕ → Type 0

@@ -2,3 +2,4 @@ pub mod Agreement
 pub mod Wires
 pub mod Firmware
 pub mod Memory
+pub mod Executed

@@ -1,5 +1,6 @@
 -- What the keyboard drives on the two wires in each tick of the joint run.
-use Rattle.std.specs.Prelude.{◌≡◌, ◌≤◌, ◌<◌, ℕ, zero, suc, ◌+◌, ◌-◌, ◌*◌, true, false, List, Some}
+use Rattle.std.specs.Prelude.{◌≡◌, ◌≤◌, ◌<◌, ℕ, zero, suc, ◌+◌, ◌-◌, ◌*◌, true, false, nat_le, if◌then◌else◌, List}
+use Rattle.std.specs.Prelude.{Some}
 use Rattle.std.specs.declared.option.Option.{Option}
 use Rattle.bits.specs.Bits.{bit}
 use Rattle.board_lines.specs.declared.event.Edge.{Edge}
@@ -15,10 +16,11 @@ use Rattle.ctl_wire.specs.declared.wire.Wire.{Wire}
 use Rattle.fw_compile.specs.Image.{image_of}
 use Rattle.fw_kernel.specs.declared.labels.TheConstants.{TICK}
 use Rattle.fw_link.specs.Drives.{Drives, DrivesTick}
+use Rattle.fw_logic.specs.Selecting.{column_latch, Selects}
 use Rattle.fw_link.specs.Latch.{Frame, NoFrame, SentFrame, CutFrame, ReceivedFrame, tick_latch}
 use Rattle.joint_run.specs.Joint.{Beside, joint_board}
-use Rattle.joint_run.specs.Run.{World, after_cycles}
-use Rattle.joint_run.specs.Starts.{at_tick, IsStart}
+use Rattle.joint_run.specs.Run.{World, joint_step, after_cycles}
+use Rattle.joint_run.specs.Starts.{at_tick, calm, IsStart}
 use Rattle.key_file.specs.Accepted.{IsAcceptedFor}
 use Rattle.key_file.specs.Histories.{KeyHistory}
 use Rattle.layout_reader.specs.Layouts.{KeyLayout, IsKeyLayout}
@@ -72,14 +74,24 @@ GoesWith pc (CutFrame byte cell) = Unit {0}
 GoesWith pc ReceivedFrame =
     (byte : ℕ) × (byte < 256) × ((pc 288).side.port.link ≡ Request byte) × ((pc 288).clock ≡ true)
 
+-- a byte that is received is the one that the link requests to send at the first edge
+abbrev pub IsAskedFor : (ℕ → Pc) → Meeting → Type 0
+IsAskedFor pc (Got byte) = (pc 288).side.port.link ≡ Request byte
+IsAskedFor pc (Sent byte) = Unit {0}
+IsAskedFor pc Cut = Unit {0}
+IsAskedFor pc Inhibited = Unit {0}
+IsAskedFor pc Idle = Unit {0}
+
 -- a latch of port 2 that pulls neither wire: bit 0 drives the clock, bit 1 data
 abbrev pub IsLetGo : ℕ → Type 0
 IsLetGo v = (v < 256) × (bit 0 v ≡ true) × (bit 1 v ≡ true)
 
 -- a tick of the joint run from its start: the run comes to the next start, and in each cycle on the way the latch of
--- port 2 is that of a tick with the meeting's frame; outside the frame it pulls neither wire. A frame that is cut is
+-- port 2 is that of a tick with the meeting's frame; outside the frame it pulls neither wire, and bits 4 to 6 alone, the
+-- lights, can be 0. A frame that is cut is
 -- cut in the cell whose look is the first that can see it; the controller goes with one that isn't. No byte is under
--- way at its start
+-- way at its start. Port 1 selects each column in its cycles, and none in between: up to the first tick, which starts
+-- in cycle 4,096 or in the next, it is as reset leaves it
 pub record DrivesFrame (edges : List Edge) (events : List HostEvent) (bytes : List ℕ) (offered : Option ℕ)
     (meeting : Meeting) (w : World Beside) : Type 0 where
   pub frame : Frame
@@ -87,19 +99,27 @@ pub record DrivesFrame (edges : List Edge) (events : List HostEvent) (bytes : Li
   pub before : IsLetGo w.cpu.p2
   pub lit : ℕ
   pub behind : IsLetGo lit
+  pub lamps : (lights : ℕ) × (lights < 8) × (lit ≡ 255 - 16 * lights)
   pub idle : is_busy w.board.pc.side.port.link ≡ false
   pub goes_with : GoesWith (λ o. (beside_in edges events (tick_latch w.cpu.p2 lit frame) w o).pc) frame
+  pub asked : IsAskedFor (λ o. (beside_in edges events (tick_latch w.cpu.p2 lit frame) w o).pc) meeting
   pub cut : IsCutBy (λ o. (beside_in edges events (tick_latch w.cpu.p2 lit frame) w o).pc.side.port.link) w.cycle frame
   pub drives : DrivesTick (joint_board edges events) TICK bytes w
       (λ c. tick_latch w.cpu.p2 lit frame (c - w.cycle))
       (λ e. (at_tick (joint_board edges events) TICK e ≡ true) × (e.cpu.p2 ≡ lit))
+  pub none : w.cpu.p1 ≡ (if nat_le w.cycle 4097 then 255 else 44)
+  pub columns : Selects (joint_board edges events) TICK bytes w (λ c. column_latch w.cpu.p1 (c - w.cycle))
 
 -- so it is in each tick of a run, with the meeting that the model has in the tick of that number, where its ticks start
--- when the run's do; and from power-on to the first start the latch pulls no wire, and lights no light
+-- when the run's do; and from power-on to the first start the latches stay as reset leaves them: port 2 pulls no wire
+-- and lights no light, port 1 selects no column
 pub record DrivesWires {S : Type 0} (from : World Beside) (bytes : List ℕ) (kb : Machine S) (edges : List Edge)
     (events : List HostEvent) : Type 0 where
   pub first : Drives (joint_board edges events) TICK bytes from (λ c. 255)
       (λ e. at_tick (joint_board edges events) TICK e ≡ true)
+  pub dark : (k : ℕ) (one next : World Beside) → calm (joint_board edges events) TICK bytes k from ≡ Some one
+      → at_tick (joint_board edges events) TICK one ≡ false
+      → joint_step (joint_board edges events) bytes one ≡ Some next → next.cpu.p1 ≡ 255
   pub starts : ℕ → ℕ
   pub each : (n : ℕ) → IsStart (joint_board edges events) TICK bytes from n (starts n)
   pub frames : (n stamp : ℕ) (s : IsStart (joint_board edges events) TICK bytes from n stamp)

@@ -8,6 +8,7 @@
 #![tactic(auto)]
 
 ghost use Rattle.agreement.specs.Agreement.{AgreementLaw, AnyMemoryLaw};
+ghost use Rattle.agreement.specs.Executed.{ExecutedLaw};
 ghost use Rattle.agreement.specs.Firmware.{TickLaw};
 ghost use Rattle.agreement.specs.Memory.{MemoryLaw};
 ghost use Rattle.agreement.specs.Wires.{WiresLaw};
@@ -27,7 +28,8 @@ pub fn run_and_model_agree()
 /// the byte that is sent, whole or cut in one of its cells; the one in which the controller's byte is received; or none.
 /// It is cut in the cell whose look is the first behind the cycle in which the controller began to pull the clock; where
 /// it isn't cut, the controller's link is free at its first edge and leaves the clock alone at each look, or it requests
-/// to send the byte that is received.
+/// to send the byte that is received, which is the meeting's. Port 1 selects each column in the cycles of its offset,
+/// and else none.
 /// Nothing is done when it is called; the law is its contract.
 pub fn wires_are_driven()
     ensures wires { WiresLaw }
@@ -43,9 +45,19 @@ pub fn memory_holds_keyboard()
 /// Every tick of the firmware, whatever the pins show: from a tick start at which data memory shows a keyboard the run
 /// comes to the next start, 2,048 cycles later give or take one. Data memory then shows that keyboard and its layers a
 /// tick of the model later, by the edges that the columns showed and by the meeting that the looks found; and in each
-/// cycle the latch of port 2 was that of a tick with the meeting's frame. All is counted from the tick's start: column c
-/// is read at offset 16 + 16 c, the lights are put at 232, the clock is looked at at 256 and data at 258, and in a frame
-/// the looks are at 306 + 32 k. Nothing is done when it is called; the law is its contract.
+/// cycle the latch of port 2 was that of a tick with the meeting's frame. Without a frame it is written once, with the
+/// lights, and pulls no wire. In each cycle port 1 selects the column of its offset. All is counted from the tick's
+/// start: column c is read at offset 16 + 16 c, the lights are put at 232, the clock is looked at at 256 and data at 258,
+/// and in a frame the looks are at 306 + 32 k. Nothing is done when it is called; the law is its contract.
 pub fn every_tick()
     ensures ticks { TickLaw }
+{}
+
+/// For every layout and every history that is accepted for it, whatever a part holds when it is switched on: in each
+/// state of the joint run the instruction that comes next stands in the chip's own 2,048 bytes and is none that the
+/// board rules out. So the run never enables the clock's output on T0, drives the bus or accesses memory outside, uses
+/// the port expander, reads the pins of ports 1 and 2, enables the external interrupt, or calls: of the stack's eight
+/// entries the service alone takes one. Nothing is done when it is called; the law is its contract.
+pub fn keeps_to_the_board()
+    ensures executed { ExecutedLaw }
 {}

@@ -85,6 +85,7 @@ module _ (d : Board) (code : Code) (has : HasRows code) (small : All IsByte code
           first.goal,
           calm_fine d code.tick code.bytes small low first.steps (world_at x s) (world_at x first.end) fine first.run,
         );
+        each = first.each;
         free = first.free;
         order = first.order;
         clock = first.clock;
@@ -259,6 +260,7 @@ module _ (d : Board) (code : Code) (has : HasRows code) (small : All IsByte code
           h.goal,
           calm_fine d code.tick code.bytes small low h.steps (world_at x s) (world_at x h.end) fine h.run,
         );
+        each = h.each;
         free = h.free;
         order = h.order;
         clock = h.clock;

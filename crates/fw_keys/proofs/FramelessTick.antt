@@ -17,6 +17,7 @@ use Rattle.fw_logic.proofs.Blocks.{absolute, joined}
 use Rattle.fw_logic.proofs.Chain.{ticks_from}
 use Rattle.fw_logic.proofs.Laws.{comes_as}
 use Rattle.fw_logic.proofs.Service.{serving, stacked, begun}
+use Rattle.fw_logic.proofs.Passing.{Passes}
 use Rattle.fw_logic.proofs.Serves.{Next}
 use Rattle.kbd_model.specs.declared.meeting.Meeting.{Meeting}
 use Rattle.kbd_model.specs.declared.meeting.Meeting.TheVariants.{Idle, Inhibited, Sent, Cut, Got}
@@ -33,7 +34,7 @@ use Rattle.fw_keys.proofs.Step5.{all_edges}
 use Rattle.fw_keys.proofs.Scan.{edges_most}
 use Rattle.fw_keys.proofs.Ended.{AtHead, idle_works, inhibited_works, test_works}
 use Rattle.std.proofs.lemmas.List.Elements.{All-get_or}
-use Rattle.fw_keys.proofs.Serve.{kept_on, down, changed, held, first, first_board, fit, Goes, Work, tick, four_edges}
+use Rattle.fw_keys.proofs.Serve.{kept_on, down, changed, held, first, first_board, fit, Goes, Work, tick, tick_passes, four_edges}
 use Rattle.fw_keys.proofs.Begun.{columns_same, columns_count, started_begun, started_is, xor_small}
 
 module _ (d : Board) (bytes : List ℕ) (hk : HasKernel bytes) (alike : IsSilentAlike bytes) (small : All IsByte bytes)
@@ -179,6 +180,7 @@ module _ (d : Board) (bytes : List ℕ) (hk : HasKernel bytes) (alike : IsSilent
         ≡ ticked keys meeting (layered keys.is_fn (edges_now d w) (layers_by m.ram)) (shown_by m.ram)
     pub layers : layers_by v.cpu.ram ≡ all_layers_after keys.is_fn (edges_now d w) (layers_by m.ram)
     pub repeating : IsRepeating bytes v.cpu.ram
+    pub passes : Passes d bytes w
     pub l : Bool
     pub from : Stage d.State
     pub n : ℕ
@@ -187,11 +189,11 @@ module _ (d : Board) (bytes : List ℕ) (hk : HasKernel bytes) (alike : IsSilent
     pub p2 : v.cpu.p2 ≡ from.cpu.p2
     pub board_now : v.board ≡ after_cycles n (w.cycle + (3 + from.off)) (d.cycle from.cpu.p2) from.board
 
-  comes_to : (meeting : Meeting) (G : Bool → Stage d.State → Type 0) (v : World d.State)
+  comes_to : (meeting : Meeting) (G : Bool → Stage d.State → Type 0) (v : World d.State) → Passes d bytes w
       → Next d w.cycle late (Goes d bytes hk alike small low w.cycle late soon m.tf m.last_t1 f ring m w.board
       meeting G) v
       → Came meeting G v
-  comes_to meeting G v n =
+  comes_to meeting G v passes n =
       let g = n.does in
       let e = n.end in
       let x = w.cycle in
@@ -233,6 +235,7 @@ module _ (d : Board) (bytes : List ℕ) (hk : HasKernel bytes) (alike : IsSilent
             ap (λ (c : Cpu). layers_by c.ram) vcpu ∙ g.kbd.layers
             ∙ ap (λ es. all_layers_after keys.is_fn es (layers_of (stacked f))) edges_is;
         repeating = subst (λ (c : Cpu). IsRepeating bytes c.ram) (sym vcpu) g.kbd.pressed;
+        passes = passes;
         l = g.l;
         from = g.from;
         n = g.n + n.waited;
@@ -255,8 +258,9 @@ module _ (d : Board) (bytes : List ℕ) (hk : HasKernel bytes) (alike : IsSilent
       → Tick d TICK bytes w (Came meeting G)
   any_tick meeting last_off pressed room G work =
       let t = tick d bytes hk alike small low w.cycle late soon m.tf m.last_t1 f ring m w.board fine meeting last_off
-      pressed room G
-      work in
+      pressed room G work in
+      let p = tick_passes d bytes hk alike small low w.cycle late soon m.tf m.last_t1 f ring m w.board fine meeting
+      last_off pressed room G work in
       let same : record { cpu = begun late m.tf m.last_t1 f ring m; board = w.board; cycle = w.cycle } ≡ w =
       ap (λ c. record { cpu = c; board = w.board; cycle = w.cycle }) (sym is) in
       let done : Tick d TICK bytes
@@ -268,7 +272,7 @@ module _ (d : Board) (bytes : List ℕ) (hk : HasKernel bytes) (alike : IsSilent
         rest = comes_as d TICK bytes
             (Next d w.cycle late (Goes d bytes hk alike small low w.cycle late soon m.tf m.last_t1 f ring m w.board
             meeting
-            G)) (Came meeting G) t.first (λ v n. comes_to meeting G v n) t.rest;
+            G)) (Came meeting G) t.first (λ v n. comes_to meeting G v (subst (λ u. Passes d bytes u) same p) n) t.rest;
       } in
       subst (λ u. Tick d TICK bytes u (Came meeting G)) same done
 

@@ -17,6 +17,8 @@ use Rattle.bits.proofs.Every.{tests_by}
 use Rattle.fw_logic.proofs.Block.{put, begin_at}
 use Rattle.fw_keys.proofs.Blocks.{fine_end}
 use Rattle.fw_logic.proofs.Service.{serving, stacked, begun}
+use Rattle.fw_logic.proofs.Leads.{Leads}
+use Rattle.fw_logic.proofs.Passing.{Passes, passes}
 use Rattle.fw_logic.proofs.Serves.{work_cpu, work_at, IsOver, Next, serves}
 use Rattle.kbd_model.specs.declared.meeting.Meeting.{Meeting}
 use Rattle.fw_keys.proofs.Patch.{still}
@@ -137,49 +139,56 @@ module _ (d : Board) (bytes : List ℕ) (hk : HasKernel bytes) (alike : IsSilent
     },
   )
 
-  pub tick : IsFine (begun late tf last f ring m) → (meeting : Meeting) (last_off : ℕ)
-      → IsPressedAt (image_keys bytes) meeting (layers_of (stacked f)) (keyboard_of (stacked f) ring)
-      → 3 + last_off ≤ 2040
-      → (F : Bool → Stage d.State → Type 0) → ((l : Bool) → Work l meeting last_off (F l))
-      → Tick d TICK bytes start (Next d x late (Goes meeting F))
-  tick fine meeting last_off pressed room F work =
-      serves d bytes hk x late few tf last f ring m board (3 + last_off) room (Goes meeting F)
-      (λ l.
-      let k : Cpu = first l in
-      from_stage d (kernel_in true bytes) (has_rows true bytes hk) x 10 k (stacked f) ring
-      (work_at d x late tf l f ring m board)
-      (λ e. Ended d bytes hk alike small low held (x + 3) k first_board (stacked f) ring meeting last_off (F l) e
-      × IsFine e.cpu) (IsOver d (3 + last_off) (Goes meeting F)) refl
-      (λ e bf.
-      let b = bf.0 in
-      let short : e.off ≤ last_off = b.short in
-      record {
-        now = b.now;
-        ring = b.last;
-        cpu = b.cpu ∙ sym (ap (λ (c : Cpu). serving DONE b.now b.last c) b.cpu);
-        low = b.stack.0;
-        high = b.stack.1;
-        short = omega (arith, short);
-        does = record {
-          l = l;
-          from = b.from;
-          n = b.n;
-          kbd =
-              keyboard_goes (image_keys bytes) meeting (stacked f) ring (stacked b.now) b.last down
-              (λ i l. kept_on b.now i ∙ b.downs i l) b.kbd
-              (layers_same (stacked b.now) b.now (λ i l u. stacked_at b.now i l) ∙ b.layers) pressed;
-          downs = b.downs;
-          inv = still (refl, refl, refl, refl, refl) b.inv;
-          stack = b.stack;
-          fine = bf.1;
-          facts = b.facts;
-          off = ap (λ o. 3 + o) b.off;
-          p2 = b.p2;
-          board_now = b.board_now;
-        };
-      })
-      (fine_end d (kernel_in true bytes) (has_rows true bytes hk) small low (x + 3)
-      (begin_at d 10 (stacked f) ring k first_board)
-      (Ended d bytes hk alike small low held (x + 3) k first_board (stacked f) ring meeting last_off (F l))
-      (fit l fine).1
-      (work l)))
+  -- the law of the work, up to the service's end
+  module _ (fine : IsFine (begun late tf last f ring m)) (meeting : Meeting) (last_off : ℕ)
+      (pressed : IsPressedAt (image_keys bytes) meeting (layers_of (stacked f)) (keyboard_of (stacked f) ring))
+      (room : 3 + last_off ≤ 2040) (F : Bool → Stage d.State → Type 0)
+      (work : (l : Bool) → Work l meeting last_off (F l)) where
+    over : (l : Bool) → Leads d (kernel_in true bytes) x (work_at d x late tf l f ring m board)
+        (IsOver d (3 + last_off) (Goes meeting F))
+    over l =
+        let k : Cpu = first l in
+        from_stage d (kernel_in true bytes) (has_rows true bytes hk) x 10 k (stacked f) ring
+        (work_at d x late tf l f ring m board)
+        (λ e. Ended d bytes hk alike small low held (x + 3) k first_board (stacked f) ring meeting last_off (F l) e
+        × IsFine e.cpu) (IsOver d (3 + last_off) (Goes meeting F)) refl
+        (λ e bf.
+        let b = bf.0 in
+        let short : e.off ≤ last_off = b.short in
+        record {
+          now = b.now;
+          ring = b.last;
+          cpu = b.cpu ∙ sym (ap (λ (c : Cpu). serving DONE b.now b.last c) b.cpu);
+          low = b.stack.0;
+          high = b.stack.1;
+          short = omega (arith, short);
+          does = record {
+            l = l;
+            from = b.from;
+            n = b.n;
+            kbd =
+                keyboard_goes (image_keys bytes) meeting (stacked f) ring (stacked b.now) b.last down
+                (λ i l. kept_on b.now i ∙ b.downs i l) b.kbd
+                (layers_same (stacked b.now) b.now (λ i l u. stacked_at b.now i l) ∙ b.layers) pressed;
+            downs = b.downs;
+            inv = still (refl, refl, refl, refl, refl) b.inv;
+            stack = b.stack;
+            fine = bf.1;
+            facts = b.facts;
+            off = ap (λ o. 3 + o) b.off;
+            p2 = b.p2;
+            board_now = b.board_now;
+          };
+        })
+        (fine_end d (kernel_in true bytes) (has_rows true bytes hk) small low (x + 3)
+        (begin_at d 10 (stacked f) ring k first_board)
+        (Ended d bytes hk alike small low held (x + 3) k first_board (stacked f) ring meeting last_off (F l))
+        (fit l fine).1
+        (work l))
+
+    -- so the run comes to the next start, by the service's end
+    pub tick : Tick d TICK bytes start (Next d x late (Goes meeting F))
+    tick = serves d bytes hk x late few tf last f ring m board (3 + last_off) room (Goes meeting F) over
+
+    pub tick_passes : Passes d bytes start
+    tick_passes = passes d bytes hk x late few tf last f ring m board (3 + last_off) room (Goes meeting F) over

@@ -41,6 +41,9 @@ module _ (d : Board) (code : Code) (has : HasRows code) where
             (sym begin) ∙ h.run
             ∙ ap (λ n. Some (record { cpu = h.end.cpu; board = h.end.board; cycle = n })) stop;
         goal = f h.end h.goal;
+        each = λ k one l at.
+            h.each k one l
+            (ap (λ n. calm d code.tick code.bytes k (record { cpu = s.cpu; board = s.board; cycle = n })) begin ∙ at);
         free = h.free;
         order = omega (arith, l);
         clock = λ timed timing room.

@@ -1,6 +1,7 @@
 -- Runs between stages: composition, and one instruction.
-use Rattle.std.proofs.Common.{◌≡◌, ◌≤◌, ℕ, suc, zero, ◌+◌, ◌%◌, List, Bool, true, false, not, ◌&&◌, ◌==◌}
+use Rattle.std.proofs.Common.{◌≡◌, ◌≤◌, ◌<◌, ℕ, suc, zero, ◌+◌, ◌-◌, ◌%◌, List, Bool, true, false, not, ◌&&◌, ◌==◌, leb}
 use Rattle.std.proofs.Common.{Some, None, refl, ap, sym, ◌∙◌, subst, arith, inl, inr, zero-add}
+use Rattle.std.proofs.lemmas.Bool.Decides.{nat_tests}
 use Rattle.std.specs.declared.option.Option.{Option}
 use Rattle.mcs48_isa.specs.declared.operation.Decoded.{Decoded}
 use Rattle.mcs48_isa.specs.declared.operation.Op.{Op}
@@ -15,7 +16,7 @@ use Rattle.fw_logic.proofs.Clock.{IsFree, is_plain, is_closed, clock_of, total, 
 use Rattle.fw_logic.proofs.Path.{Stage, Code}
 use Rattle.fw_logic.proofs.Path.{world_at, pins_at, moved}
 use Rattle.fw_logic.proofs.Path.{left, is_taken}
-use Rattle.fw_logic.proofs.Leads.{Leads, HasRows}
+use Rattle.fw_logic.proofs.Leads.{Leads, LetsNone, HasRows}
 use Rattle.fw_logic.proofs.Groups.{effect_clock, effect_free, plain_closed}
 use Rattle.fw_logic.proofs.Timing.{step_later, later_then}
 
@@ -80,6 +81,21 @@ module _ (d : Board) (code : Code) (has : HasRows code) (x : ℕ) where
       let c : suc n + k ≡ suc (n + k) = omega arith in rw c
       (calm_on n k e (λ t g. calm_add n k t e g) (calm_step d code.tick code.bytes w) h)
 
+  -- what holds of each state of a run, and of each behind its end
+  pub each_add : (P : World d.State → Type 0) (n j : ℕ) (w e : World d.State) → calm d code.tick code.bytes n w ≡ Some e
+      → ((k : ℕ) (one : World d.State) → k < n → calm d code.tick code.bytes k w ≡ Some one → P one)
+      → ((k : ℕ) (one : World d.State) → k < j → calm d code.tick code.bytes k e ≡ Some one → P one)
+      → (k : ℕ) (one : World d.State) → k < n + j → calm d code.tick code.bytes k w ≡ Some one → P one
+  each_add P n j w e run first rest k one l at = by (leb n k) refl
+    where
+      by : (b : Bool) → leb n k ≡ b → P one
+      by false h = first k one (grind (arith, nat_tests, h)) at
+      by true h =
+          let more : n ≤ k = grind (arith, nat_tests, h) in
+          let sum : n + (k - n) ≡ k = omega (arith, more) in
+          rest (k - n) one (omega (arith, more, l))
+          (sym (calm_add n (k - n) w e run) ∙ ap (λ i. calm d code.tick code.bytes i w) sum ∙ at)
+
   pub chain : (Q R : Stage d.State → Type 0) (s : Stage d.State) → Leads d code x s Q
       → ((e : Stage d.State) → Q e → IsFree e.cpu → Leads d code x e R) → Leads d code x s R
   chain Q R s first rest =
@@ -90,6 +106,8 @@ module _ (d : Board) (code : Code) (has : HasRows code) (x : ℕ) where
         end = r.end;
         run = calm_add first.steps r.steps (world_at x s) (world_at x e) first.run ∙ r.run;
         goal = r.goal;
+        each = each_add (λ v. LetsNone code.bytes v.cpu) first.steps r.steps (world_at x s) (world_at x e) first.run
+            first.each r.each;
         free = r.free;
         order = let a : s.off ≤ e.off = first.order in let b : e.off ≤ r.end.off = r.order in omega (arith, a, b);
         clock = λ timed timing room.
@@ -108,6 +126,7 @@ module _ (d : Board) (code : Code) (has : HasRows code) (x : ℕ) where
         end = s;
         run = refl;
         goal = h;
+        each = λ k one l at. absurd (omega (arith, l));
         free = free;
         order = omega arith;
         clock = λ timed timing room. record { count = refl; timing = timing; tf = refl; rq = refl; tim_on = refl };
@@ -121,6 +140,7 @@ module _ (d : Board) (code : Code) (has : HasRows code) (x : ℕ) where
         end = h.end;
         run = h.run;
         goal = f h.end h.goal;
+        each = h.each;
         free = h.free;
         order = h.order;
         clock = h.clock;
@@ -136,7 +156,7 @@ module _ (d : Board) (code : Code) (has : HasRows code) (x : ℕ) where
   pub here : (K : Stage d.State → Type 0) (s : Stage d.State) → K s → To s K
   here K s h free = stay K s h free
 
-  one_step : (s : Stage d.State) (r : Decoded) → IsFree s.cpu → row_at code.bytes s.cpu.pc ≡ Some r
+  pub one_step : (s : Stage d.State) (r : Decoded) → IsFree s.cpu → row_at code.bytes s.cpu.pc ≡ Some r
       → (s.cpu.pc % 2048 == code.tick) ≡ false
       → calm d code.tick code.bytes 1 (world_at x s) ≡ Some (world_at x (moved d x r.cycles (left d code x r s) s))
   one_step s r free row off =
@@ -162,7 +182,7 @@ module _ (d : Board) (code : Code) (has : HasRows code) (x : ℕ) where
       ∙ one in
       ap (λ o. elim o as (λ v. Option (World d.State)) [ None ↦ None | Some next ↦ Some next ]) calm_one
 
-  taken_closed : (b : Bool) (op : Op) → is_taken b op ≡ true → is_closed op ≡ true
+  pub taken_closed : (b : Bool) (op : Op) → is_taken b op ≡ true → is_closed op ≡ true
   taken_closed true op h = plain_closed op h
   taken_closed false op h = h
 
@@ -180,6 +200,13 @@ module _ (d : Board) (code : Code) (has : HasRows code) (x : ℕ) where
         end = moved d x r.cycles (left d code x r s) s;
         run = one_step s r free row-is.0 off;
         goal = h;
+        each = λ k one l at.
+            let none : k ≡ 0 = omega (arith, l) in
+            let here : Some (world_at x s) ≡ Some one =
+            ap (λ i. calm d code.tick code.bytes i (world_at x s)) (sym none) ∙ at in
+            let same : world_at x s ≡ one = cc in
+            subst (λ (v : World d.State). LetsNone code.bytes v.cpu) same
+            (record { row = r; is = row-is.0; closed = taken_closed code.timed r.op taken });
         free = effect_free r.op code.bytes pins (past s.cpu) (taken_closed code.timed r.op taken) free;
         order = omega arith;
         clock = λ timed timing room.

@@ -71,7 +71,7 @@ module _ (d : Board) (bytes : List ℕ) (from : World d.State) (S : ℕ → Worl
   reached n = nth_reached d TICK bytes from n (known n).w (known n).nth
 
   -- a tick start that the run reaches is the one of its number
-  is_known : (k : ℕ) (w : World d.State) → run_at d bytes from k ≡ Some w → at_tick d TICK w ≡ true
+  pub is_known : (k : ℕ) (w : World d.State) → run_at d bytes from k ≡ Some w → at_tick d TICK w ≡ true
       → (known (starts_before d TICK bytes from k)).w ≡ w
   is_known k w run at =
       let n = starts_before d TICK bytes from k in

@@ -97,6 +97,7 @@ module _ (d : Board) (bytes : List ℕ) (has : HasKernel bytes) (x : ℕ) (k : C
         end = h.end;
         run = h.run;
         goal = (pins.t1, h.goal.0 ∙ timer_on 1 (record s.cpu { pc = 10; t = 192 }) pins e, h.goal.1, h.goal.2);
+        each = h.each;
         free = h.free;
         order = h.order;
         clock = h.clock;

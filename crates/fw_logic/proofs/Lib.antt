@@ -28,3 +28,11 @@ pub mod FromStart
 pub mod Numbers
 pub mod Clockwork
 pub mod AtTick
+pub mod Following
+pub mod Placed
+pub mod Turns
+pub mod Passing
+pub mod Between
+pub mod Selecting
+pub mod Sweep
+pub mod Executing

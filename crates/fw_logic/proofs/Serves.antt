@@ -59,7 +59,7 @@ pub record Next (d : Board) (x late : ℕ) (R : (ℕ → ℕ) → List ℕ → S
 
 module _ (d : Board) (bytes : List ℕ) (has : HasKernel bytes) where
   -- the first instruction
-  abbrev second : ℕ → ℕ → Bool → Bool → (ℕ → ℕ) → List ℕ → Cpu → d.State → Stage d.State
+  abbrev pub second : ℕ → ℕ → Bool → Bool → (ℕ → ℕ) → List ℕ → Cpu → d.State → Stage d.State
   second x late tf last f ring m board =
       record {
         cpu = record (begun late tf last f ring m) { pc = 9; a = 192; pre = late + 4 };
@@ -67,7 +67,7 @@ module _ (d : Board) (bytes : List ℕ) (has : HasKernel bytes) where
         off = 2;
       }
 
-  first_step : (x late : ℕ) → late ≤ 1 → (tf last : Bool) (f : ℕ → ℕ) (ring : List ℕ) (m : Cpu) (board : d.State)
+  pub first_step : (x late : ℕ) → late ≤ 1 → (tf last : Bool) (f : ℕ → ℕ) (ring : List ℕ) (m : Cpu) (board : d.State)
       → joint_step d bytes (record { cpu = begun late tf last f ring m; board = board; cycle = x })
       ≡ Some (world_at x (second x late tf (d.pins m.p1 m.p2 x board).t1 f ring m board))
   first_step x zero l tf last f ring m board =
@@ -83,12 +83,12 @@ module _ (d : Board) (bytes : List ℕ) (has : HasKernel bytes) where
   first_step x (suc (suc n)) l tf last f ring m board = absurd (omega (arith, l))
 
   -- the second, which writes the timer
-  abbrev IsSet : ℕ → ℕ → Bool → (ℕ → ℕ) → List ℕ → Cpu → d.State → Stage d.State → Type 0
+  abbrev pub IsSet : ℕ → ℕ → Bool → (ℕ → ℕ) → List ℕ → Cpu → d.State → Stage d.State → Type 0
   IsSet x late tf f ring m board e =
       (e.cpu ≡ work_cpu late tf e.cpu.last_t1 f ring m) × (e.off ≡ 3)
       × (e.board ≡ after_cycles 1 2 (λ o. d.cycle m.p2 (x + o)) (after_cycles 2 x (d.cycle m.p2) board))
 
-  sets : (x late : ℕ) → late ≤ 1 → (tf last : Bool) (f : ℕ → ℕ) (ring : List ℕ) (m : Cpu) (board : d.State)
+  pub sets : (x late : ℕ) → late ≤ 1 → (tf last : Bool) (f : ℕ → ℕ) (ring : List ℕ) (m : Cpu) (board : d.State)
       → Path d (kernel_in false bytes) x (Run 1 ∷ []) (second x late tf last f ring m board)
       (IsSet x late tf f ring m board)
   sets x zero l tf last f ring m board = (refl, refl, refl)

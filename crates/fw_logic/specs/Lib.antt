@@ -4,3 +4,5 @@ pub mod Ticks
 pub mod Blocks
 pub mod Steps
 pub mod JointRun
+pub mod Executed
+pub mod Selecting

@@ -1,0 +1,92 @@
+-- Every state of a run, from power-on and through each of its ticks: what is executed there.
+use Rattle.std.proofs.Common.{◌≡◌, ◌<◌, ◌⊎◌, ℕ, suc, zero, ◌%◌, List, false, Some, None}
+use Rattle.std.proofs.Common.{refl, ◌∙◌, subst, arith, inl, inr}
+use Rattle.std.specs.declared.option.Option.{Option}
+use Rattle.fw_kernel.specs.declared.labels.TheConstants.{TICK}
+use Rattle.fw_kernel.specs.Places.{HasKernel}
+use Rattle.joint_run.specs.Run.{Board, World, joint_step, step_on, run_at}
+use Rattle.joint_run.specs.Starts.{at_tick, calm, Comes}
+use Rattle.fw_logic.specs.Executed.{IsFit}
+use Rattle.fw_logic.proofs.Between.{IsStart, Resting, Working, WorksOn, works_on, rests_on, begins_work, same_next}
+use Rattle.fw_logic.proofs.Between.{start_place, along, no_start}
+use Rattle.fw_logic.proofs.Passing.{Passes}
+use Rattle.fw_logic.proofs.Turns.{IsMain, IsServing, main_fit, service_fit}
+
+module _ (d : Board) (bytes : List ℕ) (has : HasKernel bytes) (from : World d.State) (main : IsMain false from.cpu)
+    (first : Comes d TICK bytes from (IsStart d bytes)) where
+  abbrev Works : World d.State → Type 0
+  Works w = Working d bytes has false w
+
+  abbrev Rests : World d.State → Type 0
+  Rests w = Resting d bytes has false w
+
+  abbrev Starts : World d.State → Type 0
+  Starts w = IsServing false w.cpu × IsStart d bytes w
+
+  abbrev On : World d.State → Type 0
+  On w = Works w ⊎ (Rests w ⊎ Starts w)
+
+  on_first : Rests from
+  on_first = record { main = main; rest = first }
+
+  -- up to the first start port 1 stays
+  abbrev Early : World d.State → Type 0
+  Early w = (Rests w ⊎ Starts w) × (w.cpu.p1 ≡ from.cpu.p1)
+
+  early_on : (w next : World d.State) → Early w → at_tick d TICK w ≡ false → joint_step d bytes w ≡ Some next
+      → Early next
+  early_on w next h off step = by h.0
+    where
+      by : Rests w ⊎ Starts w → Early next
+      by (inl g) = let r = rests_on d bytes has false w next g step in (r.0, r.1 ∙ h.1)
+      by (inr g) = absurd (no_start d bytes has false w g.1 off)
+
+  pub before_first : (k : ℕ) (one next : World d.State) → calm d TICK bytes k from ≡ Some one
+      → at_tick d TICK one ≡ false → joint_step d bytes one ≡ Some next → next.cpu.p1 ≡ from.cpu.p1
+  before_first k one next run off step =
+      let there = along d bytes has false Early early_on k from one (inl on_first, refl) run in
+      (early_on one next there off step).1
+
+  pub at_first : (k : ℕ) (e : World d.State) → calm d TICK bytes k from ≡ Some e → e.cpu.p1 ≡ from.cpu.p1
+  at_first k e run = (along d bytes has false Early early_on k from e (inl on_first, refl) run).1
+
+  -- each tick start of the run has its way through the tick
+  module _ (passes : (k : ℕ) (w : World d.State) → run_at d bytes from k ≡ Some w → IsStart d bytes w
+      → Passes d bytes w) where
+    from_start : (k : ℕ) (w next : World d.State) → run_at d bytes from k ≡ Some w → Starts w
+        → joint_step d bytes w ≡ Some next → On next
+    from_start k w next run h step =
+        let p = passes k w run h.1 in
+        let low : w.cpu.pc < 2048 = (service_fit bytes has w.cpu h.0).place in
+        let place : w.cpu.pc % 2048 ≡ 7 = start_place d bytes w h.1 in
+        let at : w.cpu.pc ≡ 7 = omega (arith, low, place) in
+        inl
+        (subst Works (same_next d bytes w p.first next p.step step) (begins_work d bytes has false w h.0 at p))
+
+    goes : (k : ℕ) (w next : World d.State) → run_at d bytes from k ≡ Some w → On w → joint_step d bytes w ≡ Some next
+        → On next
+    goes k w next run (inl h) step = by (works_on d bytes has false w next h step)
+      where
+        by : WorksOn d bytes has false w next → On next
+        by (inl g) = inl g.0
+        by (inr g) = inr (inl g.0)
+    goes k w next run (inr (inl h)) step = inr (rests_on d bytes has false w next h step).0
+    goes k w next run (inr (inr h)) step = from_start k w next run h step
+
+    each : (k : ℕ) (w : World d.State) → run_at d bytes from k ≡ Some w → On w
+    each zero w run = let same : from ≡ w = cc in subst On same (inr (inl on_first))
+    each (suc k) w run = by (λ v is. each k v is) (run_at d bytes from k) refl run
+      where
+        by : ((v : World d.State) → run_at d bytes from k ≡ Some v → On v) → (o : Option (World d.State))
+            → run_at d bytes from k ≡ o → step_on d bytes o ≡ Some w → On w
+        by before None is step = absurd cc
+        by before (Some v) is step = goes k v w is (before v is) step
+
+    -- so each is fit
+    pub all_fit : (k : ℕ) (w : World d.State) → run_at d bytes from k ≡ Some w → IsFit bytes w.cpu
+    all_fit k w run = by (each k w run)
+      where
+        by : On w → IsFit bytes w.cpu
+        by (inl h) = service_fit bytes has w.cpu h.serving
+        by (inr (inl h)) = main_fit bytes has w.cpu h.main
+        by (inr (inr h)) = service_fit bytes has w.cpu h.0
