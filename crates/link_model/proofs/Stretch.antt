@@ -11,7 +11,7 @@ use Rattle.host_turn.specs.Run.{Side, desk_of, goes_on}
 use Rattle.byte_time.specs.declared.UnderWay.{UnderWay}
 use Rattle.byte_time.specs.ByteTime.{Quiet, byte_cycle, is_open, quietly}
 use Rattle.byte_time.proofs.Quiet.{quiet_more}
-use Rattle.link_model.specs.Wakes.{SleepsTo}
+use Rattle.host_wakes.specs.Wakes.{SleepsTo}
 use Rattle.link_model.proofs.Wakes.{leaps}
 
 module _ (events : List HostEvent) (from : ℕ) (s : Side UnderWay) where

@@ -10,7 +10,6 @@ mod carrying;
 mod expecting;
 mod laws;
 mod layering;
-mod leaping;
 mod line;
 mod lines;
 mod running;

@@ -3,12 +3,12 @@
 ghost use Rattle.std.specs.Prelude.{◌≡◌, ◌+◌, ◌++◌, ◌&&◌, nat_lt, IfOk, if◌then◌else◌};
 ghost use Rattle.host_turn.specs.Run.{stamped};
 
-use crate::leaping::sleeps_to;
 use arrayvec::ArrayVec;
 use board_lines::HostEvent;
 use byte_time::UnderWay;
 use ctl_link::Link;
 use host_turn::{Desk, Stamped};
+use host_wakes::sleeps_to;
 use int09::Bios;
 use pc_tables::Item;
 use std::alloc::{AllocError, Global};
@@ -40,7 +40,7 @@ impl Running {
     ghost use Rattle.std.specs.Prelude.{◌≡◌, ◌≤◌, ◌<◌, ◌-◌, ◌^◌, IfOk, slice_get};
     ghost use Rattle.host_turn.specs.Run.{side_at_start, desk_of, goes_on, says_lights};
     ghost use Rattle.byte_time.specs.ByteTime.{is_open, quietly};
-    ghost use Rattle.link_model.specs.Wakes.{SleepsTo};
+    ghost use Rattle.host_wakes.specs.Wakes.{SleepsTo};
 
     /// At the start of a run.
     pub(crate) fn new(alloc: Global) -> Result<Running, AllocError>

@@ -1,7 +1,7 @@
 use Rattle.std.proofs.Common.{◌≤◌, ◌+◌, arith, refl, subst}
 use Rattle.host_turn.specs.Run.{desk_of}
 use Rattle.byte_time.specs.ByteTime.{is_open}
-use Rattle.link_model.specs.Wakes.{SleepsTo}
+use Rattle.host_wakes.specs.Wakes.{SleepsTo}
 use Rattle.link_model.proofs.Stretch.{run_leaps, run_once}
 use Rattle.link_model.proofs.running.Running.run_on.Goals as goal
 

@@ -1,9 +1,9 @@
-//! Leaping over cycles in which nothing happens on the PC's side.
+//! When something may happen on the PC's side at the earliest.
 
 ghost use Rattle.std.specs.Prelude.{◌≡◌, ◌≤◌, ◌<◌, ◌+◌, ◌^◌, ◌||◌, min, max, is_some};
 ghost use Rattle.ctl_core.specs.Controller.{is_disabled};
 ghost use Rattle.host_turn.specs.Host.{waits};
-ghost use Rattle.link_model.specs.Wakes.{event_wake, read_wake, break_wake, take_wake, link_wake, wakes, SleepsTo};
+ghost use Rattle.host_wakes.specs.Wakes.{event_wake, read_wake, break_wake, take_wake, link_wake, wakes, SleepsTo};
 
 use board_lines::{HostAct, HostEvent};
 use ctl_core::Controller;
@@ -106,7 +106,7 @@ fn link_stir<F: Drop>(link: &Link<F>, awaits: bool, core: &Controller, end: u64)
 
 /// The first cycle from `now` on in which something may happen on the PC's side, and `end` where there is none before
 /// it.
-pub(crate) fn first_stir<F: Passing + Drop>(
+pub fn first_stir<F: Passing + Drop>(
     desk: &Desk<F>,
     next: Option<HostEvent>,
     now: u64,
@@ -135,7 +135,7 @@ pub(crate) fn first_stir<F: Passing + Drop>(
 }
 
 /// From `now` on nothing happens before the first stir.
-pub(crate) fn sleeps_to<F: Passing + Drop>(
+pub fn sleeps_to<F: Passing + Drop>(
     desk: &Desk<F>,
     next: Option<HostEvent>,
     now: u64,

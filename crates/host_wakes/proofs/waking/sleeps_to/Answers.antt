@@ -1,5 +1,5 @@
-use Rattle.link_model.proofs.Wakes.{sleeps_by}
-use Rattle.link_model.proofs.leaping.sleeps_to.Goals as goal
+use Rattle.host_wakes.proofs.Wakes.{sleeps_by}
+use Rattle.host_wakes.proofs.waking.sleeps_to.Goals as goal
 
 pub returns-clause-sleeps : goal.returns-clause-sleeps
 returns-clause-sleeps g c =

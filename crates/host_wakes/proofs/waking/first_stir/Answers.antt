@@ -1,9 +1,9 @@
 use Rattle.std.proofs.Common.{◌≡◌, ℕ, Bool, ◌||◌, ap, ◌∙◌, max, min}
 use Rattle.std.specs.Prelude.{is_some}
 use Rattle.ctl_core.specs.Controller.{ControllerState, is_disabled}
-use Rattle.link_model.specs.Wakes.{event_wake, read_wake, break_wake, take_wake, link_wake}
-use Rattle.link_model.proofs.Wakes.{first_of, turned_round}
-use Rattle.link_model.proofs.leaping.first_stir.Goals as goal
+use Rattle.host_wakes.specs.Wakes.{event_wake, read_wake, break_wake, take_wake, link_wake}
+use Rattle.host_wakes.proofs.Wakes.{first_of, turned_round}
+use Rattle.host_wakes.proofs.waking.first_stir.Goals as goal
 
 pub returns-clause-is : goal.returns-clause-is
 returns-clause-is g c =

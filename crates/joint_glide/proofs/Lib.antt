@@ -1,0 +1,3 @@
+pub mod Steps
+pub mod Stretches
+pub mod Turns

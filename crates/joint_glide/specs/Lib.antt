@@ -1,0 +1,3 @@
+pub mod Still
+pub mod Quiet
+pub mod Calls

@@ -1,0 +1,33 @@
+//! Joint steps, as many at once as there are before something may happen.
+
+ghost use Rattle.std.specs.Prelude.{◌≡◌, ◌+◌, ◌<◌, ◌≤◌, ◌^◌, OnErr, OnOk};
+ghost use Rattle.joint_glide.specs.Quiet.{HasGone};
+ghost use Rattle.joint_run.specs.Due.{told};
+
+use crate::still::still_to;
+use crate::stretch::stretch;
+use joint_run::{Due, Joint, Seen};
+use mcs48_core::Stuck;
+
+/// Makes joint steps by the events that are handed in: quiet ones, in at most `most` cycles together, none of which leads
+/// to the place `tick` of the program, and then one of any kind, which is told in `seen`. There may be no quiet one. Where
+/// the processor is stuck, the steps before stand, and `seen` is of no use.
+#[inline(always)]
+pub fn go_on(
+    joint: &mut Joint,
+    due: &Due,
+    seen: &mut Seen,
+    tick: u16,
+    most: u64,
+) -> Result<(), Stuck>
+    requires near { joint.old.cycle + most < 2 ^ 62 }
+    ensures gone { HasGone due.now tick most joint.old (told result seen.new) joint.new }
+    ensures some { OnOk result (0 < seen.new.cycles) }
+    ensures few { OnOk result (seen.new.cycles < 3) }
+{
+    let room = still_to(joint, due, most) - joint.cycle();
+    if stretch(joint, due, seen, tick, room)? {
+        return Ok(());
+    }
+    joint.step_into(due, seen)
+}

@@ -1,0 +1,60 @@
+//! Up to which cycle nothing changes outside the processor.
+
+ghost use Rattle.std.specs.Prelude.{◌≡◌, ◌+◌, ◌<◌, ◌≤◌, ◌^◌, ℕ, true, [], slice_get};
+ghost use Rattle.joint_glide.specs.Still.{IsStillTo};
+ghost use Rattle.joint_run.specs.Cycle.{outside_wires};
+ghost use Rattle.joint_run.specs.Due.{made_first};
+ghost use Rattle.joint_run.specs.Joint.{lights_of};
+
+use board_lines::{Edge, HostEvent};
+use host_wakes::sleeps_to;
+use joint_run::{Due, Joint, lights};
+
+/// Cycle 4,096 is stamp 0.
+const FIRST_STAMP: u64 = 4096;
+
+/// The cycle in which the first of these edges is made, or the end, if that comes first.
+fn edge_or(edges: &[Edge], end: u64) -> u64
+    ensures to { result ≤ end }
+    ensures none { (now : ℕ) → now < result → made_first now edges.now ≡ [] }
+{
+    match edges {
+        [] => end,
+        [edge, ..] => edge.stamp.saturating_add(FIRST_STAMP).min(end),
+    }
+}
+
+/// The first of these events.
+fn first_of(events: &[HostEvent]) -> Option<HostEvent>
+    ensures { result ≡ slice_get events.now 0 }
+{
+    events.first().copied()
+}
+
+/// Whether what port 2 drives is noted: its lights are shown, and the controller's last look saw the clock's level.
+fn is_noted(joint: &Joint) -> bool
+    ensures shown { result ≡ true → lights_of joint.now.mcu.p2 ≡ joint.now.outside.shown }
+    ensures level { result ≡ true → (outside_wires joint.now.mcu.p2 joint.now.outside).clk ≡ joint.now.outside.clock }
+{
+    let outside = joint.outside();
+    let line = joint.lines();
+    lights(joint.mcu().p2) == outside.shown && line.clk == outside.clock
+}
+
+/// A cycle up to which nothing changes outside the processor and no edge is made, as long as port 2 keeps its latch; at
+/// most `most` cycles from the next one on. It goes by the next edge, the host's next event, the read of INT 09h, and
+/// what the controller does by itself.
+pub(crate) fn still_to(joint: &Joint, due: &Due, most: u64) -> u64
+    requires near { joint.now.cycle + most < 2 ^ 62 }
+    ensures from { joint.now.cycle ≤ result }
+    ensures to { result ≤ joint.now.cycle + most }
+    ensures still { IsStillTo due.now joint.now result }
+{
+    let cycle = joint.cycle();
+    if !is_noted(joint) {
+        return cycle;
+    }
+    let end = edge_or(due.edges.as_slice(), cycle + most).max(cycle);
+    let next = first_of(due.host.as_slice());
+    sleeps_to(&joint.outside().desk, next, cycle, end)
+}
