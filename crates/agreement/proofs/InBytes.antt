@@ -29,11 +29,6 @@ use Rattle.agreement.proofs.PortInBytes.{broken_in}
 pub starts_in_bytes : IsInBytes (side_at_start UnderWay)
 starts_in_bytes = (tt, tt)
 
--- lights change neither
-pub lights_in_bytes : (now shown lights : ℕ) (m : Side UnderWay) → IsInBytes m
-    → IsInBytes (says_lights now shown lights m)
-lights_in_bytes now shown lights m b = b
-
 -- the byte that the controller asks the keyboard to take at its wires is below 256
 pub request_in_bytes : (s : Side Wire) (byte : ℕ) → IsInBytes (seen_in_bytes s) → s.port.link ≡ Request byte
     → byte < 256
