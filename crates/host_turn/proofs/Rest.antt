@@ -16,7 +16,7 @@ use Rattle.ctl_link.proofs.Breaks.{unbroken}
 use Rattle.board_lines.specs.declared.event.HostEvent.{HostEvent}
 use Rattle.host_turn.specs.declared.desk.Desk.{Desk}
 use Rattle.host_turn.specs.Host.{Host, Turn, event_turn, bios_turn, turn, acted_where, in_silence, read_by_bios, is_done, waits}
-use Rattle.host_turn.specs.Cycle.{Cycled, cycled, ends_cycle, host_of}
+use Rattle.host_turn.specs.Cycle.{cycled, ends_cycle, host_of}
 use Rattle.host_turn.specs.Rest.{is_free, is_at_rest, is_due}
 
 no_input : (i : Option Input) → is_some i ≡ false → i ≡ None

@@ -5,13 +5,8 @@ use Rattle.std.specs.List.{slice_get}
 use Rattle.std.specs.declared.option.Option.{Option}
 use Rattle.std.proofs.lemmas.Bool.Decides.{nat_tests}
 use Rattle.board_lines.specs.declared.event.Edge.{Edge}
-use Rattle.key_file.specs.declared.event.Event.{Event}
-use Rattle.key_file.specs.declared.event.Event.TheVariants.{EdgeOf, HostOf, End}
-use Rattle.key_file.specs.declared.brief.Brief.{Brief as Kept}
-use Rattle.key_file.specs.Histories.{Before, last_edge}
-use Rattle.key_file.specs.Briefs.{brief_of, from_end, latest_of}
-use Rattle.key_file.specs.Keeps.{IsBriefOf, asked}
-use Rattle.key_file.specs.Rules.{judgements}
+use Rattle.key_file.specs.Histories.{last_edge}
+use Rattle.key_file.specs.Briefs.{from_end, latest_of}
 
 -- the elements before one more, and that one
 get-before : (xs : List Edge) (e : Edge) (k : ℕ) → k < length xs → slice_get (xs ++ e ∷ []) k ≡ slice_get xs k

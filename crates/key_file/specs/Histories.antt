@@ -1,6 +1,6 @@
 -- Key histories, and what the lines of a key file come to.
-use Rattle.std.specs.Prelude.{ℕ, ◌-◌, nat_le, List, [], ◌∷◌, ◌++◌, length, None, Some, if◌then◌else◌}
-use Rattle.std.specs.List.{last_or, slice_get}
+use Rattle.std.specs.Prelude.{ℕ, ◌-◌, List, [], ◌∷◌, ◌++◌, None, Some, if◌then◌else◌}
+use Rattle.std.specs.List.{last_or}
 use Rattle.std.specs.declared.option.Option.{Option}
 use Rattle.board_lines.specs.declared.event.Edge.{Edge}
 use Rattle.board_lines.specs.declared.event.HostEvent.{HostEvent}

@@ -1,18 +1,13 @@
 -- Laws of the entries of a layout.
-use Rattle.std.proofs.Common.{◌≡◌, ℕ, zero, suc, ◌+◌, ◌<◌, ◌≤◌, Bool, true, false, ◌==◌, ◌||◌, eqb, List, [], ◌∷◌, ◌++◌, map, length, Some, refl, ap, ◌∙◌, arith, subst, ◌&&◌}
+use Rattle.std.proofs.Common.{◌≡◌, ℕ, zero, suc, ◌+◌, ◌<◌, ◌≤◌, Bool, true, false, ◌==◌, ◌||◌, eqb, List, [], ◌∷◌, ◌++◌, map, length, refl, ap, ◌∙◌, arith, subst, ◌&&◌}
 use Rattle.std.specs.Prelude.{All, cond}
 use Rattle.std.specs.List.{IsDistinct, list_any, filter, range_with_len}
 use Rattle.std.specs.Cmp.{nat_eq_equiv}
 use Rattle.std.proofs.lemmas.List.{map-append, append-nil}
 use Rattle.std.proofs.lemmas.List.Elements.{All-push, All-nil, filter-append}
 use Rattle.std.proofs.lemmas.List.FromFn.{map-range_with_len_more}
-use Rattle.std.proofs.lemmas.List.Quantifiers.{position-Some}
 use Rattle.std.proofs.lemmas.Map.Keys.{IsDistinct-push}
-use Rattle.std.proofs.lemmas.Map.Steps.{length-le_from_distinct_below}
 use Rattle.std.proofs.lemmas.Bool.Decides.{nat_tests}
-use Rattle.pc_tables.specs.Keys.{Row, row, keys, key_with_name}
-use Rattle.pc_tables.proofs.KeyLaws.{key_count}
-use Rattle.std.specs.Str.{bytes_eq}
 use Rattle.layout_reader.specs.declared.entry.Entry.{Entry}
 use Rattle.layout_reader.specs.Entries.{IsEntry, is_fn, is_place_taken, is_key_named, has_fn}
 use Rattle.layout_reader.specs.Layouts.{AreEntries, places_of, keys_of, sample_entry}

@@ -1,5 +1,5 @@
 -- The reading of a document, step by step.
-use Rattle.std.proofs.Common.{◌≡◌, ℕ, ◌+◌, true, false, cond, List, [], ◌∷◌, ◌++◌, drop, length, Some, None, Ok, Err, refl}
+use Rattle.std.proofs.Common.{◌≡◌, ℕ, ◌+◌, true, false, cond, List, [], ◌∷◌, ◌++◌, drop, Some, None, Ok, Err, refl}
 use Rattle.std.specs.Prelude.{IsUtf8, Result, is_ok, is_err}
 use Rattle.std.specs.Str.{is_utf8}
 use Rattle.std.proofs.lemmas.Str.{is_utf8-from_IsUtf8, IsUtf8-from_is_utf8}
@@ -9,7 +9,6 @@ use Rattle.toml.specs.Parse.{parse_document}
 use Rattle.toml.specs.View.{view, items_view}
 use Rattle.layout_reader.specs.declared.entry.Entry.{Entry}
 use Rattle.layout_reader.specs.declared.fields.Format.{Format}
-use Rattle.layout_reader.specs.declared.cause.Cause.{Cause}
 use Rattle.layout_reader.specs.declared.cause.Cause.TheVariants.{NotToml}
 use Rattle.layout_reader.specs.Faults.{number_of}
 use Rattle.layout_reader.specs.Entries.{entry_from}

@@ -4,7 +4,7 @@ use Rattle.std.specs.List.{list_any, list_all}
 use Rattle.std.specs.Str.{bytes_eq}
 use Rattle.std.proofs.lemmas.Bool.{and_parts}
 use Rattle.std.proofs.lemmas.Slice.Eq.{bytes_eq-Decides}
-use Rattle.mcs48_asm.specs.Rows.{Form, instructions, is_instruction, reserved, is_reserved}
+use Rattle.mcs48_asm.specs.Rows.{Form}
 
 other-length : (held name : List ℕ) → nat_le (length held) 5 ≡ true → nat_le (length name) 5 ≡ false → bytes_eq held name ≡ false
 other-length held name short long = go (bytes_eq held name) refl

@@ -1,8 +1,8 @@
 -- The digits of a number, one after another.
-use Rattle.std.proofs.Common.{◌≡◌, ℕ, ◌+◌, ◌*◌, ◌^◌, ◌<◌, ◌≤◌, List, length, drop, get_or, None, Some, refl, ap, ◌∙◌, arith, add-one, drop-cons}
+use Rattle.std.proofs.Common.{◌≡◌, ℕ, ◌+◌, ◌*◌, ◌^◌, ◌<◌, ◌≤◌, List, length, drop, get_or, None, Some, refl, ◌∙◌, arith, add-one, drop-cons}
 use Rattle.std.specs.Prelude.{IfSome}
 use Rattle.std.specs.declared.option.Option.{Option}
-use Rattle.std.proofs.Math.Nat.{pow-suc, pow-le-pow_right}
+use Rattle.std.proofs.Math.Nat.{pow-le-pow_right}
 use Rattle.text_lines.specs.Numbers.{number_after}
 
 -- a power with at most this exponent
