@@ -58,11 +58,10 @@ layered_at is_fn (x ∷ xs) edge layers zero l e =
     × Contains (layered is_fn (x ∷ xs) layers) (record { place = v.0; down = v.1; on_fn = on_fn })) e
     (layer_of layers x.0 x.1, (0, omega arith, refl))
 layered_at is_fn (x ∷ xs) edge layers (suc k) l e =
-    let r = layered_at is_fn xs edge (layers_after is_fn x layers) k (omega (arith, l)) e in
-    (
+    let r = layered_at is_fn xs edge (layers_after is_fn x layers) k (omega (arith, l)) e in (
       r.0,
       further (in_layer layers x)
-      (record { place = edge.0; down = edge.1; on_fn = r.0 }) (layered is_fn xs (layers_after is_fn x layers)) r.1,
+          (record { place = edge.0; down = edge.1; on_fn = r.0 }) (layered is_fn xs (layers_after is_fn x layers)) r.1,
     )
 
 pub edge_among : (layout : KeyLayout) (history : KeyHistory) (starts : ℕ → ℕ) (n : ℕ) (edge : Edge)

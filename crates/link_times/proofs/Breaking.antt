@@ -84,8 +84,11 @@ module _ (events : List HostEvent) where
               | inr r ↦
                   let z : r.0 + suc now ≡ suc r.0 + now = omega arith in
                   let l : r.0 < n = r.1 in
-                  inr (suc r.0, omega (arith, l),
-                  subst (λ y. input_waits events y (quietly events r.0 (suc now) next) ≡ true) z r.2)
+                  inr (
+                    suc r.0,
+                    omega (arith, l),
+                    subst (λ y. input_waits events y (quietly events r.0 (suc now) next) ≡ true) z r.2,
+                  )
             ]
       ] refl
 
@@ -110,7 +113,10 @@ module _ (events : List HostEvent) where
             keeps_closed (288 + now) Closes all off (ap (λ l. closed l) e) refl in
             let begins : quietly events 287 (suc now) (byte_cycle events now (Begins true) m) ≡ all =
             ap (λ v. quietly events 287 (suc now) v) (begins_so now m) in
-            inl (off, ap (λ v. (quietly events 31 (289 + now) (byte_cycle events (288 + now) Closes v)).port.link) begins
-            ∙ closed_span 31 (289 + now) (byte_cycle events (288 + now) Closes all) off c refl)
+            inl (
+              off,
+              ap (λ v. (quietly events 31 (289 + now) (byte_cycle events (288 + now) Closes v)).port.link) begins
+                  ∙ closed_span 31 (289 + now) (byte_cycle events (288 + now) Closes all) off c refl,
+            )
         | inr r ↦ inr (record { offset = r.0; early = r.1; input = r.2 })
       ]

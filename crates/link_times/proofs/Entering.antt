@@ -74,7 +74,8 @@ released_by false true code q = refl
 released_by false false code q = refl
 
 edge_enters : (keys : Keys) (place : ℕ) (down on_fn : Bool) (k : Keyboard)
-    → Enter' (code_of keys (record { place = place; down = down; on_fn = on_fn })) k (edge_if true keys place down on_fn k)
+    → Enter' (code_of keys (record { place = place; down = down; on_fn = on_fn })) k
+    (edge_if true keys place down on_fn k)
 edge_enters keys place true on_fn k = record {
   reply = refl;
   aa_due = refl;

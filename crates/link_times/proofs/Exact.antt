@@ -1,24 +1,24 @@
 -- A tick, whatever its meeting: what waits after it, exactly.
 use Rattle.std.proofs.lemmas.Bool.Decides.{nat_tests}
-use Rattle.std.proofs.Common.{arith, ◌≡◌, ℕ, ◌-◌, ◌⊎◌, inl, inr, List, [], ◌++◌, drop, Bool, true, false, not, ◌&&◌, ◌||◌, ◌==◌, Some, None, refl, ap, sym, ◌∙◌, append_assoc}
-use Rattle.std.specs.Prelude.{if◌then◌else◌, is_some}
+use Rattle.std.proofs.Common.{arith, ◌≡◌, ℕ, ◌-◌, ◌⊎◌, inl, inr, List, [], ◌++◌, drop, Bool, true, false, not, ◌&&◌, ◌==◌, Some, None, refl, ap, sym, ◌∙◌}
+use Rattle.std.specs.Prelude.{if◌then◌else◌}
 use Rattle.std.specs.declared.option.Option.{Option}
 use Rattle.byte_time.specs.declared.meeting.Meeting.{Meeting}
 use Rattle.byte_time.specs.declared.meeting.Meeting.TheVariants.{Got, Inhibited, Idle, Sent, Cut}
 use Rattle.kbd_model.specs.declared.edge.TickEdge.{TickEdge}
 use Rattle.kbd_model.specs.declared.meeting.Meeting.TheVariants as kbd
 use Rattle.kbd_model.specs.declared.state.Repeat.{Repeat}
-use Rattle.kbd_model.specs.declared.state.Reply.{Reply}
 use Rattle.kbd_model.specs.Codes.{Keys}
 use Rattle.kbd_model.specs.Keyboard.{Keyboard, offer}
 use Rattle.kbd_model.specs.Once.{byte_if, is_reset_due, queued, reply_bytes, waiting, GotKeeps}
-use Rattle.kbd_model.specs.Queue.{clear, drop_first}
-use Rattle.kbd_model.specs.Tick.{met, tested_if, is_scanning, scanned, ticked, is_inhibited, reset, without_offered, sent_byte}
+use Rattle.kbd_model.specs.Queue.{clear}
+use Rattle.kbd_model.specs.Tick.{met, tested_if, is_scanning, scanned, ticked, is_inhibited, without_offered, sent_byte}
 use Rattle.kbd_model.proofs.Once.{got_leaves, sent_leaves, reset_leaves}
 use Rattle.link_model.specs.Machine.{met_as}
 use Rattle.quiet_log.specs.Once.{left, put_before, IsSilentInTest}
 use Rattle.link_times.specs.Coming.{codes_of, comes_first, repeat_code, repeats_still, repeats_then, tick_codes, queue_left, added, test_left, waits_less}
 use Rattle.link_times.proofs.Entering.{entered, queue_adds, scans_enter}
+use Rattle.link_times.proofs.Going.{waits_more, gone_queue, gone_repeats, gone_test, aa_first, aa_new, tested_queue, tested_repeats, tested_reply, tested_aa, tested_test}
 use Rattle.link_times.proofs.Repeating.{scans_rate, scans_repeat}
 use Rattle.link_times.proofs.Answering.{Answers, answers}
 
@@ -55,93 +55,6 @@ record Behind (keys : Keys) (edges : List TickEdge) (meeting : Meeting) (k after
       ≡ entered (tick_codes keys meeting edges k (is_scanning after)) (queue_left meeting k)
   repeats : after.repeats ≡ repeats_behind keys edges meeting k after
 
--- more behind what waits
-waits_more : (r aa q more : List ℕ) → r ++ (aa ++ (q ++ more)) ≡ (r ++ (aa ++ q)) ++ more
-waits_more r aa q more =
-    ap (λ v. r ++ v) (sym (append_assoc aa q more)) ∙ sym (append_assoc r (aa ++ q) more)
-
--- a byte that goes leaves the queue, or was no byte of it
-gone_queue : (r : Option Reply) (aa : Bool) (keys : Keys) (k : Keyboard) → k.reply ≡ r → k.aa_due ≡ aa
-    → (without_offered r keys k).queue
-    ≡ (if is_reset_due r then clear k.queue else if is_some r || aa then k.queue else drop_first k.queue)
-gone_queue (Some r) aa keys k e a = by r.resets
-  where
-    by : (c : Bool) → (if c then reset keys k else record k { reply = None }).queue
-        ≡ (if c then clear k.queue else k.queue)
-    by true = refl
-    by false = refl
-gone_queue None true keys k e a = ap (λ c. if c then k.queue else drop_first k.queue) a
-gone_queue None false keys k e a = ap (λ c. if c then k.queue else drop_first k.queue) a
-
-gone_repeats : (r : Option Reply) (keys : Keys) (k : Keyboard)
-    → (without_offered r keys k).repeats ≡ (if is_reset_due r then None else k.repeats)
-gone_repeats (Some r) keys k = by r.resets
-  where
-    by : (c : Bool) → (if c then reset keys k else record k { reply = None }).repeats ≡ (if c then None else k.repeats)
-    by true = refl
-    by false = refl
-gone_repeats None keys k = refl
-
-gone_test : (r : Option Reply) (keys : Keys) (k : Keyboard)
-    → (without_offered r keys k).test ≡ (if is_reset_due r then 64 else k.test)
-gone_test (Some r) keys k = by r.resets
-  where
-    by : (c : Bool) → (if c then reset keys k else record k { reply = None }).test ≡ (if c then 64 else k.test)
-    by true = refl
-    by false = refl
-gone_test None keys k = refl
-
--- no AA is new where it stays
-none_new : (b : Bool) → (b && not b) ≡ false
-none_new true = refl
-none_new false = refl
-
--- AA that falls due stands before the queue
-aa_first : (last due : Bool) (q more : List ℕ)
-    → byte_if (if last then true else due) 0xaa ++ (q ++ more)
-    ≡ byte_if (last && not due) 0xaa ++ ((byte_if due 0xaa ++ q) ++ more)
-aa_first true true q more = refl
-aa_first true false q more = refl
-aa_first false true q more = refl
-aa_first false false q more = refl
-
-aa_new : (last due : Bool) → ((if last then true else due) && not due) ≡ (last && not due)
-aa_new true true = refl
-aa_new true false = refl
-aa_new false true = refl
-aa_new false false = refl
-
--- step 3, by whether the test runs
-tested_queue : (c : Bool) (k : Keyboard) → (tested_if c k).queue ≡ k.queue
-tested_queue true k = refl
-tested_queue false k = refl
-
-tested_repeats : (c : Bool) (k : Keyboard) → (tested_if c k).repeats ≡ k.repeats
-tested_repeats true k = refl
-tested_repeats false k = refl
-
-tested_reply : (c : Bool) (k : Keyboard) → (tested_if c k).reply ≡ k.reply
-tested_reply true k = refl
-tested_reply false k = refl
-
--- in the last tick of the test AA falls due
-tested_aa : (k : Keyboard) → (tested_if (not (k.test == 0)) k).aa_due ≡ (if k.test == 1 then true else k.aa_due)
-tested_aa k =
-    elim (k.test == 0) as (λ c. (k.test == 0) ≡ c
-    → (tested_if (not c) k).aa_due ≡ (if k.test == 1 then true else k.aa_due)) [
-      | true ↦ λ e.
-          let z : (k.test == 1) ≡ false = grind (arith, nat_tests, e) in
-          ap (λ c. if c then true else k.aa_due) (sym z)
-      | false ↦ λ e. refl
-    ] refl
-
-tested_test : (k : Keyboard) → (tested_if (not (k.test == 0)) k).test ≡ k.test - 1
-tested_test k =
-    elim (k.test == 0) as (λ c. (k.test == 0) ≡ c → (tested_if (not c) k).test ≡ k.test - 1) [
-      | true ↦ λ e. let z : k.test ≡ k.test - 1 = grind (arith, nat_tests, e) in z
-      | false ↦ λ e. refl
-    ] refl
-
 module _ (keys : Keys) (edges : List TickEdge) (k : Keyboard) where
   abbrev after : Meeting → Keyboard
   after meeting = ticked keys (met_as meeting) edges k
@@ -177,28 +90,27 @@ module _ (keys : Keys) (edges : List TickEdge) (k : Keyboard) where
       let on : is_scanning (after meeting) ≡ is_scanning b = ap (λ v. is_scanning v) e ∙ s.scanning in
       let c = codes_are meeting b r on in
       let rate : (after meeting).rate ≡ b.rate =
-      ap (λ (v : Keyboard). v.rate) e ∙ scans_rate (is_scanning b) keys inhibited edges b in
-      (
+      ap (λ (v : Keyboard). v.rate) e ∙ scans_rate (is_scanning b) keys inhibited edges b in (
         ap (λ (v : Keyboard). queued v.queue) e
-        ∙ ap (λ v. queued v) s.queue
-        ∙ queue_adds (if is_scanning b
-        then repeat_code keys inhibited b.repeats
-        ++ codes_of keys edges
-        else []) b.queue
-        ∙ ap (λ v. queued b.queue ++ added v b.queue) (sym c)
-        ∙ ap (λ v. queued v ++ added (tick_codes keys meeting edges k (is_scanning (after meeting))) v) q,
+            ∙ ap (λ v. queued v) s.queue
+            ∙ queue_adds (if is_scanning b
+            then repeat_code keys inhibited b.repeats
+            ++ codes_of keys edges
+            else []) b.queue
+            ∙ ap (λ v. queued b.queue ++ added v b.queue) (sym c)
+            ∙ ap (λ v. queued v ++ added (tick_codes keys meeting edges k (is_scanning (after meeting))) v) q,
         ap (λ (v : Keyboard). v.reply) e ∙ s.reply,
         ap (λ (v : Keyboard). v.aa_due) e ∙ s.aa_due,
         ap (λ (v : Keyboard). v.test) e ∙ s.test,
         ap (λ (v : Keyboard). v.queue) e ∙ s.queue ∙ ap (λ v. entered v b.queue) (sym c)
-        ∙ ap (λ v. entered (tick_codes keys meeting edges k (is_scanning (after meeting))) v) q,
+            ∙ ap (λ v. entered (tick_codes keys meeting edges k (is_scanning (after meeting))) v) q,
         ap (λ (v : Keyboard). v.repeats) e ∙ scans_repeat (is_scanning b) keys inhibited edges b
-        ∙ ap (λ c. if c then repeats_then keys b.rate edges (waits_less b.rate b.repeats) else None) (sym on)
-        ∙ ap (λ v. if is_scanning (after meeting) then repeats_then keys v edges (waits_less v b.repeats) else None)
-        (sym rate)
-        ∙ ap (λ v. if is_scanning (after meeting)
-        then repeats_then keys (after meeting).rate edges (waits_less (after meeting).rate v)
-        else None) r,
+            ∙ ap (λ c. if c then repeats_then keys b.rate edges (waits_less b.rate b.repeats) else None) (sym on)
+            ∙ ap (λ v. if is_scanning (after meeting) then repeats_then keys v edges (waits_less v b.repeats) else None)
+            (sym rate)
+            ∙ ap (λ v. if is_scanning (after meeting)
+            then repeats_then keys (after meeting).rate edges (waits_less (after meeting).rate v)
+            else None) r,
       )
 
   -- where the test had ended, step 3 does nothing

@@ -189,11 +189,10 @@ module _ (layout : KeyLayout) (history : KeyHistory) (starts : ℕ → ℕ) wher
       ⊎ (IsHeldOff (meeting_at layout history starts (count + n))
       ⊎ IsGot (meeting_at layout history starts (count + n))))
   goes_on_at n count byte t o h =
-      let w : Waits (count + n) byte = waits_on n count byte (record { test = t; offered = o }) h in
-      (
+      let w : Waits (count + n) byte = waits_on n count byte (record { test = t; offered = o }) h in (
         w.offered,
         goes (count + n) byte (meeting_at layout history starts (count + n)) w.test
-        (nothing_else (count + n) byte w.offered),
+            (nothing_else (count + n) byte w.offered),
       )
 
 pub nothing_else_holds : (layout : KeyLayout) (history : KeyHistory) (starts : ℕ → ℕ) (n byte : ℕ)

@@ -1,6 +1,7 @@
 pub mod Entering
 pub mod Answering
 pub mod Repeating
+pub mod Going
 pub mod Exact
 pub mod Twice
 pub mod Flowing

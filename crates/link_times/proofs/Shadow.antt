@@ -107,12 +107,11 @@ unfolding byte_cycle goes_on
 cycle_port events quiet now e m =
     let p : Port UnderWay = happened_at now e m.port in
     let h : Host = host_of (desk_of (record m { port = p })) in
-    let t = turns now p.filled (slice_get events m.done) h (quiet m.done) in
-    (
+    let t = turns now p.filled (slice_get events m.done) h (quiet m.done) in (
       ap (λ c. (settled now (broken_off is_open now
-      (record p { core = c; flip = (turn now p.filled (slice_get events m.done) h).host.flip }))).port) t.core_is
-      ∙ ap (λ f. (settled now (broken_off is_open now
-      (record p { core = read_core (interrupts now p.filled (view m.masked p)) p.core; flip = f }))).port) t.flip_is,
+          (record p { core = c; flip = (turn now p.filled (slice_get events m.done) h).host.flip }))).port) t.core_is
+          ∙ ap (λ f. (settled now (broken_off is_open now
+          (record p { core = read_core (interrupts now p.filled (view m.masked p)) p.core; flip = f }))).port) t.flip_is,
       t.masked_is,
     )
 

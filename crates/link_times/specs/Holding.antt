@@ -21,9 +21,9 @@ use Rattle.link_model.specs.Machine.{LayeredKeyboard}
 use Rattle.quiet_log.specs.Once.{at_tick, meeting_at}
 use Rattle.link_times.specs.Coming.{keyboard_at}
 
--- why the controller holds the clock after a cycle: the output buffer is full, or the host has disabled the keyboard, or
--- a pull of the clock is younger than its 64 cycles. It asks for a byte's way to the keyboard, a command of the host's or
--- a resend of its own, by such a pull alone; then it waits for the keyboard to fetch it
+-- why the controller holds the clock after a cycle: the output buffer is full, or the host has disabled the keyboard,
+-- or a pull of the clock is younger than its 64 cycles. For a byte that is to go to the keyboard, a command of the host's
+-- or a resend of its own, it asks by such a pull alone; then it waits for the keyboard to fetch it
 abbrev pub HoldsOff : ℕ → Port UnderWay → Link UnderWay → Type 0
 HoldsOff now p Free = ⊥
 HoldsOff now p (Hold since) =
@@ -68,8 +68,8 @@ MayMeet layout history starts n byte Inhibited =
     (look_at layout history starts n).port.link
 -- Got: the keyboard fetches a byte that the controller has for it
 MayMeet layout history starts n byte (Got command) = (look_at layout history starts n).port.link ≡ Request command
--- Cut: the controller began to hold the clock behind the look, before the byte could begin; or a waiting input broke the
--- frame off
+-- Cut: the controller began to hold the clock behind the look, before the byte could begin; or a waiting input broke
+-- the frame off
 MayMeet layout history starts n byte Cut =
     HoldsOff (287 + start_at layout history starts n) (begin_at layout history starts n).port
     (begin_at layout history starts n).port.link

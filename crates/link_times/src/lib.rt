@@ -1,9 +1,9 @@
 //! When what waits arrives, and that nothing comes twice: laws of the model's whole runs.
 //!
-//! What comes to wait in a tick is a reply, the AA of the test's end and the codes of its keys, each once. What waits goes
-//! one byte a tick, in its order, where nothing holds it off; and what may hold it off is told in the host's terms. This
-//! layer knows the keyboard's model, the link's, and the laws of `quiet_log`, and proves laws of them; nothing of it is
-//! computed. It must not know how a run is made, nor the text of a log. Source: our own.
+//! What comes to wait in a tick is a reply, the AA of the test's end and the codes of its keys, each once. What waits
+//! goes one byte a tick, in its order, where nothing holds it off; and what may hold it off is told in the host's
+//! terms. This layer knows the keyboard's model, the link's, and the laws of `quiet_log`, and proves laws of them;
+//! nothing of it is computed. It must not know how a run is made, nor the text of a log. Source: our own.
 #![tactic(auto)]
 
 ghost use Rattle.link_times.specs.Coming.{AllComesOnce, ComesExactly, NothingElseArrives};
@@ -11,11 +11,14 @@ ghost use Rattle.link_times.specs.Flowing.{OneByteATick, QuietByteATick, QuietSe
 ghost use Rattle.link_times.specs.Holding.{GoesAtLast, NothingElseHolds};
 ghost use Rattle.link_times.specs.Latency.{EdgesAreAmong, KeysComeInTime, LatencyIsMet, ReadsWhatArrives};
 
-/// Nothing comes twice. After a tick there waits what comes first (the reply to a byte from the system; AA in the test's
-/// last tick), then the rest of what waited, and then what the tick's codes added: those of the key that repeats and of
-/// the edges, in the order of their places, as far as the queue has room. So over any ticks; and from power-on on, all
-/// that comes, and nothing else, has arrived once, or was taken away once, or waits. Nothing is done when it is called;
-/// the laws are its contract.
+#[cfg(test)]
+mod tests;
+
+/// Nothing comes twice. After a tick there waits what comes first (the reply to a byte from the system; AA in the
+/// test's last tick), then the rest of what waited, and then what the tick's codes added: those of the key that repeats
+/// and of the edges, in the order of their places, as far as the queue has room. So over any ticks; and from power-on
+/// on, all that comes, and nothing else, has arrived once, or was taken away once, or waits. Nothing is done when it is
+/// called; the laws are its contract.
 pub fn nothing_comes_twice()
     ensures exactly { ComesExactly }
     ensures once { AllComesOnce }
@@ -30,19 +33,19 @@ pub fn one_byte_a_tick()
     ensures quiet { QuietByteATick }
 {}
 
-/// Nothing waits for ever: a byte that is offered goes, but where the controller holds the clock, fetches a byte of its
-/// own for the keyboard, or breaks the frame off for a waiting input, or the keyboard's test runs. Behind ticks that hold
-/// it off it is offered still, and it goes in the first that doesn't, unless a byte from the system comes first.
+/// Nothing waits for ever: a byte that is offered goes, but where the controller holds the clock, has a byte for the
+/// keyboard, or breaks the frame off for a waiting input, or the keyboard's test runs. Behind ticks that hold it off it
+/// is offered still, and it goes in the first that doesn't, unless a byte from the system comes first.
 pub fn nothing_waits_for_ever()
     ensures holds { NothingElseHolds }
     ensures goes { GoesAtLast }
 {}
 
 /// A key's latency, where the host only takes words and reads the status: what a byte comes to is read by INT 09h 64
-/// cycles behind its arrival, and the log says so with the tick. Each edge that a tick sees is among its edges; and each
-/// byte of its code is read at most 2 * 2,048 + 660 cycles behind the edge, and a tick more for each byte that waited
-/// before it, less 16 cycles for each column that is read before the key's; and an edge one cycle behind its column's read
-/// may take just as long. Nothing is done when it is called; the laws are its contract.
+/// cycles behind its arrival, and the log says so with the tick. Each edge that a tick sees is among its edges. Each byte
+/// of its code is read at most 2 * 2,048 + 660 cycles behind the edge, and a tick more for each byte before it, less 16
+/// cycles for each column that is read before the key's; and an edge one cycle behind its column's read may take just as
+/// long. Nothing is done when it is called; the laws are its contract.
 pub fn keys_come_in_time()
     ensures reads { ReadsWhatArrives }
     ensures among { EdgesAreAmong }
