@@ -9,9 +9,10 @@ from .board import Board, Choices, Key, Place, Refused, Tool, pair_of
 
 def drawn(rows: list[Any]) -> Iterator[tuple[str, list[str], float]]:
     """Each key that isn't a decal: where it stands, its legends, its width. Rotation and height change nothing here."""
+    # What is said of the board as a whole may stand before the rows.
+    if rows and isinstance(rows[0], dict):
+        rows = rows[1:]
     for down, row in enumerate(rows, 1):
-        if isinstance(row, dict) and down == 1:
-            continue
         if not isinstance(row, list):
             raise Refused("row %d is no row of keys" % down)
         width, decal, number = 1.0, False, 0

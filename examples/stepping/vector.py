@@ -10,9 +10,9 @@ CLOCK, DATA = 1, 2
 # First bytes of the instructions to which a wire, the timer or a request matters.
 OF_T0, OF_T1 = {0x26, 0x36}, {0x46, 0x56}
 OF_TIMER = {0x25, 0x35, 0x42, 0x45, 0x55, 0x62, 0x65}
-OF_SERVICE = {0x25, 0x35, 0x83, 0x93}
+OF_SERVICE = {0x25, 0x35, 0x83, 0x93, *range(0x04, 0x100, 0x20), *range(0x14, 0x100, 0x20)}
 READS_PAGE = {0xA3, 0xB3}
-INS, JTF, MOVP3, DIS_TCNTI = 0x08, 0x16, 0xE3, 0x35
+INS, JTF, MOVP3, DIS_TCNTI, RETR = 0x08, 0x16, 0xE3, 0x35, 0x93
 
 
 # Instructions that do different things in different states come again in each turn.
@@ -36,7 +36,7 @@ def wanted_for(chance: Chance, texts: Texts, first: int, turn: int) -> Wanted:
     """What is wanted for an instruction with this first byte that comes for the turn-th time: what matters to it every
     other time, and all else by chance."""
     odd = turn % 2 == 1
-    wanted = Wanted(service=chance.often(0.7 if first in OF_SERVICE and odd else 0.12), flag=chance.often(0.3),
+    wanted = Wanted(service=chance.often(0.5 if first in OF_SERVICE and odd else 0.12), flag=chance.often(0.3),
                     keys=chance.often(0.05), run=chance.one_of("off", "timer", "timer", "counter"),
                     approach=chance.one_of("", "", "mb", "low", "high"), high=chance.often(0.35),
                     place=place_for(chance, first, texts.is_long(first), turn))
@@ -46,7 +46,7 @@ def wanted_for(chance: Chance, texts: Texts, first: int, turn: int) -> Wanted:
         wanted.near = "step" if near < (8 if first in OF_TIMER and odd else 2) else ""
         if near == 9 and not wanted.service:
             wanted.near, wanted.approach = "due", ""
-    if first == DIS_TCNTI and odd:
+    if first in (DIS_TCNTI, RETR) and odd:
         wanted.service = wanted.request = True
     if first == JTF:
         wanted.flag = odd
