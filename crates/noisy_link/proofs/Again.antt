@@ -1,5 +1,5 @@
 -- What came wrong and is asked for again comes again.
-use Rattle.std.proofs.Common.{◌≡◌, ◌≤◌, ◌<◌, ℕ, zero, suc, ◌+◌, ◌-◌, ◌==◌, ◌⊎◌, inl, inr, Bool, true, false, List, Some, None, refl, ap, sym, ◌∙◌, subst, arith}
+use Rattle.std.proofs.Common.{◌≡◌, ◌≤◌, ◌<◌, ℕ, zero, suc, ◌+◌, ◌-◌, ◌==◌, inl, Bool, true, false, List, Some, None, refl, ap, sym, ◌∙◌, subst, arith}
 use Rattle.std.specs.Prelude.{if◌then◌else◌, nat_lt, nat_le}
 use Rattle.std.specs.declared.option.Option.{Option}
 use Rattle.std.proofs.lemmas.Bool.Decides.{nat_tests}
@@ -8,7 +8,7 @@ use Rattle.board_lines.specs.Cadence.{KeepsCadenceTo}
 use Rattle.byte_time.specs.declared.UnderWay.{UnderWay}
 use Rattle.byte_time.specs.declared.meeting.Meeting.{Meeting}
 use Rattle.byte_time.specs.declared.meeting.Meeting.TheVariants.{Got, Inhibited, Idle, Sent, Cut}
-use Rattle.byte_time.specs.ByteTime.{Begins, Arrives, IsWhole, happened_at, byte_cycle, quietly, meeting_by, sent_or_cut, sends, ended_as, carried}
+use Rattle.byte_time.specs.ByteTime.{Arrives, quietly, meeting_by, sent_or_cut, sends, ended_as, carried}
 use Rattle.ctl_link.specs.declared.link.Link.{Link}
 use Rattle.ctl_link.specs.declared.link.Link.TheVariants.{Free, Hold, Ask, Request, Busy}
 use Rattle.ctl_link.specs.declared.port.Port.{Port}
@@ -25,8 +25,8 @@ use Rattle.link_model.specs.TickEdges.{tick_edges}
 use Rattle.link_model.specs.Expected.{Whole, begins_from, from_meeting}
 use Rattle.quiet_log.specs.Once.{at_tick, meeting_at}
 use Rattle.quiet_log.proofs.Once.{arrives_as_offered}
-use Rattle.noisy_link.specs.Fates.{Fate, NoByte, Right, Again, GivenUp, wrong_fate, flipped_fate, fate_of, wrong_with, flip_in, arrival_in, side_before, fate_after, wrong_before, fate_at}
-use Rattle.noisy_link.specs.Noise.{Does, pause, asked_for, asked_in, next_try, next_byte, ComesAgain}
+use Rattle.noisy_link.specs.Fates.{NoByte, Again, GivenUp, flipped_fate, fate_of, wrong_with, flip_in, arrival_in, side_before, wrong_before, fate_at}
+use Rattle.noisy_link.specs.Noise.{Does, pause, asked_for, next_try, ComesAgain}
 use Rattle.noisy_link.proofs.Cycles.{Stays, cycle_keeps, span_keeps}
 use Rattle.noisy_link.proofs.Links.{IsRequest, request_stays, IsAsked, asked_stays, requested, AwaitsReply, awaits_stays, handed, reply_sends}
 use Rattle.noisy_link.proofs.Counted.{earlier_side, later_side, done_by_fate}

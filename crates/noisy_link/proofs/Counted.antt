@@ -1,5 +1,5 @@
 -- The controller's count of resends is that of the bytes that came wrong in a row; and what is done with each byte.
-use Rattle.std.proofs.Common.{◌≡◌, ◌≤◌, ℕ, zero, suc, ◌+◌, ◌-◌, Bool, true, false, List, Some, None, refl, ap, sym, ◌∙◌, subst, arith}
+use Rattle.std.proofs.Common.{◌≡◌, ◌≤◌, ℕ, zero, suc, ◌+◌, ◌-◌, Bool, true, false, List, Some, None, refl, ap, ◌∙◌, subst, arith}
 use Rattle.std.specs.Prelude.{if◌then◌else◌, nat_lt}
 use Rattle.std.specs.declared.option.Option.{Option}
 use Rattle.std.proofs.lemmas.Bool.Decides.{nat_tests}
@@ -7,8 +7,8 @@ use Rattle.board_lines.specs.declared.event.HostEvent.{HostEvent}
 use Rattle.byte_time.specs.declared.UnderWay.{UnderWay}
 use Rattle.byte_time.specs.declared.meeting.Meeting.{Meeting}
 use Rattle.byte_time.specs.declared.meeting.Meeting.TheVariants.{Got, Inhibited, Idle, Sent, Cut}
-use Rattle.byte_time.specs.ByteTime.{Quiet, Begins, Closes, Arrives, IsWhole, arriving, arrived_in, happened_at, byte_cycle, quietly, sent_or_cut, sends, ended_as, carried}
-use Rattle.ctl_core.specs.Controller.{ControllerState, asks_again, gave_up, put_out}
+use Rattle.byte_time.specs.ByteTime.{Begins, Closes, Arrives, IsWhole, arriving, arrived_in, happened_at, byte_cycle, quietly, sent_or_cut, sends, ended_as, carried}
+use Rattle.ctl_core.specs.Controller.{ControllerState, asks_again, gave_up}
 use Rattle.ctl_core.specs.Translation.{translation, translates, arrived, after_wrong, after_received}
 use Rattle.ctl_core.specs.declared.translation.Translated.{Translated}
 use Rattle.ctl_link.specs.declared.link.Link.{Link}
@@ -19,9 +19,9 @@ use Rattle.host_turn.specs.Run.{Side, side_at_start, says_lights}
 use Rattle.key_file.specs.Histories.{KeyHistory}
 use Rattle.layout_reader.specs.Layouts.{KeyLayout}
 use Rattle.link_model.specs.Machine.{LayeredKeyboard, keyboard}
-use Rattle.link_model.specs.Expected.{Whole, to_look, to_meeting, from_meeting, begins_from, meeting_from}
+use Rattle.link_model.specs.Expected.{Whole, to_look, to_meeting, begins_from}
 use Rattle.quiet_log.specs.Once.{at_tick, meeting_at}
-use Rattle.noisy_link.specs.Fates.{Fate, NoByte, Right, Again, GivenUp, wrong_fate, flipped_fate, fate_of, wrong_with, flip_in, arrival_in, side_before, fate_after, wrong_before, fate_at}
+use Rattle.noisy_link.specs.Fates.{Again, GivenUp, wrong_fate, flipped_fate, fate_of, wrong_with, flip_in, arrival_in, side_before, wrong_before, fate_at}
 use Rattle.noisy_link.specs.Noise.{IsReceived, IsAskedAgain, IsGivenUp, Does, IsCounted}
 use Rattle.noisy_link.proofs.Cycles.{cycle_keeps, span_keeps}
 use Rattle.noisy_link.proofs.Resends.{Counts, counts_stay}

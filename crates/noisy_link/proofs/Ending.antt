@@ -8,7 +8,7 @@ use Rattle.byte_time.specs.declared.meeting.Meeting.TheVariants.{Sent}
 use Rattle.key_file.specs.Histories.{KeyHistory}
 use Rattle.layout_reader.specs.Layouts.{KeyLayout}
 use Rattle.quiet_log.specs.Once.{meeting_at}
-use Rattle.noisy_link.specs.Fates.{Right, Again, GivenUp, wrong_fate, flipped_fate, fate_of, flip_in, side_before, wrong_before, fate_at}
+use Rattle.noisy_link.specs.Fates.{Right, Again, GivenUp, flipped_fate, fate_of, flip_in, side_before, wrong_before, fate_at}
 use Rattle.noisy_link.specs.Noise.{next_try, next_byte, ComesAgain, Ends}
 use Rattle.noisy_link.proofs.Counted.{counted}
 use Rattle.noisy_link.proofs.Again.{comes_again}

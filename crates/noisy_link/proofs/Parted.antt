@@ -1,5 +1,5 @@
 -- What was taken off the line came right, or was given up, or was asked for again.
-use Rattle.std.proofs.Common.{◌≡◌, ℕ, zero, suc, ◌+◌, List, [], ◌∷◌, ◌++◌, Bool, true, false, Some, None, refl, sym, ◌∙◌, append_assoc}
+use Rattle.std.proofs.Common.{◌≡◌, ℕ, zero, suc, ◌+◌, List, [], ◌∷◌, ◌++◌, Bool, true, false, Some, None, refl, sym, append_assoc}
 use Rattle.std.specs.Prelude.{if◌then◌else◌, nat_lt}
 use Rattle.std.specs.declared.option.Option.{Option}
 use Rattle.std.specs.List.Sorted.{IsPermutation}
@@ -10,7 +10,7 @@ use Rattle.key_file.specs.Histories.{KeyHistory}
 use Rattle.layout_reader.specs.Layouts.{KeyLayout}
 use Rattle.quiet_log.specs.Once.{arrived, meeting_at, all_arrived}
 use Rattle.quiet_log.proofs.EachOnce.{same_order, moved_first}
-use Rattle.noisy_link.specs.Fates.{Fate, Again, GivenUp, wrong_fate, fate_of, flip_in, side_before, wrong_before, fate_at, right, given_up, asked_again, all_right, all_given_up, all_asked_again}
+use Rattle.noisy_link.specs.Fates.{Fate, Again, GivenUp, fate_of, flip_in, side_before, wrong_before, fate_at, right, given_up, asked_again, all_right, all_given_up, all_asked_again}
 
 -- the byte of a tick, by its fate
 parts_wrong : (few : Bool) (byte : ℕ) → byte ∷ [] ≡ right (if few then Again byte else GivenUp byte) ++ (given_up (if few then Again byte else GivenUp byte) ++ asked_again (if few then Again byte else GivenUp byte))

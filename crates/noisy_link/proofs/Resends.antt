@@ -8,7 +8,7 @@ use Rattle.board_lines.specs.declared.event.HostEvent.{HostEvent}
 use Rattle.byte_time.specs.declared.UnderWay.{UnderWay}
 use Rattle.byte_time.specs.ByteTime.{is_open}
 use Rattle.ctl_core.specs.Controller.{ControllerState}
-use Rattle.ctl_core.specs.Commands.{Taken, command_of, commanded, passed, taken_by, taken_from, taken}
+use Rattle.ctl_core.specs.Commands.{command_of, commanded, passed, taken_by, taken_from, taken}
 use Rattle.ctl_core.specs.declared.port.Port.{Port as Address}
 use Rattle.ctl_core.specs.declared.port.Port.TheVariants.{P60, P64}
 use Rattle.ctl_core.specs.declared.port.Input.{Input}
@@ -19,9 +19,8 @@ use Rattle.ctl_core.specs.declared.command.Command.TheVariants.{ReadCommandByte,
 use Rattle.ctl_link.specs.declared.link.Link.TheVariants.{Hold}
 use Rattle.ctl_link.specs.declared.port.Port.{Port}
 use Rattle.ctl_link.specs.Link.{held_since, took_where, may_break, broken_off}
-use Rattle.host_turn.specs.declared.desk.Desk.{Desk}
-use Rattle.host_turn.specs.Host.{Host, Turn, acted, acted_where, event_turn, bios_turn, interrupts, read_by_bios, in_silence, is_done, turn}
-use Rattle.host_turn.specs.Cycle.{cycled, host_of, port_by}
+use Rattle.host_turn.specs.Host.{Host, acted, acted_where, event_turn, interrupts, read_by_bios, in_silence, is_done, turn}
+use Rattle.host_turn.specs.Cycle.{host_of, port_by}
 use Rattle.noisy_link.proofs.Cycles.{Stays}
 
 -- the host's turn

@@ -1,6 +1,6 @@
 -- The link under noise: what the controller does with a byte that came right or wrong, what is sent next, and how it
 -- ends.
-use Rattle.std.specs.Prelude.{◌≡◌, ◌≤◌, ◌<◌, ℕ, ◌+◌, ◌-◌, ◌==◌, ◌⊎◌, ◌++◌, Bool, true, Some, None, if◌then◌else◌}
+use Rattle.std.specs.Prelude.{◌≡◌, ◌≤◌, ◌<◌, ℕ, ◌+◌, ◌-◌, ◌==◌, ◌⊎◌, ◌++◌, true, if◌then◌else◌}
 use Rattle.std.specs.List.Sorted.{IsPermutation}
 use Rattle.std.proofs.Common.{zero, suc}
 use Rattle.board_lines.specs.Cadence.{KeepsCadenceTo}
