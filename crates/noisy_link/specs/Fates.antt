@@ -12,7 +12,7 @@ use Rattle.ctl_link.specs.declared.link.Link.TheVariants.{Free, Hold, Ask, Reque
 use Rattle.host_turn.specs.Run.{Side}
 use Rattle.key_file.specs.Histories.{KeyHistory}
 use Rattle.layout_reader.specs.Layouts.{KeyLayout}
-use Rattle.link_model.specs.Machine.{LayeredKeyboard, keyboard}
+use Rattle.link_model.specs.Machine.{LayeredKeyboard}
 use Rattle.link_model.specs.Expected.{Whole, to_look, to_meeting}
 use Rattle.quiet_log.specs.Once.{at_tick, meeting_at}
 

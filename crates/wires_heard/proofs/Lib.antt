@@ -17,3 +17,4 @@ pub mod Whole
 pub mod InTick
 pub mod Chain
 pub mod Run
+pub mod Probing

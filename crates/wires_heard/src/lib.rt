@@ -7,6 +7,7 @@
 #![tactic(auto)]
 
 ghost use Rattle.wires_heard.specs.Hearing.{HeardLaw};
+ghost use Rattle.wires_heard.specs.Probing.{ProbeLaw};
 
 /// For every layout and every history that is accepted for it: in each step of the joint run of the layout's compiled
 /// image, the sample of the wires behind the step completes a transfer where the controller's eleventh edge of a frame lies
@@ -16,4 +17,12 @@ ghost use Rattle.wires_heard.specs.Hearing.{HeardLaw};
 /// is called; the law is its contract.
 pub fn wires_are_heard()
     ensures heard { HeardLaw }
+{}
+
+/// A probe that listens to the wires counts exactly the steps in which the controller takes, or sends, its byte: in the
+/// same runs, one that has listened from power-on, and is armed there or later for a direction and a byte, meets these
+/// steps and no others, in their order. So the number and the first step that it tells are of these. Nothing is done when
+/// it is called; the law is its contract.
+pub fn wire_probes_count()
+    ensures counted { ProbeLaw }
 {}
