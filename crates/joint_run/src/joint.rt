@@ -13,6 +13,7 @@ use crate::due::{Due, Seen};
 use crate::machine::Machine;
 use crate::outside::Outside;
 use board_lines::{Lines, Matrix};
+use ctl_core::Controller;
 use int09::Bios;
 use mcs48_core::{Mcu, Pins, Stuck, reset};
 use mcs48_isa::Image;
@@ -207,5 +208,19 @@ impl Joint {
         ensures bios { result.now ≡ self.now.outside.desk.bios }
     {
         &self.machine.outside.desk.bios
+    }
+
+    /// The controller's buffers and its command byte.
+    pub fn controller(&self) -> &Controller
+        ensures controller { result.now ≡ self.now.outside.desk.port.core }
+    {
+        &self.machine.outside.desk.port.core
+    }
+
+    /// The lights that the keyboard shows: Scroll as bit 0, Num as bit 1, Caps as bit 2.
+    pub fn lights(&self) -> u8
+        ensures lights { result ≡ self.now.outside.shown }
+    {
+        self.machine.outside.shown
     }
 }

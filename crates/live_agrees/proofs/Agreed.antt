@@ -1,0 +1,71 @@
+-- The log so far is the beginning of what the model says.
+use Rattle.std.proofs.Common.{◌≡◌, ◌≤◌, ◌<◌, ℕ, suc, ◌+◌, ◌-◌, ◌*◌, true, false, List, ◌++◌, length, drop, leb, Some, refl, ap, sym, subst, ◌∙◌, arith}
+use Rattle.std.proofs.Math.Seq.{drop-append_seam}
+use Rattle.std.proofs.lemmas.Bool.Decides.{nat_tests}
+use Rattle.std.specs.declared.option.Option.{Option}
+use Rattle.agreement.specs.Agreement.{AgreementLaw}
+use Rattle.fw_compile.specs.Image.{image_of}
+use Rattle.host_turn.specs.declared.stamped.Stamped.{Stamped}
+use Rattle.joint_feed.proofs.Going.{same_state}
+use Rattle.joint_feed.specs.Stories.{Story, state_at}
+use Rattle.joint_run.specs.Joint.{Beside, joint_board, joint_start, log_of}
+use Rattle.joint_run.specs.Run.{World, run_at}
+use Rattle.live_agrees.proofs.Logs.{goes_between}
+use Rattle.live_agrees.specs.Law.{AnswersAreAlike, LogsAgree, StatesAreAlike, history_of}
+use Rattle.live_board.proofs.Stepping.{here}
+use Rattle.live_board.specs.Answers.{first_in}
+use Rattle.live_board.specs.Pasts.{Past, state_of, story_of}
+
+pub states_alike : StatesAreAlike
+states_alike p a b s t = same_state (sym (here p a s) ∙ here p b t)
+
+same_rest : (log a b after : List Stamped) → after ≡ log ++ a → after ≡ log ++ b → a ≡ b
+same_rest log a b after h k =
+    sym (drop-append_seam log a) ∙ ap (drop (length log)) (sym h ∙ k) ∙ drop-append_seam log b
+
+same_some : (x y : ℕ) → Some x ≡ Some y → x ≡ y
+same_some x y h = cc h
+
+pub answers_alike : AnswersAreAlike
+answers_alike f p q a b x y s t h k =
+    let w = s.world in
+    let v = t.world in
+    let from = here p a s in
+    let to = here q b t in
+    let same : h.0 ≡ k.0 = same_rest (log_of w.board) h.0 k.0 (log_of v.board) (h.1 w v from to) (k.1 w v from to) in
+    same_some x y (sym h.2 ∙ ap (first_in f) same ∙ k.2)
+
+pub logs_agree : AgreementLaw → LogsAgree
+logs_agree law layout p stop k s is bytes accepted =
+    let both = law layout (history_of p stop) is accepted in
+    let keeps = both.0 in
+    let agrees = both.1 in
+    let w = s.world in
+    let story : Story = record { bytes = image_of layout; edges = p.edges; events = p.events; stop = 0 } in
+    let at : state_at story p.steps ≡ Some w =
+    subst (λ b. run_at (joint_board p.edges p.events) b joint_start p.steps ≡ Some w) bytes (here p k s) in
+    let n : ℕ = w.cycle in
+    let start = agrees.each n in
+    let stamp : ℕ = agrees.starts n in
+    let near = keeps.near n stamp start in
+    let low : n ≤ stamp = let l = near.least in omega (arith, l) in
+    let cycle = start.cycle in
+    let later : w.cycle < start.state.cycle = omega (arith, low, cycle) in
+    let order : p.steps ≤ start.steps =
+    elim (leb p.steps start.steps) as (λ b. leb p.steps start.steps ≡ b → p.steps ≤ start.steps) [
+      | true ↦ λ h. grind (arith, nat_tests, h)
+      | false ↦ λ h.
+          let less : start.steps < p.steps = grind (arith, nat_tests, h) in
+          let up : p.steps - start.steps + start.steps ≡ p.steps = omega (arith, less) in
+          let back = (goes_between story start.steps (p.steps - start.steps) start.state w start.reached (ap (state_at story) up ∙ at)).0 in
+          absurd (omega (arith, back, later))
+    ] refl in
+    let up : start.steps - p.steps + p.steps ≡ start.steps = omega (arith, order) in
+    let on = (goes_between story p.steps (start.steps - p.steps) w start.state at (ap (state_at story) up ∙ start.reached)).1 in
+    record {
+      starts = agrees.starts;
+      each = agrees.each;
+      tick = n;
+      rest = on.0;
+      beginning = sym (agrees.log n stamp start) ∙ on.1;
+    }

@@ -1,0 +1,9 @@
+use Rattle.live_agrees.proofs.Agreed.{answers_alike, logs_agree, states_alike}
+use Rattle.live_agrees.proofs.calls_agree.Goals as goal
+
+pub returns : goal.returns
+returns c = record {
+  agrees = logs_agree c.run_and_model_agree.ensures.agreement;
+  one_state = states_alike;
+  one_answer = answers_alike;
+}

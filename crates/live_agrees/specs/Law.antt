@@ -1,0 +1,48 @@
+-- A keyboard that runs as one goes, against the model.
+use Rattle.std.specs.Prelude.{◌≡◌, ℕ, List, ◌++◌, Some}
+use Rattle.std.specs.declared.option.Option.{Option}
+use Rattle.fw_compile.specs.Image.{image_of}
+use Rattle.fw_kernel.specs.declared.labels.TheConstants.{TICK}
+use Rattle.host_turn.specs.declared.stamped.Stamped.{Stamped}
+use Rattle.joint_run.specs.Joint.{Beside, joint_board, joint_start, log_of}
+use Rattle.joint_run.specs.Run.{World}
+use Rattle.joint_run.specs.Starts.{IsStart}
+use Rattle.key_file.specs.Accepted.{IsAcceptedFor}
+use Rattle.key_file.specs.Histories.{KeyHistory}
+use Rattle.layout_reader.specs.Layouts.{IsKeyLayout, KeyLayout}
+use Rattle.link_model.specs.Expected.{whole_at}
+use Rattle.link_model.specs.Machine.{keyboard}
+use Rattle.live_board.specs.Answers.{Told}
+use Rattle.live_board.specs.Calls.{Tells}
+use Rattle.live_board.specs.Pasts.{Past, state_of}
+use Rattle.live_board.specs.Standing.{Stands}
+use Rattle.live_board.specs.declared.keyboard.Keyboard.{Keyboard}
+
+-- the keys and host events of a past, as a history with this end stamp
+abbrev pub history_of : Past → ℕ → KeyHistory
+history_of p stop = record { edges = p.edges; host = p.events; end = stop }
+
+-- a log is the beginning of what the model says up to one of the run's own tick starts
+pub record BeginsExpected (layout : KeyLayout) (p : Past) (log : List Stamped) : Type 0 where
+  pub starts : ℕ → ℕ
+  pub each : (n : ℕ) → IsStart (joint_board p.edges p.events) TICK (image_of layout) joint_start n (starts n)
+  pub tick : ℕ
+  pub rest : List Stamped
+  pub beginning : (whole_at (keyboard layout) p.edges p.events starts tick).side.log ≡ log ++ rest
+
+-- so is what was said so far, wherever a keyboard stands whose past is accepted for the layout
+abbrev pub LogsAgree : Type 0
+LogsAgree =
+    (layout : KeyLayout) (p : Past) (stop : ℕ) (k : Keyboard) (s : Stands p k) → IsKeyLayout layout
+    → p.bytes ≡ image_of layout → IsAcceptedFor layout (history_of p stop)
+    → BeginsExpected layout p (log_of s.world.board)
+
+-- two keyboards in one past are in one state of the run
+abbrev pub StatesAreAlike : Type 0
+StatesAreAlike = (p : Past) (a b : Keyboard) (s : Stands p a) (t : Stands p b) → s.world ≡ t.world
+
+-- what is told between two pasts, where keyboards stand in them, is one byte
+abbrev pub AnswersAreAlike : Type 0
+AnswersAreAlike =
+    (f : Told → Option ℕ) (p q : Past) (a b : Keyboard) (x y : ℕ) → Stands p a → Stands q b
+    → Tells f p q x → Tells f p q y → x ≡ y

@@ -1,0 +1,7 @@
+pub mod Timed
+pub mod Alike
+pub mod Growing
+pub mod Acting
+pub mod Stepping
+pub mod Calling
+pub mod Watching

@@ -1,0 +1,160 @@
+-- One joint step goes on with the run of the past.
+use Rattle.std.proofs.Common.{◌≡◌, ◌≤◌, ◌<◌, ℕ, suc, ◌+◌, ◌-◌, List, [], ◌∷◌, ◌++◌, length, take, drop, Some, None, Ok, Err, refl, ap, sym, subst, ◌∙◌, arith, length-append}
+use Rattle.std.specs.List.{All}
+use Rattle.std.proofs.lemmas.List.{append-nil, drop_all, length-drop, take_all}
+use Rattle.std.proofs.lemmas.List.Elements.{All-nil}
+use Rattle.std.proofs.Math.Seq.{drop-append_seam}
+use Rattle.board_lines.specs.Edges.{AreInOrder}
+use Rattle.board_lines.specs.declared.event.Edge.{Edge}
+use Rattle.board_lines.specs.declared.event.HostAct.{HostAct}
+use Rattle.board_lines.specs.declared.event.HostEvent.{HostEvent}
+use Rattle.host_turn.specs.Host.{waits}
+use Rattle.host_turn.specs.declared.stamped.Stamped.{Stamped}
+use Rattle.joint_run.specs.Due.{due_step, made_first, powered_on, told, IsJointStep}
+use Rattle.joint_run.specs.History.{GoesOn, IsDueOf, IsFirstOfRun, IsInRun, IsStepOfRun}
+use Rattle.joint_run.specs.Joint.{Beside, joint_board, joint_start, log_of}
+use Rattle.joint_run.specs.Run.{World, run_at}
+use Rattle.joint_run.specs.declared.due.Due.{Due}
+use Rattle.joint_run.specs.declared.due.Seen.{Seen}
+use Rattle.joint_run.specs.declared.machine.Machine.{Machine}
+use Rattle.joint_feed.proofs.Counts.{done_few, made_few}
+use Rattle.joint_feed.proofs.Feeding.{drop_more}
+use Rattle.joint_feed.proofs.Going.{IsMade, made as step_made, same_state}
+use Rattle.joint_feed.specs.Stories.{state_at}
+use Rattle.mcs48_core.specs.declared.stepping.Stuck.{Stuck}
+use Rattle.live_board.proofs.Acting.{HasDone, has_done}
+use Rattle.live_board.proofs.Growing.{grows}
+use Rattle.live_board.specs.Acts.{IsAnswered}
+use Rattle.live_board.specs.Calls.{Says}
+use Rattle.live_board.specs.Growing.{AreAhead}
+use Rattle.live_board.specs.Pasts.{Past, acted, gone_on, state_of, story_of, untouched}
+use Rattle.live_board.specs.Standing.{AreReached, Stands}
+use Rattle.live_board.specs.declared.keyboard.Keyboard.{Keyboard}
+
+-- at power-on
+pub at_first : (bytes : List ℕ) (k : Keyboard) → k.joint ≡ powered_on bytes → IsFirstOfRun k.joint → k.due.edges.items ≡ [] → k.due.host.items ≡ [] → Stands (untouched bytes 0) k
+at_first bytes k is first edges host = record {
+  made = 0;
+  made_within = omega arith;
+  world = joint_start;
+  image = ap (λ m. m.image.bytes) is;
+  steps = ap (λ m. m.steps) is;
+  in_run = first [] [];
+  edges_wait = edges;
+  none_waits = host;
+  all_done = refl;
+  order = tt;
+  reached = record { edges_reached = All-nil _; events_reached = All-nil _ };
+}
+
+-- the state that it stands at
+pub here : (p : Past) (k : Keyboard) (s : Stands p k) → state_of p ≡ Some s.world
+here p k s =
+    subst (λ n. state_at (story_of p) n ≡ Some s.world) s.steps
+    (subst (λ bytes. run_at (joint_board p.edges p.events) bytes joint_start k.joint.steps ≡ Some s.world) s.image s.in_run.run)
+
+pub later_edges : (soon late : ℕ) (es : List Edge) → soon ≤ late → All (λ e. e.stamp + 4096 ≤ soon) es → All (λ e. e.stamp + 4096 ≤ late) es
+later_edges soon late es l h = λ i d m. let k = h i d m in omega (arith, k, l)
+
+pub later_events : (soon late : ℕ) (es : List HostEvent) → soon ≤ late → All (λ e. e.stamp + 4096 ≤ soon) es → All (λ e. e.stamp + 4096 ≤ late) es
+later_events soon late es l h = λ i d m. let k = h i d m in omega (arith, k, l)
+
+-- all that are left are handed in
+pub handed : (edges : List Edge) (made cycle : ℕ) (items : List Edge) → items ≡ drop made edges
+    → (items ≡ take (length items) (drop made edges)) × (made_first cycle (drop (length items) (drop made edges)) ≡ [])
+handed edges made cycle items e =
+    let l = ap length e in
+    let short : length (drop made edges) ≤ length items = omega (arith, l) in (
+      e ∙ sym (take_all (length items) (drop made edges) short),
+      ap (made_first cycle) (drop_all (length items) (drop made edges) short),
+    )
+
+-- a step that was made, of a machine in the run of these edges and events, with all of them handed in
+module _ (edges : List Edge) (events : List HostEvent) (due : Due) (old new : Machine) (seen : Seen) (made : ℕ) (world : World Beside)
+    (within : made ≤ length edges) (order : AreInOrder edges) (in_run : IsInRun edges events old made world) (wait : due.edges.items ≡ drop made edges)
+    (host : due.host.items ≡ take 2 (drop world.board.pc.side.done events))
+    (is : IsJointStep due old (due_step due old) (Ok seen) new) (run : IsStepOfRun due old (Ok seen) new) where
+  pub on : GoesOn edges events made world seen new
+  on =
+      let h = handed edges made world.cycle due.edges.items wait in
+      run edges events made world order in_run (record { next = h.0; all = h.1; host = host })
+
+  pub step : IsMade due old seen new
+  step = step_made due old seen new is
+
+  pub steps_more : new.steps ≡ old.steps + 1
+  steps_more = ap (λ m. m.steps) step.after
+
+  pub image_same : new.image.bytes ≡ old.image.bytes
+  image_same = ap (λ m. m.image.bytes) step.after
+
+  pub cycle_more : old.cycle + seen.cycles ≡ new.cycle
+  cycle_more = step.seen_so.cycles ∙ sym (ap (λ m. m.cycle) step.after)
+
+  pub world_later : world.cycle ≤ on.next.cycle
+  world_later = let a = in_run.cycle in let b = cycle_more in let c = on.in_run.cycle in omega (arith, a, b, c)
+
+  pub edges_there : made + seen.edges ≤ length edges
+  edges_there =
+      let a = made_few old.cycle due.edges.items in
+      let b = step.seen_so.edges in
+      let c = ap length wait in
+      let d : length (drop made edges) ≡ length edges - made = length-drop made edges in
+      omega (arith, a, b, c, d, within)
+
+  pub edges_left : (items : List Edge) → items ≡ drop seen.edges due.edges.items → items ≡ drop (made + seen.edges) edges
+  edges_left items e = e ∙ ap (drop seen.edges) wait ∙ drop_more made seen.edges (made + seen.edges) edges refl
+
+  pub host_few : seen.host ≤ length due.host.items
+  host_few = let a = done_few due old step.world step.step in let b = step.seen_so.host in omega (arith, a, b)
+
+-- the run goes on by a step, where the host does nothing
+module _ (p : Past) (old : Keyboard) (s : Stands p old) (new : Keyboard) (is : IsJointStep old.due old.joint (due_step old.due old.joint) (Ok new.seen) new.joint)
+    (run : IsStepOfRun old.due old.joint (Ok new.seen) new.joint) (left : new.due.edges.items ≡ drop new.seen.edges old.due.edges.items) (same : new.due.host ≡ old.due.host) where
+  no_host : old.due.host.items ≡ take 2 (drop s.world.board.pc.side.done p.events)
+  no_host =
+      let done = s.all_done in
+      s.none_waits ∙ sym (ap (λ (v : List HostEvent). take 2 v) (drop_all s.world.board.pc.side.done p.events (omega (arith, done))))
+
+  pub one_on : Stands (gone_on p new.joint.steps) new
+  one_on =
+      let on = on p.edges p.events old.due old.joint new.joint new.seen s.made s.world s.made_within s.order s.in_run s.edges_wait no_host is run in
+      let cycle = world_later p.edges p.events old.due old.joint new.joint new.seen s.made s.world s.made_within s.order s.in_run s.edges_wait no_host is run in
+      record {
+        made = s.made + new.seen.edges;
+        made_within = edges_there p.edges p.events old.due old.joint new.joint new.seen s.made s.world s.made_within s.order s.in_run s.edges_wait no_host is run;
+        world = on.next;
+        image = image_same p.edges p.events old.due old.joint new.joint new.seen s.made s.world s.made_within s.order s.in_run s.edges_wait no_host is run ∙ s.image;
+        steps = refl;
+        in_run = on.in_run;
+        edges_wait = edges_left p.edges p.events old.due old.joint new.joint new.seen s.made s.world s.made_within s.order s.in_run s.edges_wait no_host is run new.due.edges.items left;
+        none_waits = ap (λ h. h.items) same ∙ s.none_waits;
+        all_done =
+            let few = host_few p.edges p.events old.due old.joint new.joint new.seen s.made s.world s.made_within s.order s.in_run s.edges_wait no_host is run in
+            let none = ap length s.none_waits in
+            let more = on.done in
+            let done = s.all_done in
+            omega (arith, few, none, more, done);
+        order = s.order;
+        reached = record {
+          edges_reached = later_edges s.world.cycle on.next.cycle p.edges cycle s.reached.edges_reached;
+          events_reached = later_events s.world.cycle on.next.cycle p.events cycle s.reached.events_reached;
+        };
+      }
+
+-- a step takes its cycles, and is one
+pub counted : (due : Due) (old new : Machine) (seen : Seen) → IsJointStep due old (due_step due old) (Ok seen) new → (old.cycle + seen.cycles ≡ new.cycle) × (new.steps ≡ suc old.steps)
+counted due old new seen is =
+    let made = step_made due old seen new is in
+    let steps = ap (λ m. m.steps) made.after in
+    (made.seen_so.cycles ∙ sym (ap (λ m. m.cycle) made.after), omega (arith, steps))
+
+-- where the processor is stuck no state follows
+pub no_further : (p : Past) (old : Keyboard) (s : Stands p old) (new : Machine) (stuck : Stuck) → IsStepOfRun old.due old.joint (Err stuck) new → state_of (gone_on p (suc old.joint.steps)) ≡ None
+no_further p old s new stuck run =
+    let h = handed p.edges s.made s.world.cycle old.due.edges.items s.edges_wait in
+    let done = s.all_done in
+    let host : old.due.host.items ≡ take 2 (drop s.world.board.pc.side.done p.events) =
+    s.none_waits ∙ sym (ap (λ (v : List HostEvent). take 2 v) (drop_all s.world.board.pc.side.done p.events (omega (arith, done)))) in
+    let none = run p.edges p.events s.made s.world s.order s.in_run (record { next = h.0; all = h.1; host = host }) in
+    subst (λ bytes. run_at (joint_board p.edges p.events) bytes joint_start (suc old.joint.steps) ≡ None) s.image none

@@ -1,0 +1,115 @@
+-- Going on, step by step, with the interrupt line watched.
+use Rattle.std.proofs.Common.{◌≡◌, ◌≤◌, ◌<◌, ℕ, suc, ◌+◌, Bool, true, false, not, ◌&&◌, Some, None, refl, ap, sym, subst, ◌∙◌, ◌⊎◌, inl, inr, ltb, arith}
+use Rattle.std.proofs.lemmas.Bool.Decides.{nat_tests}
+use Rattle.joint_run.specs.Due.{outside_of}
+use Rattle.joint_run.specs.Joint.{Beside}
+use Rattle.joint_run.specs.Run.{World}
+use Rattle.joint_feed.proofs.Going.{same_state}
+use Rattle.joint_feed.specs.Stories.{state_at}
+use Rattle.joint_run.specs.declared.due.Due.{Due}
+use Rattle.joint_run.specs.declared.machine.Machine.{Machine}
+use Rattle.live_board.proofs.Calling.{stands_still}
+use Rattle.live_board.proofs.Stepping.{here}
+use Rattle.live_board.specs.Answers.{line_in, raises}
+use Rattle.live_board.specs.Pasts.{Past, gone_on, state_of, story_of}
+use Rattle.live_board.specs.Running.{AreBefore, IsCalm, rises}
+use Rattle.live_board.specs.Standing.{Stands}
+use Rattle.live_board.specs.declared.keyboard.Keyboard.{Keyboard}
+
+-- the line as the machine has it is that of the state
+pub line_here : (p : Past) (k : Keyboard) (s : Stands p k) → raises k.joint.outside.desk.port.core ≡ line_in (state_of p)
+line_here p k s =
+    ap (λ o. raises o.desk.port.core) s.in_run.outside ∙ sym (ap line_in (here p k s))
+
+-- the run so far, from a past on
+pub record GoesOnSo (p : Past) (old : Keyboard) (cycles : ℕ) (watched : Bool) (k : Keyboard) : Type 0 where
+  pub stands : Stands (gone_on p k.joint.steps) k
+  pub more : old.joint.steps ≤ k.joint.steps
+  pub before : AreBefore p old.joint.steps k.joint.steps (old.joint.cycle + cycles)
+  pub calm : watched ≡ true → IsCalm p old.joint.steps k.joint.steps
+
+pub goes_first : (p : Past) (old : Keyboard) (cycles : ℕ) (watched : Bool) → Stands p old → GoesOnSo p old cycles watched old
+goes_first p old cycles watched s = record {
+  stands = subst (λ n. Stands (gone_on p n) old) (sym s.steps) s;
+  more = omega arith;
+  before = λ j w l m h. absurd (omega (arith, l, m));
+  calm = λ is j l m. absurd (omega (arith, l, m));
+}
+
+last_or_before : (j k : ℕ) → j < suc k → (j < k) ⊎ (j ≡ k)
+last_or_before j k l =
+    elim (ltb j k) as (λ b. ltb j k ≡ b → (j < k) ⊎ (j ≡ k)) [
+      | true ↦ λ h. inl (grind (arith, nat_tests, h))
+      | false ↦ λ h. let m : k ≤ j = grind (arith, nat_tests, h) in inr (omega (arith, l, m))
+    ] refl
+
+-- whether the step from here raises it
+rise_is : (p : Past) (k new : Keyboard) → Stands (gone_on p k.joint.steps) k → Stands (gone_on p new.joint.steps) new → new.joint.steps ≡ suc k.joint.steps
+    → rises p k.joint.steps ≡ (not (raises k.joint.outside.desk.port.core) && raises new.joint.outside.desk.port.core)
+rise_is p k new s t steps =
+    let a = line_here (gone_on p k.joint.steps) k s in
+    let b : raises new.joint.outside.desk.port.core ≡ line_in (state_at (story_of p) (suc k.joint.steps)) =
+    line_here (gone_on p new.joint.steps) new t ∙ ap (λ n. line_in (state_at (story_of p) n)) steps in
+    ap (λ x. not x && line_in (state_at (story_of p) (suc k.joint.steps))) (sym a) ∙ ap (λ x. not (raises k.joint.outside.desk.port.core) && x) (sym b)
+
+module _ (p : Past) (old : Keyboard) (cycles : ℕ) (watched : Bool) (k new : Keyboard) (so : GoesOnSo p old cycles watched k) (t : Stands (gone_on p new.joint.steps) new)
+    (steps : new.joint.steps ≡ suc k.joint.steps) (room : k.joint.cycle < old.joint.cycle + cycles) where
+  pub before_on : AreBefore p old.joint.steps new.joint.steps (old.joint.cycle + cycles)
+  before_on j w from to h =
+      let to_last : j < suc k.joint.steps = omega (arith, to, steps) in
+      elim (last_or_before j k.joint.steps to_last) [
+        | inl l ↦ so.before j w from l h
+        | inr e ↦
+            let there : state_of (gone_on p k.joint.steps) ≡ Some w = ap (state_at (story_of p)) (sym e) ∙ h in
+            let same : so.stands.world ≡ w = same_state (sym (here (gone_on p k.joint.steps) k so.stands) ∙ there) in
+            let at = so.stands.in_run.cycle in
+            let c = ap (λ (u : World Beside). u.cycle) same in
+            omega (arith, room, at, c)
+      ]
+
+  pub calm_on : (watched ≡ true → (not (raises k.joint.outside.desk.port.core) && raises new.joint.outside.desk.port.core) ≡ false) → watched ≡ true → IsCalm p old.joint.steps new.joint.steps
+  calm_on flat is j from to =
+      let to_last : j < suc k.joint.steps = omega (arith, to, steps) in
+      elim (last_or_before j k.joint.steps to_last) [
+        | inl l ↦ so.calm is j from l
+        | inr e ↦ ap (rises p) e ∙ rise_is p k new so.stands t steps ∙ flat is
+      ]
+
+  pub goes_more : (watched ≡ true → (not (raises k.joint.outside.desk.port.core) && raises new.joint.outside.desk.port.core) ≡ false) → GoesOnSo p old cycles watched new
+  goes_more flat = record {
+    stands = t;
+    more = let m = so.more in omega (arith, m, steps);
+    before = before_on;
+    calm = calm_on flat;
+  }
+
+  pub rose_here : raises k.joint.outside.desk.port.core ≡ false → raises new.joint.outside.desk.port.core ≡ true → rises p k.joint.steps ≡ true
+  rose_here was is =
+      rise_is p k new so.stands t steps ∙ ap (λ x. not x && raises new.joint.outside.desk.port.core) was ∙ is
+
+-- where only what was said has changed
+pub goes_still : (p : Past) (old : Keyboard) (cycles : ℕ) (watched : Bool) (k new : Keyboard) → new.joint ≡ k.joint → new.due ≡ k.due → GoesOnSo p old cycles watched k → GoesOnSo p old cycles watched new
+goes_still p old cycles watched k new joint due so =
+    let base : GoesOnSo p old cycles watched (record { joint = k.joint; due = k.due; seen = new.seen }) = record {
+      stands = stands_still (gone_on p k.joint.steps) k (record { joint = k.joint; due = k.due; seen = new.seen }) refl refl so.stands.none_waits so.stands;
+      more = so.more;
+      before = so.before;
+      calm = so.calm;
+    } in
+    subst (λ (d : Due). GoesOnSo p old cycles watched (record { joint = new.joint; due = d; seen = new.seen })) (sym due)
+    (subst (λ (j : Machine). GoesOnSo p old cycles watched (record { joint = j; due = k.due; seen = new.seen })) (sym joint) base)
+
+-- where the step wasn't told as a rise
+pub flat_of : (watched was is r : Bool) (old new : Bool) → r ≡ (watched && (not was && is)) → r ≡ false → was ≡ old → is ≡ new → watched ≡ true → (not old && new) ≡ false
+flat_of watched was is r old new told flat before after w =
+    ap (λ x. not x && new) (sym before) ∙ ap (λ x. not was && x) (sym after) ∙ ap (λ x. x && (not was && is)) (sym w) ∙ sym told ∙ flat
+
+-- and where it was
+both_true : (a b c : Bool) → (a && (not b && c)) ≡ true → (a ≡ true) × (b ≡ false) × (c ≡ true)
+both_true true false true h = (refl, refl, refl)
+both_true true false false h = absurd (cc h)
+both_true true true c h = absurd (cc h)
+both_true false b c h = absurd (cc h)
+
+pub rose_of : (watched was is r : Bool) → r ≡ (watched && (not was && is)) → r ≡ true → (watched ≡ true) × (was ≡ false) × (is ≡ true)
+rose_of watched was is r told rose = both_true watched was is (sym told ∙ rose)

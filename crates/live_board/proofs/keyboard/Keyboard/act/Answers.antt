@@ -1,0 +1,72 @@
+use Rattle.std.proofs.Common.{◌≡◌, ◌≤◌, ◌<◌, ◌^◌, ◌-◌, [], ◌∷◌, List, false, refl, ap, sym, ◌∙◌, arith}
+use Rattle.board_lines.specs.declared.event.HostEvent.{HostEvent}
+use Rattle.host_turn.specs.Host.{waits}
+use Rattle.joint_run.specs.Due.{due_step}
+use Rattle.joint_run.specs.declared.due.Due.{Due}
+use Rattle.live_board.proofs.Calling.{acted_on, acted_stuck, answered_here, says_on, stands_still, stuck_at}
+use Rattle.live_board.proofs.keyboard.Keyboard.act.Goals as goal
+
+pub returns-in-Ok-clause-acted : goal.returns-in-Ok-clause-acted
+returns-in-Ok-clause-acted c =
+    let k = c.args.self.now in
+    let act = c.args.act in
+    let cycle = c.cycle-cycle.ensures.cycle in
+    let not_early = c.if-cycle-lt-STAMP_0.false in
+    let not_over = c.if-cycle-ge-LAST.false in
+    let late : 4096 ≤ k.joint.cycle = omega (arith, cycle, not_early) in
+    let near : k.joint.cycle < 2 ^ 62 = omega (arith, cycle, not_over) in
+    let room : waits act k.joint.outside.desk.port.core ≡ false = sym c.waits.ensures ∙ c.if-waits.false in
+    let due : Due = record { edges = k.due.edges; host = c.one_event-self.result } in
+    let only : due.host.items ≡ record { stamp = k.joint.cycle - 4096; act = act } ∷ [] = c.one_event-self.ensures ∙ ap (λ n. record { stamp = n - 4096; act = act } ∷ []) cycle in
+    let e = c.in-Ok.ensures in (
+      record { late = late; near = near; room = room },
+      λ p s. acted_on k act late room due c.step.new.self.joint c.step.new.self.seen only e.some e.step p s refl e.run _ refl e.edges c.new-self.ensures,
+    )
+
+pub returns-in-Ok-clause-said : goal.returns-in-Ok-clause-said
+returns-in-Ok-clause-said c =
+    let k = c.args.self.now in
+    let act = c.args.act in
+    let cycle = c.cycle-cycle.ensures.cycle in
+    let not_early = c.if-cycle-lt-STAMP_0.false in
+    let late : 4096 ≤ k.joint.cycle = omega (arith, cycle, not_early) in
+    let room : waits act k.joint.outside.desk.port.core ≡ false = sym c.waits.ensures ∙ c.if-waits.false in
+    let due : Due = record { edges = k.due.edges; host = c.one_event-self.result } in
+    let only : due.host.items ≡ record { stamp = k.joint.cycle - 4096; act = act } ∷ [] = c.one_event-self.ensures ∙ ap (λ n. record { stamp = n - 4096; act = act } ∷ []) cycle in
+    let e = c.in-Ok.ensures in
+    λ p s. says_on k act late room due c.step.new.self.joint c.step.new.self.seen only e.some e.step p s refl e.run
+
+pub returns-in-Ok-clause-answered : goal.returns-in-Ok-clause-answered
+returns-in-Ok-clause-answered c =
+    let k = c.args.self.now in
+    let act = c.args.act in
+    let cycle = c.cycle-cycle.ensures.cycle in
+    let not_early = c.if-cycle-lt-STAMP_0.false in
+    let late : 4096 ≤ k.joint.cycle = omega (arith, cycle, not_early) in
+    let room : waits act k.joint.outside.desk.port.core ≡ false = sym c.waits.ensures ∙ c.if-waits.false in
+    let due : Due = record { edges = k.due.edges; host = c.one_event-self.result } in
+    let only : due.host.items ≡ record { stamp = k.joint.cycle - 4096; act = act } ∷ [] = c.one_event-self.ensures ∙ ap (λ n. record { stamp = n - 4096; act = act } ∷ []) cycle in
+    let e = c.in-Ok.ensures in
+    answered_here k act late room due c.step.new.self.joint c.step.new.self.seen only e.some e.step
+
+pub returns-in-Err-clause-acted : goal.returns-in-Err-clause-acted
+returns-in-Err-clause-acted c =
+    let k = c.args.self.now in
+    let act = c.args.act in
+    let cycle = c.cycle-cycle.ensures.cycle in
+    let not_early = c.if-cycle-lt-STAMP_0.false in
+    let not_over = c.if-cycle-ge-LAST.false in
+    let late : 4096 ≤ k.joint.cycle = omega (arith, cycle, not_early) in
+    let near : k.joint.cycle < 2 ^ 62 = omega (arith, cycle, not_over) in
+    let room : waits act k.joint.outside.desk.port.core ≡ false = sym c.waits.ensures ∙ c.if-waits.false in
+    let due : Due = record { edges = k.due.edges; host = c.one_event-self.result } in
+    let only : due.host.items ≡ record { stamp = k.joint.cycle - 4096; act = act } ∷ [] = c.one_event-self.ensures ∙ ap (λ n. record { stamp = n - 4096; act = act } ∷ []) cycle in
+    let e = c.in-Err.ensures in (
+      (
+        record { late = late; near = near; room = room },
+        stuck_at due k.joint c.step.new.self.joint c.in-Err.stuck (due_step due k.joint) e.step,
+        λ p s. acted_stuck k act late due c.step.new.self.joint c.in-Err.stuck only refl e.run p s,
+      ),
+      e.unchanged.0,
+      λ p s. stands_still p k _ e.unchanged.0 (ap (λ (d : Due). d.edges.items) e.unchanged.1) c.new-self-in-Err.ensures s,
+    )

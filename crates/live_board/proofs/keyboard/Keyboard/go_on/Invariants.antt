@@ -1,0 +1,17 @@
+use Rattle.std.proofs.Common.{◌≡◌, ◌≤◌, ◌^◌, ◌-◌}
+use Rattle.live_board.proofs.Watching.{GoesOnSo}
+use Rattle.live_board.specs.Answers.{raises}
+use Rattle.live_board.specs.Pasts.{Past}
+use Rattle.live_board.specs.Standing.{Stands}
+use Rattle.live_board.proofs.keyboard.Keyboard.go_on.Given as goal
+
+abbrev pub invariant-steps : goal.invariant-steps
+invariant-steps l = record {
+  start : l.start ≡ l.fn.self.joint.cycle;
+  later : l.fn.self.joint.cycle ≤ l.self.joint.cycle;
+  line : l.up ≡ raises l.self.joint.outside.desk.port.core;
+  so_far : (p : Past) → Stands p l.fn.self → GoesOnSo p l.fn.self l.cycles l.watched l.self;
+}
+
+abbrev pub decreases-steps : goal.decreases-steps
+decreases-steps l = 2 ^ 63 - l.self.joint.cycle

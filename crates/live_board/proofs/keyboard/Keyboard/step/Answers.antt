@@ -1,0 +1,12 @@
+use Rattle.std.proofs.Common.{arith}
+use Rattle.joint_feed.proofs.Counts.{made_few}
+use Rattle.joint_feed.proofs.Going.{made}
+use Rattle.live_board.proofs.keyboard.Keyboard.step.Goals as goal
+
+pub drop_made-requires : goal.drop_made-requires
+drop_made-requires c =
+    let k = c.args.self.now in
+    let m = made k.due k.joint c.step_into.new.seen c.step_into.new.self c.in_ok-step_into.ensures.step in
+    let some = m.seen_so.edges in
+    let few = made_few k.joint.cycle k.due.edges.items in
+    omega (arith, some, few)

@@ -1,0 +1,7 @@
+pub mod Growing
+pub mod Pasts
+pub mod Standing
+pub mod Answers
+pub mod Acts
+pub mod Calls
+pub mod Running

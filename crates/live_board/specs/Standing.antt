@@ -1,0 +1,31 @@
+-- The keyboard stands at the state of the joint run of its past.
+use Rattle.std.specs.Prelude.{◌≡◌, ◌≤◌, ℕ, ◌+◌, List, [], length, drop}
+use Rattle.std.specs.List.{All}
+use Rattle.board_lines.specs.declared.event.Edge.{Edge}
+use Rattle.board_lines.specs.declared.event.HostEvent.{HostEvent}
+use Rattle.board_lines.specs.Edges.{AreInOrder}
+use Rattle.joint_run.specs.History.{IsInRun}
+use Rattle.joint_run.specs.Joint.{Beside}
+use Rattle.joint_run.specs.Run.{World}
+use Rattle.live_board.specs.Pasts.{Past}
+use Rattle.live_board.specs.declared.keyboard.Keyboard.{Keyboard}
+
+-- each stamp is reached at this cycle
+pub record AreReached (cycle : ℕ) (edges : List Edge) (events : List HostEvent) : Type 0 where
+  pub edges_reached : All (λ e. e.stamp + 4096 ≤ cycle) edges
+  pub events_reached : All (λ e. e.stamp + 4096 ≤ cycle) events
+
+-- the machine is in the state `world` of that run; the edges that the next step is to make wait, and no event of the
+-- host does; all events have come by now, and the edges in their order
+pub record Stands (p : Past) (k : Keyboard) : Type 0 where
+  pub made : ℕ
+  pub made_within : made ≤ length p.edges
+  pub world : World Beside
+  pub image : k.joint.image.bytes ≡ p.bytes
+  pub steps : k.joint.steps ≡ p.steps
+  pub in_run : IsInRun p.edges p.events k.joint made world
+  pub edges_wait : k.due.edges.items ≡ drop made p.edges
+  pub none_waits : k.due.host.items ≡ []
+  pub all_done : world.board.pc.side.done ≡ length p.events
+  pub order : AreInOrder p.edges
+  pub reached : AreReached world.cycle p.edges p.events

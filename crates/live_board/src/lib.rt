@@ -1,0 +1,21 @@
+//! A keyboard that runs as one goes: keys and port accesses go in as they happen, and bytes, the interrupt line and the
+//! lights come out.
+//!
+//! This layer is the joint machine, driven by calls in place of a history that is known beforehand. What a call adds
+//! stands at the end of the past (`specs/Pasts`), and the machine is always at the state of the joint run of that past
+//! (`specs/Standing`). It knows no layout and no model. Source: our own.
+#![tactic(auto)]
+
+mod answers;
+mod keyboard;
+mod law;
+mod ran;
+mod refused;
+
+pub use keyboard::Keyboard;
+pub use law::stories_grow_at_end;
+pub use ran::{Ran, RunEnd};
+pub use refused::Refused;
+
+#[cfg(test)]
+mod tests;

@@ -1,0 +1,58 @@
+use crate::{Keyboard, Refused, RunEnd};
+use board_lines::Place;
+use ctl_core::Port;
+use fw_kernel::KERNEL;
+use mcs48_isa::Image;
+use std::alloc::AllocError;
+
+/// The cycles of a second.
+const SECOND: u64 = 400_000;
+
+#[test]
+fn the_keyboard_tests_itself_and_is_read_and_told(rt: HostRuntime) -> Result<(), AllocError> {
+    let image = Image { bytes: KERNEL };
+    let mut keyboard = Keyboard::open(rt.alloc(), &image)?;
+    assert!(rt;
+        keyboard.cycle() > 4096
+            && keyboard.cycle() < 4100
+            && !keyboard.interrupt()
+            && keyboard.lights() == 0
+    );
+    let ran = keyboard.run(SECOND, true);
+    assert!(rt; ran.end == RunEnd::Rose && keyboard.interrupt());
+    assert!(rt; ran.cycles > 130_000 && ran.cycles < 135_000);
+    assert!(rt; keyboard.status() == Ok(0x15));
+    assert!(rt; keyboard.read60() == Ok(0xaa) && !keyboard.interrupt());
+    assert!(rt; keyboard.write(Port::P60, 0xed).is_ok());
+    assert!(rt; keyboard.run(SECOND, true).end == RunEnd::Rose && keyboard.read60() == Ok(0xfa));
+    assert!(rt; keyboard.write(Port::P60, 2).is_ok());
+    assert!(rt; keyboard.run(SECOND, true).end == RunEnd::Rose && keyboard.read60() == Ok(0xfa));
+    assert!(rt; keyboard.run(8192, true).end == RunEnd::Passed && keyboard.lights() == 2);
+    Ok(())
+}
+
+#[test]
+fn a_fifth_edge_and_a_second_write_find_no_room(rt: HostRuntime) -> Result<(), AllocError> {
+    let image = Image { bytes: KERNEL };
+    let mut keyboard = Keyboard::open(rt.alloc(), &image)?;
+    let place = Place::default();
+    for turn in 0..6u8 {
+        assert!(rt; keyboard.key(place, turn % 2 == 0).is_ok() == (turn < 4));
+    }
+    assert!(rt; keyboard.run(1, false).cycles < 3 && keyboard.key(place, true).is_ok());
+    assert!(rt; keyboard.write(Port::P60, 0xff).is_ok() && keyboard.write(Port::P60, 0xff).is_ok());
+    assert!(rt; keyboard.write(Port::P60, 0xff) == Err(Refused::Full));
+    Ok(())
+}
+
+#[test]
+fn a_program_that_sticks_stays_where_it_is(rt: HostRuntime) -> Result<(), AllocError> {
+    let mut bytes = [0; 2048];
+    bytes[2] = 0x01;
+    let mut keyboard = Keyboard::open(rt.alloc(), &Image { bytes })?;
+    let ran = keyboard.run(SECOND, false);
+    assert!(rt; ran.cycles == 0 && keyboard.cycle() == 2);
+    assert!(rt; matches!(ran.end, RunEnd::Stuck(stuck) if stuck.pc == 2 && stuck.byte == 1));
+    assert!(rt; keyboard.read60().is_err() && keyboard.key(Place::default(), true).is_err());
+    Ok(())
+}
