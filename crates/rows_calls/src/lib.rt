@@ -7,5 +7,5 @@
 mod rows;
 mod sample;
 
-pub use rows::{Outcome, Row, first_wrong, owned, run, run_into, run_with, shelf_of, shelf_with};
+pub use rows::{Outcome, Row, first_wrong, owned, run, run_into, shelf_of, shelf_with};
 pub use sample::{first_wrong_log, outcome_of, sample_layout, shelf_for};

@@ -51,21 +51,6 @@ pub fn shelf_of(alloc: Global, file: &[u8], fails: &[u32]) -> Result<MemShelf, A
     shelf_with(alloc, &[("f", file)], fails)
 }
 
-/// Runs the program over this shelf and a sink of so much room, of which the puts with these numbers fail, with these
-/// probes.
-pub fn run_with(
-    alloc: Global,
-    words: &[&str],
-    shelf: &mut MemShelf,
-    room: usize,
-    fails: &[u32],
-    probes: &mut Vec<Box<dyn Probe>>,
-) -> Result<Outcome, AllocError> {
-    let mut sink = MemSink::new(alloc, room, Vec::from_slice(alloc, fails)?)?;
-    let exit = kbd48(alloc, &owned(alloc, words)?, shelf, &mut sink, probes);
-    Ok(Outcome { exit, sink })
-}
-
 /// Runs the program over this shelf and this sink, with a probe of each kind, in the order of the program.
 pub fn run_into(
     alloc: Global,

@@ -1,11 +1,26 @@
 //! Probes that ride on the runs of `run` and `expect`, and are left alone by the other commands.
 
 use fw_debug::{CellProbe, Probe, Tally};
-use io_edge::MemShelf;
-use kbd48_app::Exit;
-use rows_calls::{run_with, sample_layout, shelf_with};
+use io_edge::{MemShelf, MemSink};
+use kbd48_app::{Exit, kbd48};
+use rows_calls::{Outcome, owned, sample_layout, shelf_with};
 use std::alloc::{AllocError, Global};
 use std::test::Fail;
+
+/// Runs the program over this shelf and a sink of so much room, of which the puts with these numbers fail, with these
+/// probes.
+fn run_with(
+    alloc: Global,
+    words: &[&str],
+    shelf: &mut MemShelf,
+    room: usize,
+    fails: &[u32],
+    probes: &mut Vec<Box<dyn Probe>>,
+) -> Result<Outcome, AllocError> {
+    let mut sink = MemSink::new(alloc, room, Vec::from_slice(alloc, fails)?)?;
+    let exit = kbd48(alloc, &owned(alloc, words)?, shelf, &mut sink, probes);
+    Ok(Outcome { exit, sink })
+}
 
 /// A shelf with the sample layout and a key file whose run prints nothing.
 fn shelf_for(alloc: Global) -> Result<MemShelf, AllocError> {
