@@ -68,6 +68,12 @@ def is_encoder(legends: list[str]) -> bool:
     return any(re.fullmatch(r"e\d*", legend) for legend in legends[4:])
 
 
+def left_of(legends: list[str]) -> tuple[str, ...]:
+    """The legends of a key with a place, without the place, the option and the wheel."""
+    option = legends[3:4] if len(legends) > 3 and pair_of(legends[3]) else []
+    return tuple(legend for legend in legends[1:] if legend not in option and not re.fullmatch(r"e\d*", legend))
+
+
 def read_keys(board: Board, rows: list[Any], options: Options) -> None:
     """Fills a board with the keys of rows. A place in the matrix is a key's first legend, as VIA has it."""
     for where, legends, width in drawn(rows):
@@ -82,8 +88,8 @@ def read_keys(board: Board, rows: list[Any], options: Options) -> None:
                 continue
             board.told.append("a wheel (%s): its turns are left out, its switch is a key" % where)
         place = Place(*pair) if pair else None
-        rest = legends[1:] if pair else legends
-        board.keys.append(Key("matrix %s" % place if place else where, tuple(rest), width, place))
+        rest = left_of(legends) if pair else tuple(legends)
+        board.keys.append(Key("matrix %s" % place if place else where, rest, width, place))
     board.told += options.told()
 
 
