@@ -1,6 +1,6 @@
 -- A line of the log stands in the text that is printed of it.
-use Rattle.std.proofs.Common.{◌≡◌, ℕ, suc, zero, ◌+◌, ◌-◌, ◌<◌, List, [], ◌∷◌, ◌++◌, length, Bool, inl, inr, Ok, Some, refl, ap, sym, ◌∙◌, subst, arith, append_assoc}
-use Rattle.std.specs.Prelude.{if◌then◌else◌, slice_get, slice_index_or, Contains}
+use Rattle.std.proofs.Common.{◌≡◌, ℕ, suc, zero, ◌+◌, ◌-◌, ◌<◌, List, [], ◌∷◌, ◌++◌, length, inl, inr, Ok, ap, sym, ◌∙◌, subst, arith, append_assoc}
+use Rattle.std.specs.Prelude.{if◌then◌else◌, slice_index_or, Contains}
 use Rattle.board_lines.specs.Cadence.{listed}
 use Rattle.board_lines.specs.declared.event.Edge.{Edge}
 use Rattle.fw_debug.specs.Probes.{Watch}
@@ -9,7 +9,7 @@ use Rattle.layout_reader.specs.Layouts.{KeyLayout}
 use Rattle.link_model.specs.Expected.{expected_log}
 use Rattle.link_model.specs.declared.line.LogLine.{LogLine}
 use Rattle.link_times.specs.Flowing.{IsHostQuiet}
-use Rattle.link_times.specs.Latency.{ComesInTime, KeysComeInTime, Strikes, put_out_in}
+use Rattle.link_times.specs.Latency.{ComesInTime, KeysComeInTime, Strikes}
 use Rattle.mcs48_core.specs.StateText.{state_text_of}
 use Rattle.pc_tables.specs.declared.item.Item.TheVariants.{Port}
 use Rattle.subsystem.specs.Agreement.{IsAsExpected}
@@ -17,7 +17,7 @@ use Rattle.subsystem.specs.Running.{Outcome}
 use Rattle.subsystem.specs.Texts.{line_text, log_text}
 use Rattle.kbd48_app.specs.Answers.{Left, MayAnswerRun}
 use Rattle.kbd48_app.specs.InTime.{HasLine, IsPrintedInTime, PrintsLog}
-use Rattle.kbd48_app.specs.RunTexts.{IsRunText, run_text, start_lines, text_of_run}
+use Rattle.kbd48_app.specs.RunTexts.{IsRunText, start_lines, text_of_run}
 use Rattle.kbd48_app.specs.declared.words.RunCommand.{RunCommand}
 use Rattle.kbd48_app.specs.declared.words.RunCommand.TheVariants.{Log, Expect, Trace}
 

@@ -2,6 +2,7 @@ pub mod Entering
 pub mod Answering
 pub mod Repeating
 pub mod Going
+pub mod Wholeness
 pub mod Exact
 pub mod Twice
 pub mod Flowing

@@ -15,6 +15,8 @@ use Rattle.quiet_log.proofs.Counted.{all_counted}
 use Rattle.quiet_log.proofs.Once.{arrives_as_offered, tested_or_idle}
 use Rattle.quiet_log.proofs.Silent.{silent_in_test}
 use Rattle.link_times.specs.Coming.{keyboard_at, edges_at, first_at, rest_at, behind_at, all_come, IsExact}
+use Rattle.kbd_model.specs.Tick.{is_scanning}
+use Rattle.link_times.proofs.Wholeness.{codes_whole}
 use Rattle.link_times.proofs.Repeating.{layered_same}
 use Rattle.link_times.proofs.Exact.{Comes, comes_by}
 
@@ -34,6 +36,8 @@ module _ (layout : KeyLayout) (history : KeyHistory) (starts : ℕ → ℕ) wher
   exact n = let c = comes_at n in record {
     waits = c.waits;
     test = c.test;
+    codes = codes_whole (keys_of layout) (meeting_at layout history starts n) (edges_at layout history starts n)
+        (keyboard_at layout history starts n) (is_scanning (keyboard_at layout history starts (suc n)));
     edges = layered_same (is_fn_place layout) (tick_edges starts history.edges n)
         (at_tick layout history starts n).keys.layers;
     repeats = c.repeats;

@@ -1,7 +1,7 @@
 -- Nothing comes twice: what comes to wait in a tick is a reply, the AA of the test's end, and the codes of its keys,
 -- each once. Nothing of it is read off the state that the tick leaves, but whether scanning is on then, and the rate.
 use Rattle.std.specs.Prelude.{◌≡◌, ℕ, ◌+◌, ◌-◌, ◌==◌, nat_lt, nat_le, Bool, not, ◌&&◌, ◌||◌}
-use Rattle.std.specs.Prelude.{if◌then◌else◌, List, [], ◌∷◌, ◌++◌, length, map, Some, None, is_some}
+use Rattle.std.specs.Prelude.{if◌then◌else◌, List, [], ◌∷◌, ◌++◌, length, map, All, Some, None, is_some}
 use Rattle.std.specs.List.Sorted.{IsPermutation}
 use Rattle.std.specs.declared.option.Option.{Option}
 use Rattle.std.proofs.Common.{zero, suc}
@@ -10,7 +10,7 @@ use Rattle.byte_time.specs.declared.meeting.Meeting.TheVariants.{Got, Inhibited,
 use Rattle.kbd_model.specs.declared.edge.TickEdge.{TickEdge}
 use Rattle.kbd_model.specs.declared.state.Mode.{Mode}
 use Rattle.kbd_model.specs.declared.state.Repeat.{Repeat}
-use Rattle.kbd_model.specs.Codes.{Keys, keys_of, make, release}
+use Rattle.kbd_model.specs.Codes.{IsCode, Keys, keys_of, make, release}
 use Rattle.kbd_model.specs.Keyboard.{Keyboard}
 use Rattle.kbd_model.specs.Laws.{Enters, let_in}
 use Rattle.kbd_model.specs.Layers.{layered}
@@ -163,13 +163,15 @@ module _ (layout : KeyLayout) (history : KeyHistory) (starts : ℕ → ℕ) wher
   all_come n (suc count) = all_come n count ++ (first_at (count + n) ++ behind_at (count + n))
 
 -- after a tick there waits what comes first, then the rest of what waited, and then what its codes added, and nothing
--- else. Its edges are those that it sees, each once, and so its codes are; the test has a tick less; the key that
--- repeats has one less too, and waits a period behind its code: so AA and a repeat come once each time
+-- else. Its edges are those that it sees, each once, and so its codes are, of which each is one byte, or F0 and one;
+-- the test has a tick less; the key that repeats has one less too, and waits a period behind its code: so AA and a
+-- repeat come once each time
 pub record IsExact (layout : KeyLayout) (history : KeyHistory) (starts : ℕ → ℕ) (n : ℕ) : Type 0 where
   pub waits : waiting (keyboard_at layout history starts (suc n))
       ≡ first_at layout history starts n ++ (rest_at layout history starts n ++ behind_at layout history starts n)
   pub test : (keyboard_at layout history starts (suc n)).test
       ≡ test_left (meeting_at layout history starts n) (keyboard_at layout history starts n)
+  pub codes : All IsCode (codes_at layout history starts n)
   pub edges : map change_in (edges_at layout history starts n) ≡ tick_edges starts history.edges n
   pub repeats : (keyboard_at layout history starts (suc n)).repeats ≡ repeats_at layout history starts n
 
