@@ -12,7 +12,7 @@ use Rattle.subsystem.specs.Running.{IsOutcome, lines_of, start_stamp, starts_amo
 use Rattle.subsystem.proofs.Agreed.{run_starts, run_last}
 
 -- later states leave the starts as they are
-starts_stay : (s : Story) (k m : ℕ) → (length (starts_among s k) ≤ length (starts_among s (m + k)))
+pub starts_stay : (s : Story) (k m : ℕ) → (length (starts_among s k) ≤ length (starts_among s (m + k)))
     × ((j : ℕ) → j < length (starts_among s k) → listed (starts_among s (m + k)) j ≡ listed (starts_among s k) j)
 starts_stay s k zero =
     let z : zero + k ≡ k = omega arith in

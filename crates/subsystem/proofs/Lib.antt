@@ -15,3 +15,4 @@ pub mod Timekeeping
 pub mod Looping
 pub mod Room
 pub mod Whole
+pub mod Sessions

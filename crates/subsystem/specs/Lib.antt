@@ -3,6 +3,7 @@ pub mod Agreement
 pub mod Looking
 pub mod Progress
 pub mod Running
+pub mod Sessions
 pub mod Texts
 pub mod Counts
 pub mod Putting

@@ -6,6 +6,7 @@ ghost use Rattle.key_file.specs.Accepted.{IsAcceptedFor};
 ghost use Rattle.key_file.specs.Histories.{KeyHistory};
 ghost use Rattle.layout_reader.specs.Layouts.{IsKeyLayout};
 ghost use Rattle.subsystem.specs.Agreement.{RunsAreAlike, RunsAsExpected};
+ghost use Rattle.subsystem.specs.Sessions.{SessionsEndWithRuns};
 
 use agreement::run_and_model_agree;
 use layout_reader::Layout;
@@ -27,6 +28,15 @@ pub fn runs_are_expected()
 pub fn runs_are_alike()
     ensures alike { RunsAreAlike }
 {}
+
+/// A debugger's session over a layout's compiled image, under a history that is accepted for it, ends exactly where the run
+/// of `run` does: it makes each of the run's steps, and none behind them. Nothing is done when it is called; the law is its
+/// contract.
+pub fn sessions_end_with_runs()
+    ensures ends { SessionsEndWithRuns }
+{
+    run_and_model_agree();
+}
 
 /// The image of a layout keeps its time under each history that is accepted for it. Each layout is one of which the laws speak.
 pub(crate) fn keeps_time(layout: &Layout)

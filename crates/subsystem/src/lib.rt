@@ -21,7 +21,7 @@ mod running;
 pub use counts::Counts;
 pub use ended::Ended;
 pub use engine::Engine;
-pub use law::{runs_are_alike, runs_are_expected};
+pub use law::{runs_are_alike, runs_are_expected, sessions_end_with_runs};
 pub use link_model::LogLine;
 pub use outcome::Run;
 pub use pace::Pace;

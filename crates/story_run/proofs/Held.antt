@@ -1,0 +1,71 @@
+-- A run that is stuck.
+use Rattle.std.proofs.Common.{◌≡◌, ℕ, suc, List, Some, None, Err, ap, sym, subst, ◌∙◌}
+use Rattle.std.specs.declared.option.Option.{Option}
+use Rattle.fw_debug.specs.Looks.{looks}
+use Rattle.fw_debug.specs.Probes.{Watch}
+use Rattle.joint_feed.proofs.Going.{here, no_further, on_moved, same_state}
+use Rattle.joint_feed.specs.Course.{IsOnCourse}
+use Rattle.joint_feed.specs.Stories.{Story, state_at}
+use Rattle.joint_feed.specs.declared.ahead.Ahead.{Ahead}
+use Rattle.joint_feed.specs.declared.course.Course.{Course}
+use Rattle.joint_run.specs.Due.{IsJointStep}
+use Rattle.joint_run.specs.Joint.{Beside, joint_board}
+use Rattle.joint_run.specs.Run.{World, joint_step, step_on}
+use Rattle.joint_run.specs.declared.due.Due.{Due}
+use Rattle.joint_run.specs.declared.machine.Machine.{Machine}
+use Rattle.mcs48_core.specs.declared.stepping.Stuck.{Stuck}
+use Rattle.story_run.specs.declared.ending.Halt.{Halt}
+use Rattle.story_run.specs.Advance.{IsStuckNow}
+use Rattle.story_run.specs.Gliding.{IsGoing, IsHeldUp, IsQuiet}
+use Rattle.story_run.specs.Running.{GoesOnTo, is_over, place_of}
+use Rattle.story_run.proofs.Stuck.{stuck_where_none}
+
+-- what is answered of a processor that is stuck
+place_stuck : (due : Due) (old new : Machine) (o : Option (World Beside)) (stuck : Stuck) → IsJointStep due old o (Err stuck) new
+    → stuck ≡ place_of old.image.bytes old.mcu
+place_stuck due old new None stuck h = h.0
+place_stuck due old new (Some w) stuck h = absurd h
+
+module _ (u : Halt) (s : Story) (old new : Course) (before after : List Watch) (stuck : Stuck) (h : IsHeldUp u s old new before after stuck) where
+  abbrev last : Course
+  last = h.last
+
+  abbrev going : IsGoing u s last
+  going = h.onward.going
+
+  steps_same : new.joint.steps ≡ last.joint.steps
+  steps_same = ap (λ (m : Machine). m.steps) h.joint
+
+  on_now : IsOnCourse s new
+  on_now =
+      subst (λ (a : Ahead). IsOnCourse s (record { joint = new.joint; ahead = a; seen = new.seen })) (sym h.ahead)
+      (on_moved s last new.joint new.seen h.joint going.standing.on)
+
+  there : state_at s new.joint.steps ≡ Some on_now.world
+  there = here s new on_now
+
+  same_world : on_now.world ≡ going.standing.on.world
+  same_world = same_state (sym there ∙ ap (state_at s) steps_same ∙ here s last going.standing.on)
+
+  none : state_at s (suc new.joint.steps) ≡ None
+  none =
+      ap (λ (k : ℕ). state_at s (suc k)) steps_same
+      ∙ no_further s last new.joint stuck going.standing.on going.accepted.thin going.accepted.edges_in_order h.run
+
+  no_step : joint_step (joint_board s.edges s.events) s.bytes on_now.world ≡ None
+  no_step = sym (ap (step_on (joint_board s.edges s.events) s.bytes) there) ∙ none
+
+  pub stuck_now : IsStuckNow u s old before stuck new after
+  stuck_now = record {
+    standing = record { on = on_now; goes_on = subst (GoesOnTo u.ending s) (sym steps_same) going.standing.goes_on };
+    quiet = subst (λ (k : ℕ). IsQuiet u.ending u.wires s old.joint.steps k) (sym steps_same) h.onward.quiet;
+    stuck_so = record {
+      before_end = ap (is_over u.ending s) same_world ∙ going.not_over;
+      no_row = stuck_where_none s on_now.world no_step;
+      none = none;
+      at = place_stuck last.ahead.due last.joint new.joint _ stuck h.step
+          ∙ ap (λ (b : List ℕ). place_of b last.joint.mcu) going.standing.on.image
+          ∙ ap (place_of s.bytes) (going.standing.on.in_run.mcu ∙ ap (λ (w : World Beside). w.cpu) (sym same_world));
+    };
+    looked = λ first e. h.onward.looked first e ∙ sym (ap (λ (k : ℕ). looks s k first) steps_same);
+  }

@@ -1,0 +1,12 @@
+pub mod Said
+pub mod Steps
+pub mod Stuck
+pub mod Timekeeping
+pub mod Over
+pub mod Quiet
+pub mod Quietly
+pub mod Dozing
+pub mod Advanced
+pub mod Held
+pub mod Told
+pub mod Loop

@@ -1,0 +1,80 @@
+-- One turn of a run's loop.
+use Rattle.std.proofs.Common.{◌≡◌, ◌<◌, ◌^◌, ℕ, Bool, true, false, List, ap, sym, subst, ◌∙◌, arith}
+use Rattle.std.specs.declared.result.Result.{Result}
+use Rattle.fw_debug.specs.Looks.{looks}
+use Rattle.fw_debug.specs.Probes.{Watch}
+use Rattle.joint_feed.proofs.Going.{here, same_state}
+use Rattle.joint_feed.specs.Stories.{Story, state_at, story}
+use Rattle.joint_feed.specs.declared.course.Course.{Course}
+use Rattle.joint_run.specs.Joint.{Beside, joint_start}
+use Rattle.joint_run.specs.Run.{World}
+use Rattle.key_file.specs.Accepted.{IsAccepted}
+use Rattle.key_file.specs.Histories.{KeyHistory}
+use Rattle.mcs48_core.specs.declared.stepping.Stuck.{Stuck}
+use Rattle.story_run.specs.declared.ending.End.TheVariants as ends
+use Rattle.story_run.specs.declared.ending.Ending.{Ending}
+use Rattle.story_run.specs.declared.ending.Halt.{Halt}
+use Rattle.story_run.specs.Advance.{HasAdvanced, IsAdvanced, IsEnding, IsStuckNow}
+use Rattle.story_run.specs.Answers.{TellsOver}
+use Rattle.story_run.specs.Gliding.{IsGoing, IsStanding, IsTimely, history_of}
+use Rattle.story_run.specs.Looking.{BrokeOff}
+use Rattle.story_run.specs.Running.{GoesOnTo}
+
+-- a run by its image and its history under other names
+pub same_story : (b bytes : List ℕ) (h k : KeyHistory) → b ≡ bytes → h ≡ k → story b h ≡ story bytes k
+same_story b bytes h k image history = ap (λ (v : List ℕ). story v h) image ∙ ap (story bytes) history
+
+-- before the first step
+pub first_cycle : (e : Ending) (s : Story) (c : Course) → IsStanding e s c → c.joint.steps ≡ 0 → c.joint.cycle < 2 ^ 31
+first_cycle e s c h first =
+    let start : joint_start ≡ h.on.world = same_state (sym (ap (state_at s) first) ∙ here s c h.on) in
+    let zero : 0 ≡ h.on.world.cycle = ap (λ (w : World Beside). w.cycle) start in
+    let same = h.on.in_run.cycle in
+    omega (arith, zero, same)
+
+pub first_looked : (s : Story) (c : Course) (probes : List Watch) → c.joint.steps ≡ 0 → probes ≡ looks s c.joint.steps probes
+first_looked s c probes first = sym (ap (λ (k : ℕ). looks s k probes) first)
+
+module _ (u : Halt) (s : Story) (c : Course) (standing : IsStanding u.ending s c) (stop : s.stop ≡ u.stop) (over : Bool) (tells : TellsOver u.ending c.joint u.stop over) where
+  -- the run goes on there
+  pub going_now : IsTimely u.ending s → IsAccepted (history_of s) → over ≡ false → IsGoing u s c
+  going_now timely accepted off = record {
+    stop = stop;
+    accepted = accepted;
+    timely = timely;
+    standing = standing;
+    not_over = sym (tells s standing.on.world stop (sym standing.on.in_run.mcu) (sym standing.on.in_run.cycle)) ∙ off;
+  }
+
+  -- or is over
+  pub over_now : over ≡ true → IsEnding u.ending s c ends.Over
+  over_now on = record {
+    standing = standing;
+    ends = sym (tells s standing.on.world stop (sym standing.on.in_run.mcu) (sym standing.on.in_run.cycle)) ∙ on;
+  }
+
+-- or stuck
+pub stuck_end : (u : Halt) (s : Story) (old : Course) (before : List Watch) (stuck : Stuck) (new : Course) (after : List Watch)
+    → IsStuckNow u s old before stuck new after → IsEnding u.ending s new (ends.Stuck stuck)
+stuck_end u s old before stuck new after h = record { standing = h.standing; ends = h.stuck_so }
+
+-- what an answer tells of a run is so of the same run by another name
+pub going_by : (u : Halt) (s t : Story) (c : Course) → s ≡ t → IsGoing u s c → IsGoing u t c
+going_by u s t c same h = subst (λ (v : Story). IsGoing u v c) same h
+
+pub advanced_with : (e : Ending) (stop : ℕ) (v w : Bool) (s t : Story) (old new : Course) (before after : List Watch) (r : Result (Unit {0}) Stuck)
+    → v ≡ w → s ≡ t → IsAdvanced (record { ending = e; stop = stop; wires = v }) s old before r new after
+    → IsAdvanced (record { ending = e; stop = stop; wires = w }) t old before r new after
+advanced_with e stop v w s t old new before after r wires same h =
+    subst (λ (x : Story). IsAdvanced (record { ending = e; stop = stop; wires = w }) x old before r new after) same
+    (subst (λ (b : Bool). IsAdvanced (record { ending = e; stop = stop; wires = b }) s old before r new after) wires h)
+
+-- the telling broke off behind such steps
+pub broke_off : (u : Halt) (s : Story) (broken : ℕ → Type 0) (old : Course) (first before : List Watch) (new : Course) (after : List Watch)
+    (a : HasAdvanced u s old before new after) → before ≡ looks s old.joint.steps first → broken a.behind.last → BrokeOff u.ending s broken first after
+broke_off u s broken old first before new after a so_far h = record {
+  last = a.behind.last;
+  goes_on = subst (GoesOnTo u.ending s) a.behind.steps a.behind.standing.goes_on;
+  broken_so = h;
+  looked = a.looked first so_far ∙ ap (λ (k : ℕ). looks s k first) a.behind.steps;
+}

@@ -1,0 +1,22 @@
+use Rattle.std.proofs.Common.{◌≡◌, ◌<◌, ◌^◌, ◌-◌, map}
+use Rattle.fw_debug.specs.Looks.{looks}
+use Rattle.joint_feed.specs.Ahead.{HasTaken}
+use Rattle.joint_feed.specs.Stories.{story}
+use Rattle.story_run.specs.Gliding.{IsStanding}
+use Rattle.story_run.proofs.telling.tell_run.Given as goal
+
+abbrev pub invariant-steps : goal.invariant-steps
+invariant-steps g l = record {
+  history : (g.F.Feed.told l.feed).history ≡ (g.F.Feed.told l.fn.feed).history;
+  standing : IsStanding l.ending (story l.fn.course.joint.image.bytes (g.F.Feed.told l.fn.feed).history) l.course;
+  taken : HasTaken (g.F.Feed.told l.feed) l.course.ahead;
+  near : l.course.joint.cycle < 2 ^ 31;
+  told : g.T.Teller.has_told l.ending (story l.fn.course.joint.image.bytes (g.F.Feed.told l.fn.feed).history) l.fn.out l.course.joint.steps l.teller l.out;
+  looked :
+      map (λ b. (goal.Probe-dyn g (b.vtable, b.value)).watch b.value) l.probes.items
+      ≡ looks (story l.fn.course.joint.image.bytes (g.F.Feed.told l.fn.feed).history) l.course.joint.steps
+      (map (λ b. (goal.Probe-dyn g (b.vtable, b.value)).watch b.value) l.fn.probes.items);
+}
+
+abbrev pub decreases-steps : goal.decreases-steps
+decreases-steps g l = 2 ^ 31 - l.course.joint.cycle

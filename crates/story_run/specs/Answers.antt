@@ -1,0 +1,20 @@
+-- What is answered of a machine is so of the state that it stands at.
+use Rattle.std.specs.Prelude.{◌≡◌, ℕ, Bool, false}
+use Rattle.fw_logic.specs.JointRun.{TellsTick}
+use Rattle.joint_feed.specs.Stories.{Story}
+use Rattle.joint_run.specs.Joint.{Beside}
+use Rattle.joint_run.specs.Run.{World}
+use Rattle.joint_run.specs.declared.machine.Machine.{Machine}
+use Rattle.story_run.specs.declared.ending.Ending.{Ending}
+use Rattle.story_run.specs.declared.ending.Ending.TheVariants.{TickStart, Stamp}
+use Rattle.story_run.specs.Running.{is_over}
+
+-- whether a run with this end stamp is over there
+abbrev pub TellsOver : Ending → Machine → ℕ → Bool → Type 0
+TellsOver e m stop answer =
+    (s : Story) (w : World Beside) → s.stop ≡ stop → w.cpu ≡ m.mcu → w.cycle ≡ m.cycle → answer ≡ is_over e s w
+
+-- where the run is to end at a tick start, no tick starts there
+abbrev pub MeetsNoTick : Ending → Machine → Type 0
+MeetsNoTick TickStart m = TellsTick m false
+MeetsNoTick Stamp m = Unit {0}

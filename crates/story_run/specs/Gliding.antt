@@ -1,0 +1,118 @@
+-- Steps that are made one after another as long as nothing of them has to be told.
+use Rattle.std.specs.Prelude.{◌≡◌, ◌≤◌, ◌<◌, ℕ, suc, Bool, true, false, ◌==◌, List, map, Some, None, Ok, Err}
+use Rattle.std.specs.Prelude.{if◌then◌else◌}
+use Rattle.std.specs.declared.option.Option.{Option}
+use Rattle.std.specs.declared.result.Result.{Result}
+use Rattle.board_lines.specs.declared.lines.Lines.{Lines}
+use Rattle.fw_debug.specs.Looks.{looked_at, looks}
+use Rattle.fw_debug.specs.Probes.{Watch, looked, sight_in, sight_of}
+use Rattle.fw_logic.specs.JointRun.{KeepsTime}
+use Rattle.joint_feed.specs.Course.{IsOnCourse}
+use Rattle.joint_feed.specs.Stories.{Story, state_at}
+use Rattle.joint_feed.specs.declared.course.Course.{Course}
+use Rattle.joint_run.specs.Due.{due_step, IsJointStep}
+use Rattle.joint_run.specs.History.{IsStepOfRun}
+use Rattle.joint_run.specs.Joint.{Beside}
+use Rattle.joint_run.specs.Run.{World}
+use Rattle.key_file.specs.Accepted.{IsAccepted}
+use Rattle.key_file.specs.Histories.{KeyHistory}
+use Rattle.mcs48_core.specs.declared.stepping.Stuck.{Stuck}
+use Rattle.story_run.specs.declared.ending.Ending.{Ending}
+use Rattle.story_run.specs.declared.ending.Ending.TheVariants.{TickStart, Stamp}
+use Rattle.story_run.specs.declared.ending.Halt.{Halt}
+use Rattle.story_run.specs.Running.{GoesOnTo, is_over, log_at, starts_among}
+
+-- the history of what is run
+abbrev pub history_of : Story → KeyHistory
+history_of s = record { edges = s.edges; host = s.events; end = s.stop }
+
+-- a program whose run is to end at a tick start keeps its time, so it comes to one; any program comes to its end stamp
+abbrev pub IsTimely : Ending → Story → Type 0
+IsTimely TickStart s = KeepsTime s.bytes s.edges s.events
+IsTimely Stamp s = Unit {0}
+
+-- the machine stands at the run's state after as many steps, and the run goes on at each state before it
+pub record IsStanding (e : Ending) (s : Story) (c : Course) : Type 0 where
+  pub on : IsOnCourse s c
+  pub goes_on : GoesOnTo e s c.joint.steps
+
+-- the run goes on at its present state
+pub record IsGoing (u : Halt) (s : Story) (c : Course) : Type 0 where
+  pub stop : s.stop ≡ u.stop
+  pub accepted : IsAccepted (history_of s)
+  pub timely : IsTimely u.ending s
+  pub standing : IsStanding u.ending s c
+  pub not_over : is_over u.ending s standing.on.world ≡ false
+
+-- the wires at a state, if there is one
+abbrev pub lines_in : Option (World Beside) → Option Lines
+lines_in None = None
+lines_in (Some w) = Some (sight_in w).lines
+
+abbrev pub lines_at : Story → ℕ → Option Lines
+lines_at s k = lines_in (state_at s k)
+
+-- where a run is to end at a tick start, no tick starts at the states behind state k up to state n
+abbrev pub AreSameStarts : Ending → Story → ℕ → ℕ → Type 0
+AreSameStarts TickStart s k n = starts_among s (suc n) ≡ starts_among s (suc k)
+AreSameStarts Stamp s k n = Unit {0}
+
+-- nothing is to be told of the steps behind step k up to step n: they said nothing and led to no tick start; and where
+-- the wires are sampled, these kept their levels
+pub record IsQuiet (e : Ending) (wires : Bool) (s : Story) (k n : ℕ) : Type 0 where
+  pub later : k ≤ n
+  pub log : log_at s n ≡ log_at s k
+  pub starts : AreSameStarts e s k n
+  pub levels : wires ≡ true → (j : ℕ) → k ≤ j → j ≤ n → lines_at s j ≡ lines_at s k
+
+-- probes after a look at the present state; or as they were, where it is the one behind step k
+abbrev pub looked_now : Course → List Watch → List Watch
+looked_now c probes = map (looked c.joint.steps (sight_of c.joint)) probes
+
+abbrev pub looked_behind : ℕ → Course → List Watch → List Watch
+looked_behind k c probes = if c.joint.steps == k then probes else looked_now c probes
+
+-- a step was made, and the probes have looked at the state that it led to; what it took of the events isn't counted yet
+pub record IsStepped (s : Story) (old new : Course) (before after : List Watch) : Type 0 where
+  pub step : IsJointStep old.ahead.due old.joint (due_step old.ahead.due old.joint) (Ok new.seen) new.joint
+  pub run : IsStepOfRun old.ahead.due old.joint (Ok new.seen) new.joint
+  pub some : 0 < new.seen.cycles
+  pub few : new.seen.cycles < 3
+  pub ahead : new.ahead ≡ old.ahead
+  pub looked : after ≡ looked_at (suc old.joint.steps) (state_at s (suc old.joint.steps)) before
+
+-- steps were made, none of which took an event, and of which nothing is to be told; the probes are as after a look at
+-- each
+pub record IsOnward (u : Halt) (s : Story) (old new : Course) (before after : List Watch) : Type 0 where
+  pub going : IsGoing u s new
+  pub ahead : new.ahead ≡ old.ahead
+  pub cycle : old.joint.cycle ≤ new.joint.cycle
+  pub quiet : IsQuiet u.ending u.wires s old.joint.steps new.joint.steps
+  pub looked : (first : List Watch) → before ≡ looks s old.joint.steps first → after ≡ looks s new.joint.steps first
+
+-- steps of this kind were made, and then one of any kind
+pub record HasGlided (u : Halt) (s : Story) (old new : Course) (before after : List Watch) : Type 0 where
+  pub last : Course
+  pub between : List Watch
+  pub onward : IsOnward u s old last before between
+  pub stepped : IsStepped s last new between after
+
+-- steps of this kind were made, and then the processor was stuck: the machine has not changed since
+pub record IsHeldUp (u : Halt) (s : Story) (old new : Course) (before after : List Watch) (stuck : Stuck) : Type 0 where
+  pub last : Course
+  pub onward : IsOnward u s old last before after
+  pub joint : new.joint ≡ last.joint
+  pub ahead : new.ahead ≡ last.ahead
+  pub step : IsJointStep last.ahead.due last.joint (due_step last.ahead.due last.joint) (Err stuck) new.joint
+  pub run : IsStepOfRun last.ahead.due last.joint (Err stuck) new.joint
+
+-- a stretch of steps, and whether the next one can follow at once
+abbrev pub IsStretch : Halt → Story → Course → List Watch → Result Bool Stuck → Course → List Watch → Type 0
+IsStretch u s old before (Ok true) new after = IsOnward u s old new before after
+IsStretch u s old before (Ok false) new after = HasGlided u s old new before after
+IsStretch u s old before (Err stuck) new after = IsHeldUp u s old new before after stuck
+
+-- a glide goes on up to such a step
+abbrev pub IsGlide : Halt → Story → Course → List Watch → Result (Unit {0}) Stuck → Course → List Watch → Type 0
+IsGlide u s old before (Ok done) new after = HasGlided u s old new before after
+IsGlide u s old before (Err stuck) new after = IsHeldUp u s old new before after stuck

@@ -1,0 +1,6 @@
+pub mod Running
+pub mod Answers
+pub mod Gliding
+pub mod Advance
+pub mod Telling
+pub mod Looking

@@ -1,0 +1,21 @@
+-- Probes that ride on a run.
+use Rattle.std.specs.Prelude.{◌≡◌, ℕ, suc, List}
+use Rattle.fw_debug.specs.Looks.{looks}
+use Rattle.fw_debug.specs.Probes.{Watch}
+use Rattle.joint_feed.specs.Stories.{Story}
+use Rattle.story_run.specs.declared.ending.Ending.{Ending}
+use Rattle.story_run.specs.Running.{GoesOnTo}
+
+-- they have looked at the states that some first steps of the run lead to, of which there may be none
+pub record HaveLookedAtSome (e : Ending) (s : Story) (before after : List Watch) : Type 0 where
+  pub steps : ℕ
+  pub goes_on : GoesOnTo e s steps
+  pub looked : after ≡ looks s steps before
+
+-- the telling of a run broke off at the step behind the first `last` ones, which the run makes; the probes have looked
+-- at the states up to the one that it led to, and at no other
+pub record BrokeOff (e : Ending) (s : Story) (broken : ℕ → Type 0) (before after : List Watch) : Type 0 where
+  pub last : ℕ
+  pub goes_on : GoesOnTo e s (suc last)
+  pub broken_so : broken last
+  pub looked : after ≡ looks s (suc last) before

@@ -1,0 +1,90 @@
+//! A run that is told.
+
+ghost use Rattle.std.specs.Prelude.{◌≡◌, ℕ, Bool, suc, map, IfOk, OnErr, OnOk};
+ghost use Rattle.fw_debug.specs.Looks.{looks};
+ghost use Rattle.joint_feed.specs.Ahead.{HasTaken};
+ghost use Rattle.joint_feed.specs.Stories.{Story, story};
+ghost use Rattle.key_file.specs.Accepted.{IsAccepted};
+ghost use Rattle.key_file.specs.Feeds.{Fed};
+ghost use Rattle.story_run.specs.declared.ending.Ending.{Ending};
+ghost use Rattle.story_run.specs.Advance.{IsBehind, IsEnding};
+ghost use Rattle.story_run.specs.Gliding.{IsStanding, IsTimely};
+ghost use Rattle.story_run.specs.Looking.{BrokeOff};
+ghost use Rattle.story_run.specs.Telling.{IsToldTo};
+
+use crate::advancing::advance;
+use crate::ending::{End, Ending, Halt, is_over};
+use fw_debug::Probe;
+use joint_feed::Course;
+use key_file::Feed;
+
+/// What is done with a run's steps: something of type `O` is told of them, which can fail with an `E`.
+pub trait Teller<O, E> {
+    /// Whether it samples the wires, and so has something to tell of each step that changes one.
+    ghost WIRES: { Bool };
+
+    /// All is told of a run's first k steps, to what was so before the first of them.
+    ghost has_told: { Ending → Story → O → ℕ → Self → O → Type 0 };
+
+    /// The telling broke off in what the step behind the first k says.
+    ghost is_broken: { Ending → Story → O → ℕ → O → Type 0 };
+
+    /// Whether it samples the wires.
+    const WIRES: bool;
+
+    /// Tells of the step that the course stands behind. Of those before it back to step k there is nothing to be told.
+    fn tell(&mut self, out: &mut O, course: &Course) -> Result<(), E>
+        requires told { (e : Ending) × (s : Story) × (first : O) × (k : ℕ) × IsBehind e WIRES s k course.now
+            × has_told e s first k self.old out.old }
+        ensures told { (e : Ending) (s : Story) (first : O) (k : ℕ) → IsBehind e WIRES s k course.now → has_told e s first k self.old out.old
+            → OnOk result (has_told e s first course.now.joint.steps self.new out.new) }
+        ensures broken { (e : Ending) (s : Story) (first : O) (k : ℕ) (b : IsBehind e WIRES s k course.now)
+            → has_told e s first k self.old out.old → OnErr result (is_broken e s first b.last out.new) };
+}
+
+/// Makes the run from power-on to its end, and answers why it ended. After each step each probe looks, and then what is to
+/// be told of the step is told. `SITE`, from 4, is a number that no other place of the program gives.
+#[inline(always)]
+pub fn tell_run<F: Feed, O, E, T: Teller<O, E>, const SITE: u8>(
+    course: &mut Course,
+    feed: &mut F,
+    ending: Ending,
+    teller: &mut T,
+    out: &mut O,
+    probes: &mut Vec<Box<dyn Probe>>,
+) -> Result<End, E>
+    requires accepted { IsAccepted (F.told feed.old).history }
+    requires timely { IsTimely ending (story course.old.joint.image.bytes (F.told feed.old).history) }
+    requires standing { IsStanding ending (story course.old.joint.image.bytes (F.told feed.old).history) course.old }
+    requires steps { course.old.joint.steps ≡ 0 }
+    requires taken { HasTaken (F.told feed.old) course.old.ahead }
+    requires told { T.has_told ending (story course.old.joint.image.bytes (F.told feed.old).history) out.old 0 teller.old out.old }
+    ensures ended { let run = story course.old.joint.image.bytes (F.told feed.old).history in
+        IfOk result (λ end. IsEnding ending run course.new end) }
+    ensures told { let run = story course.old.joint.image.bytes (F.told feed.old).history in
+        OnOk result (IsToldTo ending T.WIRES run (λ k. T.has_told ending run out.old k teller.new out.new) course.new.joint.steps) }
+    ensures looked { let run = story course.old.joint.image.bytes (F.told feed.old).history in
+        let before = map (λ b. watch b) probes.old.items in
+        OnOk result (map (λ b. watch b) probes.new.items ≡ looks run course.new.joint.steps before) }
+    ensures broken { let run = story course.old.joint.image.bytes (F.told feed.old).history in
+        OnErr result (BrokeOff ending run (λ k. T.is_broken ending run out.old k out.new)
+        (map (λ b. watch b) probes.old.items) (map (λ b. watch b) probes.new.items)) }
+{
+    let stop = feed.end();
+    let halt = Halt {
+        ending,
+        stop,
+        wires: T::WIRES,
+    };
+    'steps: while !is_over(ending, &course.joint, stop) {
+        match advance::<F, SITE>(course, feed, halt, probes) {
+            Err(stuck) => return Ok(End::Stuck(stuck)),
+            Ok(()) => {}
+        }
+        match teller.tell(out, course) {
+            Err(fault) => return Err(fault),
+            Ok(()) => {}
+        }
+    }
+    Ok(End::Over)
+}

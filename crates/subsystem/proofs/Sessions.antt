@@ -1,0 +1,133 @@
+-- A session over a program that keeps its time ends where its run does.
+use Rattle.std.proofs.Common.{◌≡◌, ◌≤◌, ◌<◌, ℕ, zero, suc, ◌+◌, ◌-◌, Bool, true, false, ◌&&◌, List, [], ◌∷◌, ◌++◌, length, ltb, Some, None, is_none, refl, ap, sym, ◌∙◌, arith}
+use Rattle.std.specs.Prelude.{if◌then◌else◌, nat_le, ◌||◌}
+use Rattle.std.proofs.lemmas.Bool.Decides.{nat_tests}
+use Rattle.std.proofs.lemmas.List.{get_or_append_left}
+use Rattle.std.proofs.Math.Seq.{get_or-append_seam}
+use Rattle.std.specs.declared.option.Option.{Option}
+use Rattle.board_lines.specs.Cadence.{listed}
+use Rattle.fw_debug.specs.Probes.{Watch}
+use Rattle.fw_debug.specs.Sessions.{Debug, Debuggee, next_from, next_state, of_layout, session_is_over, stepped_to, walk}
+use Rattle.fw_logic.specs.JointRun.{KeepsTime}
+use Rattle.joint_feed.specs.Stories.{Story, state_at, starts_tick}
+use Rattle.joint_run.specs.Joint.{Beside}
+use Rattle.joint_run.specs.Run.{World}
+use Rattle.subsystem.specs.Running.{GoesOnTo, IsOutcome, Outcome, is_over, start_stamp, starts_among}
+use Rattle.subsystem.specs.Sessions.{EndsBehind}
+use Rattle.subsystem.proofs.Agreed.{run_last, run_starts}
+use Rattle.subsystem.proofs.Alike.{starts_stay}
+use Rattle.subsystem.proofs.Lines.{one_longer}
+use Rattle.subsystem.proofs.Timekeeping.{still_near}
+
+module _ (s : Story) (t : KeepsTime s.bytes s.edges s.events) (run : Outcome) (h : IsOutcome s run) where
+  -- a tick that starts before the last state starts before the end stamp
+  early_start : (k : ℕ) → k < run.steps → (w : World Beside) → state_at s k ≡ Some w → starts_tick s w ≡ true → w.cycle < 4096 + s.stop
+  early_start k below w there on =
+      let xs = starts_among s k in
+      let early = t.none_early k w there on in
+      let put : starts_among s (suc k) ≡ xs ++ (w.cycle - 4096) ∷ [] =
+      ap (λ (o : Option (World Beside)). xs ++ start_stamp s o) there ∙ ap (λ b. xs ++ (if b then (w.cycle - 4096) ∷ [] else [])) on in
+      let long : length (starts_among s (suc k)) ≡ suc (length xs) = ap length put ∙ one_longer xs (w.cycle - 4096) in
+      let at : listed (starts_among s (suc k)) (length xs) ≡ w.cycle - 4096 =
+      ap (λ (v : List ℕ). listed v (length xs)) put ∙ get_or-append_seam xs (w.cycle - 4096) [] 0 in
+      let up : (run.steps - suc k) + suc k ≡ run.steps = omega (arith, below) in
+      let stay = starts_stay s (suc k) (run.steps - suc k) in
+      let few : length (starts_among s (suc k)) ≤ length (starts_among s ((run.steps - suc k) + suc k)) = stay.0 in
+      let same_length : length (starts_among s ((run.steps - suc k) + suc k)) ≡ length (starts_among s run.steps) = ap (λ (n : ℕ). length (starts_among s n)) up in
+      let last = run_last s run h in
+      let same : listed (starts_among s run.steps) (length xs) ≡ listed (starts_among s (suc k)) (length xs) =
+      ap (λ (n : ℕ). listed (starts_among s n) (length xs)) (sym up) ∙ stay.1 (length xs) (omega (arith, long)) in
+      let in_run : listed run.starts (length xs) ≡ listed (starts_among s run.steps) (length xs) =
+      ap (λ (v : List ℕ). listed v (length xs)) (run_starts s run h)
+      ∙ get_or_append_left (starts_among s run.steps) ((h.world.cycle - 4096) ∷ []) 0 (length xs) (omega (arith, long, few, same_length)) in
+      let before = h.last.before (length xs) (omega (arith, long, few, same_length, last)) in
+      omega (arith, early, at, same, in_run, before)
+
+  not_over : (b : Bool) (cycle : ℕ) → (b ≡ true → cycle < 4096 + s.stop) → (b && nat_le (4096 + s.stop) cycle) ≡ false
+  not_over true cycle early = let l = early refl in grind (arith, nat_tests, l)
+  not_over false cycle early = refl
+
+  -- so the run goes on at each state before its last
+  open_before : (k : ℕ) → k < run.steps → (w : World Beside) → state_at s k ≡ Some w → is_over s w ≡ false
+  open_before k below w there = not_over (starts_tick s w) w.cycle (early_start k below w there)
+
+  goes_to : (k : ℕ) → k ≤ run.steps → GoesOnTo s k
+  goes_to zero l = tt
+  goes_to (suc k) l =
+      let on = t.goes_on k in
+      (goes_to k (omega (arith, l)), on.0, on.1, open_before k (omega (arith, l)) on.0 on.1)
+
+  abbrev d : Debuggee
+  d = of_layout s
+
+  -- and the session too, which isn't late there
+  open_session : (k : ℕ) → k < run.steps → (w : World Beside) → state_at s k ≡ Some w → session_is_over d w ≡ false
+  open_session k below w there =
+      let off = open_before k below w there in
+      let near = still_near s t k w (goes_to k (omega (arith, below))) there off in
+      let soon : nat_le (s.stop + 6152) w.cycle ≡ false = grind (arith, nat_tests, near) in
+      ap (λ b. b || nat_le (s.stop + 6152) w.cycle) off ∙ soon
+
+  next_before : (k : ℕ) → k < run.steps → (v : World Beside) × (next_state d k ≡ Some v)
+  next_before k below =
+      let on = t.goes_on k in
+      let next = t.goes_on (suc k) in (
+        next.0,
+        ap (next_from d k) on.1
+            ∙ ap (λ b. if b then None else state_at s (suc k)) (open_session k below on.0 on.1)
+            ∙ next.1,
+      )
+
+  -- at the last one both are over
+  over_at_end : is_over s h.world ≡ true
+  over_at_end =
+      let xs = starts_among s run.steps in
+      let w = h.world in
+      let long = run_last s run h in
+      let last_index : length run.starts - 1 ≡ length xs = omega (arith, long) in
+      let last : listed run.starts (length run.starts - 1) ≡ w.cycle - 4096 =
+      ap (listed run.starts) last_index ∙ ap (λ (v : List ℕ). listed v (length xs)) (run_starts s run h) ∙ get_or-append_seam xs (w.cycle - 4096) [] 0 in
+      let early = t.none_early run.steps w h.reached h.at in
+      let reaches = h.last.reaches in
+      let at_end : 4096 + s.stop ≤ w.cycle = omega (arith, last, early, reaches) in
+      let reached : nat_le (4096 + s.stop) w.cycle ≡ true = grind (arith, nat_tests, at_end) in
+      ap (λ b. b && nat_le (4096 + s.stop) w.cycle) h.at ∙ reached
+
+  none_at_end : next_state d run.steps ≡ None
+  none_at_end =
+      ap (next_from d run.steps) h.reached
+      ∙ ap (λ b. if b || nat_le (s.stop + 6152) h.world.cycle then None else state_at s (suc run.steps)) over_at_end
+
+  last_step : (k : ℕ) → k ≤ run.steps → next_state d k ≡ None → k ≡ run.steps
+  last_step k l none =
+      elim (ltb k run.steps) as (λ b. ltb k run.steps ≡ b → k ≡ run.steps) [
+        | true ↦ λ f. let on = next_before k (grind (arith, nat_tests, f)) in absurd (cc (none, on.1))
+        | false ↦ λ f. grind (arith, nat_tests, f, l)
+      ] refl
+
+  one_more : (k : ℕ) → k ≤ run.steps → (w : World Beside) → next_state d k ≡ Some w → suc k ≤ run.steps
+  one_more k l w next =
+      elim (ltb k run.steps) as (λ b. ltb k run.steps ≡ b → suc k ≤ run.steps) [
+        | true ↦ λ f. grind (arith, nat_tests, f)
+        | false ↦ λ f.
+            let e : k ≡ run.steps = grind (arith, nat_tests, f, l) in
+            let none : next_state d k ≡ None = ap (next_state d) e ∙ none_at_end in
+            absurd (cc (next, none))
+      ] refl
+
+  -- steps that are made one after another lead there
+  walked_to : (n k : ℕ) (probes : List Watch) → k ≤ run.steps → run.steps ≤ n + k → (walk d n (record { steps = k; probes = probes })).steps ≡ run.steps
+  walked_to zero k probes l m = omega (arith, l, m)
+  walked_to (suc n) k probes l m =
+      elim (next_state d k) as (λ o. next_state d k ≡ o
+      → (elim o as (λ x. Debug) [ None ↦ record { steps = k; probes = probes } | Some w ↦ walk d n (stepped_to w (record { steps = k; probes = probes })) ]).steps ≡ run.steps) [
+        | None ↦ λ none. last_step k l none
+        | Some w ↦ λ next. walked_to n (suc k) (stepped_to w (record { steps = k; probes = probes })).probes (one_more k l w next) (omega (arith, m))
+      ] refl
+
+  pub ends_behind : EndsBehind d run.steps
+  ends_behind = record {
+    goes_on = λ k below. ap is_none (next_before k below).1;
+    ended = ap is_none none_at_end;
+    walked = λ n probes far. walked_to n 0 probes (omega arith) (omega (arith, far));
+  }

@@ -1,0 +1,10 @@
+use Rattle.fw_compile.specs.Image.{image_of}
+use Rattle.joint_feed.specs.Stories.{story}
+use Rattle.subsystem.proofs.Sessions.{ends_behind}
+use Rattle.subsystem.proofs.law.sessions_end_with_runs.Goals as goal
+
+pub returns : goal.returns
+returns c = record {
+  ends = λ layout history run sound accepted is.
+      ends_behind (story (image_of layout) history) (c.run_and_model_agree.ensures.agreement layout history sound accepted).0 run is;
+}
