@@ -7,10 +7,9 @@ use Rattle.board_lines.specs.declared.lines.Lines.{Lines}
 use Rattle.board_lines.specs.Matrix.{turned_by}
 use Rattle.mcs48_core.specs.Cpu.{Cpu}
 use Rattle.mcs48_core.specs.Step.{Stepped, stepped, IsStep}
-use Rattle.mcs48_core.specs.declared.levels.Pins.{Pins}
 use Rattle.mcs48_core.specs.declared.stepping.Stuck.{Stuck}
 use Rattle.pc_wires.specs.Wires.{wires}
-use Rattle.joint_run.specs.Run.{World, after_step}
+use Rattle.joint_run.specs.Run.{after_step}
 use Rattle.joint_run.specs.Joint.{Beside, joint_cycle, latch_of, pins_by}
 use Rattle.joint_run.specs.Cycle.{Passed, outside_wires}
 use Rattle.joint_run.specs.Due.{beside, ended, outside_of, passed, made_first, keys_in_step, due_board, world_of, due_step, machine_after, IsSeen, IsJointStep}

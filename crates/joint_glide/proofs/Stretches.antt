@@ -1,5 +1,5 @@
 -- Quiet steps, one after another.
-use Rattle.std.proofs.Common.{◌≡◌, ◌≤◌, ◌<◌, ℕ, suc, zero, ◌+◌, ◌*◌, ◌%◌, ◌==◌, [], Bool, true, false, Some, Ok, Err, refl, ap, sym, ◌∙◌, subst, arith, add-one}
+use Rattle.std.proofs.Common.{◌≡◌, ◌≤◌, ◌<◌, ℕ, suc, zero, ◌+◌, ◌*◌, ◌%◌, ◌==◌, [], false, Some, Ok, Err, refl, ap, sym, ◌∙◌, subst, arith, add-one}
 use Rattle.std.specs.Prelude.{slice_get}
 use Rattle.std.specs.declared.option.Option.{Option}
 use Rattle.mcs48_core.specs.Cpu.{Cpu}
@@ -14,8 +14,8 @@ use Rattle.joint_run.specs.declared.due.Seen.{Seen}
 use Rattle.joint_run.specs.declared.machine.Machine.{Machine}
 use Rattle.joint_run.specs.declared.outside.Outside.{Outside}
 use Rattle.joint_run.proofs.OneStep.{step_of_run}
-use Rattle.joint_glide.specs.Calls.{pins_now, AreCalls, IsCall}
-use Rattle.joint_glide.specs.Quiet.{told_quietly, is_at, AreQuiet, HasGone, IsQuiet}
+use Rattle.joint_glide.specs.Calls.{pins_now, AreCalls}
+use Rattle.joint_glide.specs.Quiet.{told_quietly, AreQuiet, HasGone, IsQuiet}
 use Rattle.joint_glide.specs.Still.{IsStill, IsStillTo}
 use Rattle.joint_glide.proofs.Steps.{ended_so, is_quiet, quiet_step, stuck_so}
 
@@ -168,8 +168,8 @@ calls_are_quiet due tick (suc k) to old new still h room =
     let outside : between.outside ≡ old.outside = ap (λ (n : Machine). n.outside) a.parts in
     let still_now : (y : ℕ) → between.cycle ≤ y → y < between.cycle + c.cycles → IsStill y between.mcu.p2 (slice_get due.host.items 0) between.outside =
     λ y l u.
-        subst (λ p. IsStill y p (slice_get due.host.items 0) between.outside) (sym a.latch)
-        (subst (λ (o : Outside). IsStill y old.mcu.p2 (slice_get due.host.items 0) o) (sym outside) (still.still y (omega (arith, l, since)) (omega (arith, u, at, room)))) in
+    subst (λ p. IsStill y p (slice_get due.host.items 0) between.outside) (sym a.latch)
+    (subst (λ (o : Outside). IsStill y old.mcu.p2 (slice_get due.host.items 0) o) (sym outside) (still.still y (omega (arith, l, since)) (omega (arith, u, at, room)))) in
     let is : IsStep between.image.bytes between.mcu (stepped between.image.bytes (pins_now between) between.mcu) (Ok c.cycles) new.mcu =
     subst (λ (o : Option Stepped). IsStep between.image.bytes between.mcu o (Ok c.cycles) new.mcu) (sym c.step) (refl, refl) in
     let quiet : IsQuiet due between new =

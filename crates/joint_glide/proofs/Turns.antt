@@ -1,6 +1,5 @@
 -- A turn of the loop over quiet steps, by what its calls ensure.
-use Rattle.std.proofs.Common.{◌≡◌, ◌≤◌, ◌<◌, ◌%◌, ◌==◌, ℕ, ◌+◌, ◌*◌, Bool, true, false, Some, Ok, Err, ap, sym, ◌∙◌, subst, arith}
-use Rattle.std.specs.declared.option.Option.{Option}
+use Rattle.std.proofs.Common.{◌≡◌, ◌≤◌, ◌<◌, ◌%◌, ◌==◌, ℕ, ◌+◌, ◌*◌, false, Some, Ok, Err, ap, sym, ◌∙◌, subst, arith}
 use Rattle.std.specs.declared.result.Result.{Result}
 use Rattle.board_lines.specs.declared.lines.Lines.{Lines}
 use Rattle.mcs48_core.specs.Cpu.{Cpu}

@@ -1,6 +1,6 @@
 //! Joint steps, as many at once as there are before something may happen.
 
-ghost use Rattle.std.specs.Prelude.{◌≡◌, ◌+◌, ◌<◌, ◌≤◌, ◌^◌, OnErr, OnOk};
+ghost use Rattle.std.specs.Prelude.{◌+◌, ◌<◌, ◌^◌, OnOk};
 ghost use Rattle.joint_glide.specs.Quiet.{HasGone};
 ghost use Rattle.joint_run.specs.Due.{told};
 

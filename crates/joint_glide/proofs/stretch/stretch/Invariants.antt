@@ -1,5 +1,4 @@
 use Rattle.std.proofs.Common.{◌≡◌, ◌≤◌, ◌-◌}
-use Rattle.joint_run.specs.declared.machine.Machine.{Machine}
 use Rattle.joint_glide.specs.Quiet.{AreQuiet}
 use Rattle.joint_glide.proofs.Stretches.{stood}
 use Rattle.joint_glide.proofs.stretch.stretch.Given as goal
