@@ -1,4 +1,5 @@
 pub mod Periods
+pub mod Silent
 pub mod Known
 pub mod Edges
 pub mod Order

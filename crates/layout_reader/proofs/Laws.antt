@@ -1,16 +1,26 @@
 -- Laws of the entries of a layout.
-use Rattle.std.proofs.Common.{◌≡◌, ℕ, zero, suc, ◌+◌, ◌<◌, ◌≤◌, Bool, true, false, ◌==◌, ◌||◌, eqb, List, [], ◌∷◌, ◌++◌, map, length, refl, ap, ◌∙◌, arith, subst, ◌&&◌}
+use Rattle.std.proofs.Common.{◌≡◌, ℕ, zero, suc, ◌+◌, ◌<◌, ◌≤◌, Bool, true, false, ◌==◌, ◌||◌, eqb, List, [], ◌∷◌, ◌++◌, map, length, Some, refl, ap, ◌∙◌, arith, subst, ◌&&◌}
 use Rattle.std.specs.Prelude.{All, cond}
 use Rattle.std.specs.List.{IsDistinct, list_any, filter, range_with_len}
 use Rattle.std.specs.Cmp.{nat_eq_equiv}
 use Rattle.std.proofs.lemmas.List.{map-append, append-nil}
 use Rattle.std.proofs.lemmas.List.Elements.{All-push, All-nil, filter-append}
 use Rattle.std.proofs.lemmas.List.FromFn.{map-range_with_len_more}
+use Rattle.std.proofs.lemmas.List.Quantifiers.{position-Some}
 use Rattle.std.proofs.lemmas.Map.Keys.{IsDistinct-push}
+use Rattle.std.proofs.lemmas.Map.Steps.{length-le_from_distinct_below}
 use Rattle.std.proofs.lemmas.Bool.Decides.{nat_tests}
+use Rattle.pc_tables.specs.Keys.{Row, row, keys, key_with_name}
+use Rattle.pc_tables.proofs.KeyLaws.{key_count}
+use Rattle.std.specs.Str.{bytes_eq}
 use Rattle.layout_reader.specs.declared.entry.Entry.{Entry}
 use Rattle.layout_reader.specs.Entries.{IsEntry, is_fn, is_place_taken, is_key_named, has_fn}
 use Rattle.layout_reader.specs.Layouts.{AreEntries, places_of, keys_of, sample_entry}
+
+-- a key that has a name is one of the 84
+pub key_range : (name : List ℕ) (key : ℕ) → key_with_name name ≡ Some key → key < 84
+key_range name key h =
+    let found = position-Some (λ (k : Row). bytes_eq k.name name) keys key (row [] 0 0) h in omega (arith, found.0, key_count)
 
 pub eqb-swap : (a b : ℕ) → eqb a b ≡ eqb b a
 eqb-swap a b = grind (arith, nat_tests)
@@ -74,6 +84,12 @@ key-below (e ∷ es) each q h =
 length-map_entries : (entries : List Entry) → length (keys_of entries) ≡ length entries
 length-map_entries [] = refl
 length-map_entries (e ∷ es) = ap suc (length-map_entries es)
+
+-- no key stands twice, so there are 84 entries at most
+pub entries_limit : (entries : List Entry) → AreEntries entries → length entries ≤ 84
+entries_limit entries sound =
+    let few = length-le_from_distinct_below (keys_of entries) 84 sound.own_keys (key-below entries sound.each) in
+    subst (λ n. n ≤ 84) (length-map_entries entries) few
 
 -- in the sample layout no number below n has the place or the key n
 apart : (f : Entry → ℕ) → ((k : ℕ) → f (sample_entry k) ≡ k) → (a n q : ℕ) → a + n ≤ q

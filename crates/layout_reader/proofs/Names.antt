@@ -1,11 +1,12 @@
 -- The names of a table's fields, as its map gives them.
-use Rattle.std.proofs.Common.{◌≡◌, ℕ, suc, Bool, false, arith, not, ◌||◌, List, [], ◌∷◌, map, String, Global, string_bytes, eqb, refl, ap}
+use Rattle.std.proofs.Common.{◌≡◌, ℕ, suc, Bool, false, arith, not, ◌||◌, List, [], ◌∷◌, map, String, Global, string_bytes, length, eqb, refl, ap}
 use Rattle.std.specs.List.{list_any}
 use Rattle.std.proofs.lemmas.Bool.Decides.{nat_tests}
 use Rattle.toml.specs.declared.value.Value.{Value}
-use Rattle.toml.specs.View.{members_view}
+use Rattle.toml.specs.View.{members_view, items_view}
 use Rattle.layout_reader.specs.declared.fields.Level.{Level}
 use Rattle.layout_reader.specs.Fields.{is_field, has_other_field}
+use Rattle.layout_reader.specs.TopLevel.{is_empty}
 
 abbrev pub is_other : Level → String Global → Bool
 is_other level name = not (is_field level (string_bytes name))
@@ -17,3 +18,8 @@ other_names level (e ∷ es) = ap (λ b. not (is_field level (string_bytes e.0))
 
 not_zero : (n : ℕ) → false ≡ eqb (suc n) 0
 not_zero n = grind (arith, nat_tests)
+
+-- a list of elements is empty where its length is 0
+pub is_empty_view : (elements : List Value) → is_empty (items_view elements) ≡ eqb (length elements) 0
+is_empty_view [] = refl
+is_empty_view (e ∷ es) = not_zero (length es)
