@@ -56,7 +56,8 @@ fn any_prescaler(drawn: u8) -> u8
     drawn % 32
 }
 
-/// A processor after reset in a part that held what the seed gives: any data memory, A, T, carries and prescaler.
+/// A processor after reset in a part that held what the seed gives: any data memory, A, T, carries, prescaler, timer
+/// request, bus latch and last level of T1.
 fn switched_on(mut seed: u32) -> Mcu {
     let mut mcu = reset();
     for cell in mcu.ram.iter_mut() {
@@ -66,6 +67,9 @@ fn switched_on(mut seed: u32) -> Mcu {
     mcu.t = draw(&mut seed);
     mcu.pre = any_prescaler(draw(&mut seed));
     mcu.psw = any_carries(draw(&mut seed));
+    mcu.rq = draw(&mut seed) >= 0x80;
+    mcu.bus = draw(&mut seed);
+    mcu.last_t1 = draw(&mut seed) >= 0x80;
     mcu
 }
 
