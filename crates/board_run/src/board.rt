@@ -164,8 +164,8 @@ impl<F: Feed> Board<F> {
     }
 
     /// Makes the same run, and in place of its log puts the two wires as a value change dump, each line whole. The wires
-    /// are sampled after each step, behind the probes' look; each change has its time, and a byte that passes over the
-    /// wires is a comment behind the change that completes it.
+    /// are sampled after each step, behind the probes' look; each change has its time, and a byte whose frame is whole, so
+    /// that the decoder hears it, is a comment behind the change that completes it.
     ///
     /// On Ok the sink has taken the whole text, its count of faults is as it was, and the probes have looked at each
     /// state. A failure comes only where a put failed: then the sink has a prefix of the text, and the probes have looked

@@ -36,10 +36,6 @@ pub walk_ended : (s : Debuggee) (k : ℕ) (d : Debug) → next_state s d.steps �
 walk_ended s zero d e = refl
 walk_ended s (suc n) d e = walk_by s n d None e
 
--- a walk of no step stays
-pub walk_done : (s : Debuggee) (n i : ℕ) (d : Debug) → n ≤ i → walk s (n - i) d ≡ d
-walk_done s n i d l = let e : n - i ≡ 0 = omega (arith, l) in ap (λ (k : ℕ). walk s k d) e
-
 walk_step : (s : Debuggee) (k n : ℕ) (d : Debug) (w : World Beside) → k ≡ suc n → next_state s d.steps ≡ Some w → walk s k d ≡ walk s n (stepped_to w d)
 walk_step s k n d w e h = ap (λ (i : ℕ). walk s i d) e ∙ walk_by s n d (Some w) h
 
@@ -74,10 +70,6 @@ came d hit = record { debug = d; hit = hit }
 pub hunt_ended : (s : Debuggee) (k : ℕ) (d : Debug) → next_state s d.steps ≡ None → hunt s k d ≡ came d None
 hunt_ended s zero d e = refl
 hunt_ended s (suc n) d e = hunt_by s n d None e
-
--- and so it does with no step left
-pub hunt_done : (s : Debuggee) (n i : ℕ) (d : Debug) → n ≤ i → hunt s (n - i) d ≡ came d None
-hunt_done s n i d l = let e : n - i ≡ 0 = omega (arith, l) in ap (λ (k : ℕ). hunt s k d) e
 
 module _ (s : Debuggee) (n i : ℕ) (old new : Sitting) (before after : List Watch) (all : Hunted) (of : old.debuggee ≡ s) (l : i < n) (m : IsMadeTo old before new after)
     (so_far : hunt s (n - i) (debug old before) ≡ all) where

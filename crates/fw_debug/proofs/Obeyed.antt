@@ -54,10 +54,6 @@ pub record AreDone (s : Debuggee) (all : List (List ℕ)) (d : Debug) (rest : Li
   pub all_so : all ≡ first ++ rest
   pub told : lines_told s first d ≡ Ok (told now text)
 
--- none is obeyed yet
-pub none_done : (s : Debuggee) (all : List (List ℕ)) (d : Debug) → AreDone s all d all d []
-none_done s all d = record { first = []; all_so = refl; told = refl }
-
 right_by : (s : Debuggee) (others : List (List ℕ)) (text : List ℕ) (end : Told) (r : Outcome) → before_all text (and_lines s others r) ≡ Ok end → (t : Told) × (r ≡ Ok t)
 right_by s others text end (Ok t) e = (t, refl)
 right_by s others text end (Err rule) e = absurd (cc e)

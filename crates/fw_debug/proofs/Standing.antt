@@ -61,10 +61,6 @@ none_step edges events bytes w =
 next_there : (s : Debuggee) (k : ℕ) (w : World Beside) (over : Bool) → state_at s.story k ≡ Some w → over ≡ session_is_over s w → next_state s k ≡ (if over then None else state_at s.story (suc k))
 next_there s k w over e o = ap (next_from s k) e ∙ ap (λ b. if b then None else state_at s.story (suc k)) (sym o)
 
--- where the run is past its end it has ended
-pub ended_past : (s : Debuggee) (k : ℕ) (w : World Beside) (over : Bool) → state_at s.story k ≡ Some w → over ≡ session_is_over s w → over ≡ true → next_state s k ≡ None
-ended_past s k w over e o t = next_there s k w over e o ∙ ap (λ b. if b then None else state_at s.story (suc k)) t
-
 module _ (s : Debuggee) (c : Course) (h : IsOnCourse s.story c) where
   pub here : state_at s.story c.joint.steps ≡ Some h.world
   here = subst (λ (bytes : List ℕ). run_at (joint_board s.story.edges s.story.events) bytes joint_start c.joint.steps ≡ Some h.world) h.image h.in_run.run

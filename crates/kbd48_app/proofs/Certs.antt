@@ -75,7 +75,7 @@ is_of_cert read file first second shelf h =
     ]
 
 -- a certificate without a fault
-right_exit : {Rule : Type 0} (number : Rule → ℕ) (said : Result Proved (FirstFault Rule)) (proved : Proved)
+pub right_exit : {Rule : Type 0} (number : Rule → ℕ) (said : Result Proved (FirstFault Rule)) (proved : Proved)
     → said ≡ Ok proved → exit_said (certified number said) ≡ exits.Done
 right_exit number (Ok said) proved is = refl
 right_exit number (Err fault) proved is = absurd cc
@@ -136,10 +136,3 @@ module _ (n : ℕ) (first second : List ℕ) (shelf : Told) where
   fault_led_by_cert (InKeys fault) h = absurd (is_of_cert kinds.Keys h.4 first second shelf h.5)
   fault_led_by_cert (InScript fault) h = absurd (is_of_cert kinds.Script h.0 first second shelf h.1)
   fault_led_by_cert (InText fault) h = absurd (is_of_cert kinds.Text h.4 first second shelf h.5)
-
-  -- where nothing stands in the way, all is said
-  pub cert_done : (bytes image text : List ℕ) (proved : Proved) → fetched shelf first (limit_of kinds.Hex) ≡ Found bytes
-      → hex_of bytes ≡ Ok image → fetched (after_fetch shelf) second (limit_of kinds.Cert) ≡ Found text
-      → certificate_said image text ≡ Ok proved → leads n (pair_plan Certify first second) shelf ≡ exits.Done
-  cert_done bytes image text proved found is then right =
-      leads_both bytes image text found is then ∙ right_exit number_of (certificate_said image text) proved right

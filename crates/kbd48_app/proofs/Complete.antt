@@ -1,70 +1,88 @@
 -- Where nothing stands in the way.
-use Rattle.std.proofs.Common.{◌≡◌, ℕ, ◌-◌, ◌^◌, ◌<◌, Bool, true, false, List, ◌++◌, length, Some, None, Ok, IfSome, ap, sym, ◌∙◌, subst, inl, inr, refl, arith, ◌⊎◌}
-use Rattle.layout_reader.specs.Faults.{Refusal as LayoutRefusal}
-use Rattle.layout_reader.specs.Layouts.{KeyLayout}
+use Rattle.std.proofs.Common.{◌≡◌, ℕ, ◌-◌, ◌^◌, ◌<◌, Bool, true, false, List, ◌++◌, length, Some, None, Ok, Err, IfSome, ap, sym, ◌∙◌, subst, inl, inr, refl, arith, ◌⊎◌}
 use Rattle.std.specs.declared.option.Option.{Option}
-use Rattle.std.specs.declared.result.Result.{Result}
 use Rattle.board_run.proofs.EndOf.{end_of}
 use Rattle.board_run.specs.declared.ended.End.{End}
 use Rattle.board_run.specs.declared.ended.End.TheVariants.{Over, Stuck}
-use Rattle.hexfile.specs.Hex.{HexOutcome}
-use Rattle.fw_compile.specs.Image.{image_of}
+use Rattle.cycle_cert.specs.Answers.{answer_of as certificate_said}
+use Rattle.cycle_cert.specs.Faults.{number_of}
 use Rattle.fw_debug.specs.Probes.{Watch}
-use Rattle.fw_debug.specs.Sessions.{Debuggee, of_layout, of_program}
 use Rattle.joint_feed.specs.Stories.{story}
 use Rattle.io_edge.specs.Faults.{Rose}
 use Rattle.io_edge.specs.MemorySink.{HeldBytes}
 use Rattle.io_edge.specs.Said.{said}
 use Rattle.io_edge.specs.Said.{Shown}
-use Rattle.io_edge.specs.Shelf.{Told, Fetched, Found, after_fetch, fetched}
-use Rattle.mcs48_isa.specs.Listing.{listing_of}
+use Rattle.io_edge.specs.Shelf.{Told, Fetched, after_fetch}
 use Rattle.kbd48_app.specs.declared.exit.Exit.{Exit}
 use Rattle.kbd48_app.specs.declared.exit.Exit.TheVariants as exits
-use Rattle.kbd48_app.specs.declared.words.BoardCommand.{BoardCommand}
+use Rattle.kbd48_app.specs.declared.refusal.Refusal.TheVariants as refusals
 use Rattle.kbd48_app.specs.declared.words.Command.{Command}
 use Rattle.kbd48_app.specs.declared.words.Command.TheVariants.{OverFile, OverPair, Debug, Probe, Board, Feed, Sample}
 use Rattle.kbd48_app.specs.declared.words.PairCommand.TheVariants.{Certify, OverRun, Spell}
-use Rattle.kbd48_app.specs.declared.words.FileCommand.{FileCommand}
 use Rattle.kbd48_app.specs.declared.words.FileCommand.TheVariants.{Step, Listing, Assemble, Compile}
 use Rattle.kbd48_app.specs.Answers.{MayAnswerOf, MayAnswer, MayEndAs, Left}
-use Rattle.kbd48_app.specs.Complete.{IsSound, IsFaultless, IsFaultlessAs, IsLeft, ScriptServed}
-use Rattle.kbd48_app.specs.declared.kind.Kind.TheVariants as kinds
-use Rattle.kbd48_app.specs.Kinds.{kind_of, limit_of}
-use Rattle.kbd48_app.specs.Plans.{Answer, Debugs, Runs, assembled, compiled, debug_next, file_said, of_image, plan_of, probe_next, run_said, script_next}
-use Rattle.kbd48_app.specs.Reached.{on_fetched, may_lack}
+use Rattle.kbd48_app.specs.Causes.{IsStuck}
+use Rattle.kbd48_app.specs.Complete.{IsFaultless, IsLeft, IsNoFault, IsServed}
+use Rattle.kbd48_app.specs.Plans.{Answer, Plan, Gives, Certifies, Spells, Runs, Boards, Samples, Debugs, Fetches, plan_of}
+use Rattle.kbd48_app.specs.Reached.{on_fetched}
 use Rattle.kbd48_app.specs.Says.{Says, exit_said, text_said}
-use Rattle.kbd48_app.specs.Stepping.{Progress, Stands, Stopped, after_steps}
-use Rattle.kbd48_app.specs.Words.{command_of, name_in, second_in, third_in, fourth_in}
-use Rattle.kbd48_app.proofs.Certs.{cert_done}
-use Rattle.kbd48_app.proofs.BoardExits.{board_leads}
-use Rattle.kbd48_app.proofs.Ends.{board_exit, leads, ends_so, exit_by, IsLed}
-use Rattle.kbd48_app.proofs.Programs.{leads_all}
-use Rattle.kbd48_app.proofs.Reaching.{leads_found}
-use Rattle.kbd48_app.proofs.Runs.{history_exit, leads_both}
+use Rattle.kbd48_app.specs.Words.{command_of}
+use Rattle.kbd48_app.proofs.Caused.{caused_as}
+use Rattle.kbd48_app.proofs.Certs.{right_exit}
 use Rattle.kbd48_app.proofs.Concluded.{never_write}
-use Rattle.kbd48_app.proofs.Texts.{text_done}
+use Rattle.kbd48_app.proofs.Ends.{board_exit, leads, ends_so, exit_by}
+use Rattle.kbd48_app.proofs.Exits.{caused}
 
--- the exit of a run
-run_left : (count : ℕ) (run : Progress) → IsLeft (Some (OverFile (Step count))) (exit_said (run_said count run))
-run_left count (Stands cpu cycles) = inl refl
-run_left count (Stopped stuck) = inr (inr refl)
+-- where nothing stands in its way a plan leads to its end, or to a byte without an instruction
+abbrev IsPast : Exit → Type 0
+IsPast exit = (exit ≡ exits.Done) ⊎ (exit ≡ exits.Stuck)
 
--- the exit of a sound file's answer
-sound_left : (command : FileCommand) (bytes : List ℕ) → IsSound command bytes → IsLeft (Some (OverFile command)) (exit_said (file_said command bytes))
-sound_left (Step count) bytes sound =
-    subst (λ (o : HexOutcome). IsLeft (Some (OverFile (Step count))) (exit_said (of_image (λ image. run_said count (after_steps image count)) o))) (sym sound.1)
-    (run_left count (after_steps sound.0 count))
-sound_left Listing bytes sound = inl (ap (λ (o : HexOutcome). exit_said (of_image (λ image. Ok (listing_of image)) o)) sound.1)
-sound_left Assemble bytes sound = inl (ap (λ (o : Result (List ℕ) (ℕ × ℕ)). exit_said (assembled o)) sound.1)
-sound_left Compile bytes sound = inl (ap (λ (o : Result KeyLayout LayoutRefusal). exit_said (compiled o)) sound.1)
+said_past : (said : Answer) → IsNoFault said → IsPast (exit_said said)
+said_past (Ok text) h = inl refl
+said_past (Err (refusals.Stuck place)) h = inr refl
+said_past (Err refusals.Words) h = absurd h
+said_past (Err refusals.Read) h = absurd h
+said_past (Err (refusals.TooLong kind)) h = absurd h
+said_past (Err (refusals.Hex fault)) h = absurd h
+said_past (Err (refusals.Asm line number)) h = absurd h
+said_past (Err (refusals.Layout entry number)) h = absurd h
+said_past (Err (refusals.Keys line number)) h = absurd h
+said_past (Err (refusals.Cert line number)) h = absurd h
+said_past (Err (refusals.Script line number)) h = absurd h
+said_past (Err (refusals.Text number)) h = absurd h
+said_past (Err (refusals.Timing line number first second)) h = absurd h
+said_past (Err refusals.Memory) h = absurd h
 
--- the exits of a run on the board
-board_left : (wanted : BoardCommand) (end : Option End) → IsLeft (Some (Board wanted)) (board_exit end)
-board_left wanted None = inl refl
-board_left wanted (Some Over) = inl refl
-board_left wanted (Some (Stuck place)) = inr (inr refl)
+board_past : (end : Option End) → IsPast (board_exit end)
+board_past None = inl refl
+board_past (Some Over) = inl refl
+board_past (Some (Stuck place)) = inr refl
 
--- want of memory is always left
+served_past : (n : ℕ) (p : Plan) (shelf : Told) → IsServed n p (Some shelf) → IsPast (leads n p shelf)
+served_past n (Fetches kind name next) shelf h =
+    subst (λ (o : Fetched). IsPast (on_fetched exits.Read exits.Input (λ bytes. leads n (next bytes) (after_fetch shelf)) o))
+    (sym h.1) (served_past n (next h.0) (after_fetch shelf) h.2)
+served_past n (Gives said) shelf h = said_past said h
+served_past n (Certifies image text) shelf h = inl (right_exit number_of (certificate_said image text) h.0 h.1)
+served_past n (Spells layout text) shelf h = inl (ap exit_by h)
+served_past n (Runs command layout history) shelf h = inl refl
+served_past n (Boards wanted image history) shelf h = board_past (end_of (story image history))
+served_past n (Samples count) shelf h = inl refl
+served_past n (Debugs s script) shelf h = inl (ap exit_by h)
+
+-- the end and want of memory are always left
+done_left : (command : Command) → IsLeft (Some command) exits.Done
+done_left (Feed bytes) = inl refl
+done_left (Sample count) = inl refl
+done_left (OverFile (Step count)) = inl refl
+done_left (OverFile Listing) = inl refl
+done_left (OverFile Assemble) = inl refl
+done_left (OverFile Compile) = inl refl
+done_left (OverPair command) = inl refl
+done_left (Board wanted) = inl refl
+done_left Debug = inl refl
+done_left Probe = inl refl
+
 memory_left : (command : Command) → IsLeft (Some command) exits.Memory
 memory_left (Feed bytes) = inr refl
 memory_left (Sample count) = inr refl
@@ -72,94 +90,57 @@ memory_left (OverFile (Step count)) = inr (inl refl)
 memory_left (OverFile Listing) = inr refl
 memory_left (OverFile Assemble) = inr refl
 memory_left (OverFile Compile) = inr refl
-memory_left (OverPair Certify) = inr refl
-memory_left (OverPair Spell) = inr refl
-memory_left (OverPair (OverRun command)) = inr refl
+memory_left (OverPair command) = inr refl
 memory_left (Board wanted) = inr (inl refl)
 memory_left Debug = inr refl
 memory_left Probe = inr refl
 
-answer_left : (command : Command) (led : Exit) (answer : Answer) (lack : Bool) → IsLeft (Some command) led → IsLed led lack answer → IsLeft (Some command) (exit_said answer)
-answer_left command led answer lack left may =
-    elim may [
-      | inl same ↦ subst (λ (e : Exit). IsLeft (Some command) e) (sym same) left
-      | inr memory ↦ subst (λ (a : Answer). IsLeft (Some command) (exit_said a)) (sym memory.0) (memory_left command)
-    ]
+-- a byte without an instruction, where it has its cause
+stuck_left : (command : Option Command) (p : Plan) (shelf : Told) → IsStuck command p shelf → IsLeft command exits.Stuck
+stuck_left command p shelf (inl step) = subst (λ (c : Option Command). IsLeft c exits.Stuck) (sym step.1) (inr (inr refl))
+stuck_left command p shelf (inr board) = subst (λ (c : Option Command). IsLeft c exits.Stuck) (sym board.1) (inr (inr refl))
 
+past_left : (n : ℕ) (words : List (List ℕ)) (command : Command) (shelf : Told) (exit : Exit)
+    → exit ≡ leads n (plan_of (Some command) words) shelf → IsPast exit → IsLeft (Some command) exit
+past_left n words command shelf exit led (inl done) =
+    subst (λ (e : Exit). IsLeft (Some command) e) (sym done) (done_left command)
+past_left n words command shelf exit led (inr stuck) =
+    let p = plan_of (Some command) words in
+    subst (λ (e : Exit). IsLeft (Some command) e) (sym stuck)
+    (stuck_left (Some command) p shelf
+    (caused_as n (Some command) p shelf exits.Stuck (leads n p shelf) (sym stuck ∙ led) (caused n (Some command) words shelf)))
+
+-- a command that names no file, whatever shelf there is
 fed_left : (bytes text : List ℕ) (answer : Answer) → MayAnswerOf (Ok text) answer → IsLeft (Some (Feed bytes)) (exit_said answer)
 fed_left bytes text answer may = elim may [ inl memory ↦ inr (ap exit_said memory) | inr same ↦ inl (ap exit_said same) ]
 
-found_left : (command : FileCommand) (bytes : List ℕ) (outcome : Fetched) → outcome ≡ Found bytes → IsSound command bytes → IsLeft (Some (OverFile command)) (on_fetched exits.Read exits.Input (λ bs. exit_said (file_said command bs)) outcome)
-found_left command bytes outcome is sound =
-    subst (λ (o : Fetched). IsLeft (Some (OverFile command)) (on_fetched exits.Read exits.Input (λ bs. exit_said (file_said command bs)) o)) (sym is)
-    (sound_left command bytes sound)
-
--- a script without a fault
-script_done : (n : ℕ) (name : List ℕ) (s : Debuggee) (shelf : Told) → ScriptServed n name shelf → leads n (script_next name s) shelf ≡ exits.Done
-script_done n name s shelf h = leads_found n kinds.Script name h.0 (Debugs s) shelf h.1 ∙ ap exit_by h.2
-
-answers_left : (words : List (List ℕ)) (command : Option Command) (shelf after : Option Told) (answer : Answer) (probes : List Watch) (left : Left) → IsFaultlessAs (length probes) command words shelf → MayEndAs command words shelf answer after probes left → IsLeft command (exit_said answer)
-answers_left words None shelf after answer probes left faultless may = absurd faultless
-answers_left words (Some (Feed bytes)) shelf after answer probes left faultless may = fed_left bytes _ answer may.0
-answers_left words (Some (Sample count)) shelf after answer probes left faultless may =
+fileless_left : (n : ℕ) (words : List (List ℕ)) (command : Command) (after : Option Told) (answer : Answer) (probes : List Watch) (left : Left)
+    → IsServed n (plan_of (Some command) words) None → MayEndAs (Some command) words None answer after probes left
+    → IsLeft (Some command) (exit_said answer)
+fileless_left n words (Feed bytes) after answer probes left served may = fed_left bytes _ answer may.0
+fileless_left n words (Sample count) after answer probes left served may =
     elim may.0 [ inl memory ↦ inr (ap exit_said memory.0) | inr said ↦ inl (ap exit_said said.3) ]
-answers_left words (Some (OverFile command)) None after answer probes left faultless may = absurd faultless
-answers_left words (Some (OverFile command)) (Some shelf) after answer probes left faultless may =
-    let p = plan_of (Some (OverFile command)) words in
-    answer_left (OverFile command) (leads (length probes) p shelf) answer (may_lack p shelf)
-    (found_left command faultless.0 (fetched shelf (name_in words) (limit_of (kind_of command))) faultless.1 faultless.2)
-    (ends_so p shelf answer after probes left may)
-answers_left words (Some (OverPair command)) None after answer probes left faultless may = absurd faultless
-answers_left words (Some (OverPair Certify)) (Some shelf) after answer probes left faultless may =
-    let p = plan_of (Some (OverPair Certify)) words in
-    let h = faultless in
-    answer_left (OverPair Certify) (leads (length probes) p shelf) answer (may_lack p shelf)
-    (inl (cert_done (length probes) (name_in words) (second_in words) shelf h.0 h.2 h.4 h.6 h.1 h.3 h.5 h.7))
-    (ends_so p shelf answer after probes left may)
-answers_left words (Some (OverPair Spell)) (Some shelf) after answer probes left faultless may =
-    let p = plan_of (Some (OverPair Spell)) words in
-    let h = faultless in
-    answer_left (OverPair Spell) (leads (length probes) p shelf) answer (may_lack p shelf)
-    (inl (text_done (length probes) (name_in words) (second_in words) shelf h.0 h.4 h.2 h.1 h.3 h.5 h.6))
-    (ends_so p shelf answer after probes left may)
-answers_left words (Some (OverPair (OverRun command))) (Some shelf) after answer probes left faultless may =
-    let p = plan_of (Some (OverPair (OverRun command))) words in
-    let h = faultless in
-    let on = after_fetch (after_fetch shelf) in
-    answer_left (OverPair (OverRun command)) (leads (length probes) p shelf) answer (may_lack p shelf)
-    (inl (leads_both (length probes) (Runs command) (name_in words) (second_in words) h.0 h.4 h.2 shelf h.1 h.3 h.5 ∙ ap (history_exit (length probes) (Runs command) h.2 on) h.7))
-    (ends_so p shelf answer after probes left may)
-answers_left words (Some (Board wanted)) None after answer probes left faultless may = absurd faultless
-answers_left words (Some (Board wanted)) (Some shelf) after answer probes left faultless may =
-    let p = plan_of (Some (Board wanted)) words in
-    let h = faultless in
-    answer_left (Board wanted) (leads (length probes) p shelf) answer (may_lack p shelf)
-    (subst (IsLeft (Some (Board wanted)))
-    (sym (board_leads (length probes) wanted (name_in words) (second_in words) (third_in words) shelf h.0 h.2 h.4 h.8 h.6 h.10 h.1 h.3 h.5 h.7 h.9 h.11))
-    (board_left wanted (end_of (story h.2 h.10))))
-    (ends_so p shelf answer after probes left may)
-answers_left words (Some Debug) None after answer probes left faultless may = absurd faultless
-answers_left words (Some Debug) (Some shelf) after answer probes left faultless may =
+fileless_left n words (OverFile command) after answer probes left served may = absurd served
+fileless_left n words (OverPair Certify) after answer probes left served may = absurd served
+fileless_left n words (OverPair Spell) after answer probes left served may = absurd served
+fileless_left n words (OverPair (OverRun command)) after answer probes left served may = absurd served
+fileless_left n words (Board wanted) after answer probes left served may = absurd served
+fileless_left n words Debug after answer probes left served may = absurd served
+fileless_left n words Probe after answer probes left served may = absurd served
+
+answers_left : (words : List (List ℕ)) (command : Option Command) (shelf after : Option Told) (answer : Answer) (probes : List Watch) (left : Left)
+    → IsServed (length probes) (plan_of command words) shelf → MayEndAs command words shelf answer after probes left
+    → IsLeft command (exit_said answer)
+answers_left words None shelf after answer probes left served may = absurd served
+answers_left words (Some command) None after answer probes left served may =
+    fileless_left (length probes) words command after answer probes left served may
+answers_left words (Some command) (Some shelf) after answer probes left served may =
     let n = length probes in
-    let p = plan_of (Some Debug) words in
-    let next = debug_next (third_in words) in
-    let h = faultless in
-    let on = after_fetch (after_fetch shelf) in
-    answer_left Debug (leads n p shelf) answer (may_lack p shelf)
-    (inl (leads_both n next (name_in words) (second_in words) h.0 h.4 h.2 shelf h.1 h.3 h.5
-    ∙ (ap (history_exit n next h.2 on) h.7 ∙ script_done n (third_in words) (of_layout (story (image_of h.2) h.6)) on h.8)))
-    (ends_so p shelf answer after probes left may)
-answers_left words (Some Probe) None after answer probes left faultless may = absurd faultless
-answers_left words (Some Probe) (Some shelf) after answer probes left faultless may =
-    let n = length probes in
-    let p = plan_of (Some Probe) words in
-    let h = faultless in
-    let next = probe_next (fourth_in words) in
-    let on = after_fetch (after_fetch (after_fetch shelf)) in
-    answer_left Probe (leads n p shelf) answer (may_lack p shelf)
-    (inl (leads_all next (name_in words) (second_in words) (third_in words) shelf h.2 (h.0, h.1, h.3) n h.4 h.8 h.6 h.5 h.7 h.9
-    ∙ (ap (history_exit n (λ layout. next h.2) h.6 on) h.11 ∙ script_done n (fourth_in words) (of_program (story h.2 h.10)) on h.12)))
-    (ends_so p shelf answer after probes left may)
+    let p = plan_of (Some command) words in
+    elim (ends_so p shelf answer after probes left may) [
+      | inl led ↦ past_left n words command shelf (exit_said answer) led (subst IsPast (sym led) (served_past n p shelf served))
+      | inr memory ↦ subst (λ (a : Answer). IsLeft (Some command) (exit_said a)) (sym memory.0) (memory_left command)
+    ]
 
 not_risen : (before after : ℕ) → after ≡ before → before < 2 ^ 64 - 1 → Rose before after → ⊥
 not_risen before after same below rose = omega (arith, same, below, rose)

@@ -1,5 +1,5 @@
 -- The exits that a call may have, and what each of them tells.
-use Rattle.std.proofs.Common.{◌≡◌, ℕ, Bool, true, List, Some, None, IfSome, inl, inr, refl, ap, sym, subst, ◌∙◌, ◌⊎◌}
+use Rattle.std.proofs.Common.{◌≡◌, ℕ, Bool, true, List, Some, None, inl, inr, refl, ap, sym, subst, ◌∙◌, ◌⊎◌}
 use Rattle.std.specs.declared.option.Option.{Option}
 use Rattle.io_edge.specs.Shelf.{Told}
 use Rattle.kbd48_app.specs.declared.exit.Exit.{Exit}
@@ -146,8 +146,3 @@ pub may_exit : (led : Exit) (lack : Bool) (exit result : Exit) → led ≡ exit 
     → MayExit exit result
 may_exit led lack exit result is h =
     elim h [ inl same ↦ inl (same ∙ is) | inr m ↦ inr (elim m [ inl memory ↦ inl memory.0 | inr write ↦ inr write ]) ]
-
--- a fact of a shelf that tells its files
-pub if_told : (shelf : Option Told) (P : Told → Type 0) → ((told : Told) → shelf ≡ Some told → P told) → IfSome shelf P
-if_told (Some told) P h = h told refl
-if_told None P h = tt

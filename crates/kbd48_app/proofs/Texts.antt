@@ -1,5 +1,5 @@
 -- `type`, whose plan fetches a layout, and then a text for it.
-use Rattle.std.proofs.Common.{◌≡◌, ℕ, List, None, Ok, Err, inl, inr, refl, ap, subst, ◌∙◌, ◌⊎◌}
+use Rattle.std.proofs.Common.{◌≡◌, ℕ, List, Ok, Err, inl, inr, refl, ap, subst, ◌∙◌, ◌⊎◌}
 use Rattle.io_edge.specs.Shelf.{Told, Fetched, Found, after_fetch, fetched}
 use Rattle.layout_reader.specs.Documents.{layout_of_document}
 use Rattle.layout_reader.specs.Faults.{Refusal as LayoutRefusal}
@@ -114,10 +114,3 @@ module _ (n : ℕ) (first second : List ℕ) (shelf : Told) where
   fault_led_by_text (InCert fault) h = absurd (is_of_text kinds.Cert h.4 first second shelf h.5)
   fault_led_by_text (InKeys fault) h = absurd (is_of_text kinds.Keys h.4 first second shelf h.5)
   fault_led_by_text (InScript fault) h = absurd (is_of_text kinds.Script h.0 first second shelf h.1)
-
-  -- where nothing stands in the way, all is said
-  pub text_done : (bytes text : List ℕ) (layout : KeyLayout)
-      → fetched shelf first (limit_of kinds.Layout) ≡ Found bytes → layout_of_document bytes ≡ Ok layout
-      → fetched (after_fetch shelf) second (limit_of kinds.Text) ≡ Found text
-      → first_without layout text ≡ None → leads n (pair_plan Spell first second) shelf ≡ exits.Done
-  text_done bytes text layout found is then keys = leads_both bytes text layout found is then ∙ ap exit_by keys

@@ -7,7 +7,7 @@ use Rattle.kbd48_app.specs.declared.exit.Exit.TheVariants.{Memory, Write}
 use Rattle.kbd48_app.specs.declared.kind.Kind.{Kind}
 use Rattle.kbd48_app.specs.Answers.{OnFetched}
 use Rattle.kbd48_app.specs.Kinds.{limit_of}
-use Rattle.kbd48_app.specs.Plans.{Plan, Gives, Certifies, Runs, Boards, Samples, Debugs, Fetches, Spells}
+use Rattle.kbd48_app.specs.Plans.{Plan, Fetches}
 
 -- a value for each thing that a fetch may come to
 abbrev pub on_fetched : {A : Type 0} → A → A → (List ℕ → A) → Fetched → A
@@ -17,67 +17,37 @@ on_fetched fails long found (Found bytes) = found bytes
 
 -- a fetch that is reached fails
 abbrev pub IsUnserved : Plan → Told → Type 0
-IsUnserved (Gives said) shelf = ⊥
-IsUnserved (Certifies image text) shelf = ⊥
-IsUnserved (Spells layout text) shelf = ⊥
-IsUnserved (Runs command layout history) shelf = ⊥
-IsUnserved (Boards wanted image history) shelf = ⊥
-IsUnserved (Samples count) shelf = ⊥
-IsUnserved (Debugs s script) shelf = ⊥
 IsUnserved (Fetches kind name next) shelf =
     OnFetched (Unit {0}) ⊥ (λ bytes. IsUnserved (next bytes) (after_fetch shelf)) (fetched shelf name (limit_of kind))
+IsUnserved leaf shelf = ⊥
 
 -- a file of this kind that is reached has too many bytes
 abbrev pub IsTooLong : Kind → Plan → Told → Type 0
-IsTooLong long (Gives said) shelf = ⊥
-IsTooLong long (Certifies image text) shelf = ⊥
-IsTooLong long (Spells layout text) shelf = ⊥
-IsTooLong long (Runs command layout history) shelf = ⊥
-IsTooLong long (Boards wanted image history) shelf = ⊥
-IsTooLong long (Samples count) shelf = ⊥
-IsTooLong long (Debugs s script) shelf = ⊥
 IsTooLong long (Fetches kind name next) shelf =
     OnFetched ⊥ (kind ≡ long)
     (λ bytes. IsTooLong long (next bytes) (after_fetch shelf))
     (fetched shelf name (limit_of kind))
+IsTooLong long leaf shelf = ⊥
 
 -- a file of this kind is reached, and has these bytes
 abbrev pub Reads : Kind → List ℕ → Plan → Told → Type 0
-Reads read file (Gives said) shelf = ⊥
-Reads read file (Certifies image text) shelf = ⊥
-Reads read file (Spells layout text) shelf = ⊥
-Reads read file (Runs command layout history) shelf = ⊥
-Reads read file (Boards wanted image history) shelf = ⊥
-Reads read file (Samples count) shelf = ⊥
-Reads read file (Debugs s script) shelf = ⊥
 Reads read file (Fetches kind name next) shelf =
     OnFetched ⊥ ⊥
     (λ bytes. ((kind ≡ read) × (bytes ≡ file)) ⊎ Reads read file (next bytes) (after_fetch shelf))
     (fetched shelf name (limit_of kind))
+Reads read file leaf shelf = ⊥
 
 -- memory may be wanting: no file is named, or the first one is found
 abbrev pub may_lack : Plan → Told → Bool
-may_lack (Gives said) shelf = true
-may_lack (Certifies image text) shelf = true
-may_lack (Spells layout text) shelf = true
-may_lack (Runs command layout history) shelf = true
-may_lack (Boards wanted image history) shelf = true
-may_lack (Samples count) shelf = true
-may_lack (Debugs s script) shelf = true
 may_lack (Fetches kind name next) shelf = on_fetched false false (λ bytes. true) (fetched shelf name (limit_of kind))
+may_lack leaf shelf = true
 
 -- the names and the limits of the fetches that a plan comes to, in order, where memory isn't wanting
 abbrev pub fetches_of : Plan → Told → List (List ℕ × ℕ)
-fetches_of (Gives said) shelf = []
-fetches_of (Certifies image text) shelf = []
-fetches_of (Spells layout text) shelf = []
-fetches_of (Runs command layout history) shelf = []
-fetches_of (Boards wanted image history) shelf = []
-fetches_of (Samples count) shelf = []
-fetches_of (Debugs s script) shelf = []
 fetches_of (Fetches kind name next) shelf =
     (name, limit_of kind)
     ∷ on_fetched [] [] (λ bytes. fetches_of (next bytes) (after_fetch shelf)) (fetched shelf name (limit_of kind))
+fetches_of leaf shelf = []
 
 -- a shelf after so many fetches
 abbrev pub after_fetches : ℕ → Told → Told

@@ -5,6 +5,8 @@
 #![tactic(auto)]
 
 #[cfg(test)]
+mod late_breaks;
+#[cfg(test)]
 mod layers;
 #[cfg(test)]
 mod noise;

@@ -1,6 +1,6 @@
 -- A run of a program under a history, from power-on to its end.
 use Rattle.std.specs.Prelude.{◌≡◌, ◌≤◌, ◌<◌, ℕ, zero, suc, ◌+◌, ◌-◌, ◌%◌, Bool, true, false, ◌&&◌, nat_le, List, [], ◌∷◌}
-use Rattle.std.specs.Prelude.{◌++◌, drop, length, slice_index, Some, None, if◌then◌else◌}
+use Rattle.std.specs.Prelude.{◌++◌, slice_index, Some, None, if◌then◌else◌}
 use Rattle.std.specs.declared.option.Option.{Option}
 use Rattle.fw_debug.specs.Stuck.{sticks}
 use Rattle.host_turn.specs.declared.stamped.Stamped.{Stamped}
@@ -64,7 +64,3 @@ log_at s k = logged (state_at s k)
 abbrev pub AreIn : ℕ → ℕ → List Stamped → Type 0
 AreIn from to [] = Unit {0}
 AreIn from to (s ∷ more) = ((from ≤ s.cycle) × (s.cycle < to)) × AreIn from to more
-
--- what the step behind the first k says
-abbrev pub step_says : Story → ℕ → List Stamped
-step_says s k = drop (length (log_at s k)) (log_at s (suc k))

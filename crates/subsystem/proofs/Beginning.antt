@@ -1,12 +1,12 @@
 -- The run at power-on.
-use Rattle.std.proofs.Common.{◌≡◌, ◌<◌, ℕ, List, [], length, Some, ap, sym, subst, ◌∙◌, arith}
+use Rattle.std.proofs.Common.{◌≡◌, ◌<◌, ℕ, [], length, Some, ap, sym, subst, ◌∙◌, arith}
 use Rattle.joint_feed.proofs.Going.{here, same_state}
 use Rattle.joint_feed.specs.Course.{IsOnCourse}
 use Rattle.joint_feed.specs.Stories.{Story, state_at}
 use Rattle.joint_run.specs.Joint.{Beside, joint_start, log_of}
 use Rattle.joint_run.specs.Run.{World}
 use Rattle.subsystem.specs.declared.pace.Pace.{Pace}
-use Rattle.subsystem.specs.Progress.{AreIn, IsSoFar, lines_to}
+use Rattle.subsystem.specs.Progress.{AreIn, IsSoFar}
 use Rattle.subsystem.specs.Running.{GoesOnTo, starts_among}
 
 pub begins : (s : Story) (p : Pace) → IsOnCourse s p.course → p.course.joint.steps ≡ 0 → p.starts.items ≡ [] → IsSoFar s p
@@ -28,7 +28,3 @@ begins s p on steps starts =
         before = λ j below. let l : j < length (starts_among s 0) = subst (λ (k : ℕ). j < length (starts_among s k)) steps below in absurd (omega (arith, l));
       };
     }
-
--- nothing is said before the first step
-pub silent_at_first : (s : Story) (k : ℕ) (starts : List ℕ) → k ≡ 0 → lines_to s starts k ≡ []
-silent_at_first s k starts first = ap (lines_to s starts) first
