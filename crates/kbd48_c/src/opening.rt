@@ -54,6 +54,7 @@ pub extern "C" fn kbd48_open_hex(
     ensures refused { (result ≡ done → ⊥) → handle.new.keyboard ≡ handle.old.keyboard }
     ensures fault { result ≡ bad_text → IsHexFault text.now fault.new }
     ensures long { 16384 < length text.now → result ≡ too_long }
+    ensures only { result ≡ too_long → 16384 < length text.now }
     ensures status { (result ≡ done) ⊎ (result ≡ no_memory) ⊎ (result ≡ bad_text) ⊎ (result ≡ too_long) }
 {
     if text.len() > MOST_HEX {
