@@ -1,0 +1,162 @@
+/* Every call of the library, with wrong and empty arguments, and with each allocation refused in turn. */
+#include "kbd48.h"
+#include <stdio.h>
+#include <stdlib.h>
+#include <string.h>
+
+#define CHECK(x) \
+    do { \
+        if (!(x)) { \
+            fprintf(stderr, "%s:%d: %s\n", __FILE__, __LINE__, #x); \
+            exit(1); \
+        } \
+    } while (0)
+
+static uint8_t layout[65536], hex[32768];
+static size_t layout_length, hex_length;
+
+static size_t read_file(const char *name, uint8_t *to, size_t most) {
+    FILE *file = fopen(name, "rb");
+    CHECK(file);
+    size_t length = fread(to, 1, most, file);
+    fclose(file);
+    return length;
+}
+
+static void empty_handle(void) {
+    kbd48 k = KBD48_EMPTY;
+    uint64_t number = 7;
+    uint16_t word = 7;
+    uint8_t byte = 7;
+    bool up = true;
+    kbd48_place place = {7, 7};
+    CHECK(kbd48_close(&k) == KBD48_NOT_OPEN);
+    CHECK(kbd48_key(&k, 0, true) == KBD48_NOT_OPEN);
+    CHECK(kbd48_run(&k, 1, false, &number, &place) == KBD48_NOT_OPEN && number == 0 && place.counter == 7);
+    CHECK(kbd48_write(&k, 0x60, 0) == KBD48_NOT_OPEN);
+    CHECK(kbd48_read60(&k, &byte) == KBD48_NOT_OPEN && byte == 7);
+    CHECK(kbd48_status(&k, &byte) == KBD48_NOT_OPEN && byte == 7);
+    CHECK(kbd48_bios(&k, true) == KBD48_NOT_OPEN);
+    CHECK(kbd48_take(&k, &word) == KBD48_NOT_OPEN && word == 7);
+    CHECK(kbd48_interrupt(&k, &up) == KBD48_NOT_OPEN && up);
+    CHECK(kbd48_lights(&k, &byte) == KBD48_NOT_OPEN && byte == 7);
+    number = 7;
+    CHECK(kbd48_cycle(&k, &number) == KBD48_NOT_OPEN && number == 7);
+}
+
+static void bad_texts(void) {
+    kbd48 k = KBD48_EMPTY;
+    kbd48_fault fault = {9, 9};
+    const uint8_t no_layout[] = "format = ", no_hex[] = ":00000001FF\n:0";
+    CHECK(kbd48_open_layout(no_layout, sizeof no_layout - 1, &k, &fault) == KBD48_BAD_TEXT && !k.at);
+    CHECK(fault.place == 0 && fault.number == 1);
+    CHECK(kbd48_open_hex(no_hex, sizeof no_hex - 1, &k, &fault) == KBD48_BAD_TEXT && fault.place == 2);
+    CHECK(kbd48_open_hex(hex, 16385, &k, &fault) == KBD48_TOO_LONG && !k.at);
+    CHECK(!strcmp(kbd48_text(KBD48_ROSE), "the interrupt line rose") && !strcmp(kbd48_text(99), "no such status"));
+}
+
+static int32_t a_session(void) {
+    kbd48 k = KBD48_EMPTY;
+    kbd48_fault fault;
+    kbd48_place place;
+    uint64_t passed, cycle;
+    uint16_t word;
+    uint8_t byte;
+    bool up;
+    int32_t status = kbd48_open_layout(layout, layout_length, &k, &fault);
+    if (status != KBD48_DONE) {
+        CHECK(status == KBD48_NO_MEMORY && !k.at);
+        return status;
+    }
+    status = kbd48_open_hex(hex, hex_length, &k, &fault); /* closes the first, or leaves it */
+    CHECK(status == KBD48_DONE || status == KBD48_NO_MEMORY);
+    CHECK(k.at);
+    CHECK(kbd48_cycle(&k, &cycle) == KBD48_DONE && cycle > 4096 && cycle < 4100);
+    CHECK(kbd48_run(&k, 400000, true, &passed, &place) == KBD48_ROSE && passed < 140000);
+    CHECK(kbd48_interrupt(&k, &up) == KBD48_DONE && up);
+    CHECK(kbd48_status(&k, &byte) == KBD48_DONE && (byte & 1));
+    CHECK(kbd48_read60(&k, &byte) == KBD48_DONE && byte == 0xaa);
+    CHECK(kbd48_interrupt(&k, &up) == KBD48_DONE && !up);
+    CHECK(kbd48_key(&k, 96, true) == KBD48_NO_SUCH_PLACE && kbd48_write(&k, 0x61, 0) == KBD48_NO_SUCH_PORT);
+    for (int i = 0; i < 4; i++) CHECK(kbd48_key(&k, (uint8_t)i, true) == KBD48_DONE);
+    CHECK(kbd48_key(&k, 4, true) == KBD48_FULL);
+    CHECK(kbd48_write(&k, 0x60, 0xed) == KBD48_DONE);
+    CHECK(kbd48_run(&k, 40000, true, &passed, &place) == KBD48_ROSE);
+    CHECK(kbd48_read60(&k, &byte) == KBD48_DONE && byte == 0xfa);
+    CHECK(kbd48_write(&k, 0x60, 7) == KBD48_DONE);
+    CHECK(kbd48_run(&k, 400000, false, &passed, &place) == KBD48_DONE && passed < 400002);
+    CHECK(kbd48_lights(&k, &byte) == KBD48_DONE && byte == 7);
+    CHECK(kbd48_bios(&k, true) == KBD48_DONE);
+    CHECK(kbd48_run(&k, 400000, false, &passed, &place) == KBD48_DONE);
+    CHECK(kbd48_take(&k, &word) == KBD48_DONE || kbd48_take(&k, &word) == KBD48_NO_WORD);
+    CHECK(kbd48_close(&k) == KBD48_DONE && !k.at && kbd48_close(&k) == KBD48_NOT_OPEN);
+    return status;
+}
+
+static void a_stuck_one(void) {
+    static const uint8_t stuck[] = ":0100000001FE\n:00000001FF\n";
+    kbd48 k = KBD48_EMPTY;
+    kbd48_fault fault;
+    kbd48_place place = {9, 9};
+    uint64_t passed;
+    uint8_t byte;
+    CHECK(kbd48_open_hex(stuck, sizeof stuck - 1, &k, &fault) == KBD48_DONE);
+    CHECK(kbd48_run(&k, 10, false, &passed, &place) == KBD48_STUCK && passed == 0);
+    CHECK(place.counter == 0 && place.byte == 1);
+    CHECK(kbd48_read60(&k, &byte) == KBD48_EARLY && kbd48_key(&k, 0, true) == KBD48_EARLY);
+    CHECK(kbd48_close(&k) == KBD48_DONE);
+}
+
+#ifdef SHARED
+int main(void) {
+    layout_length = read_file("examples/us84.toml", layout, sizeof layout);
+    hex_length = read_file("examples/us84.hex", hex, sizeof hex);
+    empty_handle();
+    bad_texts();
+    CHECK(a_session() == KBD48_DONE);
+    a_stuck_one();
+}
+#else
+static long refuse = -1, calls, live;
+void *__real_malloc(size_t);
+void *__real_realloc(void *, size_t);
+void __real_free(void *);
+
+void *__wrap_malloc(size_t size) {
+    if (++calls == refuse) return NULL;
+    live++;
+    return __real_malloc(size);
+}
+
+void *__wrap_realloc(void *old, size_t size) {
+    if (++calls == refuse) return NULL;
+    if (!old) live++;
+    return __real_realloc(old, size);
+}
+
+void __wrap_free(void *at) {
+    if (at) live--;
+    __real_free(at);
+}
+
+int main(void) {
+    layout_length = read_file("examples/us84.toml", layout, sizeof layout);
+    hex_length = read_file("examples/us84.hex", hex, sizeof hex);
+    empty_handle();
+    bad_texts();
+    calls = 0;
+    live = 0;
+    CHECK(a_session() == KBD48_DONE && live == 0);
+    long all = calls, refused = 0;
+    for (long at = 1; at <= all; at++) {
+        calls = 0;
+        refuse = at;
+        if (a_session() == KBD48_NO_MEMORY) refused++;
+        CHECK(live == 0);
+    }
+    refuse = -1;
+    CHECK(refused == all);
+    a_stuck_one();
+    printf("calls: each of %ld allocations was refused in turn\n", all);
+}
+#endif

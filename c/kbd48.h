@@ -1,0 +1,126 @@
+/* The keyboard of the IBM PC/AT behind a handle: keys and port accesses go in as they happen, and bytes, the interrupt
+   line and the lights come out. `docs/EMBEDDING.md` shows how it is used, and says what of it is proved.
+
+   Time is counted in cycles of 2.5 microseconds, 400,000 a second. A joint step is one instruction of the keyboard's
+   processor, one cycle or two; between two calls the machine stands between two steps. A call that makes a step says
+   so.
+
+   Each function but kbd48_text answers a status. Of an empty handle each answers KBD48_NOT_OPEN and does nothing
+   (kbd48_run then says that 0 cycles passed). A call that is refused (KBD48_NO_SUCH_PLACE, KBD48_NO_SUCH_PORT,
+   KBD48_FULL, KBD48_EARLY; of a call that makes one step also KBD48_STUCK and KBD48_OVER) leaves the keyboard as it
+   was. What is written through a pointer is written where the status is KBD48_DONE, but for what the function says.
+
+   The caller sees to it that
+   - a handle begins as KBD48_EMPTY, is written by these functions alone, and is copied nowhere;
+   - no pointer is null, each leads to what it names (a text of 0 bytes too), and no two of a call overlap;
+   - one call at a time has a handle; between calls it may go to another thread, where the two are ordered;
+   - no call comes from a signal handler, or from the forked child of a process with threads. */
+#ifndef KBD48_H
+#define KBD48_H
+#include <stdbool.h>
+#include <stddef.h>
+#include <stdint.h>
+
+#ifdef __cplusplus
+extern "C" {
+#endif
+
+/* A keyboard, or none. */
+typedef struct {
+    void *at;
+} kbd48;
+#define KBD48_EMPTY {NULL} /* what a handle begins as */
+
+enum {
+    KBD48_DONE = 0,           /* it was done */
+    KBD48_NOT_OPEN = 1,       /* the handle is empty */
+    KBD48_NO_MEMORY = 2,      /* memory is wanting */
+    KBD48_BAD_TEXT = 3,       /* the layout or the HEX text has a fault */
+    KBD48_TOO_LONG = 4,       /* the HEX text has more than 16,384 bytes */
+    KBD48_NO_SUCH_PLACE = 5,  /* the matrix has the places 0 to 95 */
+    KBD48_NO_SUCH_PORT = 6,   /* the controller has the ports 0x60 and 0x64 */
+    KBD48_FULL = 7,           /* the input buffer is full, or four edges wait for a step */
+    KBD48_STUCK = 8,          /* the keyboard's processor is at a byte that begins no instruction */
+    KBD48_EARLY = 9,          /* the program stuck in its first 4,096 cycles, before stamp 0 */
+    KBD48_OVER = 10,          /* 2 to the 62nd cycles are done, and no more are counted */
+    KBD48_NO_WORD = 11,       /* the buffer of INT 09h is empty */
+    KBD48_ROSE = 12           /* the interrupt line rose */
+};
+
+/* The same in words; a text for every number. */
+static inline const char *kbd48_text(int32_t status) {
+    static const char *const texts[] = {
+        "done", "the handle is empty", "memory is wanting", "the text has a fault", "the text is too long",
+        "no such place", "no such port", "no room", "the processor is stuck", "stuck before stamp 0",
+        "the count of cycles is at its end", "no word", "the interrupt line rose",
+    };
+    return status >= 0 && (size_t)status < sizeof texts / sizeof *texts ? texts[status] : "no such status";
+}
+
+/* Where a text has its first fault: the entry of a layout or the line of a HEX text, counted from 1, and the number of
+   the rule that it breaks (`docs/FORMATS.md`). Entry 0 is the layout as a whole. */
+typedef struct {
+    uint32_t place;
+    uint32_t number;
+} kbd48_fault;
+
+/* Where a processor is stuck: its program counter, 0 to 4,095, and the byte there. */
+typedef struct {
+    uint16_t counter;
+    uint8_t byte;
+} kbd48_place;
+
+/* Opens a keyboard of this layout (TOML) at `handle`, and closes the one that was there: its firmware is compiled, the
+   board is powered on, 4,096 cycles pass, which is stamp 0, and INT 09h is masked. Takes all memory that the keyboard
+   takes: no other call but kbd48_open_hex takes any. On KBD48_BAD_TEXT `fault` says where, and on any failure the
+   handle is as it was. */
+int32_t kbd48_open_layout(const uint8_t *text, size_t length, kbd48 *handle, kbd48_fault *fault);
+
+/* The same with a program memory as an Intel HEX text of at most 16,384 bytes, of any program. One that sticks in its
+   first cycles is opened too, and stays where it is. */
+int32_t kbd48_open_hex(const uint8_t *text, size_t length, kbd48 *handle, kbd48_fault *fault);
+
+/* Frees the keyboard, and leaves the handle empty. */
+int32_t kbd48_close(kbd48 *handle);
+
+/* The key at a place, 0 to 95 (eight times its column and its row), goes down or up. The edge is made before the next
+   step; no step is made yet. KBD48_FULL where four edges wait already: run a step first. */
+int32_t kbd48_key(kbd48 *handle, uint8_t place, bool down);
+
+/* Makes steps until `cycles` cycles have passed (a last step of two may make it one more), or, where `watched`, until
+   the interrupt line rises, which KBD48_ROSE says. `passed` is how many passed, whatever the status. On KBD48_STUCK
+   `place` is where. */
+int32_t kbd48_run(kbd48 *handle, uint64_t cycles, bool watched, uint64_t *passed, kbd48_place *place);
+
+/* The host writes a byte to port 0x60 or 0x64, in one step. KBD48_FULL where the controller's input buffer is full. */
+int32_t kbd48_write(kbd48 *handle, uint8_t port, uint8_t byte);
+
+/* The host reads port 0x60, in one step: the last byte that the controller put out, 00 at first. */
+int32_t kbd48_read60(kbd48 *handle, uint8_t *byte);
+
+/* The host reads the status at port 0x64, in one step: 01 output buffer full, 02 input buffer full, 04 system flag, 08
+   last write to 0x64, 10 always, 80 parity error. */
+int32_t kbd48_status(kbd48 *handle, uint8_t *byte);
+
+/* INT 09h of this project reads each byte 64 cycles after it was put out, where it is on; at first it is off, and the
+   host is the caller. One step. */
+int32_t kbd48_bios(kbd48 *handle, bool on);
+
+/* A program takes the next word from the buffer of INT 09h: scan code above, character below. One step, also where
+   KBD48_NO_WORD says that the buffer is empty. */
+int32_t kbd48_take(kbd48 *handle, uint16_t *word);
+
+/* Whether the interrupt line (IRQ 1) is up: the output buffer is full, and its interrupt is enabled. It stays up until
+   port 0x60 is read. */
+int32_t kbd48_interrupt(kbd48 *handle, bool *up);
+
+/* The lights: 01 Scroll Lock, 02 Num Lock, 04 Caps Lock. */
+int32_t kbd48_lights(kbd48 *handle, uint8_t *lights);
+
+/* How many cycles have passed since power-on. A stamp of a key file counts from cycle 4,096. */
+int32_t kbd48_cycle(kbd48 *handle, uint64_t *cycle);
+
+#ifdef __cplusplus
+}
+#endif
+#endif

@@ -1,0 +1,5 @@
+pub mod Statuses
+pub mod Held
+pub mod Spots
+pub mod Exports
+pub mod Opening

@@ -1,0 +1,16 @@
+//! The keyboard for C: one export a call, behind a handle of one pointer.
+//!
+//! This layer is `live_board` as C sees it, and opens it over a layout's text or a HEX text. It has no condition that
+//! C could break but those of the pointers: each call answers a status. `c/kbd48.h` is the same by hand. Source: our
+//! own.
+#![tactic(auto)]
+
+mod calls;
+mod going;
+mod handle;
+mod opening;
+mod pointer;
+mod status;
+#[cfg(test)]
+mod tests;
+mod views;

@@ -1,0 +1,95 @@
+//! Opening a keyboard over a text.
+
+ghost use Rattle.std.specs.Prelude.{◌≡◌, ◌<◌, ◌≤◌, ◌⊎◌, length};
+ghost use Rattle.kbd48_c.specs.Opening.{HasOpened, HasOpenedHex, HasOpenedLayout, IsHexFault, IsLayoutFault};
+ghost use Rattle.kbd48_c.specs.Statuses.{bad_text, done, no_memory, too_long};
+
+use crate::handle::Handle;
+use crate::status::{BAD_TEXT, DONE, NO_MEMORY, TOO_LONG};
+use fw_compile::compile;
+use hexfile::read_hex;
+use layout_reader::{LayoutFault, read_layout};
+use live_board::Keyboard;
+use mcs48_isa::Image;
+use std::alloc::Global;
+
+/// How long a HEX text may be, in bytes.
+const MOST_HEX: usize = 16384;
+
+/// Where a text has its first fault, and the number of the rule that it breaks.
+#[repr(C)]
+#[derive(Drop)]
+pub struct Fault {
+    pub place: u32,
+    pub number: u32,
+}
+
+/// Opens a keyboard with this program at the handle, and closes the one that was there.
+fn open(alloc: Global, image: &Image, handle: &mut Handle) -> i32
+    ensures opened { result ≡ done → HasOpened image.now.bytes handle.new.keyboard }
+    ensures refused { (result ≡ done → ⊥) → handle.new.keyboard ≡ handle.old.keyboard }
+    ensures status { (result ≡ done) ⊎ (result ≡ no_memory) }
+{
+    match Keyboard::open(alloc, image) {
+        Ok(keyboard) => match Box::new(alloc, keyboard) {
+            Ok(keyboard) => {
+                *handle = Handle::holding(keyboard);
+                DONE
+            }
+            Err(_) => NO_MEMORY,
+        },
+        Err(_) => NO_MEMORY,
+    }
+}
+
+/// Opens a keyboard with the program of a HEX text, of at most 16,384 bytes, and closes the one that was there.
+#[unsafe(no_mangle)]
+pub extern "C" fn kbd48_open_hex(
+    alloc: Global,
+    text: &[u8],
+    handle: &mut Handle,
+    fault: &mut Fault,
+) -> i32
+    ensures opened { result ≡ done → HasOpenedHex text.now handle.new.keyboard }
+    ensures refused { (result ≡ done → ⊥) → handle.new.keyboard ≡ handle.old.keyboard }
+    ensures fault { result ≡ bad_text → IsHexFault text.now fault.new }
+    ensures long { 16384 < length text.now → result ≡ too_long }
+    ensures only { result ≡ too_long → 16384 < length text.now }
+    ensures status { (result ≡ done) ⊎ (result ≡ no_memory) ⊎ (result ≡ bad_text) ⊎ (result ≡ too_long) }
+{
+    if text.len() > MOST_HEX {
+        return TOO_LONG;
+    }
+    match read_hex(text) {
+        Ok(image) => open(alloc, &image, handle),
+        Err(found) => {
+            fault.place = found.line;
+            fault.number = u32::from(found.number);
+            BAD_TEXT
+        }
+    }
+}
+
+/// Opens a keyboard of a layout, from its text, and closes the one that was there.
+#[unsafe(no_mangle)]
+pub extern "C" fn kbd48_open_layout(
+    alloc: Global,
+    text: &[u8],
+    handle: &mut Handle,
+    fault: &mut Fault,
+) -> i32
+    ensures opened { result ≡ done → HasOpenedLayout text.now handle.new.keyboard }
+    ensures refused { (result ≡ done → ⊥) → handle.new.keyboard ≡ handle.old.keyboard }
+    ensures fault { result ≡ bad_text → IsLayoutFault text.now fault.new }
+    ensures status { (result ≡ done) ⊎ (result ≡ no_memory) ⊎ (result ≡ bad_text) }
+{
+    match read_layout(alloc, text) {
+        Ok(layout) => open(alloc, &compile(&layout), handle),
+        Err(LayoutFault::Entry { entry, number }) => {
+            fault.place = entry;
+            fault.number = u32::from(number);
+            BAD_TEXT
+        }
+        Err(LayoutFault::Memory) => NO_MEMORY,
+    }
+}

@@ -1,0 +1,156 @@
+//! What C sees, call by call.
+
+use crate::calls::{kbd48_bios, kbd48_key, kbd48_read60, kbd48_status, kbd48_take, kbd48_write};
+use crate::going::{Spot, kbd48_run};
+use crate::handle::Handle;
+use crate::opening::{Fault, kbd48_open_hex, kbd48_open_layout};
+use crate::status::{
+    BAD_TEXT, DONE, EARLY, FULL, NO_SUCH_PLACE, NO_SUCH_PORT, NO_WORD, NOT_OPEN, ROSE, STUCK,
+    TOO_LONG,
+};
+use crate::views::{kbd48_close, kbd48_cycle, kbd48_interrupt, kbd48_lights};
+use fw_kernel::KERNEL;
+use hexfile::write_hex;
+use mcs48_isa::Image;
+use std::alloc::AllocError;
+
+/// The cycles of a second.
+const SECOND: u64 = 400_000;
+
+#[test]
+fn an_empty_handle_says_so_and_does_nothing(rt: HostRuntime) {
+    let alloc = rt.alloc();
+    let mut handle = Handle::none(alloc);
+    let (mut number, mut byte, mut word, mut up) = (7u64, 7u8, 7u16, true);
+    let mut spot = Spot {
+        counter: 7,
+        byte: 7,
+    };
+    assert!(rt; kbd48_key(alloc, &mut handle, 0, true) == NOT_OPEN);
+    assert!(rt; kbd48_run(alloc, &mut handle, 1, false, &mut number, &mut spot) == NOT_OPEN);
+    assert!(rt; number == 0 && spot.counter == 7 && spot.byte == 7);
+    assert!(rt; kbd48_write(alloc, &mut handle, 0x60, 0) == NOT_OPEN);
+    assert!(rt; kbd48_read60(alloc, &mut handle, &mut byte) == NOT_OPEN && byte == 7);
+    assert!(rt; kbd48_status(alloc, &mut handle, &mut byte) == NOT_OPEN && byte == 7);
+    assert!(rt; kbd48_bios(alloc, &mut handle, true) == NOT_OPEN);
+    assert!(rt; kbd48_take(alloc, &mut handle, &mut word) == NOT_OPEN && word == 7);
+    assert!(rt; kbd48_interrupt(alloc, &mut handle, &mut up) == NOT_OPEN && up);
+    assert!(rt; kbd48_lights(alloc, &mut handle, &mut byte) == NOT_OPEN && byte == 7);
+    assert!(rt; kbd48_cycle(alloc, &mut handle, &mut number) == NOT_OPEN && number == 0);
+    assert!(rt; kbd48_close(alloc, &mut handle) == NOT_OPEN);
+}
+
+#[test]
+fn a_host_hears_the_self_test_and_sets_the_lights(rt: HostRuntime) -> Result<(), AllocError> {
+    let alloc = rt.alloc();
+    let text = write_hex(alloc, &Image { bytes: KERNEL })?;
+    let mut handle = Handle::none(alloc);
+    let mut fault = Fault {
+        place: 0,
+        number: 0,
+    };
+    let mut spot = Spot {
+        counter: 0,
+        byte: 0,
+    };
+    let (mut passed, mut cycle, mut byte, mut up) = (0u64, 0u64, 0u8, false);
+    assert!(rt; kbd48_open_hex(alloc, text.as_slice(), &mut handle, &mut fault) == DONE);
+    assert!(rt;
+        kbd48_cycle(alloc, &mut handle, &mut cycle) == DONE && cycle > 4096 && cycle < 4100
+    );
+    assert!(rt; kbd48_run(alloc, &mut handle, SECOND, true, &mut passed, &mut spot) == ROSE);
+    assert!(rt; passed > 130_000 && passed < 135_000);
+    assert!(rt; kbd48_interrupt(alloc, &mut handle, &mut up) == DONE && up);
+    assert!(rt; kbd48_status(alloc, &mut handle, &mut byte) == DONE && byte == 0x15);
+    assert!(rt; kbd48_read60(alloc, &mut handle, &mut byte) == DONE && byte == 0xaa);
+    assert!(rt; kbd48_write(alloc, &mut handle, 0x61, 0) == NO_SUCH_PORT);
+    assert!(rt; kbd48_write(alloc, &mut handle, 0x60, 0xed) == DONE);
+    assert!(rt; kbd48_run(alloc, &mut handle, SECOND, true, &mut passed, &mut spot) == ROSE);
+    assert!(rt; kbd48_read60(alloc, &mut handle, &mut byte) == DONE && byte == 0xfa);
+    assert!(rt; kbd48_write(alloc, &mut handle, 0x60, 2) == DONE);
+    assert!(rt; kbd48_run(alloc, &mut handle, 40_000, false, &mut passed, &mut spot) == DONE);
+    assert!(rt; passed == 40_000 || passed == 40_001);
+    assert!(rt; kbd48_lights(alloc, &mut handle, &mut byte) == DONE && byte == 2);
+    assert!(rt; kbd48_close(alloc, &mut handle) == DONE);
+    assert!(rt; kbd48_close(alloc, &mut handle) == NOT_OPEN);
+    Ok(())
+}
+
+#[test]
+fn keys_of_a_layout_become_words(rt: HostRuntime) {
+    let alloc = rt.alloc();
+    let text = b"format = 1\n[[key]]\nkey = \"a\"\ncolumn = 11\nrow = 7\n";
+    let mut handle = Handle::none(alloc);
+    let mut fault = Fault {
+        place: 0,
+        number: 0,
+    };
+    let mut spot = Spot {
+        counter: 0,
+        byte: 0,
+    };
+    let (mut passed, mut word) = (0u64, 0u16);
+    assert!(rt; kbd48_open_layout(alloc, text, &mut handle, &mut fault) == DONE);
+    assert!(rt; kbd48_bios(alloc, &mut handle, true) == DONE);
+    assert!(rt; kbd48_run(alloc, &mut handle, SECOND, false, &mut passed, &mut spot) == DONE);
+    assert!(rt; kbd48_take(alloc, &mut handle, &mut word) == NO_WORD && word == 0);
+    assert!(rt; kbd48_key(alloc, &mut handle, 96, true) == NO_SUCH_PLACE);
+    assert!(rt; kbd48_key(alloc, &mut handle, 95, true) == DONE);
+    assert!(rt; kbd48_run(alloc, &mut handle, 20_000, false, &mut passed, &mut spot) == DONE);
+    assert!(rt; kbd48_take(alloc, &mut handle, &mut word) == DONE && word == 0x1e61);
+    for turn in 0..6u8 {
+        let status = kbd48_key(alloc, &mut handle, 95, turn % 2 == 1);
+        assert!(rt; status == if turn < 4 { DONE } else { FULL });
+    }
+}
+
+#[test]
+fn a_text_with_a_fault_opens_nothing(rt: HostRuntime) -> Result<(), AllocError> {
+    let alloc = rt.alloc();
+    let mut handle = Handle::none(alloc);
+    let mut fault = Fault {
+        place: 9,
+        number: 9,
+    };
+    let mut cycle = 0u64;
+    assert!(rt; kbd48_open_layout(alloc, b"format = ", &mut handle, &mut fault) == BAD_TEXT);
+    assert!(rt; fault.place == 0 && fault.number == 1);
+    assert!(rt; kbd48_open_hex(alloc, b":00000001FF\n:0", &mut handle, &mut fault) == BAD_TEXT);
+    assert!(rt; fault.place == 2);
+    let long = Vec::from_elem(alloc, b'0', 16385)?;
+    assert!(rt; kbd48_open_hex(alloc, long.as_slice(), &mut handle, &mut fault) == TOO_LONG);
+    assert!(rt; kbd48_cycle(alloc, &mut handle, &mut cycle) == NOT_OPEN);
+    Ok(())
+}
+
+#[test]
+fn a_program_that_sticks_says_where(rt: HostRuntime) {
+    let alloc = rt.alloc();
+    let mut handle = Handle::none(alloc);
+    let mut fault = Fault {
+        place: 0,
+        number: 0,
+    };
+    let mut spot = Spot {
+        counter: 9,
+        byte: 9,
+    };
+    let (mut passed, mut byte) = (9u64, 0u8);
+    let text = b":0100000001FE\n:00000001FF\n";
+    assert!(rt; kbd48_open_hex(alloc, text, &mut handle, &mut fault) == DONE);
+    assert!(rt; kbd48_run(alloc, &mut handle, 10, false, &mut passed, &mut spot) == STUCK);
+    assert!(rt; passed == 0 && spot.counter == 0 && spot.byte == 1);
+    assert!(rt; kbd48_read60(alloc, &mut handle, &mut byte) == EARLY);
+    assert!(rt; kbd48_key(alloc, &mut handle, 0, true) == EARLY);
+}
+
+/// A value that may go to another thread.
+fn sent<T: Send>(value: T) -> T {
+    value
+}
+
+#[test]
+fn a_handle_may_go_to_another_thread(rt: HostRuntime) {
+    let handle = sent(Handle::none(rt.alloc()));
+    drop(handle);
+}
