@@ -20,5 +20,3 @@ pub use lines::Lines;
 pub use matrix::Matrix;
 pub use place::Place;
 
-#[cfg(test)]
-mod tests;

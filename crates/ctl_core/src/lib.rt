@@ -10,8 +10,6 @@ mod command;
 mod controller;
 mod flags;
 mod port;
-#[cfg(test)]
-mod tests;
 mod translation;
 
 pub use command::Parameter;

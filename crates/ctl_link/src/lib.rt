@@ -12,8 +12,6 @@
 mod link;
 mod passing;
 mod port;
-#[cfg(test)]
-mod tests;
 
 pub use link::Link;
 pub use passing::Passing;

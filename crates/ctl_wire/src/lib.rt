@@ -12,8 +12,6 @@ mod driving;
 mod edges;
 mod falling;
 mod laws;
-#[cfg(test)]
-mod tests;
 mod wire;
 mod wired;
 

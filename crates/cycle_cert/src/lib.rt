@@ -17,8 +17,6 @@ mod law;
 mod lines;
 mod reading;
 mod rows;
-#[cfg(test)]
-mod tests;
 
 pub use checking::{Proved, check_cert};
 pub use examples::worked_certificates;

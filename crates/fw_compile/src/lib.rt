@@ -7,8 +7,6 @@
 #![tactic(auto)]
 
 mod codes;
-#[cfg(test)]
-mod tests;
 
 ghost use Rattle.std.specs.Prelude.{◌≡◌, ◌≤◌, ◌+◌, length};
 ghost use Rattle.fw_compile.specs.Image.{image_of, with_table};

@@ -13,8 +13,6 @@ mod desk;
 mod events;
 mod reading;
 mod stamped;
-#[cfg(test)]
-mod tests;
 
 pub use desk::Desk;
 pub use stamped::Stamped;

@@ -13,5 +13,3 @@ mod said;
 
 pub use bios::{Bios, Flags9};
 
-#[cfg(test)]
-mod tests;

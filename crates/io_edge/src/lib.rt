@@ -14,8 +14,6 @@ mod saying;
 mod shelf;
 mod sink;
 mod stream_sink;
-#[cfg(test)]
-mod tests;
 
 pub use drop_sink::DropSink;
 pub use file_shelf::FileShelf;

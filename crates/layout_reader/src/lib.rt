@@ -20,5 +20,3 @@ pub use layout::Layout;
 pub use reading::read_layout;
 pub use sample::us84_layout;
 
-#[cfg(test)]
-mod tests;

@@ -32,5 +32,3 @@ pub use examples::worked_examples;
 pub use fault::AsmFault;
 pub use laws::large_numbers;
 
-#[cfg(test)]
-mod tests;

@@ -17,8 +17,6 @@ mod processor;
 mod registers;
 mod resetting;
 mod stepping;
-#[cfg(test)]
-mod tests;
 mod text;
 mod timer;
 

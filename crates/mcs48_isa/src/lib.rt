@@ -11,8 +11,6 @@ mod image;
 mod listing;
 mod op_texts;
 mod operation;
-#[cfg(test)]
-mod tests;
 
 pub use decoding::{decode, row};
 pub use encoding::encode;

@@ -15,5 +15,3 @@ pub use item::{Item, item_line, item_text, push_item};
 pub use key::{Key, code_of, key_named, key_spelled, name_of, scan_of};
 pub use words::{WordRow, letter_on, word_row};
 
-#[cfg(test)]
-mod tests;

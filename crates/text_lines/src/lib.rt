@@ -17,5 +17,3 @@ pub use line::next_line;
 pub use numbers::{decimal, decimal_digit, hexadecimal};
 pub use pieces::{single, split_once};
 
-#[cfg(test)]
-mod tests;

@@ -1,7 +1,7 @@
 //! The image of the sample layout.
 
-use super::*;
-use fw_kernel::TICK;
+use fw_compile::*;
+use fw_kernel::{KERNEL, TICK};
 use layout_reader::{read_layout, us84_layout};
 use std::test::Fail;
 

@@ -1,7 +1,7 @@
 //! The sample layout against its text, and each fault at its smallest document.
 
-use super::{LayoutFault, read_layout, us84_layout};
 use board_lines::Place;
+use layout_reader::{LayoutFault, read_layout, us84_layout};
 use pc_tables::{Key, key_named, name_of};
 use std::alloc::{AllocError, Global};
 use std::test::Fail;

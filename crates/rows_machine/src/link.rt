@@ -1,7 +1,7 @@
 //! Worked examples, cycle by cycle. What is known of a byte under way is a number here.
 
-use crate::{Link, Passing, Port};
 use ctl_core::{Did, Port as HostPort};
+use ctl_link::{Link, Passing, Port};
 use std::process::Abort;
 
 /// The host writes a byte.

@@ -1,6 +1,6 @@
 //! Bytes and what is said of them.
 
-use super::*;
+use int09::*;
 use pc_tables::Item;
 use std::process::Abort;
 use std::test::Fail;

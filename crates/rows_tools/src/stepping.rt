@@ -1,6 +1,6 @@
 //! Worked rows, each state by the text that shows it.
 
-use super::*;
+use mcs48_core::*;
 use mcs48_isa::Image;
 use std::alloc::{AllocError, Global};
 use std::test::Fail;

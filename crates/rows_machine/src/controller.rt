@@ -1,6 +1,6 @@
 //! Worked examples of the commands and of the translation.
 
-use crate::{Controller, Did, InputFull, Port, Received};
+use ctl_core::{Controller, Did, InputFull, Port, Received};
 use std::process::Abort;
 
 /// Writes a byte and has it taken.

@@ -1,6 +1,6 @@
 //! Certificates by hand, each fault at its smallest certificate, and both orders of two faults.
 
-use super::{CertFault, Proved, check_cert};
+use cycle_cert::{CertFault, Proved, check_cert};
 use mcs48_isa::Image;
 use std::alloc::Global;
 use std::process::Abort;

@@ -3,10 +3,10 @@
 
 ghost use Rattle.std.specs.Prelude.{◌≡◌, ◌≤◌, length};
 
-use crate::Desk;
 use arrayvec::ArrayVec;
 use board_lines::{HostAct, HostEvent};
 use ctl_link::{Link, Passing};
+use host_turn::Desk;
 use int09::Bios;
 use pc_tables::Item;
 use std::process::Abort;

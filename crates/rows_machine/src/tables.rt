@@ -1,6 +1,6 @@
 //! Texts and tables against their sources.
 
-use super::*;
+use pc_tables::*;
 use std::test::Fail;
 
 #[test]

@@ -1,6 +1,6 @@
 ghost use Rattle.std.specs.Prelude.{◌≤◌, length};
 
-use crate::{AsmFault, assemble};
+use mcs48_asm::{AsmFault, assemble};
 use std::alloc::Global;
 use std::process::Abort;
 use std::test::Fail;

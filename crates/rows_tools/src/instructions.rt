@@ -1,6 +1,6 @@
 //! The opcode map as it is printed in the manual, and texts as a listing shows them.
 
-use crate::{ControlOp, Image, MoveOp, Op, decode, encode, list, op_text};
+use mcs48_isa::{ControlOp, Image, MoveOp, Op, decode, encode, list, op_text};
 use std::test::Fail;
 
 #[test]

@@ -1,8 +1,8 @@
 //! Texts by hand, with their parts.
 
-use super::{decimal, hexadecimal, is_blank_line, next_field, next_line, split_once};
 use std::process::Abort;
 use std::test::Fail;
+use text_lines::{decimal, hexadecimal, is_blank_line, next_field, next_line, split_once};
 
 /// Asserts that what is left of a text begins with this line, and gives the text behind it.
 fn take_line<'a>(rt: &impl Abort, text: &'a [u8], wanted: &[u8]) -> &'a [u8] {

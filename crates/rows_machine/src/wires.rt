@@ -1,9 +1,9 @@
 ghost use Rattle.std.specs.Prelude.{◌≡◌, false};
 ghost use Rattle.ctl_wire.specs.Cycles.{next_cycle};
 
-use crate::CtlWire;
 use board_lines::Lines;
 use ctl_core::Port;
+use ctl_wire::CtlWire;
 use std::process::Abort;
 
 const HIGH: Lines = Lines {

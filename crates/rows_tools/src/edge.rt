@@ -1,6 +1,6 @@
 //! The real shelf and sink over a real file, and the ones in memory.
 
-use crate::{
+use io_edge::{
     DropSink, FetchFault, FileShelf, MemShelf, MemSink, Shelf, Sink, SinkFault, StreamSink, say,
 };
 use std::io::{self, Write};
