@@ -31,14 +31,14 @@ use Rattle.agreement.proofs.Happened.{at_look}
 use Rattle.agreement.proofs.OnWires.{at_cell}
 use Rattle.agreement.specs.Wires.{IsCutBy, look_before, beside_in}
 
-module _ (events : List HostEvent) (v start : ℕ) (released : IsReleased v) (look : Pc) where
+module _ (events : List HostEvent) (latch start : ℕ) (released : IsReleased latch) (look : Pc) where
   abbrev lines : Frame → ℕ → Lines
-  lines frame = lines_by frame v start released
+  lines frame = lines_by frame latch start released
 
   -- the controller's link at the look of a cell
   abbrev pub link_at : Frame → ℕ → Link Wire
-  link_at frame k =
-      (board_cycles events (lines frame) (32 * k + 18) (288 + start)
+  link_at frame number =
+      (board_cycles events (lines frame) (32 * number + 18) (288 + start)
       (at_meeting events (lines frame) start look)).side.port.link
 
   -- a frame that is cut, by the PC's side
@@ -54,50 +54,51 @@ module _ (events : List HostEvent) (v start : ℕ) (released : IsReleased v) (lo
     whole = lines (SentFrame byte)
 
     abbrev cell : ℕ → ℕ → Lines
-    cell j = lines (CutFrame byte j)
+    cell number = lines (CutFrame byte number)
 
     -- behind the look before
-    behind : (j since : ℕ) → 32 * j + (288 + start) ≤ since + 14 → start + look_before j ≤ since
-    behind zero since l = omega (arith, l)
-    behind (suc k) since l = omega (arith, l)
+    behind : (number since : ℕ) → 32 * number + (288 + start) ≤ since + 14 → start + look_before number ≤ since
+    behind zero since within = omega (arith, within)
+    behind (suc number) since within = omega (arith, within)
 
     -- broken off within the frame
     broken : (at_meeting events whole start look).side.port.link ≡ Free
         → (first : FailsFirst (leaves_clock events whole start look)) → Since (CutFrame byte first.j)
     broken there first =
-        let j : ℕ = first.j in
-        let same : (i : ℕ) → i ≤ j
-        → leaves_clock events (cell j) start look i ≡ leaves_clock events whole start look i =
-        λ i l. cut_leaves v start byte released events j i look first.below l in
-        let here : (at_meeting events (cell j) start look).side.port.link ≡ Free =
-        ap (λ (c : Pc). c.side.port.link) (cut_meets v start byte released events j look first.below) ∙ there in
-        let at = free_at events (cell j) (256 + start) look
-        (λ o a u. cut_up v start byte released j first.below o a (omega (arith, u))) free here in
-        let off = in_cell events (cell j) whole start j (frame_bit byte) look (sent_lines v start released byte 0).1 at
-        first.below (λ o a u. cut_is_sent v start byte released j o first.below (omega (arith, u)))
-        (λ i l. same i (omega (arith, l)) ∙ first.before i l) (same j (omega arith) ∙ first.fails) in (
+        let cell_cut : ℕ = first.j in
+        let same : (edge : ℕ) → edge ≤ cell_cut
+        → leaves_clock events (cell cell_cut) start look edge ≡ leaves_clock events whole start look edge =
+        λ edge within. cut_leaves latch start byte released events cell_cut edge look first.below within in
+        let here : (at_meeting events (cell cell_cut) start look).side.port.link ≡ Free =
+        ap (λ (pc : Pc). pc.side.port.link) (cut_meets latch start byte released events cell_cut look first.below) ∙ there in
+        let at = free_at events (cell cell_cut) (256 + start) look
+        (λ offset above under. cut_up latch start byte released cell_cut first.below offset above (omega (arith, under))) free here in
+        let off = in_cell events (cell cell_cut) whole start cell_cut (frame_bit byte) look (sent_lines latch start released byte 0).1 at
+        first.below (λ offset above under. cut_is_sent latch start byte released cell_cut offset first.below (omega (arith, under)))
+        (λ edge within. same edge (omega (arith, within)) ∙ first.before edge within) (same cell_cut (omega arith) ∙ first.fails) in (
           off.since,
-          ap (λ (c : Pc). pulled c.side.port.link)
-              (cut_sides v start byte released events j (32 * j + 18) (288 + start)
-              (at_meeting events (cell j) start look) first.below (omega arith))
+          ap (λ (pc : Pc). pulled pc.side.port.link)
+              (cut_sides latch start byte released events cell_cut (32 * cell_cut + 18) (288 + start)
+              (at_meeting events (cell cell_cut) start look) first.below (omega arith))
               ∙ off.pulls,
-          behind j off.since off.late,
+          behind cell_cut off.since off.late,
         )
 
     -- pulled before the first edge
     pulled_first : ((at_meeting events whole start look).side.port.link ≡ Free → ⊥) → Since (CutFrame byte 0)
     pulled_first gone =
         let first : 0 < 10 = omega arith in
-        let off : (at_meeting events (cell 0) start look).side.port.link ≡ Free → ⊥ = λ e.
-        gone (ap (λ (c : Pc). c.side.port.link) (sym
-        (cut_meets v start byte released events 0 look first)) ∙ e) in
+        let off : (at_meeting events (cell 0) start look).side.port.link ≡ Free → ⊥ = λ is.
+        gone (ap (λ (pc : Pc). pc.side.port.link) (sym
+        (cut_meets latch start byte released events 0 look first)) ∙ is) in
         elim (free_or_pulls events (cell 0) 32 (256 + start) look (omega arith)
-        (λ o a u. cut_up v start byte released 0 first o a (omega (arith, u))) free) as (λ z. Since (CutFrame byte 0)) [
+        (λ offset above under. cut_up latch start byte released 0 first offset above (omega (arith, under))) free) as (λ way.
+        Since (CutFrame byte 0)) [
           | inl still ↦ absurd (off still)
-          | inr p ↦
-              let from : 256 + start ≤ p.since = p.from in (
-                p.since,
-                (pulled_span events (cell 0) 18 (288 + start) (at_meeting events (cell 0) start look) p.since p.is
+          | inr pull ↦
+              let from : 256 + start ≤ pull.since = pull.from in (
+                pull.since,
+                (pulled_span events (cell 0) 18 (288 + start) (at_meeting events (cell 0) start look) pull.since pull.is
                     (omega (arith, from))).1,
                 omega (arith, from),
               )
@@ -111,7 +112,7 @@ module _ (events : List HostEvent) (v start : ℕ) (released : IsReleased v) (lo
       where
         by : (there : ((at_meeting events whole start look).side.port.link ≡ Free)
             ⊎ ((at_meeting events whole start look).side.port.link ≡ Free → ⊥))
-            (looks : ((k : ℕ) → k < 10 → leaves_clock events whole start look k ≡ true)
+            (looks : ((number : ℕ) → number < 10 → leaves_clock events whole start look number ≡ true)
             ⊎ (FailsFirst (leaves_clock events whole start look))) → Since (frame_offered byte there looks)
         by (inl there) (inl leaves) = tt
         by (inl there) (inr first) = broken there first
@@ -122,38 +123,38 @@ module _ (events : List HostEvent) (v start : ℕ) (released : IsReleased v) (lo
       frame_offered byte (free_or_not (at_meeting events (lines (SentFrame byte)) start look).side.port.link)
       (first_fails (leaves_clock events (lines (SentFrame byte)) start look) 10 ten)
 
-  by_offer : (o : Option ℕ) → look.side.port.link ≡ Free → Since (frame_free each o)
+  by_offer : (offer : Option ℕ) → look.side.port.link ≡ Free → Since (frame_free each offer)
   by_offer None free = tt
   by_offer (Some byte) free = offered byte free
 
-  by_link : (o : Option ℕ) (l : Link Wire) → look.side.port.link ≡ l → Since (frame_ended (frame_free each o) l)
-  by_link o Free e = by_offer o e
-  by_link o (Hold since) e = tt
-  by_link o (Ask byte since) e = tt
-  by_link o (Request byte) e = tt
-  by_link o (Busy x) e = tt
+  by_link : (offer : Option ℕ) (link : Link Wire) → look.side.port.link ≡ link → Since (frame_ended (frame_free each offer) link)
+  by_link offer Free is = by_offer offer is
+  by_link offer (Hold since) is = tt
+  by_link offer (Ask byte since) is = tt
+  by_link offer (Request byte) is = tt
+  by_link offer (Busy x) is = tt
 
   -- the frame of a tick is cut so
-  pub cut_since : (tests : Bool) (o : Option ℕ) → Since (frame_in events lines start look tests o)
-  cut_since false o = tt
-  cut_since true o = by_link o look.side.port.link refl
+  pub cut_since : (tests : Bool) (offer : Option ℕ) → Since (frame_in events lines start look tests offer)
+  cut_since false offer = tt
+  cut_since true offer = by_link offer look.side.port.link refl
 
 -- in the words of the joint run
-module _ (edges : List Edge) (events : List HostEvent) (w : World Beside)
-    (lit : lights_of w.cpu.p2 ≡ w.board.shown) (released : IsReleased (latch_now (joint_board edges events) w)) where
-  abbrev v : ℕ
-  v = latch_now (joint_board edges events) w
+module _ (edges : List Edge) (events : List HostEvent) (world : World Beside)
+    (lit : lights_of world.cpu.p2 ≡ world.board.shown) (released : IsReleased (latch_now (joint_board edges events) world)) where
+  abbrev latch : ℕ
+  latch = latch_now (joint_board edges events) world
 
-  pub is_cut_by : (frame : Frame) → Since events v w.cycle released (at_look edges events w) frame
-      → IsCutBy (λ o. (beside_in edges events (tick_latch w.cpu.p2 v frame) w o).pc.side.port.link) w.cycle frame
-  is_cut_by NoFrame s = tt
-  is_cut_by (SentFrame byte) s = tt
-  is_cut_by (CutFrame byte cell) s = (
-    s.0,
-    ap (λ (c : Pc). pulled c.side.port.link)
-        (at_cell edges events (joint_board edges events) (λ b. b) (itself edges events) w lit released
+  pub is_cut_by : (frame : Frame) → Since events latch world.cycle released (at_look edges events world) frame
+      → IsCutBy (λ offset. (beside_in edges events (tick_latch world.cpu.p2 latch frame) world offset).pc.side.port.link) world.cycle frame
+  is_cut_by NoFrame since = tt
+  is_cut_by (SentFrame byte) since = tt
+  is_cut_by (CutFrame byte cell) since = (
+    since.0,
+    ap (λ (pc : Pc). pulled pc.side.port.link)
+        (at_cell edges events (joint_board edges events) (λ board. board) (itself edges events) world lit released
         (CutFrame byte cell) cell)
-        ∙ s.1,
-    s.2,
+        ∙ since.1,
+    since.2,
   )
-  is_cut_by ReceivedFrame s = tt
+  is_cut_by ReceivedFrame since = tt

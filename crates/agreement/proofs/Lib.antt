@@ -31,5 +31,5 @@ pub mod PortInBytes
 pub mod InBytes
 pub mod Run
 pub mod FewEdges
-pub mod Whole
+pub mod ModelAtEachStart
 pub mod Tied

@@ -29,7 +29,7 @@ use Rattle.agreement.proofs.Compiled.{has_kernel, are_bytes}
 use Rattle.agreement.proofs.Holding.{HasPlaces, none_held, holds_now}
 use Rattle.fw_logic.specs.Ticks.{IsOnTime}
 use Rattle.agreement.proofs.Model.{at_first}
-use Rattle.agreement.proofs.Whole.{keeps_time, at_starts, at_run, agrees, drives}
+use Rattle.agreement.proofs.ModelAtEachStart.{keeps_time, at_starts, at_run, agrees, drives}
 use Rattle.agreement.proofs.Tied.{Tied, fits, tied_first, tied_next, passes, tick_drives}
 
 module _ (layout : KeyLayout) (history : KeyHistory) (fine : IsKeyLayout layout)

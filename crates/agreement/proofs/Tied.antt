@@ -1,5 +1,6 @@
 -- For every layout and every accepted history what ties the joint run to the model goes on from tick to tick.
-use Rattle.std.proofs.Common.{◌≡◌, ◌≤◌, ◌<◌, ℕ, suc, ◌+◌, ◌-◌, ◌*◌, ◌/◌, ◌%◌, ◌==◌, true, false, nat_le, slice_index, if◌then◌else◌, All, List, length, refl, ap, sym, ◌∙◌, subst, arith}
+use Rattle.std.proofs.Common.{◌≡◌, ◌≤◌, ◌<◌, ℕ, suc, ◌+◌, ◌-◌, ◌*◌, ◌/◌, ◌%◌, ◌==◌, true, false, nat_le}
+use Rattle.std.proofs.Common.{slice_index, if◌then◌else◌, All, List, length, refl, ap, sym, ◌∙◌, subst, arith}
 use Rattle.std.proofs.lemmas.Bool.Decides.{nat_tests}
 use Rattle.fw_compile.specs.Image.{image_of}
 use Rattle.fw_kernel.specs.declared.labels.TheConstants.{TICK}
@@ -150,7 +151,8 @@ module _ (layout : KeyLayout) (history : KeyHistory) (fine : IsKeyLayout layout)
     went =
         every_tick edges events joint (λ b. b) (itself edges events) bytes (has_kernel layout)
         (is_alike layout fine) (are_bytes layout fine) (bus_low edges events) layout (same_keys layout)
-        (no_prefix layout fine) n w m time tie columns of_layout (subst (λ v. length v ≤ 4) (sym columns) four) released lamps ok.accepted.flips
+        (no_prefix layout fine) n w m time tie columns of_layout (subst (λ v. length v ≤ 4) (sym columns) four)
+        released lamps ok.accepted.flips
         (λ byte is. offers_byte w.cpu tie.started byte (ap offer tie.keyboard ∙ is)) asked
 
     -- by the service's end
@@ -208,7 +210,8 @@ module _ (layout : KeyLayout) (history : KeyHistory) (fine : IsKeyLayout layout)
     tick_drives =
         let t =
         every_tick edges events W beneath above bytes (has_kernel layout) (is_alike layout fine)
-        (are_bytes layout fine) (low_over edges events W beneath above) layout (same_keys layout) (no_prefix layout fine) n (watched w) m time
+        (are_bytes layout fine) (low_over edges events W beneath above) layout (same_keys layout)
+        (no_prefix layout fine) n (watched w) m time
         tie columns_above of_layout (subst (λ v. length v ≤ 4) (sym columns_above) four) released lamps ok.accepted.flips
         (λ byte is. offers_byte w.cpu tie.started byte (ap offer tie.keyboard ∙ is)) asked in
         record {

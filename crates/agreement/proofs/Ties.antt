@@ -12,8 +12,9 @@ use Rattle.link_model.specs.Machine.{LayeredKeyboard}
 use Rattle.wires_agree.specs.Flips.{IsFlip}
 use Rattle.wires_agree.specs.Without.{seen_in_bytes}
 
--- memory shows the model's keyboard and its layers, what repeats there is pressed, the PC's side is the model's, no byte is under way, what noise is to turn round is a
--- data bit or the parity, and the latch of port 2 pulls no wire and shows the lights that were shown last
+-- memory shows the model's keyboard and its layers, what repeats there is pressed, the PC's side is the model's, no byte
+-- is under way, what noise is to turn round is a data bit or the parity, and the latch of port 2 pulls no wire and shows
+-- the lights that were shown last
 pub record Ties (bytes : List ℕ) (keys : Keys) (w : World Beside) (m : Whole LayeredKeyboard) : Type 0 where
   pub started : IsStarted w.cpu
   pub keyboard : shown_by w.cpu.ram ≡ m.keys.keyboard

@@ -1,5 +1,6 @@
 -- A byte's frame is read back as that byte, and a right frame is that of its byte.
-use Rattle.std.proofs.Common.{◌≡◌, ℕ, ◌<◌, ◌==◌, Bool, true, false, not, ◌&&◌, List, [], ◌∷◌, length, take, drop, get_or, ◌++◌, Some, None, eqb, refl, ap, sym, ◌∙◌, bit_and, arith}
+use Rattle.std.proofs.Common.{◌≡◌, ℕ, ◌<◌, ◌==◌, Bool, true, false, not, ◌&&◌, List, [], ◌∷◌, length, take, drop}
+use Rattle.std.proofs.Common.{get_or, ◌++◌, Some, None, eqb, refl, ap, sym, ◌∙◌, bit_and, arith}
 use Rattle.std.specs.Prelude.{if◌then◌else◌}
 use Rattle.std.specs.declared.option.Option.{Option}
 use Rattle.std.proofs.lemmas.Bool.{eqb-true}

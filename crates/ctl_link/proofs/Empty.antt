@@ -10,7 +10,8 @@ use Rattle.ctl_core.specs.declared.port.Port.TheVariants.{P60, P64}
 use Rattle.ctl_core.specs.declared.command.Parameter.{Parameter}
 use Rattle.ctl_core.specs.declared.command.Parameter.TheVariants.{CommandByte, OutputPort}
 use Rattle.ctl_core.specs.declared.command.Command.{Command}
-use Rattle.ctl_core.specs.declared.command.Command.TheVariants.{ReadCommandByte, WriteCommandByte, SelfTest, InterfaceTest, Disable, Enable, ReadInputPort, ReadOutputPort, WriteOutputPort, PulseOutput, Unlisted}
+use Rattle.ctl_core.specs.declared.command.Command.TheVariants.{ReadCommandByte, WriteCommandByte, SelfTest, InterfaceTest, Disable, Enable}
+use Rattle.ctl_core.specs.declared.command.Command.TheVariants.{ReadInputPort, ReadOutputPort, WriteOutputPort, PulseOutput, Unlisted}
 use Rattle.ctl_core.specs.declared.controller.Did.{Did}
 use Rattle.ctl_core.specs.declared.controller.Did.TheVariants.{Nothing, ToKeyboard, Output, Pulse}
 use Rattle.ctl_link.specs.declared.link.Link.{Link}

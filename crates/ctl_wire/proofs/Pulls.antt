@@ -1,5 +1,6 @@
 -- A pull of the clock lasts 64 cycles at least.
-use Rattle.std.proofs.Common.{◌≡◌, ℕ, suc, zero, ◌+◌, ◌<◌, ◌≤◌, Bool, true, false, not, ◌&&◌, ◌||◌, Some, None, List, [], ◌∷◌, ◌++◌, length, refl, ap, sym, subst, ◌∙◌, ◌⊎◌, inl, inr, arith}
+use Rattle.std.proofs.Common.{◌≡◌, ℕ, suc, zero, ◌+◌, ◌<◌, ◌≤◌, Bool, true, false, not, ◌&&◌, ◌||◌, Some, None, List}
+use Rattle.std.proofs.Common.{[], ◌∷◌, ◌++◌, length, refl, ap, sym, subst, ◌∙◌, ◌⊎◌, inl, inr, arith}
 use Rattle.std.specs.Prelude.{if◌then◌else◌, ◌==◌}
 use Rattle.std.specs.declared.option.Option.{Option}
 use Rattle.board_lines.specs.Frame.{byte_of}
@@ -8,7 +9,8 @@ use Rattle.ctl_core.specs.Commands.{Taken, taken}
 use Rattle.ctl_link.specs.declared.link.Link.{Link}
 use Rattle.ctl_link.specs.declared.link.Link.TheVariants.{Free, Hold, Ask, Request, Busy}
 use Rattle.ctl_link.specs.declared.port.Port.{Port}
-use Rattle.ctl_link.specs.Link.{received, link_behind, handed_over, held_since, took_where, takes_input, link_after, settled, broken_off, is_busy}
+use Rattle.ctl_link.specs.Link.{received, link_behind, handed_over, held_since, took_where}
+use Rattle.ctl_link.specs.Link.{takes_input, link_after, settled, broken_off, is_busy}
 use Rattle.ctl_link.specs.Pulls.{pulled, Begins}
 use Rattle.ctl_link.proofs.Pulls.{keeps_pull, begins_pull}
 use Rattle.ctl_link.proofs.Breaks.{unbroken, pulled_idle, breaks_or_not}

@@ -1,5 +1,6 @@
 -- The numbers of a line.
-use Rattle.std.proofs.Common.{length, ◌∙◌, ap, ◌≡◌, ◌<◌, ℕ, ◌+◌, ◌*◌, List, [], ◌∷◌, Bool, true, false, ◌==◌, leb, if◌then◌else◌, Some, None, refl, arith}
+use Rattle.std.proofs.Common.{length, ◌∙◌, ap, ◌≡◌, ◌<◌, ℕ, ◌+◌, ◌*◌, List, [], ◌∷◌, Bool, true}
+use Rattle.std.proofs.Common.{false, ◌==◌, leb, if◌then◌else◌, Some, None, refl, arith}
 use Rattle.std.proofs.lemmas.Bool.Decides.{nat_tests}
 use Rattle.std.specs.Option.{option_and_then}
 use Rattle.std.specs.declared.option.Option.{Option}

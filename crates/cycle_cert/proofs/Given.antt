@@ -1,5 +1,6 @@
 -- The value that a row gives to a register, and any value that it may leave in it.
-use Rattle.std.proofs.Common.{ltb, ◌≡◌, ◌≤◌, ◌<◌, ℕ, ◌+◌, ◌%◌, List, [], ◌∷◌, Bool, true, false, ◌==◌, if◌then◌else◌, Some, None, length, get_or, set, refl, ◌∙◌, ap, arith, get_or-set_same}
+use Rattle.std.proofs.Common.{ltb, ◌≡◌, ◌≤◌, ◌<◌, ℕ, ◌+◌, ◌%◌, List, [], ◌∷◌, Bool, true, false, ◌==◌, if◌then◌else◌}
+use Rattle.std.proofs.Common.{Some, None, length, get_or, set, refl, ◌∙◌, ap, arith, get_or-set_same}
 use Rattle.std.proofs.lemmas.Bool.Decides.{nat_tests}
 use Rattle.std.specs.List.{list_all}
 use Rattle.std.specs.declared.option.Option.{Option}

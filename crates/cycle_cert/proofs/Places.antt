@@ -1,5 +1,6 @@
 -- Where the counter stands after a row: at one of the row's ways out, which the registers allow.
-use Rattle.std.proofs.Common.{◌≡◌, ◌<◌, ℕ, ◌+◌, ◌*◌, ◌%◌, List, [], ◌∷◌, Bool, true, false, not, ◌&&◌, ◌==◌, ltb, if◌then◌else◌, refl, ap, arith}
+use Rattle.std.proofs.Common.{◌≡◌, ◌<◌, ℕ, ◌+◌, ◌*◌, ◌%◌, List, [], ◌∷◌, Bool, true, false, not}
+use Rattle.std.proofs.Common.{◌&&◌, ◌==◌, ltb, if◌then◌else◌, refl, ap, arith}
 use Rattle.std.proofs.lemmas.Bool.Decides.{nat_tests}
 use Rattle.std.specs.List.{list_all}
 use Rattle.mcs48_isa.specs.Text.{target}
@@ -12,7 +13,8 @@ use Rattle.mcs48_isa.specs.declared.operation.AluOp.TheVariants.{AddN, AddcN, An
 use Rattle.mcs48_isa.specs.declared.operation.UnaryOp.{UnaryOp}
 use Rattle.mcs48_isa.specs.declared.operation.UnaryOp.TheVariants.{IncA}
 use Rattle.mcs48_isa.specs.declared.operation.FlowOp.{FlowOp}
-use Rattle.mcs48_isa.specs.declared.operation.FlowOp.TheVariants.{Jmp, Call, Ret, Retr, Jmpp, Djnz, Jb, Jc, Jnc, Jz, Jnz, Jt0, Jnt0, Jt1, Jnt1, Jf0, Jf1, Jtf, Jni}
+use Rattle.mcs48_isa.specs.declared.operation.FlowOp.TheVariants.{Jmp, Call, Ret, Retr, Jmpp, Djnz, Jb, Jc, Jnc, Jz, Jnz}
+use Rattle.mcs48_isa.specs.declared.operation.FlowOp.TheVariants.{Jt0, Jnt0, Jt1, Jnt1, Jf0, Jf1, Jtf, Jni}
 use Rattle.mcs48_isa.specs.declared.operation.PortOp.{PortOp}
 use Rattle.mcs48_isa.specs.declared.operation.PortOp.TheVariants.{AnlP1, AnlP2, AnlBus, OrlP1, OrlP2, OrlBus}
 use Rattle.mcs48_isa.specs.declared.operation.ControlOp.{ControlOp}

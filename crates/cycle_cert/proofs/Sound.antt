@@ -1,5 +1,6 @@
 -- A certificate without a fault keeps its bounds: by induction on the bound.
-use Rattle.std.proofs.Common.{◌≡◌, ◌≤◌, ◌<◌, ℕ, zero, suc, ◌+◌, ◌%◌, List, [], ◌∷◌, Bool, true, false, ◌&&◌, ◌==◌, leb, if◌then◌else◌, Some, None, is_some, All, get_or, refl, ◌∙◌, ap, subst, arith}
+use Rattle.std.proofs.Common.{◌≡◌, ◌≤◌, ◌<◌, ℕ, zero, suc, ◌+◌, ◌%◌, List, [], ◌∷◌, Bool, true, false, ◌&&◌, ◌==◌, leb}
+use Rattle.std.proofs.Common.{if◌then◌else◌, Some, None, is_some, All, get_or, refl, ◌∙◌, ap, subst, arith}
 use Rattle.std.proofs.lemmas.Bool.Decides.{nat_tests}
 use Rattle.std.specs.List.{list_all}
 use Rattle.std.specs.declared.option.Option.{Option}
@@ -21,7 +22,8 @@ use Rattle.cycle_cert.specs.Rows.{is_certifiable, fits, ways, values_after}
 use Rattle.cycle_cert.specs.Falling.{values_beside, falls_at, falls}
 use Rattle.mcs48_ranges.specs.Sizes.{IsByte, IsFine}
 use Rattle.cycle_cert.specs.Runs.{ArePins, IsPlain, run, later, ComesTo}
-use Rattle.cycle_cert.specs.Certificates.{Certificate, bound_in, bound_at, passage, is_known, way_falls, ways_fault, row_fault, place_fault, first_fault, Keeps}
+use Rattle.cycle_cert.specs.Certificates.{Certificate, bound_in, bound_at, passage, is_known, way_falls}
+use Rattle.cycle_cert.specs.Certificates.{ways_fault, row_fault, place_fault, first_fault, Keeps}
 use Rattle.bits.proofs.Every.{both}
 use Rattle.cycle_cert.proofs.Values.{at_value}
 use Rattle.mcs48_ranges.proofs.Rows.{Regular, row_regular}

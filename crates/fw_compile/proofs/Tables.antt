@@ -1,6 +1,7 @@
 -- Bytes with a table put into them: what is read in the table and beside it.
 use Rattle.std.proofs.Common.{◌≡◌, ℕ, ◌+◌, ◌-◌, ◌++◌, ◌<◌, ◌≤◌, List, length, take, drop, get_or, slice_index, arith, ap, ◌∙◌, sym}
-use Rattle.std.proofs.lemmas.List.{take-append-drop, length-take, length-drop, length-append, get_or_append_left, get_or-append_right, get_or-take, get_or-drop}
+use Rattle.std.proofs.lemmas.List.{take-append-drop, length-take, length-drop, length-append}
+use Rattle.std.proofs.lemmas.List.{get_or_append_left, get_or-append_right, get_or-take, get_or-drop}
 use Rattle.fw_compile.specs.Image.{with_table}
 
 -- bytes whose front ends with the table, and which are else as they were

@@ -28,32 +28,32 @@ use Rattle.joint_run.specs.Run.{Board, after_cycles}
 
 -- the registers behind a received frame: R4 is the byte, R5 is 255 where its parity was right and else 0
 abbrev pub got_cells : (ℕ → ℕ) → ℕ → Bool → ℕ → ℕ
-got_cells f byte right = put (put (put (put (put f 24 0) 27 0) 28 byte) 25 (in_quarters byte)) 29 (255 * digit right)
+got_cells cells byte right = put (put (put (put (put cells 24 0) 27 0) 28 byte) 25 (in_quarters byte)) 29 (255 * digit right)
 
 -- the eleventh fall: both wires are low, and then let go
-last_low : (v i : ℕ) → i < 16 → received_latch v (28 + 32 * 10 + i) ≡ bit_and v 252
-last_low v i l =
-    let m : i < 32 = omega (arith, l) in
-    let a : nat_le 16 i ≡ false = grind (arith, nat_tests, l) in
-    in_cell v 10 i m ∙ ap (λ c. wired v c c) a
+last_low : (latch cycle : ℕ) → cycle < 16 → received_latch latch (28 + 32 * 10 + cycle) ≡ bit_and latch 252
+last_low latch cycle within =
+    let inside : cycle < 32 = omega (arith, within) in
+    let half : nat_le 16 cycle ≡ false = grind (arith, nat_tests, within) in
+    in_cell latch 10 cycle inside ∙ ap (λ clock. wired latch clock clock) half
 
-last_high : (v i : ℕ) → i < 2 → received_latch v (28 + 32 * 10 + 16 + i) ≡ wired v true true
-last_high v i l =
-    let m : 16 + i < 32 = omega (arith, l) in
-    let a : nat_le 16 (16 + i) ≡ true = grind (arith, nat_tests) in
-    let p : 28 + 32 * 10 + 16 + i ≡ 28 + 32 * 10 + (16 + i) = omega arith in
-    ap (λ o. received_latch v o) p ∙ in_cell v 10 (16 + i) m ∙ ap (λ c. wired v c c) a
+last_high : (latch cycle : ℕ) → cycle < 2 → received_latch latch (28 + 32 * 10 + 16 + cycle) ≡ wired latch true true
+last_high latch cycle within =
+    let inside : 16 + cycle < 32 = omega (arith, within) in
+    let half : nat_le 16 (16 + cycle) ≡ true = grind (arith, nat_tests) in
+    let place : 28 + 32 * 10 + 16 + cycle ≡ 28 + 32 * 10 + (16 + cycle) = omega arith in
+    ap (λ offset. received_latch latch offset) place ∙ in_cell latch 10 (16 + cycle) inside ∙ ap (λ clock. wired latch clock clock) half
 
-module _ (d : Board) (bytes : List ℕ) (has : HasKernel bytes) (x : ℕ) (m : Cpu) (board : d.State) (f : ℕ → ℕ)
-    (ring : List ℕ) (released : IsReleased m.p2) (small : m.a < 256) where
-  abbrev In : ℕ → Stage d.State → Type 0
-  In n s = InBits d bytes has x m board f ring released small n s
+module _ (outside : Board) (bytes : List ℕ) (has : HasKernel bytes) (start : ℕ) (begun : Cpu) (board : outside.State) (cells : ℕ → ℕ)
+    (ring : List ℕ) (released : IsReleased begun.p2) (small : begun.a < 256) where
+  abbrev In : ℕ → Stage outside.State → Type 0
+  In left stage = InBits outside bytes has start begun board cells ring released small left stage
 
-  abbrev at_offset : ℕ → d.State
-  at_offset o = driven d x (received_latch m.p2) o 0 board
+  abbrev at_offset : ℕ → outside.State
+  at_offset offset = driven outside start (received_latch begun.p2) offset 0 board
 
   abbrev wire : ℕ → Bool
-  wire k = bit_read d bytes has x m board f ring released small k
+  wire cell = bit_read outside bytes has start begun board cells ring released small cell
 
   -- the byte that was read, and whether its parity was right
   abbrev pub byte_read : ℕ
@@ -63,133 +63,142 @@ module _ (d : Board) (bytes : List ℕ) (has : HasKernel bytes) (x : ℕ) (m : C
   right_read = is_parity (wire 8) byte_read
 
   abbrev pub got : ℕ → ℕ
-  got = got_cells f byte_read right_read
+  got = got_cells cells byte_read right_read
 
-  begins : IsFree m → Leads d (kernel_in true bytes) x (begin_at d GOT f ring m board) (In 8)
+  begins : IsFree begun → Leads outside (kernel_in true bytes) start (begin_at outside GOT cells ring begun board) (In 8)
   begins free =
-      weaken d (kernel_in true bytes) (has_rows true bytes has) x (Awaits d bytes has x m board f ring) (In 8)
-      (begin_at d GOT f ring m board)
-      (λ e h. record {
+      weaken outside (kernel_in true bytes) (has_rows true bytes has) start (Awaits outside bytes has start begun board cells ring) (In 8)
+      (begin_at outside GOT cells ring begun board)
+      (λ stage is. record {
         k = 0;
         count = refl;
         r0 = 0;
-        cpu = h.0;
-        acc = h.1;
-        off = h.2;
+        cpu = is.0;
+        acc = is.1;
+        off = is.2;
         board_now =
-            h.3 ∙ spans d x (received_latch m.p2) 28 0 x 0 m.p2 board board refl (λ i l. before_cells m.p2 i l) refl;
+            is.3 ∙ spans outside start (received_latch begun.p2) 28 0 start 0 begun.p2 board board refl
+                (λ cycle within. before_cells begun.p2 cycle within) refl;
       })
-      (awaits d bytes has x m board f ring free)
+      (awaits outside bytes has start begun board cells ring free)
 
-  parity_cell : (t : Stage d.State) → In 0 t → IsFree t.cpu
-      → Leads d (kernel_in true bytes) x t (At d m R_STOP got ring (28 + 32 * 9) (at_offset (28 + 32 * 9)))
-  parity_cell t q free =
-      let k : q.k ≡ 8 = (let c : q.k + 0 ≡ 8 = q.count in omega (arith, c)) in
-      let few : q.k < 10 = omega (arith, k) in
-      let o : t.off ≡ 28 + 32 * q.k = q.off in
-      let y : x + t.off ≡ x + (28 + 32 * q.k) = ap (λ i. x + i) o in
-      let w : t.cpu.p2 ≡ m.p2 = ap (λ (z : Cpu). z.p2) q.cpu in
-      let one : t.cpu.p1 ≡ m.p1 = ap (λ (z : Cpu). z.p1) q.cpu in
-      let u = bit_or (bit_and t.cpu.p2 254) 1 in
-      let g = put (put f 24 q.r0) 27 0 in
-      let byte : t.cpu.a ≡ byte_read = q.acc ∙ ap (λ i. taken wire m.a i) k ∙ taken_is wire m.a small in
-      let low : t.cpu.a < 256 = subst (λ a. a < 256) (sym q.acc) (taken_small wire m.a q.k small) in
+  parity_cell : (stage : Stage outside.State) → In 0 stage → IsFree stage.cpu
+      → Leads outside (kernel_in true bytes) start stage (At outside begun R_STOP got ring (28 + 32 * 9) (at_offset (28 + 32 * 9)))
+  parity_cell stage held free =
+      let eighth : held.k ≡ 8 = (let count : held.k + 0 ≡ 8 = held.count in omega (arith, count)) in
+      let few : held.k < 10 = omega (arith, eighth) in
+      let off_is : stage.off ≡ 28 + 32 * held.k = held.off in
+      let same_cycle : start + stage.off ≡ start + (28 + 32 * held.k) = ap (λ offset. start + offset) off_is in
+      let same_latch : stage.cpu.p2 ≡ begun.p2 = ap (λ (cpu : Cpu). cpu.p2) held.cpu in
+      let one : stage.cpu.p1 ≡ begun.p1 = ap (λ (cpu : Cpu). cpu.p1) held.cpu in
+      let let_go = bit_or (bit_and stage.cpu.p2 254) 1 in
+      let counted = put (put cells 24 held.r0) 27 0 in
+      let byte : stage.cpu.a ≡ byte_read = held.acc ∙ ap (λ bits. taken wire begun.a bits) eighth ∙ taken_is wire begun.a small in
+      let low : stage.cpu.a < 256 = subst (λ acc. acc < 256) (sym held.acc) (taken_small wire begun.a held.k small) in
       let seen =
-      look_is d bytes has x m board f ring released small q.k
-      (x + t.off) t.cpu.p2 t.cpu.p1 t.board few one y w q.board_now ∙ ap wire k in
-      from_stage d (kernel_in true bytes) (has_rows true bytes has) x R_PARITY m g ring t
-      (At d (record t.cpu { p2 = u }) R_STOP (with_parity d bytes has (x + t.off) t.cpu t.board g ring) ring 32
-      (board_behind_bit d bytes has (x + t.off) t.cpu t.board g ring))
-      (At d m R_STOP got ring (28 + 32 * 9) (at_offset (28 + 32 * 9))) q.cpu
-      (λ e a. record {
+      look_is outside bytes has start begun board cells ring released small held.k
+      (start + stage.off) stage.cpu.p2 stage.cpu.p1 stage.board few one same_cycle same_latch held.board_now ∙ ap wire eighth in
+      from_stage outside (kernel_in true bytes) (has_rows true bytes has) start R_PARITY begun counted ring stage
+      (At outside (record stage.cpu { p2 = let_go }) R_STOP
+          (with_parity outside bytes has (start + stage.off) stage.cpu stage.board counted ring) ring 32
+      (board_behind_bit outside bytes has (start + stage.off) stage.cpu stage.board counted ring))
+      (At outside begun R_STOP got ring (28 + 32 * 9) (at_offset (28 + 32 * 9))) held.cpu
+      (λ end arrives. record {
         cpu =
-            a.cpu
-            ∙ ap (λ (z : Cpu). scratched (record z { p2 = u }) R_STOP
-            (memory (with_parity d bytes has (x + t.off) t.cpu t.board g ring) ring) e.cpu) q.cpu
-            ∙ ap (λ z. scratched (record m { p2 = z }) R_STOP
-            (memory (with_parity d bytes has (x + t.off) t.cpu t.board g ring) ring) e.cpu)
-            (risen_is d bytes has x m board f ring released small t.cpu.p2 w)
-            ∙ ap (λ b. scratched m R_STOP
-            (memory (put (put (put (put g 28 t.cpu.a) 25 (in_quarters t.cpu.a)) 24 0) 29
-            (255 * digit (is_parity b t.cpu.a))) ring) e.cpu) seen
-            ∙ ap (λ v. scratched m R_STOP
-            (memory (put (put (put (put g 28 v) 25 (in_quarters v)) 24 0) 29 (255 * digit (is_parity (wire 8) v))) ring)
-            e.cpu) byte;
-        off = (let c : e.off ≡ 32 = a.off in omega (arith, c, o, k));
+            arrives.cpu
+            ∙ ap (λ (cpu : Cpu). scratched (record cpu { p2 = let_go }) R_STOP
+            (memory (with_parity outside bytes has (start + stage.off) stage.cpu stage.board counted ring) ring) end.cpu) held.cpu
+            ∙ ap (λ latch. scratched (record begun { p2 = latch }) R_STOP
+            (memory (with_parity outside bytes has (start + stage.off) stage.cpu stage.board counted ring) ring) end.cpu)
+            (risen_is outside bytes has start begun board cells ring released small stage.cpu.p2 same_latch)
+            ∙ ap (λ bit. scratched begun R_STOP
+            (memory (put (put (put (put counted 28 stage.cpu.a) 25 (in_quarters stage.cpu.a)) 24 0) 29
+            (255 * digit (is_parity bit stage.cpu.a))) ring) end.cpu) seen
+            ∙ ap (λ read. scratched begun R_STOP
+            (memory (put (put (put (put counted 28 read) 25 (in_quarters read)) 24 0) 29 (255 * digit (is_parity (wire 8) read))) ring)
+            end.cpu) byte;
+        off = (let count : end.off ≡ 32 = arrives.off in omega (arith, count, off_is, eighth));
         now =
-            a.now ∙ cell_span d bytes has x m board f ring released small q.k
-            (x + t.off) t.cpu.p2 t.board few y w q.board_now
-            ∙ (let p : 28 + 32 * suc q.k ≡ 28 + 32 * 9 = omega (arith, k) in ap at_offset p);
+            arrives.now ∙ cell_span outside bytes has start begun board cells ring released small held.k
+            (start + stage.off) stage.cpu.p2 stage.board few same_cycle same_latch held.board_now
+            ∙ (let place : 28 + 32 * suc held.k ≡ 28 + 32 * 9 = omega (arith, eighth) in ap at_offset place);
       })
-      (takes_parity d bytes has (x + t.off) t.cpu t.board g ring free low)
+      (takes_parity outside bytes has (start + stage.off) stage.cpu stage.board counted ring free low)
 
-  stop_cell : (t : Stage d.State) → At d m R_STOP got ring (28 + 32 * 9) (at_offset (28 + 32 * 9)) t → IsFree t.cpu
-      → Leads d (kernel_in true bytes) x t (At d m R_ACK got ring (28 + 32 * 10) (at_offset (28 + 32 * 10)))
-  stop_cell t q free =
+  stop_cell : (stage : Stage outside.State)
+      → At outside begun R_STOP got ring (28 + 32 * 9) (at_offset (28 + 32 * 9)) stage → IsFree stage.cpu
+      → Leads outside (kernel_in true bytes) start stage (At outside begun R_ACK got ring (28 + 32 * 10) (at_offset (28 + 32 * 10)))
+  stop_cell stage held free =
       let nine : 9 < 10 = omega arith in
-      let o : t.off ≡ 28 + 32 * 9 = q.off in
-      let y : x + t.off ≡ x + (28 + 32 * 9) = ap (λ i. x + i) o in
-      let w : t.cpu.p2 ≡ m.p2 = ap (λ (z : Cpu). z.p2) q.cpu in
-      let u = bit_or (bit_and t.cpu.p2 254) 1 in
-      from_stage d (kernel_in true bytes) (has_rows true bytes has) x R_STOP m got ring t
-      (At d (record t.cpu { p2 = u }) R_ACK (put got 24 0) ring 32
-      (board_behind_bit d bytes has (x + t.off) t.cpu t.board got ring))
-      (At d m R_ACK got ring (28 + 32 * 10) (at_offset (28 + 32 * 10))) q.cpu
-      (λ e a. record {
+      let off_is : stage.off ≡ 28 + 32 * 9 = held.off in
+      let same_cycle : start + stage.off ≡ start + (28 + 32 * 9) = ap (λ offset. start + offset) off_is in
+      let same_latch : stage.cpu.p2 ≡ begun.p2 = ap (λ (cpu : Cpu). cpu.p2) held.cpu in
+      let let_go = bit_or (bit_and stage.cpu.p2 254) 1 in
+      from_stage outside (kernel_in true bytes) (has_rows true bytes has) start R_STOP begun got ring stage
+      (At outside (record stage.cpu { p2 = let_go }) R_ACK (put got 24 0) ring 32
+      (board_behind_bit outside bytes has (start + stage.off) stage.cpu stage.board got ring))
+      (At outside begun R_ACK got ring (28 + 32 * 10) (at_offset (28 + 32 * 10))) held.cpu
+      (λ end arrives. record {
         cpu =
-            a.cpu ∙ ap (λ (z : Cpu). scratched (record z { p2 = u }) R_ACK (memory (put got 24 0) ring) e.cpu) q.cpu
-            ∙ ap (λ z. scratched (record m { p2 = z }) R_ACK (memory (put got 24 0) ring) e.cpu)
-            (risen_is d bytes has x m board f ring released small t.cpu.p2 w);
-        off = (let c : e.off ≡ 32 = a.off in omega (arith, c, o));
+            arrives.cpu ∙ ap (λ (cpu : Cpu). scratched (record cpu { p2 = let_go }) R_ACK (memory (put got 24 0) ring) end.cpu) held.cpu
+            ∙ ap (λ latch. scratched (record begun { p2 = latch }) R_ACK (memory (put got 24 0) ring) end.cpu)
+            (risen_is outside bytes has start begun board cells ring released small stage.cpu.p2 same_latch);
+        off = (let count : end.off ≡ 32 = arrives.off in omega (arith, count, off_is));
         now =
-            a.now ∙ cell_span d bytes has x m board f ring released small 9 (x + t.off) t.cpu.p2 t.board nine y w q.now;
+            arrives.now ∙ cell_span outside bytes has start begun board cells ring released small 9 (start + stage.off)
+                stage.cpu.p2 stage.board nine same_cycle same_latch held.now;
       })
-      (takes_stop d bytes has (x + t.off) t.cpu t.board got ring free)
+      (takes_stop outside bytes has (start + stage.off) stage.cpu stage.board got ring free)
 
-  last_fall : (t : Stage d.State) → At d m R_ACK got ring (28 + 32 * 10) (at_offset (28 + 32 * 10)) t → IsFree t.cpu
-      → Leads d (kernel_in true bytes) x t (At d m COMMAND got ring 366 (at_offset 366))
-  last_fall t q free =
-      let o : t.off ≡ 28 + 32 * 10 = q.off in
-      let w : t.cpu.p2 ≡ m.p2 = ap (λ (z : Cpu). z.p2) q.cpu in
-      let u = bit_or (bit_and t.cpu.p2 252) 3 in
-      let free_again : u ≡ m.p2 = ap (λ z. bit_or (bit_and z 252) 3) w ∙ restores m.p2 released in
-      let first : after_cycles 16 0 (λ o. d.cycle (bit_and t.cpu.p2 252) (x + t.off + o)) t.board
+  last_fall : (stage : Stage outside.State)
+      → At outside begun R_ACK got ring (28 + 32 * 10) (at_offset (28 + 32 * 10)) stage → IsFree stage.cpu
+      → Leads outside (kernel_in true bytes) start stage (At outside begun COMMAND got ring 366 (at_offset 366))
+  last_fall stage held free =
+      let off_is : stage.off ≡ 28 + 32 * 10 = held.off in
+      let same_latch : stage.cpu.p2 ≡ begun.p2 = ap (λ (cpu : Cpu). cpu.p2) held.cpu in
+      let let_go = bit_or (bit_and stage.cpu.p2 252) 3 in
+      let free_again : let_go ≡ begun.p2 = ap (λ latch. bit_or (bit_and latch 252) 3) same_latch ∙ restores begun.p2 released in
+      let first : after_cycles 16 0 (λ offset. outside.cycle (bit_and stage.cpu.p2 252) (start + stage.off + offset)) stage.board
       ≡ at_offset (28 + 32 * 10 + 16) =
-      spans d x (received_latch m.p2) 16 (28 + 32 * 10) (x + t.off) 0 (bit_and t.cpu.p2 252) t.board board
-      (omega (arith, o))
-      (λ i l. last_low m.p2 i l ∙ sym (ap (λ z. bit_and z 252) w)) q.now in
-      from_stage d (kernel_in true bytes) (has_rows true bytes has) x R_ACK m got ring t
-      (At d (record t.cpu { p2 = u }) COMMAND (put got 24 0) ring 18
-      (board_acked d bytes has (x + t.off) t.cpu t.board got ring))
-      (At d m COMMAND got ring 366 (at_offset 366)) q.cpu
-      (λ e a. record {
+      spans outside start (received_latch begun.p2) 16 (28 + 32 * 10) (start + stage.off) 0 (bit_and stage.cpu.p2 252) stage.board board
+      (omega (arith, off_is))
+      (λ cycle within. last_low begun.p2 cycle within ∙ sym (ap (λ latch. bit_and latch 252) same_latch)) held.now in
+      from_stage outside (kernel_in true bytes) (has_rows true bytes has) start R_ACK begun got ring stage
+      (At outside (record stage.cpu { p2 = let_go }) COMMAND (put got 24 0) ring 18
+      (board_acked outside bytes has (start + stage.off) stage.cpu stage.board got ring))
+      (At outside begun COMMAND got ring 366 (at_offset 366)) held.cpu
+      (λ end arrives. record {
         cpu =
-            a.cpu ∙ ap (λ (z : Cpu). scratched (record z { p2 = u }) COMMAND (memory (put got 24 0) ring) e.cpu) q.cpu
-            ∙ ap (λ z. scratched (record m { p2 = z }) COMMAND (memory (put got 24 0) ring) e.cpu) free_again;
-        off = (let c : e.off ≡ 18 = a.off in omega (arith, c, o));
+            arrives.cpu ∙ ap (λ (cpu : Cpu). scratched (record cpu { p2 = let_go }) COMMAND (memory (put got 24 0) ring) end.cpu) held.cpu
+            ∙ ap (λ latch. scratched (record begun { p2 = latch }) COMMAND (memory (put got 24 0) ring) end.cpu) free_again;
+        off = (let count : end.off ≡ 18 = arrives.off in omega (arith, count, off_is));
         now =
-            a.now
-            ∙ spans d x (received_latch m.p2) 2 (28 + 32 * 10 + 16) (x + t.off) 16 u
-            (after_cycles 16 0 (λ o. d.cycle (bit_and t.cpu.p2 252) (x + t.off + o)) t.board) board (omega (arith, o))
-            (λ i l. last_high m.p2 i l ∙ both_high m.p2 released ∙ sym free_again) first;
+            arrives.now
+            ∙ spans outside start (received_latch begun.p2) 2 (28 + 32 * 10 + 16) (start + stage.off) 16 let_go
+            (after_cycles 16 0 (λ offset. outside.cycle (bit_and stage.cpu.p2 252) (start + stage.off + offset)) stage.board)
+            board (omega (arith, off_is))
+            (λ cycle within. last_high begun.p2 cycle within ∙ both_high begun.p2 released ∙ sym free_again) first;
       })
-      (acks d bytes has (x + t.off) t.cpu t.board got ring free)
+      (acks outside bytes has (start + stage.off) stage.cpu stage.board got ring free)
 
   -- the frame: R4 is the byte that the eight looks read, R5 tells whether the ninth read its parity; both wires are
   -- released at its end
-  pub received_frame : IsFree m
-      → Leads d (kernel_in true bytes) x (begin_at d GOT f ring m board) (At d m COMMAND got ring 366 (at_offset 366))
+  pub received_frame : IsFree begun
+      → Leads outside (kernel_in true bytes) start (begin_at outside GOT cells ring begun board)
+          (At outside begun COMMAND got ring 366 (at_offset 366))
   received_frame free =
-      let K = kernel_in true bytes in
+      let kernel = kernel_in true bytes in
       let has' = has_rows true bytes has in
-      let End : Stage d.State → Type 0 = At d m COMMAND got ring 366 (at_offset 366) in
-      chain d K has' x (In 8) End (begin_at d GOT f ring m board) (begins free)
-      (λ s h free.
-      chain d K has' x (In 0) End s
-      (counts_down d K has' x In (λ n t q free. one_bit d bytes has x m board f ring released small n t q free) 8 s h
+      let End : Stage outside.State → Type 0 = At outside begun COMMAND got ring 366 (at_offset 366) in
+      chain outside kernel has' start (In 8) End (begin_at outside GOT cells ring begun board) (begins free)
+      (λ stage is free.
+      chain outside kernel has' start (In 0) End stage
+      (counts_down outside kernel has' start In
+          (λ left stage held free. one_bit outside bytes has start begun board cells ring released small left stage held free) 8 stage is
       free)
-      (λ t q free.
-      chain d K has' x (At d m R_STOP got ring (28 + 32 * 9) (at_offset (28 + 32 * 9))) End t (parity_cell t q free)
-      (λ t q free.
-      chain d K has' x (At d m R_ACK got ring (28 + 32 * 10) (at_offset (28 + 32 * 10))) End t
-      (stop_cell t q free) last_fall)))
+      (λ stage held free.
+      chain outside kernel has' start (At outside begun R_STOP got ring (28 + 32 * 9) (at_offset (28 + 32 * 9)))
+          End stage (parity_cell stage held free)
+      (λ stage held free.
+      chain outside kernel has' start (At outside begun R_ACK got ring (28 + 32 * 10) (at_offset (28 + 32 * 10))) End stage
+      (stop_cell stage held free) last_fall)))

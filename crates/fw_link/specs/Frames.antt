@@ -7,6 +7,7 @@ use Rattle.ctl_link.specs.Pulls.{pulled}
 use Rattle.ctl_link.specs.declared.link.Link.TheVariants.{Request}
 use Rattle.ctl_wire.specs.Wire.{drive}
 use Rattle.fw_kernel.specs.Places.{HasKernel}
+use Rattle.fw_kernel.specs.declared.cells.TheConstants.{LIGHTS}
 use Rattle.fw_kernel.specs.declared.labels.TheConstants.{TICK, SEND, SENT, SCAN, GOT, COMMAND}
 use Rattle.fw_logic.specs.Blocks.{IsAt}
 use Rattle.joint_run.specs.Joint.{Beside, latch_of, lights_of, joint_board}
@@ -46,7 +47,7 @@ pub record Offers (start byte : ℕ) (w : World Beside) : Type 0 where
   pub latch : w.cpu.p2 < 256
   pub clock : bit 0 w.cpu.p2 ≡ true
   pub data_wire : bit 1 w.cpu.p2 ≡ true
-  pub lights : 255 - slice_index w.cpu.ram 77 ≡ w.cpu.p2
+  pub lights : 255 - slice_index w.cpu.ram LIGHTS ≡ w.cpu.p2
   pub shown : lights_of w.cpu.p2 ≡ w.board.shown
   pub small : byte < 256
   pub offered : slice_index w.cpu.ram 28 ≡ byte

@@ -19,6 +19,16 @@ use Rattle.fw_logic.proofs.Passing.{Through, Passes}
 use Rattle.fw_logic.proofs.Placed.{in_main, is_behind, main_at}
 use Rattle.fw_logic.proofs.Turns.{IsMain, IsServing, main_step, serve_step, back_step}
 
+-- where a state stands on the way to the next start: in the service, in the main program, or at that start
+pattern abbrev at_work : {A B C : Type 0} → A → A ⊎ (B ⊎ C)
+at_work a = inl a
+
+pattern abbrev at_rest : {A B C : Type 0} → B → A ⊎ (B ⊎ C)
+at_rest b = inr (inl b)
+
+pattern abbrev at_start : {A B C : Type 0} → C → A ⊎ (B ⊎ C)
+at_start c = inr (inr c)
+
 module _ (d : Board) (bytes : List ℕ) where
   abbrev pub IsStart : World d.State → Type 0
   IsStart v = at_tick d TICK v ≡ true
@@ -233,37 +243,37 @@ module _ (d : Board) (bytes : List ℕ) where
 
     inside_on : (w next : World d.State) → Inside w → at_tick d TICK w ≡ false → joint_step d bytes w ≡ Some next
         → Inside next
-    inside_on w next (inl h) off step = by (works_on w next h step)
+    inside_on w next (at_work h) off step = by (works_on w next h step)
       where
         by : WorksOn w next → Inside next
-        by (inl g) = inl g.0
-        by (inr g) = inr (inl g.0)
-    inside_on w next (inr (inl h)) off step = by (rests_on w next h step).0
+        by (inl g) = at_work g.0
+        by (inr g) = at_rest g.0
+    inside_on w next (at_rest h) off step = by (rests_on w next h step).0
       where
         by : Resting next ⊎ (IsServing on next.cpu × IsStart next) → Inside next
-        by (inl g) = inr (inl g)
-        by (inr g) = inr (inr g.1)
-    inside_on w next (inr (inr h)) off step = absurd (no_start w h off)
+        by (inl g) = at_rest g
+        by (inr g) = at_start g.1
+    inside_on w next (at_start h) off step = absurd (no_start w h off)
 
     pub after_on : (w next : World d.State) → After w → at_tick d TICK w ≡ false → joint_step d bytes w ≡ Some next
         → After next
-    after_on w next (inl h) off step = by (works_on w next h.0 step)
+    after_on w next (at_work h) off step = by (works_on w next h.0 step)
       where
         by : WorksOn w next → After next
-        by (inl g) = let k = g.1 h.1 in inl (g.0, k.0, k.1 ∙ h.2)
-        by (inr g) = inr (inl (g.0, g.1 ∙ h.2))
-    after_on w next (inr (inl h)) off step =
+        by (inl g) = let k = g.1 h.1 in at_work (g.0, k.0, k.1 ∙ h.2)
+        by (inr g) = at_rest (g.0, g.1 ∙ h.2)
+    after_on w next (at_rest h) off step =
         let r = rests_on w next h.0 step in by r.0 (r.1 ∙ h.1)
       where
         by : Resting next ⊎ (IsServing on next.cpu × IsStart next) → next.cpu.p1 ≡ 44 → After next
-        by (inl g) e = inr (inl (g, e))
-        by (inr g) e = inr (inr (g.1, e))
-    after_on w next (inr (inr h)) off step = absurd (no_start w h.0 off)
+        by (inl g) e = at_rest (g, e)
+        by (inr g) e = at_start (g.1, e)
+    after_on w next (at_start h) off step = absurd (no_start w h.0 off)
 
     pub after_column : (w : World d.State) → After w → w.cpu.p1 ≡ 44
-    after_column w (inl h) = h.2
-    after_column w (inr (inl h)) = h.1
-    after_column w (inr (inr h)) = h.1
+    after_column w (at_work h) = h.2
+    after_column w (at_rest h) = h.1
+    after_column w (at_start h) = h.1
 
     -- so it is along a run
     pub along : (P : World d.State → Type 0)
@@ -276,9 +286,9 @@ module _ (d : Board) (bytes : List ℕ) where
     -- behind the last column
     pub at_offer : (w e : World d.State) (k : ℕ) → Working w → calm d TICK bytes k w ≡ Some e → e.cpu.pc ≡ OFFER
         → e.cpu.p1 ≡ 44 → After e
-    at_offer w e k h run place column = by (along Inside inside_on k w e (inl h) run)
+    at_offer w e k h run place column = by (along Inside inside_on k w e (at_work h) run)
       where
         by : Inside e → After e
-        by (inl g) = inl (g, ap is_behind place, column)
-        by (inr (inl g)) = absurd (let none : true ≡ false = sym g.main.place ∙ ap in_main place in cc)
-        by (inr (inr g)) = absurd (let at : e.cpu.pc % 2048 ≡ 7 = start_place e g in omega (arith, at, place))
+        by (at_work g) = at_work (g, ap is_behind place, column)
+        by (at_rest g) = absurd (let none : true ≡ false = sym g.main.place ∙ ap in_main place in cc)
+        by (at_start g) = absurd (let at : e.cpu.pc % 2048 ≡ 7 = start_place e g in omega (arith, at, place))

@@ -1,10 +1,13 @@
 -- What is written is read again: the rows of an image, one after another.
-use Rattle.std.proofs.Common.{◌≡◌, ℕ, zero, suc, ◌+◌, ◌*◌, ◌<◌, ◌≤◌, ◌==◌, Bool, true, false, List, [], ◌∷◌, ◌-◌, ◌++◌, length, take, drop, map, replicate, subst, Result, Option, None, Some, Ok, is_some, unwrap_or, if◌then◌else◌, refl, ap, sym, ◌∙◌, append_assoc, append-nil, arith}
+use Rattle.std.proofs.Common.{◌≡◌, ℕ, zero, suc, ◌+◌, ◌*◌, ◌<◌, ◌≤◌, ◌==◌, Bool, true, false, List, [], ◌∷◌, ◌-◌, ◌++◌}
+use Rattle.std.proofs.Common.{length, take, drop, map, replicate, subst, Result, Option, None, Some, Ok, is_some}
+use Rattle.std.proofs.Common.{unwrap_or, if◌then◌else◌, refl, ap, sym, ◌∙◌, append_assoc, append-nil, arith}
 use Rattle.std.specs.List.{flat_map, range_with_len, list_any, list_all, slice_range}
 use Rattle.std.specs.Str.Lines.{lines}
 use Rattle.std.proofs.Math.Seq.{take-add}
 use Rattle.std.proofs.lemmas.Bool.Decides.{nat_tests}
-use Rattle.std.proofs.lemmas.List.{take_all, drop_all, drop-append-le, map-append, replicate-append-replicate, length-append, length-map, length-replicate, length-take, length-drop}
+use Rattle.std.proofs.lemmas.List.{take_all, drop_all, drop-append-le, map-append, replicate-append-replicate}
+use Rattle.std.proofs.lemmas.List.{length-append, length-map, length-replicate, length-take, length-drop}
 use Rattle.std.proofs.lemmas.List.Elements.{All-take, All-drop}
 use Rattle.hexfile.specs.Memory.{empty_memory, image_of, with_data, is_past, is_given_twice}
 use Rattle.hexfile.specs.Rules.{first_broken}

@@ -1,5 +1,6 @@
 -- Pairs of digits, one after another.
-use Rattle.std.proofs.Common.{◌≡◌, ℕ, ◌+◌, ◌*◌, ◌<◌, ◌≤◌, List, [], ◌∷◌, ◌++◌, length, get_or, drop, Option, None, Some, option_map, option_and_then, Bool, true, false, ◌==◌, if◌then◌else◌, MatchOption, refl, ◌∙◌, append_assoc, arith}
+use Rattle.std.proofs.Common.{◌≡◌, ℕ, ◌+◌, ◌*◌, ◌<◌, ◌≤◌, List, [], ◌∷◌, ◌++◌, length, get_or, drop, Option, None, Some, option_map}
+use Rattle.std.proofs.Common.{option_and_then, Bool, true, false, ◌==◌, if◌then◌else◌, MatchOption, refl, ◌∙◌, append_assoc, arith}
 use Rattle.hex_text.specs.Digits.{digit_value}
 use Rattle.hexfile.specs.Record.{bytes_of, record_of, record_in, ◌>>=◌}
 use Rattle.std.proofs.lemmas.Bool.Decides.{nat_tests}

@@ -1,5 +1,6 @@
 -- A run of places that is filled from its front on.
-use Rattle.std.proofs.Common.{◌≡◌, ℕ, suc, ◌+◌, ◌<◌, ◌≤◌, List, [], ◌∷◌, ◌++◌, length, get_or, take, drop, set, map, Option, None, Some, ap, ◌∙◌, append_assoc, arith, drop-cons, false}
+use Rattle.std.proofs.Common.{◌≡◌, ℕ, suc, ◌+◌, ◌<◌, ◌≤◌, List, [], ◌∷◌, ◌++◌, length, get_or, take, drop, set}
+use Rattle.std.proofs.Common.{map, Option, None, Some, ap, ◌∙◌, append_assoc, arith, drop-cons, false}
 use Rattle.std.proofs.lemmas.Bool.Decides.{nat_tests}
 use Rattle.hexfile.specs.Record.{Record}
 use Rattle.hexfile.specs.Memory.{is_past}

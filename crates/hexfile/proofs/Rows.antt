@@ -1,5 +1,6 @@
 -- The rows of a text, one after another.
-use Rattle.std.proofs.Common.{[], ◌∷◌, ◌-◌, ◌*◌, ◌/◌, ◌%◌, ◌≤◌, ◌==◌, Bool, true, false, length, drop, if◌then◌else◌, ◌≡◌, ℕ, zero, suc, ◌+◌, List, ◌++◌, ap, sym, ◌∙◌, append_assoc, arith}
+use Rattle.std.proofs.Common.{[], ◌∷◌, ◌-◌, ◌*◌, ◌/◌, ◌%◌, ◌≤◌, ◌==◌, Bool, true, false, length, drop, if◌then◌else◌}
+use Rattle.std.proofs.Common.{◌≡◌, ℕ, zero, suc, ◌+◌, List, ◌++◌, ap, sym, ◌∙◌, append_assoc, arith}
 use Rattle.std.specs.List.{flat_map, range_with_len, list_all, slice_range}
 use Rattle.std.proofs.lemmas.Grind.{common_steps}
 use Rattle.hexfile.specs.Spelling.{row_at, line_text, sum_byte, rows_text, end_text, hex_text_of}

@@ -1,5 +1,6 @@
 -- What a sink has after one piece and then another.
-use Rattle.std.proofs.Common.{◌≡◌, ℕ, ◌+◌, ◌-◌, ◌≤◌, List, ◌++◌, length, take, drop, Some, None, Ok, Err, OnErr, ap, subst, sym, ◌∙◌, arith, refl}
+use Rattle.std.proofs.Common.{◌≡◌, ℕ, ◌+◌, ◌-◌, ◌≤◌, List, ◌++◌, length, take, drop, Some, None}
+use Rattle.std.proofs.Common.{Ok, Err, OnErr, ap, subst, sym, ◌∙◌, arith, refl}
 use Rattle.std.proofs.lemmas.List.{append_assoc, append-nil, take-take, length-take, length-take-le, length-drop}
 use Rattle.std.proofs.Math.Seq.{take-add}
 use Rattle.std.specs.declared.option.Option.{Option}

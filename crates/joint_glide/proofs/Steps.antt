@@ -1,5 +1,6 @@
 -- A step of the processor alone, in cycles in which nothing changes outside it, is a joint step.
-use Rattle.std.proofs.Common.{◌≡◌, ◌≤◌, ◌<◌, ℕ, suc, zero, ◌+◌, List, [], ◌∷◌, ◌++◌, length, Some, None, Ok, Err, refl, ap, sym, ◌∙◌, subst, arith}
+use Rattle.std.proofs.Common.{◌≡◌, ◌≤◌, ◌<◌, ℕ, suc, zero, ◌+◌, List, [], ◌∷◌, ◌++◌, length}
+use Rattle.std.proofs.Common.{Some, None, Ok, Err, refl, ap, sym, ◌∙◌, subst, arith}
 use Rattle.std.specs.Prelude.{if◌then◌else◌, slice_get}
 use Rattle.std.specs.declared.option.Option.{Option}
 use Rattle.board_lines.specs.declared.event.HostEvent.{HostEvent}
@@ -12,7 +13,8 @@ use Rattle.pc_wires.specs.Wires.{wires}
 use Rattle.joint_run.specs.Run.{after_step}
 use Rattle.joint_run.specs.Joint.{Beside, joint_cycle, latch_of, pins_by}
 use Rattle.joint_run.specs.Cycle.{Passed, outside_wires}
-use Rattle.joint_run.specs.Due.{beside, ended, outside_of, passed, made_first, keys_in_step, due_board, world_of, due_step, machine_after, IsSeen, IsJointStep}
+use Rattle.joint_run.specs.Due.{beside, ended, outside_of, passed, made_first, keys_in_step, due_board}
+use Rattle.joint_run.specs.Due.{world_of, due_step, machine_after, IsSeen, IsJointStep}
 use Rattle.joint_run.specs.Edgeless.{without_edges}
 use Rattle.joint_run.specs.declared.due.Due.{Due}
 use Rattle.joint_run.specs.declared.due.Seen.{Seen}
@@ -31,7 +33,8 @@ module _ (events : List HostEvent) (p2 : ℕ) (o : Outside) where
   one_passes now h =
       cycle_is events p2 now o 0 [] ∙ ap (λ (c : Passed). beside c.outside (if c.done then 0 + 1 else 0) ([] ++ c.items)) h
 
-  pub still_passes : (cycles now : ℕ) → 0 < cycles → cycles < 3 → ((c : ℕ) → now ≤ c → c < now + cycles → IsStill c p2 (slice_get events 0) o)
+  pub still_passes : (cycles now : ℕ)
+      → 0 < cycles → cycles < 3 → ((c : ℕ) → now ≤ c → c < now + cycles → IsStill c p2 (slice_get events 0) o)
       → passed cycles now p2 events o ≡ beside o 0 []
   still_passes zero now some few h = absurd (omega (arith, some))
   still_passes (suc zero) now some few h = one_passes now (h now (omega arith) (omega arith))
@@ -55,7 +58,8 @@ module _ (due : Due) (m : Machine) (none : made_first m.cycle due.edges.items �
       → IsSeen (without_edges due) (record m { mcu = cpu }) (ended cycles due (record m { mcu = cpu })) seen
       → IsJointStep due m (due_step due m) (Ok seen) new
   ended_so cycles cpu seen new h count e s =
-      let at : new ≡ machine_after due m (came due m cycles cpu) = e ∙ ap (λ k. record (machine_after due m (came due m cycles cpu)) { matrix = k }) (sym same_keys) in
+      let at : new ≡ machine_after due m (came due m cycles cpu) =
+          e ∙ ap (λ k. record (machine_after due m (came due m cycles cpu)) { matrix = k }) (sym same_keys) in
       let told : IsSeen due m (came due m cycles cpu) seen = record {
         cycles = s.cycles;
         edges = s.edges ∙ sym (ap length none);
@@ -102,7 +106,8 @@ module _ (due : Due) (m : Machine) (none : made_first m.cycle due.edges.items �
         ∙ still_passes due.host.items m.mcu.p2 m.outside 1 m.cycle (omega arith) (omega arith) (λ c l u. still c l (omega (arith, u, some)))
 
     lines_of : (s : Beside) → s ≡ beside m.outside 0 [] → line ≡ wires (latch_of cpu.p2) s.pc
-    lines_of s e = ap (λ p. wires (latch_of p) (beside m.outside 0 []).pc) (sym latch) ∙ ap (λ (t : Beside). wires (latch_of cpu.p2) t.pc) (sym e)
+    lines_of s e =
+        ap (λ p. wires (latch_of p) (beside m.outside 0 []).pc) (sym latch) ∙ ap (λ (t : Beside). wires (latch_of cpu.p2) t.pc) (sym e)
 
     pub quiet_step : IsJointStep due m (due_step due m) (Ok (told_quietly cycles line)) quietly_on
     quiet_step =

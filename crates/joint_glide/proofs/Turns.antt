@@ -21,13 +21,15 @@ use Rattle.joint_glide.proofs.Stretches.{stood, ends_stuck, ends_written, gone, 
 pub parts_on : (old j x : Machine) → j ≡ record old { mcu = j.mcu } → x ≡ record j { mcu = x.mcu } → x ≡ record old { mcu = x.mcu }
 parts_on old j x parts only = only ∙ ap (λ (m : Machine). record m { mcu = x.mcu }) parts
 
-pub parts_leapt : (old x end : Machine) (cpu : Cpu) → x ≡ record old { mcu = x.mcu } → end ≡ record x { mcu = cpu } → end ≡ record old { mcu = end.mcu }
+pub parts_leapt : (old x end : Machine) (cpu : Cpu)
+    → x ≡ record old { mcu = x.mcu } → end ≡ record x { mcu = cpu } → end ≡ record old { mcu = end.mcu }
 parts_leapt old x end cpu parts e =
     e ∙ ap (λ (m : Machine). record m { mcu = cpu }) parts ∙ ap (λ (c : Cpu). record old { mcu = c }) (sym (ap (λ (m : Machine). m.mcu) e))
 
 -- the loop stands at a machine that differs from the first in its processor alone, and counts beside it
 module _ (due : Due) (tick : ℕ) (old j : Machine) (room steps passed : ℕ) (still : IsStillTo due old (old.cycle + room))
-    (parts : j ≡ record old { mcu = j.mcu }) (latch : j.mcu.p2 ≡ old.mcu.p2) (quiet : AreQuiet due tick steps old (stood old j.mcu steps passed))
+    (parts : j ≡ record old { mcu = j.mcu }) (latch : j.mcu.p2 ≡ old.mcu.p2)
+    (quiet : AreQuiet due tick steps old (stood old j.mcu steps passed))
     (test : passed + 1 < room) where
   abbrev here : Machine
   here = stood old j.mcu steps passed
@@ -57,14 +59,17 @@ module _ (due : Due) (tick : ℕ) (old j : Machine) (room steps passed : ℕ) (s
         (subst (λ (n : Machine). IsJointStep due here (due_step due here) (Err stuck) n) (sym (counted steps passed e))
         (ends_stuck due tick old (old.cycle + room) still j.mcu steps passed latch stuck x.mcu before_end (called (Err stuck) x.mcu h)))
 
-    module _ (cycles : ℕ) (some : 0 < cycles) (few : cycles < 3) (h : IsStep j.image.bytes j.mcu (stepped j.image.bytes (pins_now j) j.mcu) (Ok cycles) x.mcu) where
+    module _ (cycles : ℕ) (some : 0 < cycles) (few : cycles < 3)
+        (h : IsStep j.image.bytes j.mcu (stepped j.image.bytes (pins_now j) j.mcu) (Ok cycles) x.mcu) where
       pub turn_written : (end : Machine) (seen : Seen) → new ≡ record x { cycle = x.cycle + passed; steps = x.steps + steps }
-          → end ≡ machine_after (without_edges due) new (ended cycles due new) → IsSeen (without_edges due) new (ended cycles due new) seen → seen.cycles ≡ cycles
+          → end ≡ machine_after (without_edges due) new (ended cycles due new)
+          → IsSeen (without_edges due) new (ended cycles due new) seen → seen.cycles ≡ cycles
           → HasGone due tick room old (Ok seen) end × ((0 < seen.cycles) × (seen.cycles < 3))
       turn_written end seen e ends tells count =
           let at : new ≡ stood old x.mcu steps passed = counted steps passed e in
           let is : IsJointStep due here (due_step due here) (Ok seen) end =
-          ends_written due tick old (old.cycle + room) still j.mcu steps passed latch cycles x.mcu seen end before_end (called (Ok cycles) x.mcu h) count
+          ends_written due tick old (old.cycle + room) still j.mcu steps passed latch cycles x.mcu seen
+              end before_end (called (Ok cycles) x.mcu h) count
           (ends ∙ ap (λ (m : Machine). machine_after (without_edges due) m (ended cycles due m)) at)
           (subst (λ (m : Machine). IsSeen (without_edges due) m (ended cycles due m) seen) at tells) in
           let more : 0 < seen.cycles = omega (arith, some, count) in
@@ -83,9 +88,11 @@ module _ (due : Due) (tick : ℕ) (old j : Machine) (room steps passed : ℕ) (s
             ap (λ p. told_quietly cycles (outside_wires p old.outside)) latch ∙ ap (told_quietly cycles) (sym wires) ∙ sym tells in
             let is : IsJointStep due here (due_step due here) (Ok seen) new =
             subst (λ (s : Seen). IsJointStep due here (due_step due here) (Ok s) new) same
-            (subst (λ (n : Machine). IsJointStep due here (due_step due here) (Ok (told_quietly cycles (outside_wires j.mcu.p2 old.outside))) n)
+            (subst (λ (n : Machine).
+                IsJointStep due here (due_step due here) (Ok (told_quietly cycles (outside_wires j.mcu.p2 old.outside))) n)
             (sym (counted (steps + 1) (passed + cycles) e))
-            (one_told due tick old (old.cycle + room) still j.mcu steps passed latch cycles x.mcu some few kept in_room (called (Ok cycles) x.mcu h))) in
+            (one_told due tick old (old.cycle + room) still j.mcu steps passed latch cycles x.mcu some
+                few kept in_room (called (Ok cycles) x.mcu h))) in
             let count : seen.cycles ≡ cycles = ap (λ (s : Seen). s.cycles) tells in
             let more : 0 < seen.cycles = omega (arith, some, count) in
             let less : seen.cycles < 3 = omega (arith, few, count) in
@@ -93,17 +100,25 @@ module _ (due : Due) (tick : ℕ) (old j : Machine) (room steps passed : ℕ) (s
 
         pub turn_on : (x.mcu.pc % 2048 == tick) ≡ false → AreQuiet due tick (steps + 1) old (stood old x.mcu (steps + 1) (passed + cycles))
         turn_on off =
-            one_more due tick old (old.cycle + room) still j.mcu steps passed latch cycles x.mcu some few kept in_room (called (Ok cycles) x.mcu h) quiet off
+            one_more due tick old (old.cycle + room) still j.mcu steps passed latch cycles x.mcu some few
+                kept in_room (called (Ok cycles) x.mcu h) quiet off
 
         -- and jumps to where the processor stands then
         pub turn_leapt : (end : Machine) (jumps : ℕ) → (x.mcu.pc % 2048 == tick) ≡ false → spun 0 x.mcu ≡ x.mcu
-            → ((k : ℕ) → k < jumps → stepped x.image.bytes (pins_now x) (spun k x.mcu) ≡ Some (record { cpu = spun (k + 1) x.mcu; cycles = 2 }))
+            → ((k : ℕ) → k < jumps
+                → stepped x.image.bytes (pins_now x) (spun k x.mcu) ≡ Some (record { cpu = spun (k + 1) x.mcu; cycles = 2 }))
             → end ≡ record x { mcu = spun jumps x.mcu } → passed + cycles + 2 * jumps ≤ room
             → AreQuiet due tick (steps + 1 + jumps) old (stood old end.mcu (steps + 1 + jumps) (passed + cycles + 2 * jumps))
         turn_leapt end jumps off start each e low =
             let all : x ≡ record old { mcu = x.mcu } = parts_on old j x parts only in
-            let more : (k : ℕ) → k < jumps → stepped old.image.bytes (pins_now (stood old x.mcu (steps + 1) (passed + cycles))) (spun k x.mcu) ≡ Some (record { cpu = spun (k + 1) x.mcu; cycles = 2 }) =
-            λ k below. subst (λ (m : Machine). stepped m.image.bytes (pins_now m) (spun k x.mcu) ≡ Some (record { cpu = spun (k + 1) x.mcu; cycles = 2 })) all (each k below) in
+            let more : (k : ℕ) → k < jumps
+                → stepped old.image.bytes (pins_now (stood old x.mcu (steps + 1) (passed + cycles))) (spun k x.mcu)
+                ≡ Some (record { cpu = spun (k + 1) x.mcu; cycles = 2 }) =
+            λ k below. subst
+                (λ (m : Machine). stepped m.image.bytes (pins_now m) (spun k x.mcu)
+                    ≡ Some (record { cpu = spun (k + 1) x.mcu; cycles = 2 })) all (each k below) in
             let at : end.mcu ≡ spun jumps x.mcu = ap (λ (m : Machine). m.mcu) e in
-            subst (λ (c : Cpu). AreQuiet due tick (steps + 1 + jumps) old (stood old c (steps + 1 + jumps) (passed + cycles + 2 * jumps))) (sym at)
-            (jumped due tick old (old.cycle + room) still x.mcu (steps + 1) (passed + cycles) jumps (kept ∙ latch) start off more (omega (arith, low)) (turn_on off))
+            subst (λ (c : Cpu). AreQuiet due tick (steps + 1 + jumps) old (stood old c (steps + 1 + jumps) (passed + cycles + 2 * jumps)))
+                (sym at)
+            (jumped due tick old (old.cycle + room) still x.mcu (steps + 1) (passed + cycles) jumps (kept ∙ latch)
+                start off more (omega (arith, low)) (turn_on off))

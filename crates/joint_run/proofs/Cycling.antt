@@ -21,7 +21,8 @@ module _ (goes : Desk Wire → Cycled Wire) (now p2 : ℕ) (o o1 o2 : Outside) (
       → o3 ≡ record { desk = (goes l.desk).desk; clock = l.clock; shown = lights_of p2 }
   outside_is o3 e = e ∙ ap (λ (x : Outside). record x { desk = (goes x.desk).desk }) whole
 
-  pub items_are : (i0 i1 i2 : List Stamped) → i1 ≡ i0 ++ lights_said now o.shown (lights_of p2) → i2 ≡ i1 ++ stamped now (goes o2.desk).items
+  pub items_are : (i0 i1 i2 : List Stamped)
+      → i1 ≡ i0 ++ lights_said now o.shown (lights_of p2) → i2 ≡ i1 ++ stamped now (goes o2.desk).items
       → i2 ≡ i0 ++ (lights_said now o.shown (lights_of p2) ++ stamped now (goes l.desk).items)
   items_are i0 i1 i2 a b =
       b ∙ ap (λ v. v ++ stamped now (goes o2.desk).items) a

@@ -12,7 +12,8 @@ use Rattle.joint_run.specs.declared.machine.Machine.{Machine}
 use Rattle.joint_run.specs.declared.outside.Outside.{Outside}
 use Rattle.joint_run.proofs.Stepping.{came}
 
-pub passed_by : (m : Machine) (due : Due) (cycles p2 : ℕ) (events : List HostEvent) (new : Outside) (said : List Stamped) (answer : ℕ × Lines × Lines)
+pub passed_by : (m : Machine) (due : Due) (cycles p2 : ℕ) (events : List HostEvent) (new : Outside)
+    (said : List Stamped) (answer : ℕ × Lines × Lines)
     → p2 ≡ m.mcu.p2 → events ≡ due.host.items → HasPassed cycles m.cycle p2 events m.outside new said answer
     → HasPassed cycles m.cycle m.mcu.p2 due.host.items m.outside new said answer
 passed_by m due cycles p2 events new said answer latch same h =
@@ -21,7 +22,8 @@ passed_by m due cycles p2 events new said answer latch same h =
 
 -- what is told of a step, by the machine before it
 pub seen_by : (m : Machine) (cpu : Cpu) (cycles : ℕ) (due : Due) (after : Machine) (seen : Seen) → after ≡ record m { mcu = cpu }
-    → IsSeen (without_edges due) after (ended cycles due after) seen → IsSeen (without_edges due) m (came (without_edges due) m cycles cpu) seen
+    → IsSeen (without_edges due) after (ended cycles due after) seen
+    → IsSeen (without_edges due) m (came (without_edges due) m cycles cpu) seen
 seen_by m cpu cycles due after seen e h =
     let there : IsSeen (without_edges due) (record m { mcu = cpu }) (ended cycles due (record m { mcu = cpu })) seen =
     subst (λ (x : Machine). IsSeen (without_edges due) x (ended cycles due x) seen) e h in

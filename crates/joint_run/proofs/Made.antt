@@ -1,5 +1,6 @@
 -- The edges of a history that are made at a cycle, by those made before and those handed in.
-use Rattle.std.proofs.Common.{◌≡◌, ◌≤◌, ℕ, suc, zero, ◌+◌, List, [], ◌∷◌, ◌++◌, length, take, drop, Bool, true, false, refl, ap, sym, ◌∙◌, arith}
+use Rattle.std.proofs.Common.{◌≡◌, ◌≤◌, ℕ, suc, zero, ◌+◌, List, [], ◌∷◌, ◌++◌, length, take}
+use Rattle.std.proofs.Common.{drop, Bool, true, false, refl, ap, sym, ◌∙◌, arith}
 use Rattle.std.specs.Prelude.{if◌then◌else◌}
 use Rattle.std.specs.List.{filter}
 use Rattle.std.proofs.lemmas.Bool.Decides.{nat_tests}
@@ -22,7 +23,8 @@ pub first_made : (cycle : ℕ) (es : List Edge) → AreInOrder es → filter (is
 first_made cycle [] order = refl
 first_made cycle (e ∷ es) order =
     let none : List Edge = [] in
-    elim (is_made cycle e) as (λ b. is_made cycle e ≡ b → (if b then e ∷ filter (is_made cycle) es else filter (is_made cycle) es) ≡ (if b then e ∷ made_first cycle es else none)) [
+    elim (is_made cycle e) as (λ b. is_made cycle e ≡ b
+        → (if b then e ∷ filter (is_made cycle) es else filter (is_made cycle) es) ≡ (if b then e ∷ made_first cycle es else none)) [
       | true ↦ λ h. ap (λ v. e ∷ v) (first_made cycle es (tail_in_order e es order))
       | false ↦ λ h. none_after cycle e es order h
     ] refl
@@ -33,7 +35,8 @@ module _ (cycle : ℕ) where
   behind_made [] ys h = refl
   behind_made (e ∷ es) ys h =
       let none : List Edge = [] in
-      elim (is_made cycle e) as (λ b. (if b then e ∷ made_first cycle es else none) ≡ e ∷ es → (if b then e ∷ made_first cycle (es ++ ys) else none) ≡ e ∷ (es ++ made_first cycle ys)) [
+      elim (is_made cycle e) as (λ b. (if b then e ∷ made_first cycle es else none) ≡ e ∷ es
+          → (if b then e ∷ made_first cycle (es ++ ys) else none) ≡ e ∷ (es ++ made_first cycle ys)) [
         | true ↦ λ g. ap (λ v. e ∷ v) (behind_made es ys (cc g))
         | false ↦ λ g. absurd (cc g)
       ] h
@@ -49,7 +52,8 @@ module _ (cycle : ℕ) where
   is_prefix (suc n) [] = refl
   is_prefix (suc n) (e ∷ es) =
       let none : List Edge = [] in
-      elim (is_made cycle e) as (λ b. (if b then e ∷ made_first cycle (take n es) else none) ≡ take (length (if b then e ∷ made_first cycle (take n es) else none)) (e ∷ es)) [
+      elim (is_made cycle e) as (λ b. (if b then e ∷ made_first cycle (take n es) else none)
+          ≡ take (length (if b then e ∷ made_first cycle (take n es) else none)) (e ∷ es)) [
         | true ↦ ap (λ v. e ∷ v) (is_prefix n es)
         | false ↦ refl
       ]
@@ -62,8 +66,10 @@ pub all_later : (cycle later : ℕ) → cycle ≤ later → (es : List Edge) →
 all_later cycle later l [] h = refl
 all_later cycle later l (e ∷ es) h =
     let none : List Edge = [] in
-    elim (is_made cycle e) as (λ b. is_made cycle e ≡ b → (if b then e ∷ made_first cycle es else none) ≡ e ∷ es → made_first later (e ∷ es) ≡ e ∷ es) [
-      | true ↦ λ m g. ap (λ b. if b then e ∷ made_first later es else none) (made_later cycle later e l m) ∙ ap (λ v. e ∷ v) (all_later cycle later l es (cc g))
+    elim (is_made cycle e) as (λ b. is_made cycle e ≡ b
+        → (if b then e ∷ made_first cycle es else none) ≡ e ∷ es → made_first later (e ∷ es) ≡ e ∷ es) [
+      | true ↦ λ m g. ap (λ b. if b then e ∷ made_first later es else none) (made_later cycle later e l m)
+          ∙ ap (λ v. e ∷ v) (all_later cycle later l es (cc g))
       | false ↦ λ m g. absurd (cc g)
     ] refl h
 
@@ -72,7 +78,8 @@ pub made_twice : (cycle : ℕ) (es : List Edge) → made_first cycle (made_first
 made_twice cycle [] = refl
 made_twice cycle (e ∷ es) =
     let none : List Edge = [] in
-    elim (is_made cycle e) as (λ b. is_made cycle e ≡ b → made_first cycle (if b then e ∷ made_first cycle es else none) ≡ (if b then e ∷ made_first cycle es else none)) [
+    elim (is_made cycle e) as (λ b. is_made cycle e ≡ b
+        → made_first cycle (if b then e ∷ made_first cycle es else none) ≡ (if b then e ∷ made_first cycle es else none)) [
       | true ↦ λ h. ap (λ b. if b then e ∷ made_first cycle (made_first cycle es) else none) h ∙ ap (λ v. e ∷ v) (made_twice cycle es)
       | false ↦ λ h. refl
     ] refl
@@ -94,7 +101,8 @@ module _ (edges : List Edge) (order : AreInOrder edges) (made cycle : ℕ) (due 
       ∙ ap (λ es. made_first cycle es) (sym (take-append-drop made edges))
       ∙ behind_made cycle (take made edges) (drop made edges) reached
       ∙ ap (λ es. take made edges ++ made_first cycle es) (sym (take-append-drop (length due) (drop made edges)))
-      ∙ ap (λ es. take made edges ++ es) (before_unmade cycle (take (length due) (drop made edges)) (drop (length due) (drop made edges)) all)
+      ∙ ap (λ es. take made edges ++ es)
+          (before_unmade cycle (take (length due) (drop made edges)) (drop (length due) (drop made edges)) all)
       ∙ ap (λ es. take made edges ++ made_first cycle es) (sym next)
 
   pub taken_now : take (made + length (made_first cycle due)) edges ≡ take made edges ++ made_first cycle due
@@ -104,7 +112,8 @@ module _ (edges : List Edge) (order : AreInOrder edges) (made cycle : ℕ) (due 
       ∙ ap (λ es. take (length (made_first cycle es)) (drop made edges)) (sym next) in
       take-add made (length (made_first cycle due)) edges ∙ ap (λ es. take made edges ++ es) (sym p)
 
-  pub reached_now : (later : ℕ) → cycle ≤ later → made_first later (take made edges ++ made_first cycle due) ≡ take made edges ++ made_first cycle due
+  pub reached_now : (later : ℕ)
+      → cycle ≤ later → made_first later (take made edges ++ made_first cycle due) ≡ take made edges ++ made_first cycle due
   reached_now later l =
       all_later cycle later l (take made edges ++ made_first cycle due)
       (behind_made cycle (take made edges) (made_first cycle due) reached ∙ ap (λ es. take made edges ++ es) (made_twice cycle due))

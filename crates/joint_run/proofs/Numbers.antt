@@ -11,9 +11,13 @@ module _ (d : Board) (tick : ℕ) (bytes : List ℕ) (from : World d.State) wher
   Reaches k e n = (run_at d bytes from k ≡ Some e) × (starts_before d tick bytes from k ≡ n)
 
   calm_by : (n k : ℕ) (w e : World d.State)
-      → ((t : World d.State) → run_at d bytes from (suc k) ≡ Some t → calm d tick bytes n t ≡ Some e → Reaches (suc k + n) e (starts_before d tick bytes from (suc k)))
+      → ((t : World d.State) → run_at d bytes from (suc k) ≡ Some t
+          → calm d tick bytes n t ≡ Some e → Reaches (suc k + n) e (starts_before d tick bytes from (suc k)))
       → run_at d bytes from k ≡ Some w → (b : Bool) → at_tick d tick w ≡ b → (o : Option (World d.State)) → joint_step d bytes w ≡ o
-      → (elim (elim b as (λ v. Option (World d.State)) [ true ↦ None | false ↦ o ]) as (λ v. Option (World d.State)) [ None ↦ None | Some t ↦ calm d tick bytes n t ]) ≡ Some e
+      → (elim (elim b as (λ v. Option (World d.State)) [ true ↦ None | false ↦ o ]) as (λ v. Option (World d.State)) [
+        | None ↦ None
+        | Some t ↦ calm d tick bytes n t
+      ]) ≡ Some e
       → Reaches (k + suc n) e (starts_before d tick bytes from k)
   calm_by n k w e ih r true a o j h = absurd (cc h)
   calm_by n k w e ih r false a None j h = absurd (cc h)
@@ -25,8 +29,11 @@ module _ (d : Board) (tick : ℕ) (bytes : List ℕ) (from : World d.State) wher
       let g = ih t (ap (λ o. step_on d bytes o) r ∙ j) h in
       (ap (λ i. run_at d bytes from i) s ∙ g.0, ap (λ i. starts_before d tick bytes from i) s ∙ g.1 ∙ count)
 
-  calm_on : (n k : ℕ) (w e : World d.State) → run_at d bytes from k ≡ Some w → calm d tick bytes n w ≡ Some e → Reaches (k + n) e (starts_before d tick bytes from k)
-  calm_on zero k w e r h = let z : k + 0 ≡ k = omega arith in (ap (λ i. run_at d bytes from i) z ∙ r ∙ h, ap (λ i. starts_before d tick bytes from i) z)
+  calm_on : (n k : ℕ) (w e : World d.State)
+      → run_at d bytes from k ≡ Some w → calm d tick bytes n w ≡ Some e → Reaches (k + n) e (starts_before d tick bytes from k)
+  calm_on zero k w e r h =
+      let z : k + 0 ≡ k = omega arith in
+      (ap (λ i. run_at d bytes from i) z ∙ r ∙ h, ap (λ i. starts_before d tick bytes from i) z)
   calm_on (suc n) k w e r h = calm_by n k w e (λ t s c. calm_on n (suc k) t e s c) r (at_tick d tick w) refl (joint_step d bytes w) refl h
 
   pub nth_reached : (n : ℕ) (w : World d.State) → IsNth d tick bytes from n w → (k : ℕ) × Reaches k w n

@@ -15,7 +15,8 @@ use Rattle.joint_run.specs.declared.due.Seen.{Seen}
 use Rattle.joint_run.specs.declared.machine.Machine.{Machine}
 use Rattle.joint_run.specs.Run.{World, after_cycles, seen, after_step, step_on, run_at}
 use Rattle.joint_run.specs.Joint.{Beside, keys_at, pins_by, joint_pins, joint_cycle, joint_board, joint_start}
-use Rattle.joint_run.specs.Due.{beside, outside_of, passed, made_first, keys_in_step, due_board, world_of, due_step, machine_after, told, IsSeen, IsJointStep}
+use Rattle.joint_run.specs.Due.{beside, outside_of, passed, made_first, keys_in_step, due_board}
+use Rattle.joint_run.specs.Due.{world_of, due_step, machine_after, told, IsSeen, IsJointStep}
 use Rattle.joint_run.specs.History.{IsInRun, IsDueOf, GoesOn, IsNext, IsStepOfRun}
 use Rattle.joint_run.proofs.Made.{made_now, taken_now, reached_now, turned_on}
 use Rattle.joint_run.proofs.Runs.{next_one, next_two, behind, same_cycles}
@@ -28,7 +29,8 @@ pins_are edges p1 p2 cycle s = refl
 abbrev pub AreFew : Result Seen Stuck → Type 0
 AreFew result = IfOk result (λ seen. (0 < seen.cycles) × (seen.cycles < 3))
 
-pub are_few_told : (result : Result (Unit {0}) Stuck) (seen : Seen) → OnOk result (0 < seen.cycles) → OnOk result (seen.cycles < 3) → AreFew (told result seen)
+pub are_few_told : (result : Result (Unit {0}) Stuck) (seen : Seen)
+    → OnOk result (0 < seen.cycles) → OnOk result (seen.cycles < 3) → AreFew (told result seen)
 are_few_told (Ok done) seen some few = (some, few)
 are_few_told (Err stuck) seen some few = tt
 
@@ -54,7 +56,8 @@ module _ (edges : List Edge) (events : List HostEvent) (order : AreInOrder edges
   abbrev given : Pins
   given = pins_by (keys_in_step due m) m.mcu.p1 m.mcu.p2 (beside m.outside 0 [])
 
-  run_on : run_at (joint_board edges events) m.image.bytes joint_start (suc m.steps) ≡ after_step (joint_board edges events) w (stepped m.image.bytes given m.mcu)
+  run_on : run_at (joint_board edges events) m.image.bytes joint_start (suc m.steps)
+      ≡ after_step (joint_board edges events) w (stepped m.image.bytes given m.mcu)
   run_on =
       ap (λ o. step_on (joint_board edges events) m.image.bytes o) r.run
       ∙ ap (λ p. after_step (joint_board edges events) w (stepped m.image.bytes p w.cpu)) pins_same
@@ -83,13 +86,15 @@ module _ (edges : List Edge) (events : List HostEvent) (order : AreInOrder edges
       ap (λ v. take (made + v) edges) (e ∙ ap (λ c. length (made_first c due.edges.items)) r.cycle)
       ∙ taken_now edges order made w.cycle due.edges.items r.reached d.next d.all
 
-  goes : (n : Stepped) (seen : Seen) (new : Machine) → run_at (joint_board edges events) m.image.bytes joint_start (suc m.steps) ≡ Some (came n)
+  goes : (n : Stepped) (seen : Seen) (new : Machine)
+      → run_at (joint_board edges events) m.image.bytes joint_start (suc m.steps) ≡ Some (came n)
       → new ≡ machine_after due m (record { cpu = n.cpu; board = alone n; cycle = m.cycle + n.cycles })
       → IsSeen due m (record { cpu = n.cpu; board = alone n; cycle = m.cycle + n.cycles }) seen → 0 < seen.cycles → seen.cycles < 3
       → GoesOn edges events made w seen new
   goes n seen new run e s some few =
       let count : m.cycle + seen.cycles ≡ m.cycle + n.cycles = s.cycles in
-      let same : (came n).board ≡ behind done w.board.pc.side.log (alone n) = board_same n (omega (arith, some, count)) (omega (arith, few, count)) in
+      let same : (came n).board ≡ behind done w.board.pc.side.log (alone n) =
+          board_same n (omega (arith, some, count)) (omega (arith, few, count)) in
       let on : m.steps + 1 ≡ suc m.steps = omega arith in
       let edges_now : take (made + seen.edges) edges ≡ take made edges ++ firsts = taken_edges seen.edges s.edges in
       record {
@@ -105,21 +110,25 @@ module _ (edges : List Edge) (events : List HostEvent) (order : AreInOrder edges
               ∙ ap (λ c. turned_by (made_first c due.edges.items) (turned_by (take made edges) all_up)) r.cycle
               ∙ sym (turned_on (take made edges) firsts all_up) ∙ ap (λ es. turned_by es all_up) (sym edges_now);
           reached = ap (λ es. made_first (w.cycle + n.cycles) es) edges_now
-              ∙ reached_now edges order made w.cycle due.edges.items r.reached d.next d.all (w.cycle + n.cycles) (omega arith) ∙ sym edges_now;
+              ∙ reached_now edges order made w.cycle due.edges.items r.reached d.next d.all (w.cycle + n.cycles) (omega arith)
+              ∙ sym edges_now;
         };
         log = ap (λ (x : Beside). x.pc.side.log) same ∙ ap (λ v. w.board.pc.side.log ++ v) (sym s.items);
         done = ap (λ (x : Beside). x.pc.side.done) same ∙ ap (λ v. done + v) (sym s.host);
       }
 
-  by_row : (o : Option Stepped) (result : Result Seen Stuck) (new : Machine) → run_at (joint_board edges events) m.image.bytes joint_start (suc m.steps) ≡ after_step (joint_board edges events) w o
+  by_row : (o : Option Stepped) (result : Result Seen Stuck) (new : Machine)
+      → run_at (joint_board edges events) m.image.bytes joint_start (suc m.steps) ≡ after_step (joint_board edges events) w o
       → IsJointStep due m (after_step (due_board due m) (world_of m) o) result new → AreFew result → IsNext edges events m made w result new
   by_row None (Ok seen) new run h few = absurd h
   by_row None (Err stuck) new run h few = run
   by_row (Some n) (Ok seen) new run h few = goes n seen new run h.0 h.1 few.0 few.1
   by_row (Some n) (Err stuck) new run h few = absurd h
 
-pub step_of_run : (due : Due) (m : Machine) (result : Result Seen Stuck) (new : Machine) → IsJointStep due m (due_step due m) result new → AreFew result
+pub step_of_run : (due : Due) (m : Machine) (result : Result Seen Stuck) (new : Machine)
+    → IsJointStep due m (due_step due m) result new → AreFew result
     → IsStepOfRun due m result new
 step_of_run due m result new h few edges events made w order r d =
-    by_row edges events order m made w r due d (stepped m.image.bytes (pins_by (keys_in_step due m) m.mcu.p1 m.mcu.p2 (beside m.outside 0 [])) m.mcu)
+    by_row edges events order m made w r due d
+        (stepped m.image.bytes (pins_by (keys_in_step due m) m.mcu.p1 m.mcu.p2 (beside m.outside 0 [])) m.mcu)
     result new (run_on edges events order m made w r due d) h few

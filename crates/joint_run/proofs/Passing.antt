@@ -25,10 +25,19 @@ unfolding goes_on
 going events now s = refl
 
 opened : (events : List HostEvent) (p2 now : ℕ) (o : Outside) (done : ℕ) (log : List Stamped) →
-    let s : Side Wire = record { port = o.desk.port; masked = o.desk.masked; bios = o.desk.bios; done = done; log = log ++ lights_said now o.shown (lights_of p2) } in
+    let s : Side Wire = record {
+      port = o.desk.port;
+      masked = o.desk.masked;
+      bios = o.desk.bios;
+      done = done;
+      log = log ++ lights_said now o.shown (lights_of p2);
+    } in
     let line : Lines = outside_wires p2 o in
     joint_cycle events p2 now (beside o done log) ≡ record {
-      pc = record { side = goes_on is_breakable events now (record s { port = port_looked now o.clock line o.desk.port }); clock = line.clk };
+      pc = record {
+        side = goes_on is_breakable events now (record s { port = port_looked now o.clock line o.desk.port });
+        clock = line.clk;
+      };
       shown = lights_of p2;
     }
 unfolding joint_cycle board_cycle
@@ -45,7 +54,8 @@ cycle_is events p2 now o done log =
     let c : Cycled Wire = cycled is_breakable now (slice_get events done) (looked_outside now line o).desk in
     opened events p2 now o done log
     ∙ ap (λ t. record { pc = record { side = t; clock = line.clk }; shown = lights_of p2 }) (going events now (record s { port = p }))
-    ∙ ap (λ v. beside (record { desk = c.desk; clock = line.clk; shown = lights_of p2 }) (if c.done then done + 1 else done) v) (append_assoc log lights (stamped now c.items))
+    ∙ ap (λ v. beside (record { desk = c.desk; clock = line.clk; shown = lights_of p2 }) (if c.done then done + 1 else done) v)
+        (append_assoc log lights (stamped now c.items))
 
 count_first : (d : Bool) → (if d then 0 + 1 else 0) ≡ bool_byte d
 count_first true = refl
@@ -59,13 +69,15 @@ count_second false false = refl
 
 -- the cycles of a step, by the clauses of one cycle
 module _ (events : List HostEvent) (p2 now : ℕ) (o o1 : Outside) (d1 : Bool) (i0 i1 : List Stamped) (next1 : Option HostEvent)
-    (z : i0 ≡ []) (n1 : next1 ≡ slice_get events 0) (a1 : o1 ≡ (outside_cycle now p2 next1 o).outside) (b1 : d1 ≡ (outside_cycle now p2 next1 o).done)
+    (z : i0 ≡ []) (n1 : next1 ≡ slice_get events 0) (a1 : o1 ≡ (outside_cycle now p2 next1 o).outside)
+    (b1 : d1 ≡ (outside_cycle now p2 next1 o).done)
     (e1 : i1 ≡ i0 ++ (outside_cycle now p2 next1 o).items) where
   pub pass_one : passed 1 now p2 events o ≡ beside o1 (bool_byte d1) i1
   pass_one =
       let c : Passed = outside_cycle now p2 next1 o in
       cycle_is events p2 now o 0 []
-      ∙ ap (λ v. beside (outside_cycle now p2 v o).outside (if (outside_cycle now p2 v o).done then 0 + 1 else 0) ([] ++ (outside_cycle now p2 v o).items)) (sym n1)
+      ∙ ap (λ v. beside (outside_cycle now p2 v o).outside (if (outside_cycle now p2 v o).done then 0 + 1 else 0)
+          ([] ++ (outside_cycle now p2 v o).items)) (sym n1)
       ∙ ap (λ v. beside c.outside (if c.done then 0 + 1 else 0) (v ++ c.items)) (sym z)
       ∙ ap (λ v. beside v (if c.done then 0 + 1 else 0) (i0 ++ c.items)) (sym a1)
       ∙ ap (λ v. beside o1 (if v then 0 + 1 else 0) (i0 ++ c.items)) (sym b1)
@@ -80,7 +92,9 @@ module _ (events : List HostEvent) (p2 now : ℕ) (o o1 : Outside) (d1 : Bool) (
         let c : Passed = outside_cycle (now + 1) p2 next2 o1 in
         ap (λ v. joint_cycle events p2 (now + 1) v) pass_one
         ∙ cycle_is events p2 (now + 1) o1 (bool_byte d1) i1
-        ∙ ap (λ v. beside (outside_cycle (now + 1) p2 v o1).outside (if (outside_cycle (now + 1) p2 v o1).done then bool_byte d1 + 1 else bool_byte d1) (i1 ++ (outside_cycle (now + 1) p2 v o1).items)) (sym n2)
+        ∙ ap (λ v. beside (outside_cycle (now + 1) p2 v o1).outside
+            (if (outside_cycle (now + 1) p2 v o1).done then bool_byte d1 + 1 else bool_byte d1)
+            (i1 ++ (outside_cycle (now + 1) p2 v o1).items)) (sym n2)
         ∙ ap (λ v. beside v (if c.done then bool_byte d1 + 1 else bool_byte d1) (i1 ++ c.items)) (sym a2)
         ∙ ap (λ v. beside o2 (if v then bool_byte d1 + 1 else bool_byte d1) (i1 ++ c.items)) (sym b2)
         ∙ ap (λ v. beside o2 v (i1 ++ c.items)) (count_second d1 d2)

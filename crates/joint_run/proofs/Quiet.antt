@@ -1,5 +1,6 @@
 -- In quiet cycles nothing but the clock's level is noted.
-use Rattle.std.proofs.Common.{◌≡◌, ◌≤◌, ◌<◌, ℕ, zero, suc, ◌+◌, ◌-◌, List, [], ◌∷◌, ◌++◌, Bool, true, false, not, ◌&&◌, Some, None, refl, ap, ◌∙◌, subst, arith}
+use Rattle.std.proofs.Common.{◌≡◌, ◌≤◌, ◌<◌, ℕ, zero, suc, ◌+◌, ◌-◌, List, [], ◌∷◌, ◌++◌, Bool, true}
+use Rattle.std.proofs.Common.{false, not, ◌&&◌, Some, None, refl, ap, ◌∙◌, subst, arith}
 use Rattle.std.specs.Prelude.{◌==◌, if◌then◌else◌, slice_get}
 use Rattle.std.proofs.lemmas.Bool.{not-true, not_from_false}
 use Rattle.std.proofs.lemmas.Bool.Decides.{nat_tests}
@@ -41,7 +42,8 @@ not_due_before now last (Some event) h e = grind (arith, nat_tests, h, e)
 
 -- a free link leaves the wires to the keyboard
 pub wires_free : (l : Lines) (k : Link Wire) → is_free k ≡ true → joined l (drive k) ≡ l
-wires_free l Free h = ap (λ a. record { clk = a; dat = l.dat && true }) (and-true l.clk) ∙ ap (λ a. record { clk = l.clk; dat = a }) (and-true l.dat)
+wires_free l Free h =
+    ap (λ a. record { clk = a; dat = l.dat && true }) (and-true l.clk) ∙ ap (λ a. record { clk = l.clk; dat = a }) (and-true l.dat)
 wires_free l (Hold since) h = absurd cc
 wires_free l (Ask byte since) h = absurd cc
 wires_free l (Request byte) h = absurd cc
@@ -76,7 +78,13 @@ quiet_parts now p2 next o h =
 
 -- a cycle before a quiet one is quiet in the same state
 pub quiet_before : (now last p2 : ℕ) (next : Option HostEvent) (o : Outside) → now ≤ last → IsQuiet last p2 next o → IsQuiet now p2 next o
-quiet_before now last p2 next o h q = record { rest = q.rest; none = not_due_before now last next h q.none; lights = q.lights; level = q.level }
+quiet_before now last p2 next o h q =
+    record {
+      rest = q.rest;
+      none = not_due_before now last next h q.none;
+      lights = q.lights;
+      level = q.level;
+    }
 
 -- a cycle stays quiet once the level is noted
 pub quiet_again : (now p2 : ℕ) (next : Option HostEvent) (o : Outside) → IsQuiet now p2 next o → IsQuiet now p2 next (noted p2 o)
@@ -104,7 +112,9 @@ module _ (line : Lines) (lit now : ℕ) (next : Option HostEvent) (o : Outside) 
       → ended_at (joined line (drive o.desk.port.link)) ≡ ended line.clk (cycled is_breakable now next o.desk)
   looks free level =
       ap ended_at (wires_free line o.desk.port.link free)
-      ∙ ap (λ b. ended line.clk (cycled is_breakable now next (record o.desk { port = if b then edge_at now line.dat o.desk.port.link o.desk.port else o.desk.port }))) level
+      ∙ ap (λ b. ended line.clk
+          (cycled is_breakable now next
+              (record o.desk { port = if b then edge_at now line.dat o.desk.port.link o.desk.port else o.desk.port }))) level
 
   -- nothing is said
   says : (lit == o.shown) ≡ true → ended line.clk (record { desk = o.desk; items = []; done = false })

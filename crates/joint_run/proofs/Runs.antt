@@ -1,5 +1,6 @@
 -- The step of the machine is the joint step under every history whose next events are handed in.
-use Rattle.std.proofs.Common.{◌≡◌, ◌<◌, ℕ, suc, zero, ◌+◌, List, [], ◌∷◌, ◌++◌, append_assoc, take, drop, Bool, true, false, refl, ap, sym, ◌∙◌, arith}
+use Rattle.std.proofs.Common.{◌≡◌, ◌<◌, ℕ, suc, zero, ◌+◌, List, [], ◌∷◌, ◌++◌, append_assoc, take}
+use Rattle.std.proofs.Common.{drop, Bool, true, false, refl, ap, sym, ◌∙◌, arith}
 use Rattle.std.specs.Prelude.{if◌then◌else◌, slice_get}
 use Rattle.std.proofs.lemmas.List.{append-nil}
 use Rattle.board_lines.specs.declared.event.HostEvent.{HostEvent}
@@ -38,12 +39,14 @@ module _ (events due : List HostEvent) (p2 : ℕ) (done : ℕ) (log : List Stamp
   same_cycle now o k said e =
       let c : Passed = outside_cycle now p2 (slice_get due k) o in
       cycle_is events p2 now o (done + k) (log ++ said)
-      ∙ ap (λ v. beside (outside_cycle now p2 v o).outside (if (outside_cycle now p2 v o).done then done + k + 1 else done + k) ((log ++ said) ++ (outside_cycle now p2 v o).items)) e
+      ∙ ap (λ v. beside (outside_cycle now p2 v o).outside (if (outside_cycle now p2 v o).done then done + k + 1 else done + k)
+          ((log ++ said) ++ (outside_cycle now p2 v o).items)) e
       ∙ ap (λ v. beside c.outside v ((log ++ said) ++ c.items)) (count_on c.done done k)
       ∙ ap (λ v. beside c.outside (done + (if c.done then k + 1 else k)) v) (append_assoc log said c.items)
       ∙ ap (λ v. behind done log v) (sym (cycle_is due p2 now o k said))
 
-  module _ (one : slice_get events done ≡ slice_get due 0) (two : slice_get events (suc done) ≡ slice_get due 1) (now : ℕ) (o : Outside) where
+  module _ (one : slice_get events done ≡ slice_get due 0) (two : slice_get events (suc done) ≡ slice_get due 1)
+      (now : ℕ) (o : Outside) where
     nth_same : (d : Bool) → slice_get events (done + (if d then 0 + 1 else 0)) ≡ slice_get due (if d then 0 + 1 else 0)
     nth_same true = let s : done + 1 ≡ suc done = omega arith in ap (λ k. slice_get events k) s ∙ two
     nth_same false = let z : done + 0 ≡ done = omega arith in ap (λ k. slice_get events k) z ∙ one
@@ -55,7 +58,8 @@ module _ (events due : List HostEvent) (p2 : ℕ) (done : ℕ) (log : List Stamp
         ∙ ap (λ v. joint_cycle events p2 now (beside o v (log ++ []))) z
         ∙ same_cycle now o 0 [] (nth_same false)
 
-    second_cycle : joint_cycle events p2 (now + 1) (joint_cycle events p2 now (beside o done log)) ≡ behind done log (joint_cycle due p2 (now + 1) (joint_cycle due p2 now (beside o 0 [])))
+    second_cycle : joint_cycle events p2 (now + 1) (joint_cycle events p2 now (beside o done log))
+        ≡ behind done log (joint_cycle due p2 (now + 1) (joint_cycle due p2 now (beside o 0 [])))
     second_cycle =
         let c : Passed = outside_cycle now p2 (slice_get due 0) o in
         let k : ℕ = if c.done then 0 + 1 else 0 in
@@ -65,7 +69,8 @@ module _ (events due : List HostEvent) (p2 : ℕ) (done : ℕ) (log : List Stamp
         ∙ same_cycle (now + 1) c.outside k said (nth_same c.done)
         ∙ ap (λ v. behind done log (joint_cycle due p2 (now + 1) v)) (sym t)
 
-    pub same_cycles : (cycles : ℕ) → 0 < cycles → cycles < 3 → after_cycles cycles now (joint_cycle events p2) (beside o done log) ≡ behind done log (passed cycles now p2 due o)
+    pub same_cycles : (cycles : ℕ) → 0 < cycles
+        → cycles < 3 → after_cycles cycles now (joint_cycle events p2) (beside o done log) ≡ behind done log (passed cycles now p2 due o)
     same_cycles zero some few = absurd (omega (arith, some))
     same_cycles (suc zero) some few = first_cycle
     same_cycles (suc (suc zero)) some few = second_cycle

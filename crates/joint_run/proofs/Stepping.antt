@@ -16,17 +16,20 @@ module _ (due : Due) (m : Machine) where
   abbrev pub came : ℕ → Cpu → World Beside
   came cycles cpu = record { cpu = cpu; board = passed cycles m.cycle cpu.p2 due.host.items m.outside; cycle = m.cycle + cycles }
 
-  by_row : (seen : Seen) (new : Machine) (cpu : Cpu) → new ≡ machine_after due m (came seen.cycles cpu) → IsSeen due m (came seen.cycles cpu) seen
+  by_row : (seen : Seen) (new : Machine) (cpu : Cpu)
+      → new ≡ machine_after due m (came seen.cycles cpu) → IsSeen due m (came seen.cycles cpu) seen
       → (o : Option Stepped) → IsStep m.image.bytes m.mcu o (Ok seen.cycles) cpu
       → IsJointStep due m (after_step (due_board due m) (world_of m) o) (Ok seen) new
   by_row seen new cpu e s None h = absurd (cc h.0)
   by_row seen new cpu e s (Some n) h =
       let k : seen.cycles ≡ n.cycles = cc h.0 in
-      let a : new ≡ machine_after due m (came n.cycles n.cpu) = e ∙ ap (λ k. machine_after due m (came k cpu)) k ∙ ap (λ c. machine_after due m (came n.cycles c)) h.1 in
+      let a : new ≡ machine_after due m (came n.cycles n.cpu) =
+          e ∙ ap (λ k. machine_after due m (came k cpu)) k ∙ ap (λ c. machine_after due m (came n.cycles c)) h.1 in
       let b : IsSeen due m (came n.cycles cpu) seen = subst (λ k. IsSeen due m (came k cpu) seen) k s in
       (a, subst (λ c. IsSeen due m (came n.cycles c) seen) h.1 b)
 
-  pub by_step : (seen : Seen) (new : Machine) (cpu : Cpu) (given : Pins) → given ≡ pins_by (keys_in_step due m) m.mcu.p1 m.mcu.p2 (beside m.outside 0 [])
+  pub by_step : (seen : Seen) (new : Machine) (cpu : Cpu) (given : Pins)
+      → given ≡ pins_by (keys_in_step due m) m.mcu.p1 m.mcu.p2 (beside m.outside 0 [])
       → IsStep m.image.bytes m.mcu (stepped m.image.bytes given m.mcu) (Ok seen.cycles) cpu
       → new ≡ machine_after due m (came seen.cycles cpu) → IsSeen due m (came seen.cycles cpu) seen
       → IsJointStep due m (due_step due m) (Ok seen) new

@@ -16,7 +16,8 @@ use Rattle.kbd_model.specs.Typematic.{delay}
 use Rattle.kbd_model.specs.Keyboard.{Keyboard, offer}
 use Rattle.kbd_model.specs.Commands.{commanded, parameter, obeyed_in}
 use Rattle.kbd_model.specs.Layers.{Layers, in_layer, layers_after, layered, all_layers_after}
-use Rattle.kbd_model.specs.Tick.{met, tested_if, without_offered, sent_byte, is_scanning, repeated, repeated_if, ended_at, edge_if, edges_if, is_inhibited, scanned, ticked}
+use Rattle.kbd_model.specs.Tick.{met, tested_if, without_offered, sent_byte, is_scanning, repeated}
+use Rattle.kbd_model.specs.Tick.{repeated_if, ended_at, edge_if, edges_if, is_inhibited, scanned, ticked}
 
 -- the same keys with the Fn key elsewhere
 abbrev pub with_fn : Keys → (ℕ → Bool) → Keys

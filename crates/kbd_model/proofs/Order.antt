@@ -1,5 +1,6 @@
 -- The queue keeps the order of what enters it, and never holds more than sixteen bytes.
-use Rattle.std.proofs.Common.{◌≡◌, ◌≤◌, ℕ, ◌+◌, List, [], ◌∷◌, ◌++◌, length, take, Bool, true, false, ◌||◌, nat_lt, refl, ap, sym, ◌∙◌, arith, append_assoc, append-nil, length-append}
+use Rattle.std.proofs.Common.{◌≡◌, ◌≤◌, ℕ, ◌+◌, List, [], ◌∷◌, ◌++◌, length, take, Bool, true, false, ◌||◌, nat_lt}
+use Rattle.std.proofs.Common.{refl, ap, sym, ◌∙◌, arith, append_assoc, append-nil, length-append}
 use Rattle.std.proofs.lemmas.Bool.Decides.{nat_tests}
 use Rattle.kbd_model.specs.Queue.{KeyQueue, empty, enter, drop_first, without_first, clear, kept}
 use Rattle.kbd_model.specs.Laws.{QueueStep, Enters, Drops, Clears, after, let_in, clears, all_let_in, all_sent}

@@ -1,5 +1,6 @@
 -- Codes are whole in the queue: a started break has its code first, and F0 has its code behind it.
-use Rattle.std.proofs.Common.{◌≡◌, ◌<◌, ℕ, ◌+◌, List, [], ◌∷◌, ◌++◌, length, Bool, true, false, not, ◌&&◌, ◌||◌, ◌==◌, nat_lt, refl, ap, sym, ◌∙◌, arith}
+use Rattle.std.proofs.Common.{◌≡◌, ◌<◌, ℕ, ◌+◌, List, [], ◌∷◌, ◌++◌, length, Bool, true, false, not}
+use Rattle.std.proofs.Common.{◌&&◌, ◌||◌, ◌==◌, nat_lt, refl, ap, sym, ◌∙◌, arith}
 use Rattle.kbd_model.specs.Queue.{KeyQueue, empty, enter, drop_first, without_first, clear, kept}
 use Rattle.kbd_model.specs.Laws.{QueueStep, Enters, Drops, Clears, after, whole, enters_codes}
 

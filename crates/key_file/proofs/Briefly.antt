@@ -1,5 +1,6 @@
 -- What the rules ask of the events so far, with one event more.
-use Rattle.std.proofs.Common.{◌≡◌, ◌≤◌, ◌<◌, ℕ, zero, suc, ◌+◌, ◌-◌, true, false, List, [], ◌∷◌, ◌++◌, length, get_or, replicate, None, Some, refl, ap, sym, ◌∙◌, arith, length-append}
+use Rattle.std.proofs.Common.{◌≡◌, ◌≤◌, ◌<◌, ℕ, zero, suc, ◌+◌, ◌-◌, true, false, List, [], ◌∷◌, ◌++◌, length}
+use Rattle.std.proofs.Common.{get_or, replicate, None, Some, refl, ap, sym, ◌∙◌, arith, length-append}
 use Rattle.std.specs.Prelude.{nat_le, if◌then◌else◌}
 use Rattle.std.specs.List.{slice_get}
 use Rattle.std.specs.declared.option.Option.{Option}
@@ -31,7 +32,8 @@ from_end-more : (n m : ℕ) (xs : List Edge) (e : Edge) → 1 ≤ n → m ≡ n 
 from_end-more n m xs e some next =
     let len : length (xs ++ e ∷ []) ≡ length xs + 1 = length-append xs (e ∷ []) in
     let place : length (xs ++ e ∷ []) - m ≡ length xs - n = omega (arith, len, next) in
-    elim (nat_le n (length xs)) as (λ b. nat_le n (length xs) ≡ b → from_end m (xs ++ e ∷ []) ≡ (if b then slice_get xs (length xs - n) else None)) [
+    elim (nat_le n (length xs)) as (λ b. nat_le n (length xs) ≡ b
+        → from_end m (xs ++ e ∷ []) ≡ (if b then slice_get xs (length xs - n) else None)) [
       | true ↦ λ h.
           let there : nat_le m (length (xs ++ e ∷ [])) ≡ true = grind (arith, nat_tests, len, next, h) in
           let enough : n ≤ length xs = grind (arith, nat_tests, h) in
@@ -46,7 +48,8 @@ from_end-more n m xs e some next =
 pub latest-push : (xs : List Edge) (e : Edge)
     → latest_of (xs ++ e ∷ []) ≡ from_end 3 xs ∷ from_end 2 xs ∷ from_end 1 xs ∷ Some e ∷ []
 latest-push xs e =
-    ap (λ a. a ∷ from_end 3 (xs ++ e ∷ []) ∷ from_end 2 (xs ++ e ∷ []) ∷ from_end 1 (xs ++ e ∷ []) ∷ []) (from_end-more 3 4 xs e (omega arith) refl)
+    ap (λ a. a ∷ from_end 3 (xs ++ e ∷ []) ∷ from_end 2 (xs ++ e ∷ []) ∷ from_end 1 (xs ++ e ∷ []) ∷ [])
+        (from_end-more 3 4 xs e (omega arith) refl)
     ∙ ap (λ a. from_end 3 xs ∷ a ∷ from_end 2 (xs ++ e ∷ []) ∷ from_end 1 (xs ++ e ∷ []) ∷ []) (from_end-more 2 3 xs e (omega arith) refl)
     ∙ ap (λ a. from_end 3 xs ∷ from_end 2 xs ∷ a ∷ from_end 1 (xs ++ e ∷ []) ∷ []) (from_end-more 1 2 xs e (omega arith) refl)
     ∙ ap (λ a. from_end 3 xs ∷ from_end 2 xs ∷ from_end 1 xs ∷ a ∷ []) (from_end-one xs e)

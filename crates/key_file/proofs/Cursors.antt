@@ -1,5 +1,6 @@
 -- The events that the lines of a file give are those of its history.
-use Rattle.std.proofs.Common.{◌≡◌, ◌<◌, ℕ, zero, suc, ◌+◌, List, [], ◌∷◌, ◌++◌, length, drop, None, Some, Ok, Err, refl, ap, sym, subst, ◌∙◌, arith, append_assoc}
+use Rattle.std.proofs.Common.{◌≡◌, ◌<◌, ℕ, zero, suc, ◌+◌, List, [], ◌∷◌, ◌++◌, length, drop, None}
+use Rattle.std.proofs.Common.{Some, Ok, Err, refl, ap, sym, subst, ◌∙◌, arith, append_assoc}
 use Rattle.std.proofs.lemmas.List.{append-nil}
 use Rattle.std.specs.Str.Lines.{lines}
 use Rattle.std.specs.List.{slice_get}
@@ -35,7 +36,8 @@ pushed before (EdgeOf e) = record { edges = refl; host = sym (append-nil before.
 pushed before (HostOf e) = record { edges = sym (append-nil before.edges); host = refl }
 pushed before (End stamp) = record { edges = sym (append-nil before.edges); host = sym (append-nil before.host) }
 
-taken_if : (before after : Before) (event : Event) (broken : Option Rule) → unless broken (with_event before event) ≡ Ok after → TakenAs before after (Some event)
+taken_if : (before after : Before) (event : Event) (broken : Option Rule)
+    → unless broken (with_event before event) ≡ Ok after → TakenAs before after (Some event)
 taken_if before after event None h =
     let same : with_event before event ≡ after = cc h in
     subst (λ b. TakenAs before b (Some event)) same (pushed before event)
@@ -60,17 +62,22 @@ host_more (Some (HostOf e)) events = refl
 host_more (Some (End stamp)) events = refl
 
 -- one line more
-one_more : (layout : KeyLayout) (before after : Before) (said : Option Event) (more : List (List ℕ)) (history : KeyHistory) → TakenAs before after said → Given layout after more history
-    → (history.edges ≡ before.edges ++ edge_before said (edges_in layout more)) × (history.host ≡ before.host ++ host_before said (host_in layout more))
+one_more : (layout : KeyLayout) (before after : Before) (said : Option Event) (more : List (List ℕ)) (history : KeyHistory)
+    → TakenAs before after said → Given layout after more history
+    → (history.edges ≡ before.edges ++ edge_before said (edges_in layout more))
+    × (history.host ≡ before.host ++ host_before said (host_in layout more))
 one_more layout before after said more history taken given = (
-  given.edges ∙ ap (λ xs. xs ++ edges_in layout more) taken.edges ∙ append_assoc before.edges (edge_before said []) (edges_in layout more) ∙ ap (λ xs. before.edges ++ xs) (edge_more said (edges_in layout more)),
-  given.host ∙ ap (λ xs. xs ++ host_in layout more) taken.host ∙ append_assoc before.host (host_before said []) (host_in layout more) ∙ ap (λ xs. before.host ++ xs) (host_more said (host_in layout more)),
+  given.edges ∙ ap (λ xs. xs ++ edges_in layout more) taken.edges ∙ append_assoc before.edges (edge_before said []) (edges_in layout more)
+      ∙ ap (λ xs. before.edges ++ xs) (edge_more said (edges_in layout more)),
+  given.host ∙ ap (λ xs. xs ++ host_in layout more) taken.host ∙ append_assoc before.host (host_before said []) (host_in layout more)
+      ∙ ap (λ xs. before.host ++ xs) (host_more said (host_in layout more)),
 )
 
 abbrev outcome_of : KeyLayout → ℕ → Before → List (List ℕ) → Result KeyHistory (Fault Rule)
 outcome_of layout number before texts = outcome_from (take_line layout) finish number before texts
 
-ended : (layout : KeyLayout) (before : Before) (number : ℕ) (history : KeyHistory) (end : Option ℕ) → at_item number (history_at before end) ≡ Ok history → Given layout before [] history
+ended : (layout : KeyLayout) (before : Before) (number : ℕ) (history : KeyHistory) (end : Option ℕ)
+    → at_item number (history_at before end) ≡ Ok history → Given layout before [] history
 ended layout before number history (Some end) h =
     let same : record { edges = before.edges; host = before.host; end = end } ≡ history = cc h in
     subst (λ x. Given layout before [] x) same (record { edges = sym (append-nil before.edges); host = sym (append-nil before.host) })
@@ -82,7 +89,8 @@ module _ (layout : KeyLayout) (number : ℕ) (before : Before) (line : List ℕ)
   abbrev rest : Result Before Rule → Result KeyHistory (Fault Rule)
   rest result = and_then (at_item number result) (λ after. outcome_of layout (number + 1) after more)
 
-  given_then : (said : Option Event) (result : Result Before Rule) → said_by layout (fields line) ≡ Ok said → take_said before said ≡ result → rest result ≡ Ok history → Given layout before (line ∷ more) history
+  given_then : (said : Option Event) (result : Result Before Rule) → said_by layout (fields line) ≡ Ok said
+      → take_said before said ≡ result → rest result ≡ Ok history → Given layout before (line ∷ more) history
   given_then said (Err rule) is taken h = absurd cc
   given_then said (Ok after) is taken h =
       let both = one_more layout before after said more history (taken_said before after said taken) (next after h) in
@@ -92,23 +100,28 @@ module _ (layout : KeyLayout) (number : ℕ) (before : Before) (line : List ℕ)
         host = both.1 ∙ sym (ap (λ v. before.host ++ host_before v (host_in layout more)) here);
       }
 
-  given_by : (said : Result (Option Event) Rule) → said_by layout (fields line) ≡ said → rest (and_then said (take_said before)) ≡ Ok history → Given layout before (line ∷ more) history
+  given_by : (said : Result (Option Event) Rule) → said_by layout (fields line) ≡ said
+      → rest (and_then said (take_said before)) ≡ Ok history → Given layout before (line ∷ more) history
   given_by (Err rule) is h = absurd cc
   given_by (Ok said) is h = given_then said (take_said before said) is refl h
 
-given_from : (layout : KeyLayout) (number : ℕ) (before : Before) (texts : List (List ℕ)) (history : KeyHistory) → outcome_of layout number before texts ≡ Ok history → Given layout before texts history
+given_from : (layout : KeyLayout) (number : ℕ) (before : Before) (texts : List (List ℕ)) (history : KeyHistory)
+    → outcome_of layout number before texts ≡ Ok history → Given layout before texts history
 given_from layout number before [] history h = ended layout before number history before.end h
 given_from layout number before (line ∷ more) history h =
-    given_by layout number before line more history (λ after g. given_from layout (number + 1) after more history g) (said_by layout (fields line)) refl h
+    given_by layout number before line more history (λ after g. given_from layout (number + 1) after more history g)
+        (said_by layout (fields line)) refl h
 
 pub untold : (r : Result KeyHistory (Fault Rule)) (history : KeyHistory) → with_fault_told r ≡ Ok history → r ≡ Ok history
 untold (Ok h) history is = let same : h ≡ history = cc is in ap (λ x. Ok x) same
 untold (Err fault) history is = absurd cc
 
 -- a file that has a history gives its events
-pub events_given : (layout : KeyLayout) (text : List ℕ) (history : KeyHistory) → history_of layout text ≡ Ok history → Given layout at_first (lines text) history
+pub events_given : (layout : KeyLayout) (text : List ℕ) (history : KeyHistory)
+    → history_of layout text ≡ Ok history → Given layout at_first (lines text) history
 unfolding history_of
-events_given layout text history h = given_from layout 1 at_first (lines text) history (untold (outcome_of layout 1 at_first (lines text)) history h)
+events_given layout text history h =
+    given_from layout 1 at_first (lines text) history (untold (outcome_of layout 1 at_first (lines text)) history h)
 
 -- the first of what is left of a list, and what is left behind it
 pub record IsFirstLeft {X : Type 0} (xs : List X) (n : ℕ) (x : X) (more : List X) : Type 0 where

@@ -27,7 +27,8 @@ pub record Follows (layout : KeyLayout) (end from : ℕ) (edges : List Edge) (ho
 module _ (layout : KeyLayout) (end : ℕ) (line text rest : List ℕ) (first : lines text ≡ line ∷ lines rest) where
   -- the line of an edge, and what follows it
   pub follows-edge : (from : ℕ) (name : List ℕ) (e : Edge) (edges : List Edge) (host : List HostEvent) → from ≤ e.stamp
-      → said_by layout (fields line) ≡ and_then (edge_of layout e.stamp e.down (name ∷ [])) (λ event. Ok (Some event)) → place_named layout name ≡ Some e.place
+      → said_by layout (fields line) ≡ and_then (edge_of layout e.stamp e.down (name ∷ [])) (λ event. Ok (Some event))
+      → place_named layout name ≡ Some e.place
       → Follows layout end e.stamp edges host rest → Follows layout end from (e ∷ edges) host text
   follows-edge from name e edges host later said place more =
       let is : said_by layout (fields line) ≡ Ok (Some (EdgeOf e)) = said ∙ rw place refl in
@@ -77,19 +78,34 @@ module _ (layout : KeyLayout) (end : ℕ) (line text rest : List ℕ) (first : l
       }
 
 -- what comes from a stamp on comes from an earlier one on
-earlier : (from later : ℕ) (events : List Event) (end : ℕ) → from ≤ later → AreInJointOrder later events end → AreInJointOrder from events end
+earlier : (from later : ℕ) (events : List Event) (end : ℕ)
+    → from ≤ later → AreInJointOrder later events end → AreInJointOrder from events end
 earlier from later [] end h order = order
 earlier from later (EdgeOf e ∷ more) end h order = (omega (arith, order.0), order.1)
 earlier from later (HostOf e ∷ more) end h order = (omega (arith, order.0), order.1)
 earlier from later (End stamp ∷ more) end h order = (omega (arith, order.0), order.1, order.2)
 
-pub follows-earlier : (layout : KeyLayout) (end from later : ℕ) (edges : List Edge) (host : List HostEvent) (text : List ℕ) → from ≤ later → Follows layout end later edges host text → Follows layout end from edges host text
+pub follows-earlier : (layout : KeyLayout) (end from later : ℕ) (edges : List Edge) (host : List HostEvent) (text : List ℕ)
+    → from ≤ later → Follows layout end later edges host text → Follows layout end from edges host text
 follows-earlier layout end from later edges host text h follows =
     let r = follows.lines_are in
-    record { lines_are = record { form = r.form; edges_are = r.edges_are; host_are = r.host_are; order = earlier from later (events_in layout (lines text)) end h r.order } }
+    record {
+      lines_are = record {
+        form = r.form;
+        edges_are = r.edges_are;
+        host_are = r.host_are;
+        order = earlier from later (events_in layout (lines text)) end h r.order;
+      };
+    }
 
 -- it tells the whole history
-pub follows-tells : (layout : KeyLayout) (history : KeyHistory) (from : ℕ) (text : List ℕ) → Follows layout history.end from history.edges history.host text → Tells layout text history
+pub follows-tells : (layout : KeyLayout) (history : KeyHistory) (from : ℕ) (text : List ℕ)
+    → Follows layout history.end from history.edges history.host text → Tells layout text history
 follows-tells layout history from text follows =
     let r = follows.lines_are in
-    record { form = r.form; edges = r.edges_are; host = r.host_are; order = earlier 0 from (events_in layout (lines text)) history.end (omega arith) r.order }
+    record {
+      form = r.form;
+      edges = r.edges_are;
+      host = r.host_are;
+      order = earlier 0 from (events_in layout (lines text)) history.end (omega arith) r.order;
+    }

@@ -1,5 +1,6 @@
 -- The last edge of a key.
-use Rattle.std.proofs.Common.{◌≡◌, ◌<◌, ℕ, true, false, ◌==◌, List, [], ◌∷◌, ◌++◌, length, get_or, None, Some, refl, ap, sym, subst, ◌∙◌, arith}
+use Rattle.std.proofs.Common.{◌≡◌, ◌<◌, ℕ, true, false, ◌==◌, List, [], ◌∷◌, ◌++◌, length}
+use Rattle.std.proofs.Common.{get_or, None, Some, refl, ap, sym, subst, ◌∙◌, arith}
 use Rattle.std.specs.List.{last_or, slice_set}
 use Rattle.std.specs.declared.option.Option.{Option}
 use Rattle.std.proofs.lemmas.Bool.Decides.{nat_tests}
@@ -41,12 +42,14 @@ last_or-push before [] e = refl
 last_or-push before (x ∷ xs) e = last_or-push (Some x) xs e
 
 -- an edge more of this key, and of another one
-pub of_place-push : (place : ℕ) (edges : List Edge) (e : Edge) → e.place ≡ place → of_place place (edges ++ e ∷ []) ≡ of_place place edges ++ e ∷ []
+pub of_place-push : (place : ℕ) (edges : List Edge) (e : Edge)
+    → e.place ≡ place → of_place place (edges ++ e ∷ []) ≡ of_place place edges ++ e ∷ []
 of_place-push place edges e h =
     let same : (e.place == place) ≡ true = grind (arith, nat_tests, h) in
     filter-append (λ f. f.place == place) edges (e ∷ []) ∙ rw same refl
 
-pub of_place-other : (place : ℕ) (edges : List Edge) (e : Edge) → (e.place ≡ place → ⊥) → of_place place (edges ++ e ∷ []) ≡ of_place place edges
+pub of_place-other : (place : ℕ) (edges : List Edge) (e : Edge)
+    → (e.place ≡ place → ⊥) → of_place place (edges ++ e ∷ []) ≡ of_place place edges
 of_place-other place edges e h =
     let other : (e.place == place) ≡ false = grind (arith, nat_tests, h) in
     filter-append (λ f. f.place == place) edges (e ∷ []) ∙ rw other (append-nil (of_place place edges))
@@ -56,7 +59,8 @@ pub last-push : (last : List (Option Edge)) (edges : List Edge) (e : Edge) (k pl
     → get_or last place None ≡ last_edge place edges → k ≡ e.place → k < length last
     → get_or (slice_set last k (Some e)) place None ≡ last_edge place (edges ++ e ∷ [])
 last-push last edges e k place h is inside =
-    elim (e.place == place) as (λ b. (e.place == place) ≡ b → get_or (slice_set last k (Some e)) place None ≡ last_edge place (edges ++ e ∷ [])) [
+    elim (e.place == place) as (λ b. (e.place == place) ≡ b
+        → get_or (slice_set last k (Some e)) place None ≡ last_edge place (edges ++ e ∷ [])) [
       | true ↦ λ test.
           let same : e.place ≡ place = grind (arith, nat_tests, test) in
           subst (λ n. get_or (slice_set last k (Some e)) n None ≡ Some e) (is ∙ same) (get_or-set_same last k (Some e) None inside)

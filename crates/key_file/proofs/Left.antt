@@ -1,5 +1,6 @@
 -- What is left of an accepted history, behind the events so far, breaks no rule.
-use Rattle.std.proofs.Common.{◌≡◌, ◌≤◌, ◌<◌, ℕ, ◌+◌, false, List, [], ◌∷◌, ◌++◌, length, None, Ok, refl, ap, sym, subst, ◌∙◌, append_assoc, arith, length-append}
+use Rattle.std.proofs.Common.{◌≡◌, ◌≤◌, ◌<◌, ℕ, ◌+◌, false, List, [], ◌∷◌, ◌++◌, length, None, Ok, refl}
+use Rattle.std.proofs.Common.{ap, sym, subst, ◌∙◌, append_assoc, arith, length-append}
 use Rattle.std.specs.Prelude.{All, nat_le, nat_lt}
 use Rattle.std.proofs.lemmas.Bool.Decides.{nat_tests}
 use Rattle.std.proofs.lemmas.List.{get_or_at}
@@ -24,7 +25,8 @@ pub record IsLeft (history : KeyHistory) (before : Before) (edges : List Edge) (
 
 -- an event that breaks no rule of edges, in its order and its range, is taken
 taken : (before : Before) (event : Event) → before.stamp ≤ stamp_at event → stamp_at event ≤ 240000000 → before.end ≡ None
-    → is_too_many (brief_of before) event ≡ false → ((more : List (Judgement Rule)) → first_broken (key_judgements (brief_of before) event ++ more) ≡ first_broken more)
+    → is_too_many (brief_of before) event ≡ false
+    → ((more : List (Judgement Rule)) → first_broken (key_judgements (brief_of before) event ++ more) ≡ first_broken more)
     → take_event before event ≡ Ok (with_event before event)
 taken before event order range goes_on few key =
     let past : nat_lt (stamp_at event) before.stamp ≡ false = grind (arith, nat_tests, order) in
@@ -34,9 +36,11 @@ taken before event order range goes_on few key =
 
 module _ (history : KeyHistory) (accepted : IsAccepted history) (before : Before) where
   -- there is room for what is left
-  room : (edges : List Edge) (host : List HostEvent) → IsLeft history before edges host → 0 < length edges + length host → nat_le 65536 (length before.edges + length before.host) ≡ false
+  room : (edges : List Edge) (host : List HostEvent)
+      → IsLeft history before edges host → 0 < length edges + length host → nat_le 65536 (length before.edges + length before.host) ≡ false
   room edges host left some =
-      let a : length before.edges + length edges ≡ length history.edges = sym (length-append before.edges edges) ∙ ap length left.edges_are in
+      let a : length before.edges + length edges ≡ length history.edges =
+          sym (length-append before.edges edges) ∙ ap length left.edges_are in
       let b : length before.host + length host ≡ length history.host = sym (length-append before.host host) ∙ ap length left.host_are in
       let c = accepted.number_in_range in
       let d : length before.edges + length before.host < 65536 = omega arith in
@@ -48,34 +52,41 @@ module _ (history : KeyHistory) (accepted : IsAccepted history) (before : Before
       let at = all (length before.edges) e (omega (arith, length-append before.edges (e ∷ edges))) in
       subst (λ (x : Edge). x.stamp ≤ history.end) (get_or_at before.edges e edges e (length before.edges) refl) at
 
-  host_before_end : (e : HostEvent) (edges : List Edge) (host : List HostEvent) → IsLeft history before edges (e ∷ host) → e.stamp ≤ history.end
+  host_before_end : (e : HostEvent) (edges : List Edge) (host : List HostEvent)
+      → IsLeft history before edges (e ∷ host) → e.stamp ≤ history.end
   host_before_end e edges host left =
       let all = subst (All (λ event. event.stamp ≤ history.end)) (sym left.host_are) accepted.host_before_end in
       let at = all (length before.host) e (omega (arith, length-append before.host (e ∷ host))) in
       subst (λ (x : HostEvent). x.stamp ≤ history.end) (get_or_at before.host e host e (length before.host) refl) at
 
   -- the next edge is taken
-  pub edge_taken : (e : Edge) (edges : List Edge) (host : List HostEvent) → IsLeft history before (e ∷ edges) host → before.stamp ≤ e.stamp → take_event before (EdgeOf e) ≡ Ok (with_event before (EdgeOf e))
+  pub edge_taken : (e : Edge) (edges : List Edge) (host : List HostEvent)
+      → IsLeft history before (e ∷ edges) host → before.stamp ≤ e.stamp → take_event before (EdgeOf e) ≡ Ok (with_event before (EdgeOf e))
   edge_taken e edges host left order =
       let range : e.stamp ≤ 240000000 = omega (arith, edge_before_end e edges host left, accepted.end_in_range) in
-      taken before (EdgeOf e) order range left.goes_on (room (e ∷ edges) host left (omega arith)) (edge_unbroken history before e edges accepted left.edges_are)
+      taken before (EdgeOf e) order range left.goes_on (room (e ∷ edges) host left (omega arith))
+          (edge_unbroken history before e edges accepted left.edges_are)
 
-  pub edge_left : (e : Edge) (edges : List Edge) (host : List HostEvent) → IsLeft history before (e ∷ edges) host → IsLeft history (with_event before (EdgeOf e)) edges host
+  pub edge_left : (e : Edge) (edges : List Edge) (host : List HostEvent)
+      → IsLeft history before (e ∷ edges) host → IsLeft history (with_event before (EdgeOf e)) edges host
   edge_left e edges host left =
       record { edges_are = append_assoc before.edges (e ∷ []) edges ∙ left.edges_are; host_are = left.host_are; goes_on = left.goes_on }
 
   -- what the host does next is taken
-  pub host_taken : (e : HostEvent) (edges : List Edge) (host : List HostEvent) → IsLeft history before edges (e ∷ host) → before.stamp ≤ e.stamp → take_event before (HostOf e) ≡ Ok (with_event before (HostOf e))
+  pub host_taken : (e : HostEvent) (edges : List Edge) (host : List HostEvent)
+      → IsLeft history before edges (e ∷ host) → before.stamp ≤ e.stamp → take_event before (HostOf e) ≡ Ok (with_event before (HostOf e))
   host_taken e edges host left order =
       let range : e.stamp ≤ 240000000 = omega (arith, host_before_end e edges host left, accepted.end_in_range) in
       taken before (HostOf e) order range left.goes_on (room edges (e ∷ host) left (omega arith)) (λ more. refl)
 
-  pub host_left : (e : HostEvent) (edges : List Edge) (host : List HostEvent) → IsLeft history before edges (e ∷ host) → IsLeft history (with_event before (HostOf e)) edges host
+  pub host_left : (e : HostEvent) (edges : List Edge) (host : List HostEvent)
+      → IsLeft history before edges (e ∷ host) → IsLeft history (with_event before (HostOf e)) edges host
   host_left e edges host left =
       record { edges_are = left.edges_are; host_are = append_assoc before.host (e ∷ []) host ∙ left.host_are; goes_on = left.goes_on }
 
   -- the end is taken
-  pub end_taken : (stamp : ℕ) → before.end ≡ None → before.stamp ≤ stamp → stamp ≡ history.end → take_event before (End stamp) ≡ Ok (with_event before (End stamp))
+  pub end_taken : (stamp : ℕ)
+      → before.end ≡ None → before.stamp ≤ stamp → stamp ≡ history.end → take_event before (End stamp) ≡ Ok (with_event before (End stamp))
   end_taken stamp goes_on order is =
       let range : stamp ≤ 240000000 = omega (arith, is, accepted.end_in_range) in
       taken before (End stamp) order range goes_on refl (λ more. refl)

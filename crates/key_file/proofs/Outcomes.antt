@@ -18,7 +18,8 @@ abbrev pub judged : KeyLayout → ℕ → Before → List (List ℕ) → Result 
 judged layout number before texts = with_fault_told (outcome_from (take_line layout) finish number before texts)
 
 -- a line that is taken
-judged-taken : (layout : KeyLayout) (number : ℕ) (before after : Before) (line : List ℕ) (more : List (List ℕ)) → take_line layout before line ≡ Ok after → judged layout number before (line ∷ more) ≡ judged layout (number + 1) after more
+judged-taken : (layout : KeyLayout) (number : ℕ) (before after : Before) (line : List ℕ) (more : List (List ℕ))
+    → take_line layout before line ≡ Ok after → judged layout number before (line ∷ more) ≡ judged layout (number + 1) after more
 judged-taken layout number before after line more h = rw h refl
 
 -- a line that is refused
@@ -45,16 +46,20 @@ come-first layout text brief kept = record {
   sound = sound-first layout;
 }
 
-module _ (layout : KeyLayout) (text : List ℕ) (number : ℕ) (rest after line : List ℕ) (brief : Kept) (h : HasCome layout text number rest brief)
+module _ (layout : KeyLayout) (text : List ℕ) (number : ℕ) (rest after line : List ℕ)
+    (brief : Kept) (h : HasCome layout text number rest brief)
     (first : lines rest ≡ line ∷ lines after) where
-  pub come-next : (later : Kept) → suc (length after) ≤ length rest → IsBriefAfter layout h.before line later → HasCome layout text (number + 1) after later
+  pub come-next : (later : Kept)
+      → suc (length after) ≤ length rest → IsBriefAfter layout h.before line later → HasCome layout text (number + 1) after later
   come-next later shorter taken = record {
     before = taken.after;
     kept = taken.brief;
-    meaning = h.meaning ∙ ap (judged layout number h.before) first ∙ judged-taken layout number h.before taken.after line (lines after) taken.taken;
+    meaning = h.meaning ∙ ap (judged layout number h.before) first
+        ∙ judged-taken layout number h.before taken.after line (lines after) taken.taken;
     number_in_range = omega (arith, shorter, h.number_in_range);
     sound = sound-line layout h.before taken.after line h.sound taken.taken;
   }
 
   pub come-fault : (rule : Rule) → take_line layout h.before line ≡ Err rule → history_of layout text ≡ Err (told number rule)
-  come-fault rule refused = h.meaning ∙ ap (judged layout number h.before) first ∙ judged-refused layout number h.before line (lines after) rule refused
+  come-fault rule refused =
+      h.meaning ∙ ap (judged layout number h.before) first ∙ judged-refused layout number h.before line (lines after) rule refused

@@ -18,18 +18,22 @@ in_order-push [] y order all = tt
 in_order-push (x ∷ []) y order all = (all 0 x (omega arith), tt)
 in_order-push (x ∷ z ∷ zs) y order all = (order.0, in_order-push (z ∷ zs) y order.1 (all_tail (λ e. e.stamp ≤ y.stamp) x (z ∷ zs) all))
 
-pub host_in_order-push : (xs : List HostEvent) (y : HostEvent) → AreHostEventsInOrder xs → All (λ e. e.stamp ≤ y.stamp) xs → AreHostEventsInOrder (xs ++ y ∷ [])
+pub host_in_order-push : (xs : List HostEvent) (y : HostEvent)
+    → AreHostEventsInOrder xs → All (λ e. e.stamp ≤ y.stamp) xs → AreHostEventsInOrder (xs ++ y ∷ [])
 host_in_order-push [] y order all = tt
 host_in_order-push (x ∷ []) y order all = (all 0 x (omega arith), tt)
-host_in_order-push (x ∷ z ∷ zs) y order all = (order.0, host_in_order-push (z ∷ zs) y order.1 (all_tail (λ e. e.stamp ≤ y.stamp) x (z ∷ zs) all))
+host_in_order-push (x ∷ z ∷ zs) y order all =
+    (order.0, host_in_order-push (z ∷ zs) y order.1 (all_tail (λ e. e.stamp ≤ y.stamp) x (z ∷ zs) all))
 
 -- press and release of a key take turns
-pub alternates-push : (down : Bool) (xs : List Edge) (y : Edge) → Alternates down xs → y.down ≡ not (last_of down xs) → Alternates down (xs ++ y ∷ [])
+pub alternates-push : (down : Bool) (xs : List Edge) (y : Edge)
+    → Alternates down xs → y.down ≡ not (last_of down xs) → Alternates down (xs ++ y ∷ [])
 alternates-push down [] y turns turn = (turn, tt)
 alternates-push down (x ∷ xs) y turns turn = (turns.0, alternates-push x.down xs y turns.1 turn)
 
 -- a key keeps its state for a while
-pub dwells-push : (xs : List Edge) (y : Edge) → Dwells xs → ((x : Edge) → last_or None xs ≡ Some x → x.stamp + 2240 ≤ y.stamp) → Dwells (xs ++ y ∷ [])
+pub dwells-push : (xs : List Edge) (y : Edge)
+    → Dwells xs → ((x : Edge) → last_or None xs ≡ Some x → x.stamp + 2240 ≤ y.stamp) → Dwells (xs ++ y ∷ [])
 dwells-push [] y dwells last = tt
 dwells-push (x ∷ []) y dwells last = (last x refl, tt)
 dwells-push (x ∷ z ∷ zs) y dwells last = (dwells.0, dwells-push (z ∷ zs) y dwells.1 last)
@@ -43,7 +47,8 @@ fourth-cons x xs long =
     rw (here, more, place) refl
 
 -- five edges in a row take a while
-pub thin-push : (xs : List Edge) (y : Edge) → IsThin xs → ((x : Edge) → from_end 4 xs ≡ Some x → x.stamp + 2240 ≤ y.stamp) → IsThin (xs ++ y ∷ [])
+pub thin-push : (xs : List Edge) (y : Edge)
+    → IsThin xs → ((x : Edge) → from_end 4 xs ≡ Some x → x.stamp + 2240 ≤ y.stamp) → IsThin (xs ++ y ∷ [])
 thin-push [] y thin fourth = (tt, tt)
 thin-push (a ∷ []) y thin fourth = (tt, (tt, tt))
 thin-push (a ∷ b ∷ []) y thin fourth = (tt, (tt, (tt, tt)))

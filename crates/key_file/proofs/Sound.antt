@@ -1,5 +1,6 @@
 -- What the lines of a key file come to is accepted, as far as it goes.
-use Rattle.std.proofs.Common.{◌≡◌, ◌≤◌, ℕ, ◌+◌, Bool, true, false, not, ◌==◌, [], ◌∷◌, ◌++◌, length, None, Some, refl, ap, sym, subst, ◌∙◌, arith, length-append}
+use Rattle.std.proofs.Common.{◌≡◌, ◌≤◌, ℕ, ◌+◌, Bool, true, false, not, ◌==◌, [], ◌∷◌, ◌++◌, length}
+use Rattle.std.proofs.Common.{None, Some, refl, ap, sym, subst, ◌∙◌, arith, length-append}
 use Rattle.std.specs.Prelude.{All}
 use Rattle.std.specs.declared.option.Option.{Option}
 use Rattle.std.proofs.lemmas.Bool.Decides.{nat_tests}
@@ -56,22 +57,26 @@ sound-first layout = record {
   places = λ k d within. absurd (omega arith);
 }
 
-alternate-push : (before : Before) (e : Edge) (place : ℕ) → Alternates false (of_place place before.edges) → EdgeFits (brief_of before) e → (b : Bool) → (e.place == place) ≡ b → Alternates false (of_place place (before.edges ++ e ∷ []))
+alternate-push : (before : Before) (e : Edge) (place : ℕ) → Alternates false (of_place place before.edges)
+    → EdgeFits (brief_of before) e → (b : Bool) → (e.place == place) ≡ b → Alternates false (of_place place (before.edges ++ e ∷ []))
 alternate-push before e place turns fits true h =
     let same : e.place ≡ place = grind (arith, nat_tests, h) in
     let down = ap not (down-last e.place before.edges) in
-    rw (of_place-push place before.edges e same) (alternates-push false (of_place place before.edges) e turns (fits.turns ∙ down ∙ rw same refl))
+    rw (of_place-push place before.edges e same)
+        (alternates-push false (of_place place before.edges) e turns (fits.turns ∙ down ∙ rw same refl))
 alternate-push before e place turns fits false h =
     rw (of_place-other place before.edges e (λ same. grind (arith, nat_tests, h, same))) turns
 
-dwell-push : (before : Before) (e : Edge) (place : ℕ) → Dwells (of_place place before.edges) → EdgeFits (brief_of before) e → (b : Bool) → (e.place == place) ≡ b → Dwells (of_place place (before.edges ++ e ∷ []))
+dwell-push : (before : Before) (e : Edge) (place : ℕ) → Dwells (of_place place before.edges)
+    → EdgeFits (brief_of before) e → (b : Bool) → (e.place == place) ≡ b → Dwells (of_place place (before.edges ++ e ∷ []))
 dwell-push before e place dwells fits true h =
     let same : e.place ≡ place = grind (arith, nat_tests, h) in
     rw (of_place-push place before.edges e same) (dwells-push (of_place place before.edges) e dwells (λ x is. fits.dwell x (rw same is)))
 dwell-push before e place dwells fits false h =
     rw (of_place-other place before.edges e (λ same. grind (arith, nat_tests, h, same))) dwells
 
-pub sound-edge : (layout : KeyLayout) (before : Before) (e : Edge) → IsSound layout before → Fits (brief_of before) (EdgeOf e) → IsPlaceOf layout e.place → IsSound layout (with_event before (EdgeOf e))
+pub sound-edge : (layout : KeyLayout) (before : Before) (e : Edge)
+    → IsSound layout before → Fits (brief_of before) (EdgeOf e) → IsPlaceOf layout e.place → IsSound layout (with_event before (EdgeOf e))
 sound-edge layout before e sound fits place =
     let edge = edge_fits (brief_of before) e fits.key in
     let order = fits.order in
@@ -93,7 +98,8 @@ sound-edge layout before e sound fits place =
       places = All-push (λ edge. IsPlaceOf layout edge.place) before.edges e sound.places place;
     }
 
-pub sound-host : (layout : KeyLayout) (before : Before) (e : HostEvent) → IsSound layout before → WritesByte e.act × FlipsDataOrParity e.act → Fits (brief_of before) (HostOf e) → IsSound layout (with_event before (HostOf e))
+pub sound-host : (layout : KeyLayout) (before : Before) (e : HostEvent) → IsSound layout before
+    → WritesByte e.act × FlipsDataOrParity e.act → Fits (brief_of before) (HostOf e) → IsSound layout (with_event before (HostOf e))
 sound-host layout before e sound fit fits =
     let order = fits.order in
     let few = fits.few in
@@ -114,7 +120,8 @@ sound-host layout before e sound fit fits =
       places = sound.places;
     }
 
-pub sound-end : (layout : KeyLayout) (before : Before) (stamp : ℕ) → IsSound layout before → Fits (brief_of before) (End stamp) → IsSound layout (with_event before (End stamp))
+pub sound-end : (layout : KeyLayout) (before : Before) (stamp : ℕ)
+    → IsSound layout before → Fits (brief_of before) (End stamp) → IsSound layout (with_event before (End stamp))
 sound-end layout before stamp sound fits =
     let order = fits.order in
     record {
@@ -134,7 +141,8 @@ sound-end layout before stamp sound fits =
     }
 
 -- the history of sound events that end is accepted
-pub accepted : (layout : KeyLayout) (before : Before) (end : ℕ) → ArePlaces before.edges → IsSound layout before → before.end ≡ Some end → IsAcceptedFor layout (record { edges = before.edges; host = before.host; end = end })
+pub accepted : (layout : KeyLayout) (before : Before) (end : ℕ) → ArePlaces before.edges
+    → IsSound layout before → before.end ≡ Some end → IsAcceptedFor layout (record { edges = before.edges; host = before.host; end = end })
 accepted layout before end places sound is =
     let last : end ≡ before.stamp = subst (EndsAt before.stamp) is sound.ends in
     record {

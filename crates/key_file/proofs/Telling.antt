@@ -29,14 +29,16 @@ record TellOn (layout : KeyLayout) (before : Before) (texts : List (List ℕ)) (
   form : AreOfRightForm layout texts
   order : GoOn before.stamp before.end (events_in layout texts) history.end
 
-stopped : (layout : KeyLayout) (before : Before) (number : ℕ) (history : KeyHistory) (end : Option ℕ) → at_item number (history_at before end) ≡ Ok history → GoOn before.stamp end [] history.end
+stopped : (layout : KeyLayout) (before : Before) (number : ℕ) (history : KeyHistory) (end : Option ℕ)
+    → at_item number (history_at before end) ≡ Ok history → GoOn before.stamp end [] history.end
 stopped layout before number history (Some end) h =
     let same : record { edges = before.edges; host = before.host; end = end } ≡ history = cc h in
     (ap (λ (x : KeyHistory). x.end) same, refl)
 stopped layout before number history None h = absurd cc
 
 -- an event, before those that go on behind it
-event_first : (before after : Before) (event : Event) (broken : Option Rule) (events : List Event) (end : ℕ) → first_broken (judgements (brief_of before) event) ≡ broken → unless broken (with_event before event) ≡ Ok after
+event_first : (before after : Before) (event : Event) (broken : Option Rule) (events : List Event) (end : ℕ)
+    → first_broken (judgements (brief_of before) event) ≡ broken → unless broken (with_event before event) ≡ Ok after
     → GoOn after.stamp after.end events end → GoOn before.stamp before.end (event ∷ events) end
 event_first before after event (Some rule) events end is h on = absurd cc
 event_first before after (EdgeOf e) None events end is h on =
@@ -57,38 +59,46 @@ event_first before after (End stamp) None events end is h on =
     let last : GoOn stamp (Some stamp) events end = subst (λ (b : Before). GoOn b.stamp b.end events end) same on in
     subst (λ stop. GoOn before.stamp stop (End stamp ∷ events) end) (sym fit.goes_on) (fit.order, last.0, last.1)
 
-said_first : (before after : Before) (said : Option Event) (events : List Event) (end : ℕ) → take_said before said ≡ Ok after → GoOn after.stamp after.end events end → GoOn before.stamp before.end (event_before said events) end
+said_first : (before after : Before) (said : Option Event) (events : List Event) (end : ℕ)
+    → take_said before said ≡ Ok after → GoOn after.stamp after.end events end → GoOn before.stamp before.end (event_before said events) end
 said_first before after None events end h on =
     let same : after ≡ before = cc in
     subst (λ (b : Before). GoOn b.stamp b.end events end) same on
-said_first before after (Some event) events end h on = event_first before after event (first_broken (judgements (brief_of before) event)) events end refl h on
+said_first before after (Some event) events end h on =
+    event_first before after event (first_broken (judgements (brief_of before) event)) events end refl h on
 
 module _ (layout : KeyLayout) (number : ℕ) (before : Before) (line : List ℕ) (more : List (List ℕ)) (history : KeyHistory)
     (next : (after : Before) → outcome_of layout (number + 1) after more ≡ Ok history → TellOn layout after more history) where
   abbrev rest : Result Before Rule → Result KeyHistory (Fault Rule)
   rest result = and_then (at_item number result) (λ after. outcome_of layout (number + 1) after more)
 
-  tell_then : (said : Option Event) (result : Result Before Rule) → said_by layout (fields line) ≡ Ok said → take_said before said ≡ result → rest result ≡ Ok history → TellOn layout before (line ∷ more) history
+  tell_then : (said : Option Event) (result : Result Before Rule) → said_by layout (fields line) ≡ Ok said
+      → take_said before said ≡ result → rest result ≡ Ok history → TellOn layout before (line ∷ more) history
   tell_then said (Err rule) is taken h = absurd cc
   tell_then said (Ok after) is taken h =
       let on = next after h in
       let here : said_in layout line ≡ said = ap (λ s. sound s) is in
       record {
         form = (is ∙ ap Ok (sym here), on.form);
-        order = subst (λ s. GoOn before.stamp before.end (event_before s (events_in layout more)) history.end) (sym here) (said_first before after said (events_in layout more) history.end taken on.order);
+        order = subst (λ s. GoOn before.stamp before.end (event_before s (events_in layout more)) history.end) (sym here)
+            (said_first before after said (events_in layout more) history.end taken on.order);
       }
 
-  tell_by : (said : Result (Option Event) Rule) → said_by layout (fields line) ≡ said → rest (and_then said (take_said before)) ≡ Ok history → TellOn layout before (line ∷ more) history
+  tell_by : (said : Result (Option Event) Rule) → said_by layout (fields line) ≡ said
+      → rest (and_then said (take_said before)) ≡ Ok history → TellOn layout before (line ∷ more) history
   tell_by (Err rule) is h = absurd cc
   tell_by (Ok said) is h = tell_then said (take_said before said) is refl h
 
-tell_from : (layout : KeyLayout) (number : ℕ) (before : Before) (texts : List (List ℕ)) (history : KeyHistory) → outcome_of layout number before texts ≡ Ok history → TellOn layout before texts history
+tell_from : (layout : KeyLayout) (number : ℕ) (before : Before) (texts : List (List ℕ)) (history : KeyHistory)
+    → outcome_of layout number before texts ≡ Ok history → TellOn layout before texts history
 tell_from layout number before [] history h = record { form = tt; order = stopped layout before number history before.end h }
 tell_from layout number before (line ∷ more) history h =
-    tell_by layout number before line more history (λ after g. tell_from layout (number + 1) after more history g) (said_by layout (fields line)) refl h
+    tell_by layout number before line more history (λ after g. tell_from layout (number + 1) after more history g)
+        (said_by layout (fields line)) refl h
 
 -- a text's history is told by it
-pub read-told : (layout : KeyLayout) (text : List ℕ) (history : KeyHistory) → history_of layout text ≡ Ok history → Tells layout text history
+pub read-told : (layout : KeyLayout) (text : List ℕ) (history : KeyHistory)
+    → history_of layout text ≡ Ok history → Tells layout text history
 unfolding history_of
 read-told layout text history h =
     let given = events_given layout text history h in

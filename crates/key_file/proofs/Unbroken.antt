@@ -12,7 +12,8 @@ use Rattle.key_file.specs.Histories.{stamp_at}
 use Rattle.key_file.specs.Briefs.{Brief}
 use Rattle.key_file.specs.Rules.{is_down, is_held, soon_after, fourth_back, edge_judgements, key_judgements, is_too_many, judgements}
 
-unbroken_head : (rule : Rule) (broken : Bool) (more : List (Judgement Rule)) → first_broken (judge rule broken ∷ more) ≡ None → (broken ≡ false) × (first_broken more ≡ None)
+unbroken_head : (rule : Rule) (broken : Bool) (more : List (Judgement Rule))
+    → first_broken (judge rule broken ∷ more) ≡ None → (broken ≡ false) × (first_broken more ≡ None)
 unbroken_head rule true more h = absurd (cc)
 unbroken_head rule false more h = (refl, h)
 
@@ -23,7 +24,8 @@ unbroken_append (x ∷ xs) ys h =
     let rest = unbroken_append xs ys head.1 in
     (rw head.0 rest.0, rest.1)
 
-not_soon : (rule : ℕ → ℕ → Rule) (earlier : Option Edge) (e x : Edge) → first_broken (soon_after rule earlier e) ≡ None → earlier ≡ Some x → x.stamp + 2240 ≤ e.stamp
+not_soon : (rule : ℕ → ℕ → Rule) (earlier : Option Edge) (e x : Edge)
+    → first_broken (soon_after rule earlier e) ≡ None → earlier ≡ Some x → x.stamp + 2240 ≤ e.stamp
 not_soon rule None e x h is = absurd (cc)
 not_soon rule (Some y) e x h is =
     let early = (unbroken_head (rule y.stamp e.stamp) (nat_lt e.stamp (y.stamp + 2240)) [] h).0 in
@@ -54,12 +56,19 @@ fits before event h =
     let last = judge TooMany (is_too_many before event) ∷ [] in
     let late = judge (Late (stamp_at event)) (nat_lt 240000000 (stamp_at event)) ∷ last in
     let after = judge AfterEnd (is_some before.end) ∷ late in
-    let a = unbroken_head (Order before.stamp (stamp_at event)) (nat_lt (stamp_at event) before.stamp) (key_judgements before event ++ after) h in
+    let a = unbroken_head (Order before.stamp (stamp_at event)) (nat_lt (stamp_at event) before.stamp)
+        (key_judgements before event ++ after) h in
     let b = unbroken_append (key_judgements before event) after a.1 in
     let c = unbroken_head AfterEnd (is_some before.end) late b.1 in
     let d = unbroken_head (Late (stamp_at event)) (nat_lt 240000000 (stamp_at event)) last c.1 in
     let e = unbroken_head TooMany (is_too_many before event) [] d.1 in
-    record { order = grind (arith, nat_tests, a.0); in_range = grind (arith, nat_tests, d.0); goes_on = no_end before.end c.0; few = e.0; key = b.0 }
+    record {
+      order = grind (arith, nat_tests, a.0);
+      in_range = grind (arith, nat_tests, d.0);
+      goes_on = no_end before.end c.0;
+      few = e.0;
+      key = b.0;
+    }
 
 -- what an edge keeps besides
 pub record EdgeFits (before : Brief) (e : Edge) : Type 0 where

@@ -1,5 +1,6 @@
 -- A stamp in decimal, read again.
-use Rattle.std.proofs.Common.{◌≡◌, ◌≤◌, ◌<◌, ℕ, ◌+◌, ◌-◌, ◌*◌, ◌/◌, ◌%◌, ◌^◌, ◌&&◌, ◌==◌, true, false, List, [], ◌∷◌, ◌++◌, length, slice_index, None, Some, ap, ◌∙◌, arith, decimal}
+use Rattle.std.proofs.Common.{◌≡◌, ◌≤◌, ◌<◌, ℕ, ◌+◌, ◌-◌, ◌*◌, ◌/◌, ◌%◌, ◌^◌, ◌&&◌, ◌==◌, true, false, List, []}
+use Rattle.std.proofs.Common.{◌∷◌, ◌++◌, length, slice_index, None, Some, ap, ◌∙◌, arith, decimal}
 use Rattle.std.specs.Prelude.{All, nat_le, nat_lt, option_and_then}
 use Rattle.std.specs.declared.option.Option.{Option}
 use Rattle.std.proofs.lemmas.Bool.{ne_eqb, and_right, cond-false}
@@ -23,14 +24,16 @@ digit_of : (c : ℕ) → 48 ≤ c → c ≤ 57 → decimal_digit c ≡ Some (c -
 digit_of c low high = grind (arith, nat_tests)
 
 -- a digit more
-number_after-push : (ds : List ℕ) (n m c : ℕ) → number_after 10 decimal_digit n ds ≡ Some m → 48 ≤ c → c ≤ 57 → number_after 10 decimal_digit n (ds ++ c ∷ []) ≡ Some (10 * m + (c - 48))
+number_after-push : (ds : List ℕ) (n m c : ℕ) → number_after 10 decimal_digit n ds ≡ Some m
+    → 48 ≤ c → c ≤ 57 → number_after 10 decimal_digit n (ds ++ c ∷ []) ≡ Some (10 * m + (c - 48))
 number_after-push [] n m c is low high =
     let same : n ≡ m = cc in
     ap (option_and_then (λ value. Some (10 * n + value))) (digit_of c low high) ∙ ap (λ k. Some (10 * k + (c - 48))) same
 number_after-push (d ∷ ds) n m c is low high = by (decimal_digit d) is (λ k more. number_after-push ds k m c more low high)
   where
     by : (digit : Option ℕ) → option_and_then (λ value. number_after 10 decimal_digit (10 * n + value) ds) digit ≡ Some m
-        → ((k : ℕ) → number_after 10 decimal_digit k ds ≡ Some m → number_after 10 decimal_digit k (ds ++ c ∷ []) ≡ Some (10 * m + (c - 48)))
+        → ((k : ℕ) → number_after 10 decimal_digit k ds ≡ Some m
+            → number_after 10 decimal_digit k (ds ++ c ∷ []) ≡ Some (10 * m + (c - 48)))
         → option_and_then (λ value. number_after 10 decimal_digit (10 * n + value) (ds ++ c ∷ [])) digit ≡ Some (10 * m + (c - 48))
     by None h more = absurd (cc)
     by (Some value) h more = more (10 * n + value) h
@@ -57,9 +60,11 @@ stamp-back n h =
     let some = decimal_nonempty n (omega arith) in
     let short = length-decimal-le 9 n (omega arith) (omega arith) (omega arith) in
     let last = digit_at n (length (decimal n) - 1) (omega arith) (omega arith) in
-    let no_s : (slice_index (decimal n) (length (decimal n) - 1) == 115) ≡ false = ne_eqb (slice_index (decimal n) (length (decimal n) - 1)) 115 (λ e. omega (arith, last.1, e)) in
+    let no_s : (slice_index (decimal n) (length (decimal n) - 1) == 115) ≡ false =
+        ne_eqb (slice_index (decimal n) (length (decimal n) - 1)) 115 (λ e. omega (arith, last.1, e)) in
     let no_ms : has_ms (decimal n) ≡ false =
-    and_right (nat_le 2 (length (decimal n)) && slice_index (decimal n) (length (decimal n) - 2) == 109) (slice_index (decimal n) (length (decimal n) - 1) == 115) no_s in
+    and_right (nat_le 2 (length (decimal n)) && slice_index (decimal n) (length (decimal n) - 2) == 109)
+        (slice_index (decimal n) (length (decimal n) - 1) == 115) no_s in
     let at_least : nat_lt 0 (length (decimal n)) ≡ true = grind (arith, nat_tests, some) in
     let at_most : nat_le (length (decimal n)) 9 ≡ true = grind (arith, nat_tests, short) in
     cond-false (has_ms (decimal n)) _ (decimal_of 9 (decimal n)) no_ms ∙ rw (at_least, at_most) (decimal-number n (omega arith))

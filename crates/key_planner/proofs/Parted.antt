@@ -1,5 +1,6 @@
 -- Words that stand between single spaces on a line: its fields; and the line as the first of its text.
-use Rattle.std.proofs.Common.{◌≡◌, ◌≤◌, ◌<◌, ℕ, ◌-◌, ◌^◌, ◌&&◌, ◌==◌, Bool, true, false, cond, List, [], ◌∷◌, ◌++◌, length, slice_index, refl, ap, ◌∙◌, append_assoc, arith, decimal, length-append}
+use Rattle.std.proofs.Common.{◌≡◌, ◌≤◌, ◌<◌, ℕ, ◌-◌, ◌^◌, ◌&&◌, ◌==◌, Bool, true, false, cond, List, [], ◌∷◌, ◌++◌}
+use Rattle.std.proofs.Common.{length, slice_index, refl, ap, ◌∙◌, append_assoc, arith, decimal, length-append}
 use Rattle.std.specs.Prelude.{All, nat_lt}
 use Rattle.std.specs.List.{slice_split, list_all, filter}
 use Rattle.std.specs.Str.Lines.{lines, strip_carriage_return}
@@ -45,7 +46,10 @@ name-word k h = word-by (name_at k) (names-plain k h)
 
 pub decimal-word : (n : ℕ) → n < 2 ^ 64 → IsWord (decimal n)
 decimal-word n h =
-    record { some = decimal_nonempty n h; visible = All-weaker (λ c. (48 ≤ c) × (c ≤ 57)) (λ c. 32 < c) (λ c l. omega (arith, l.0)) (decimal n) (decimal-digits n h) }
+    record {
+      some = decimal_nonempty n h;
+      visible = All-weaker (λ c. (48 ≤ c) × (c ≤ 57)) (λ c. 32 < c) (λ c l. omega (arith, l.0)) (decimal n) (decimal-digits n h);
+    }
 
 solid : (word : List ℕ) → IsWord word → All (λ c. is_blank c ≡ false) word
 solid word h = All-weaker (λ c. 32 < c) (λ c. is_blank c ≡ false) no_blank word h.visible

@@ -1,5 +1,6 @@
 -- What the lines of a plan say.
-use Rattle.std.proofs.Common.{◌≡◌, ◌<◌, ℕ, true, false, List, [], ◌∷◌, ◌++◌, slice_index, Some, Ok, None, codes, refl, ap, ◌∙◌, arith, decimal}
+use Rattle.std.proofs.Common.{◌≡◌, ◌<◌, ℕ, true, false, List, [], ◌∷◌, ◌++◌, slice_index, Some}
+use Rattle.std.proofs.Common.{Ok, None, codes, refl, ap, ◌∙◌, arith, decimal}
 use Rattle.std.proofs.lemmas.Bool.{ne_eqb, cond-false}
 use Rattle.layout_reader.specs.Layouts.{KeyLayout}
 use Rattle.text_lines.specs.Fields.{fields}
@@ -28,12 +29,16 @@ said : (layout : KeyLayout) (stamp : ℕ) (line : List ℕ) (more : List (List �
 said layout stamp line more h are =
     let first = digit_at stamp 0 (omega arith) (decimal-word stamp (omega arith)).some in
     let stays : is_skipped (decimal stamp ∷ more) ≡ false = ne_eqb (slice_index (decimal stamp) 0) 35 (λ e. omega (arith, first.0, e)) in
-    ap (said_by layout) are ∙ cond-false (is_skipped (decimal stamp ∷ more)) (Ok None) (and_then (event_in layout (decimal stamp ∷ more)) (λ event. Ok (Some event))) stays
+    ap (said_by layout) are
+        ∙ cond-false (is_skipped (decimal stamp ∷ more)) (Ok None)
+            (and_then (event_in layout (decimal stamp ∷ more)) (λ event. Ok (Some event))) stays
 
 key-said : (layout : KeyLayout) (stamp : ℕ) (word name : List ℕ) → stamp < 1000000000 → IsWord word → IsWord name
-    → said_by layout (fields (key_text stamp word name)) ≡ and_then (event_in layout (decimal stamp ∷ word ∷ name ∷ [])) (λ event. Ok (Some event))
+    → said_by layout (fields (key_text stamp word name))
+    ≡ and_then (event_in layout (decimal stamp ∷ word ∷ name ∷ [])) (λ event. Ok (Some event))
 key-said layout stamp word name h k l =
-    said layout stamp (key_text stamp word name) (word ∷ name ∷ []) h (fields-three (decimal stamp) word name (decimal-word stamp (omega arith)) k l)
+    said layout stamp (key_text stamp word name) (word ∷ name ∷ []) h
+        (fields-three (decimal stamp) word name (decimal-word stamp (omega arith)) k l)
 
 pub word-said : (layout : KeyLayout) (stamp : ℕ) (word : List ℕ) → stamp < 1000000000 → IsWord word
     → said_by layout (fields (word_text stamp word)) ≡ and_then (event_in layout (decimal stamp ∷ word ∷ [])) (λ event. Ok (Some event))
@@ -42,12 +47,16 @@ word-said layout stamp word h k =
 
 -- a key goes down, or up
 pub press-said : (layout : KeyLayout) (stamp : ℕ) (name : List ℕ) → stamp < 1000000000 → IsWord name
-    → said_by layout (fields (key_text stamp (codes "press") name)) ≡ and_then (edge_of layout stamp true (name ∷ [])) (λ event. Ok (Some event))
-press-said layout stamp name h k = key-said layout stamp (codes "press") name h (word-by (codes "press") refl) k ∙ rw (stamp-back stamp h) refl
+    → said_by layout (fields (key_text stamp (codes "press") name))
+    ≡ and_then (edge_of layout stamp true (name ∷ [])) (λ event. Ok (Some event))
+press-said layout stamp name h k =
+    key-said layout stamp (codes "press") name h (word-by (codes "press") refl) k ∙ rw (stamp-back stamp h) refl
 
 pub release-said : (layout : KeyLayout) (stamp : ℕ) (name : List ℕ) → stamp < 1000000000 → IsWord name
-    → said_by layout (fields (key_text stamp (codes "release") name)) ≡ and_then (edge_of layout stamp false (name ∷ [])) (λ event. Ok (Some event))
-release-said layout stamp name h k = key-said layout stamp (codes "release") name h (word-by (codes "release") refl) k ∙ rw (stamp-back stamp h) refl
+    → said_by layout (fields (key_text stamp (codes "release") name))
+    ≡ and_then (edge_of layout stamp false (name ∷ [])) (λ event. Ok (Some event))
+release-said layout stamp name h k =
+    key-said layout stamp (codes "release") name h (word-by (codes "release") refl) k ∙ rw (stamp-back stamp h) refl
 
 -- the host takes a word
 pub take-said : (layout : KeyLayout) (stamp : ℕ) → stamp < 1000000000

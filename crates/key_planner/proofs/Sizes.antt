@@ -1,5 +1,6 @@
 -- How long a plan is.
-use Rattle.std.proofs.Common.{◌≡◌, ◌≤◌, ◌<◌, ℕ, suc, ◌+◌, ◌*◌, true, List, [], ◌∷◌, ◌++◌, length, codes, refl, arith, decimal, length-append}
+use Rattle.std.proofs.Common.{◌≡◌, ◌≤◌, ◌<◌, ℕ, suc, ◌+◌, ◌*◌, true, List, [], ◌∷◌, ◌++◌}
+use Rattle.std.proofs.Common.{length, codes, refl, arith, decimal, length-append}
 use Rattle.std.specs.Prelude.{nat_le}
 use Rattle.std.proofs.lemmas.Bool.Decides.{nat_tests}
 use Rattle.std.proofs.lemmas.Fmt.{length-decimal-le}
@@ -24,14 +25,17 @@ word-size stamp word h =
     let stamp_short = length-decimal-le 9 stamp (omega arith) (omega arith) (omega arith) in
     omega (arith, length-append (decimal stamp ++ 32 ∷ word) (10 ∷ []), length-append (decimal stamp) (32 ∷ word))
 
-key-size : (stamp : ℕ) (word : List ℕ) (key : Entry) → stamp < 1000000000 → key.key < 84 → length (key_line stamp word key) ≤ 21 + length word
+key-size : (stamp : ℕ) (word : List ℕ) (key : Entry)
+    → stamp < 1000000000 → key.key < 84 → length (key_line stamp word key) ≤ 21 + length word
 key-size stamp word key h k =
     let stamp_short = length-decimal-le 9 stamp (omega arith) (omega arith) (omega arith) in
     let name = name_at key.key in
     let text = (decimal stamp ++ 32 ∷ word) ++ 32 ∷ name in
-    omega (arith, name-short key.key k, length-append text (10 ∷ []), length-append (decimal stamp ++ 32 ∷ word) (32 ∷ name), length-append (decimal stamp) (32 ∷ word))
+    omega (arith, name-short key.key k, length-append text (10 ∷ []), length-append (decimal stamp ++ 32 ∷ word) (32 ∷ name),
+        length-append (decimal stamp) (32 ∷ word))
 
-stroke-size : (layout : KeyLayout) (start : ℕ) (stroke : Stroke) → start ≤ 240000000 → AreOwn layout stroke → length (stroke_lines start stroke) ≤ 128
+stroke-size : (layout : KeyLayout) (start : ℕ) (stroke : Stroke)
+    → start ≤ 240000000 → AreOwn layout stroke → length (stroke_lines start stroke) ≤ 128
 stroke-size layout start (Plain key) h own =
     let press = key-size start (codes "press") key (omega arith) own.key in
     let release = key-size (start + 10240) (codes "release") key (omega arith) own.key in
@@ -47,11 +51,13 @@ stroke-size layout start (Shifted shift key) h own =
     let take = word-size (start + 14336) (codes "take") (omega arith) in
     let two = length-append (press_line start shift) (press_line (start + 2048) key) in
     let three = length-append (press_line start shift ++ press_line (start + 2048) key) (release_line (start + 8192) key) in
-    let four = length-append (press_line start shift ++ press_line (start + 2048) key ++ release_line (start + 8192) key) (release_line (start + 10240) shift) in
+    let four = length-append (press_line start shift ++ press_line (start + 2048) key ++ release_line (start + 8192) key)
+        (release_line (start + 10240) shift) in
     let sum = length-append (key_lines start (Shifted shift key)) (take_line (start + 14336)) in
     omega (arith, a, b, c, d, take, two, three, four, sum)
 
-lines-size : (layout : KeyLayout) (number : ℕ) (strokes : List Stroke) → AllOwn layout strokes → number + length strokes ≤ 10000 → length (lines_from number strokes) ≤ 14 + 128 * length strokes
+lines-size : (layout : KeyLayout) (number : ℕ) (strokes : List Stroke)
+    → AllOwn layout strokes → number + length strokes ≤ 10000 → length (lines_from number strokes) ≤ 14 + 128 * length strokes
 lines-size layout number [] own few = word-size (stroke_start number) (codes "end") (omega arith)
 lines-size layout number (stroke ∷ strokes) own few =
     let here = stroke-size layout (stroke_start number) stroke (omega arith) own.0 in
@@ -60,6 +66,7 @@ lines-size layout number (stroke ∷ strokes) own few =
     omega (arith, here, more, sum)
 
 -- it fits a key file
-pub plan-size : (layout : KeyLayout) (strokes : List Stroke) → AllOwn layout strokes → length strokes ≤ 10000 → length (plan_of strokes) ≤ 4194304
+pub plan-size : (layout : KeyLayout) (strokes : List Stroke)
+    → AllOwn layout strokes → length strokes ≤ 10000 → length (plan_of strokes) ≤ 4194304
 unfolding plan_of
 plan-size layout strokes own few = omega (arith, lines-size layout 0 strokes own (omega arith))

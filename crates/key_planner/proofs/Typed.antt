@@ -19,18 +19,22 @@ pub record IsOf (layout : KeyLayout) (text plan : List ℕ) : Type 0 where
   pub strokes_are : strokes_of layout text ≡ Some strokes
   pub plan_is : plan_of strokes ≡ plan
 
-is_of : (layout : KeyLayout) (text plan : List ℕ) (o : Option (List Stroke)) → strokes_of layout text ≡ o → option_map plan_of o ≡ Some plan → IsOf layout text plan
+is_of : (layout : KeyLayout) (text plan : List ℕ) (o : Option (List Stroke))
+    → strokes_of layout text ≡ o → option_map plan_of o ≡ Some plan → IsOf layout text plan
 is_of layout text plan None are is = absurd cc
 is_of layout text plan (Some strokes) are is = record { strokes = strokes; strokes_are = are; plan_is = cc }
 
-module _ (layout : KeyLayout) (text : List ℕ) (playable : StrokesArePlayable) (say : StrokesSayText) (sound : IsKeyLayout layout) (few : length text ≤ 10000) where
+module _ (layout : KeyLayout) (text : List ℕ) (playable : StrokesArePlayable) (say : StrokesSayText)
+    (sound : IsKeyLayout layout) (few : length text ≤ 10000) where
   module _ (strokes : List Stroke) (are : strokes_of layout text ≡ Some strokes) where
     -- what a plan of strokes comes to
     back : history_in layout (plan_of strokes) ≡ planned strokes
     back =
         let made = strokes_are layout sound text strokes are in
         let count : length strokes ≤ 10000 = omega (arith, lengths layout.entries text strokes made) in
-        ap found_history (plan-back layout strokes (strokes-own layout text strokes sound made) count (playable layout text strokes sound few are).accepted.accepted)
+        ap found_history
+            (plan-back layout strokes (strokes-own layout text strokes sound made) count
+                (playable layout text strokes sound few are).accepted.accepted)
 
     types : Types layout text (plan_of strokes)
     types =
@@ -50,7 +54,8 @@ module _ (layout : KeyLayout) (text : List ℕ) (playable : StrokesArePlayable) 
       let of = is_of layout text plan (strokes_of layout text) refl is in
       subst (Types layout text) of.plan_is (types of.strokes of.strokes_are)
 
-  pub plan-history : (plan : List ℕ) → text_plan layout text ≡ Some plan → option_map planned (strokes_of layout text) ≡ Some (history_in layout plan)
+  pub plan-history : (plan : List ℕ)
+      → text_plan layout text ≡ Some plan → option_map planned (strokes_of layout text) ≡ Some (history_in layout plan)
   plan-history plan is =
       let of = is_of layout text plan (strokes_of layout text) refl is in
       ap (option_map planned) of.strokes_are ∙ ap Some (sym (back of.strokes of.strokes_are) ∙ ap (history_in layout) of.plan_is)

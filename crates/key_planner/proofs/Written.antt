@@ -1,5 +1,6 @@
 -- The text of a plan, as far as the bytes so far go.
-use Rattle.std.proofs.Common.{◌≡◌, ◌<◌, ℕ, suc, ◌+◌, List, [], ◌∷◌, ◌++◌, length, get_or, drop, cond, None, Some, refl, ap, sym, subst, ◌∙◌, append_assoc, add-one, drop-cons}
+use Rattle.std.proofs.Common.{◌≡◌, ◌<◌, ℕ, suc, ◌+◌, List, [], ◌∷◌, ◌++◌, length, get_or, drop, cond, None}
+use Rattle.std.proofs.Common.{Some, refl, ap, sym, subst, ◌∙◌, append_assoc, add-one, drop-cons}
 use Rattle.std.specs.Prelude.{is_none}
 use Rattle.std.specs.Option.{option_map}
 use Rattle.std.specs.declared.option.Option.{Option}
@@ -27,17 +28,22 @@ module _ (layout : KeyLayout) (text : List ℕ) (number : ℕ) (plan : List ℕ)
       record {
         plan_is =
             far.plan_is ∙ ap (λ t. option_map (λ strokes. plan ++ lines_from number strokes) (strokes_of layout t)) cut
-            ∙ ap (λ s. option_map (λ strokes. plan ++ lines_from number strokes) (before s (strokes_of layout rest))) is ∙ onward stroke (strokes_of layout rest);
+            ∙ ap (λ s. option_map (λ strokes. plan ++ lines_from number strokes) (before s (strokes_of layout rest))) is
+            ∙ onward stroke (strokes_of layout rest);
         keys_are =
             far.keys_are ∙ ap (without_from layout (suc number)) cut
             ∙ ap (λ s. cond (is_none s) (Some (suc number, byte)) (without_from layout (suc (suc number)) rest)) is;
       }
     where
-      onward : (stroke : Stroke) (more : Option (List Stroke)) → option_map (λ strokes. plan ++ lines_from number strokes) (before (Some stroke) more)
+      onward : (stroke : Stroke) (more : Option (List Stroke))
+          → option_map (λ strokes. plan ++ lines_from number strokes) (before (Some stroke) more)
           ≡ option_map (λ strokes. (plan ++ stroke_lines (stroke_start number) stroke) ++ lines_from (suc number) strokes) more
       onward stroke None = refl
-      onward stroke (Some strokes) = ap Some (sym (append_assoc plan (stroke_lines (stroke_start number) stroke) (lines_from (suc number) strokes)))
+      onward stroke (Some strokes) =
+          ap Some (sym (append_assoc plan (stroke_lines (stroke_start number) stroke) (lines_from (suc number) strokes)))
 
   pub so_far-next : (stroke : Stroke) → number < length text → stroke_of layout (character (get_or text number 0)) ≡ Some stroke
       → IsSoFar layout text (number + 1) (plan ++ stroke_lines (stroke_start number) stroke)
-  so_far-next stroke within is = subst (λ n. IsSoFar layout text n (plan ++ stroke_lines (stroke_start number) stroke)) (sym (add-one number)) (so_far-suc stroke within is)
+  so_far-next stroke within is =
+      subst (λ n. IsSoFar layout text n (plan ++ stroke_lines (stroke_start number) stroke))
+          (sym (add-one number)) (so_far-suc stroke within is)

@@ -1,5 +1,6 @@
 -- Laws of the entries of a layout.
-use Rattle.std.proofs.Common.{◌≡◌, ℕ, zero, suc, ◌+◌, ◌<◌, ◌≤◌, Bool, true, false, ◌==◌, ◌||◌, eqb, List, [], ◌∷◌, ◌++◌, map, length, Some, refl, ap, ◌∙◌, arith, subst, ◌&&◌}
+use Rattle.std.proofs.Common.{◌≡◌, ℕ, zero, suc, ◌+◌, ◌<◌, ◌≤◌, Bool, true, false, ◌==◌, ◌||◌, eqb, List, []}
+use Rattle.std.proofs.Common.{◌∷◌, ◌++◌, map, length, Some, refl, ap, ◌∙◌, arith, subst, ◌&&◌}
 use Rattle.std.specs.Prelude.{All, cond}
 use Rattle.std.specs.List.{IsDistinct, list_any, filter, range_with_len}
 use Rattle.std.specs.Cmp.{nat_eq_equiv}

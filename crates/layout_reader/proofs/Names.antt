@@ -1,5 +1,6 @@
 -- The names of a table's fields, as its map gives them.
-use Rattle.std.proofs.Common.{◌≡◌, ℕ, suc, Bool, false, arith, not, ◌||◌, List, [], ◌∷◌, map, String, Global, string_bytes, length, eqb, refl, ap}
+use Rattle.std.proofs.Common.{◌≡◌, ℕ, suc, Bool, false, arith, not, ◌||◌, List, [], ◌∷◌, map}
+use Rattle.std.proofs.Common.{String, Global, string_bytes, length, eqb, refl, ap}
 use Rattle.std.specs.List.{list_any}
 use Rattle.std.proofs.lemmas.Bool.Decides.{nat_tests}
 use Rattle.toml.specs.declared.value.Value.{Value}

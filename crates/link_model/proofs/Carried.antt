@@ -18,7 +18,8 @@ use Rattle.host_turn.proofs.Turns.{turn_of}
 use Rattle.byte_time.specs.declared.UnderWay.{UnderWay}
 use Rattle.byte_time.specs.declared.meeting.Meeting.TheVariants.{Got}
 use Rattle.byte_time.specs.declared.meeting.Meeting.{Meeting}
-use Rattle.byte_time.specs.ByteTime.{Event, Quiet, Begins, Closes, IsWhole, happened_at, byte_cycle, is_open, for_keyboard, quietly, sends, carried, meeting_by, meeting_in, ended_as}
+use Rattle.byte_time.specs.ByteTime.{Event, Quiet, Begins, Closes, IsWhole, happened_at, byte_cycle, is_open}
+use Rattle.byte_time.specs.ByteTime.{for_keyboard, quietly, sends, carried, meeting_by, meeting_in, ended_as}
 use Rattle.link_model.specs.Expected.{to_meeting, from_meeting}
 use Rattle.link_model.specs.Passing.{MayBegin}
 

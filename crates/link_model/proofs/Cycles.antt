@@ -8,7 +8,8 @@ use Rattle.host_turn.specs.Run.{Side, says_lights}
 use Rattle.byte_time.specs.declared.UnderWay.{UnderWay}
 use Rattle.byte_time.specs.declared.meeting.Meeting.{Meeting}
 use Rattle.byte_time.specs.declared.meeting.Meeting.TheVariants.{Got, Inhibited, Idle, Sent, Cut}
-use Rattle.byte_time.specs.ByteTime.{Event, Quiet, Begins, Closes, Arrives, IsWhole, byte_cycle, quietly, sends, carried, meeting_in, sent_or_cut, ended_as}
+use Rattle.byte_time.specs.ByteTime.{Event, Quiet, Begins, Closes, Arrives, IsWhole, byte_cycle, quietly}
+use Rattle.byte_time.specs.ByteTime.{sends, carried, meeting_in, sent_or_cut, ended_as}
 use Rattle.link_model.specs.Expected.{to_look, to_meeting, from_meeting}
 use Rattle.link_model.specs.Laws.{event_at, ended_by, EachCycle, ComesToSpans}
 

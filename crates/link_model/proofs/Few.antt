@@ -1,10 +1,12 @@
 -- At most four edges in a tick, and all together.
-use Rattle.std.proofs.Common.{◌≡◌, ℕ, suc, zero, ◌+◌, ◌*◌, ◌/◌, ◌≤◌, ◌<◌, List, [], ◌∷◌, ◌++◌, length, map, Bool, true, false, not, ◌&&◌, ◌==◌, refl, ap, sym, ◌∙◌, subst, arith}
+use Rattle.std.proofs.Common.{◌≡◌, ℕ, suc, zero, ◌+◌, ◌*◌, ◌/◌, ◌≤◌, ◌<◌, List, [], ◌∷◌, ◌++◌, length, map}
+use Rattle.std.proofs.Common.{Bool, true, false, not, ◌&&◌, ◌==◌, refl, ap, sym, ◌∙◌, subst, arith}
 use Rattle.std.specs.Prelude.{if◌then◌else◌, nat_le, nat_lt}
 use Rattle.std.specs.List.{filter}
 use Rattle.std.proofs.lemmas.Bool.Decides.{nat_tests}
 use Rattle.std.proofs.lemmas.List.{length-append, length-map}
-use Rattle.link_model.specs.TickEdges.{read_at, is_seen, by_place, change_of, tick_edges, change_at, shown_at, shown, downs_in, downs_before}
+use Rattle.link_model.specs.TickEdges.{read_at, is_seen, by_place, change_of, tick_edges}
+use Rattle.link_model.specs.TickEdges.{change_at, shown_at, shown, downs_in, downs_before}
 use Rattle.key_file.specs.Histories.{KeyHistory}
 use Rattle.key_file.specs.Accepted.{IsThin, IsFifthLater, IsAccepted}
 use Rattle.board_lines.specs.declared.event.Edge.{Edge}

@@ -1,5 +1,6 @@
 -- A byte of the keyboard that has begun is sent, but where an input waits in one of its first 288 cycles.
-use Rattle.std.proofs.Common.{◌≡◌, ℕ, suc, zero, ◌+◌, ◌<◌, ◌⊎◌, inl, inr, List, Bool, true, false, not, ◌&&◌, ◌||◌, None, refl, ap, ◌∙◌, subst, arith}
+use Rattle.std.proofs.Common.{◌≡◌, ℕ, suc, zero, ◌+◌, ◌<◌, ◌⊎◌, inl, inr, List, Bool, true, false}
+use Rattle.std.proofs.Common.{not, ◌&&◌, ◌||◌, None, refl, ap, ◌∙◌, subst, arith}
 use Rattle.std.specs.Prelude.{if◌then◌else◌, is_some}
 use Rattle.ctl_core.specs.Commands.{taken}
 use Rattle.ctl_core.specs.Controller.{is_disabled}

@@ -1,6 +1,7 @@
 -- A tick, whatever its meeting: what waits after it, exactly.
 use Rattle.std.proofs.lemmas.Bool.Decides.{nat_tests}
-use Rattle.std.proofs.Common.{arith, ◌≡◌, ℕ, ◌-◌, ◌⊎◌, inl, inr, List, [], ◌++◌, drop, Bool, true, false, not, ◌&&◌, ◌==◌, Some, None, refl, ap, sym, ◌∙◌}
+use Rattle.std.proofs.Common.{arith, ◌≡◌, ℕ, ◌-◌, ◌⊎◌, inl, inr, List, [], ◌++◌, drop, Bool, true}
+use Rattle.std.proofs.Common.{false, not, ◌&&◌, ◌==◌, Some, None, refl, ap, sym, ◌∙◌}
 use Rattle.std.specs.Prelude.{if◌then◌else◌}
 use Rattle.std.specs.declared.option.Option.{Option}
 use Rattle.byte_time.specs.declared.meeting.Meeting.{Meeting}
@@ -16,9 +17,11 @@ use Rattle.kbd_model.specs.Tick.{met, tested_if, is_scanning, scanned, ticked, i
 use Rattle.kbd_model.proofs.Once.{got_leaves, sent_leaves, reset_leaves}
 use Rattle.link_model.specs.Machine.{met_as}
 use Rattle.quiet_log.specs.Once.{left, put_before, IsSilentInTest}
-use Rattle.link_times.specs.Coming.{codes_of, comes_first, repeat_code, repeats_still, repeats_then, tick_codes, queue_left, added, test_left, waits_less}
+use Rattle.link_times.specs.Coming.{codes_of, comes_first, repeat_code, repeats_still, repeats_then}
+use Rattle.link_times.specs.Coming.{tick_codes, queue_left, added, test_left, waits_less}
 use Rattle.link_times.proofs.Entering.{entered, queue_adds, scans_enter}
-use Rattle.link_times.proofs.Going.{waits_more, gone_queue, gone_repeats, gone_test, aa_first, aa_new, tested_queue, tested_repeats, tested_reply, tested_aa, tested_test}
+use Rattle.link_times.proofs.Going.{waits_more, gone_queue, gone_repeats, gone_test, aa_first, aa_new}
+use Rattle.link_times.proofs.Going.{tested_queue, tested_repeats, tested_reply, tested_aa, tested_test}
 use Rattle.link_times.proofs.Repeating.{scans_rate, scans_repeat}
 use Rattle.link_times.proofs.Answering.{Answers, answers}
 
@@ -195,7 +198,13 @@ module _ (keys : Keys) (edges : List TickEdge) (k : Keyboard) where
       let test : (after (Sent byte)).test ≡ (if is_reset_due k.reply then 64 else k.test - 1) =
       h.test ∙ ap (λ (v : Keyboard). v.test) s ∙ gone_test k.reply keys k'
       ∙ ap (λ v. if is_reset_due k.reply then 64 else v) (one_fewer k.test t) in
-      record { first = refl; waits = h.waits ∙ ap (λ v. v ++ more) (left_by (is_reset_due k.reply) refl); test = test; queue = h.queue; repeats = h.repeats }
+      record {
+        first = refl;
+        waits = h.waits ∙ ap (λ v. v ++ more) (left_by (is_reset_due k.reply) refl);
+        test = test;
+        queue = h.queue;
+        repeats = h.repeats;
+      }
     where
       left_by : (c : Bool) → is_reset_due k.reply ≡ c
           → waiting (met kbd.Sent keys k) ≡ (if is_reset_due k.reply then queued (clear k.queue) else drop 1 (waiting k))

@@ -1,5 +1,6 @@
 -- Why the link is held after a cycle; and no byte is under way but in the 320 cycles of one.
-use Rattle.std.proofs.Common.{◌≡◌, ℕ, suc, zero, ◌+◌, ◌<◌, ◌⊎◌, inl, inr, List, Bool, true, false, ◌||◌, Some, None, refl, ap, sym, ◌∙◌, subst, arith}
+use Rattle.std.proofs.Common.{◌≡◌, ℕ, suc, zero, ◌+◌, ◌<◌, ◌⊎◌, inl, inr, List, Bool, true, false}
+use Rattle.std.proofs.Common.{◌||◌, Some, None, refl, ap, sym, ◌∙◌, subst, arith}
 use Rattle.std.specs.Prelude.{if◌then◌else◌, nat_le}
 use Rattle.std.specs.declared.option.Option.{Option}
 use Rattle.std.proofs.lemmas.Bool.Decides.{nat_tests}
@@ -19,7 +20,8 @@ use Rattle.host_turn.proofs.Turns.{turn_of}
 use Rattle.byte_time.specs.declared.UnderWay.{UnderWay}
 use Rattle.byte_time.specs.declared.meeting.Meeting.{Meeting}
 use Rattle.byte_time.specs.declared.meeting.Meeting.TheVariants.{Got, Inhibited, Idle, Sent, Cut}
-use Rattle.byte_time.specs.ByteTime.{Event, Quiet, Begins, Arrives, IsWhole, arrived_in, arriving, byte_cycle, carried, happened_at, is_open, quietly, sends}
+use Rattle.byte_time.specs.ByteTime.{Event, Quiet, Begins, Arrives, IsWhole, arrived_in, arriving}
+use Rattle.byte_time.specs.ByteTime.{byte_cycle, carried, happened_at, is_open, quietly, sends}
 use Rattle.byte_time.proofs.Quiet.{quiet_more}
 
 -- why a link is as it is after a cycle, where it is held

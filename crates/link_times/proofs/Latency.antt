@@ -1,5 +1,6 @@
 -- With a quiet host the code of an edge waits behind what was there, and is read a tick a byte.
-use Rattle.std.proofs.Common.{◌≡◌, ℕ, suc, zero, ◌+◌, ◌*◌, ◌/◌, ◌≤◌, ◌<◌, List, [], ◌∷◌, ◌++◌, length, Bool, true, false, not, ◌&&◌, ◌||◌, ◌==◌, Some, refl, ap, sym, ◌∙◌, subst, arith, append_assoc, append-nil}
+use Rattle.std.proofs.Common.{◌≡◌, ℕ, suc, zero, ◌+◌, ◌*◌, ◌/◌, ◌≤◌, ◌<◌, List, [], ◌∷◌, ◌++◌, length, Bool, true, false, not}
+use Rattle.std.proofs.Common.{◌&&◌, ◌||◌, ◌==◌, Some, refl, ap, sym, ◌∙◌, subst, arith, append_assoc, append-nil}
 use Rattle.std.specs.Prelude.{if◌then◌else◌, nat_le, nat_lt, slice_get, slice_index_or}
 use Rattle.std.proofs.lemmas.Bool.Decides.{nat_tests}
 use Rattle.std.proofs.lemmas.Bool.{eqb-true}
@@ -20,7 +21,8 @@ use Rattle.layout_reader.specs.Layouts.{KeyLayout}
 use Rattle.link_model.specs.Machine.{met_as}
 use Rattle.link_model.specs.TickEdges.{is_seen, none_before, read_at}
 use Rattle.quiet_log.specs.Once.{meeting_at}
-use Rattle.link_times.specs.Coming.{added, code_of, codes_at, codes_of, edges_at, first_at, keyboard_at, queue_left, repeat_code, repeats_still, rest_at, test_left, tick_codes, told}
+use Rattle.link_times.specs.Coming.{added, code_of, codes_at, codes_of, edges_at, first_at, keyboard_at, queue_left}
+use Rattle.link_times.specs.Coming.{repeat_code, repeats_still, rest_at, test_left, tick_codes, told}
 use Rattle.link_times.specs.Flowing.{IsHostQuiet}
 use Rattle.link_times.specs.Latency.{ComesInTime, StandsBehind, Strikes, read_stamp}
 use Rattle.link_times.proofs.Entering.{entered}

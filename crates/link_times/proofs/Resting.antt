@@ -1,5 +1,6 @@
 -- With a quiet host the link is free at each tick start, and each tick sends what is offered.
-use Rattle.std.proofs.Common.{◌≡◌, ℕ, suc, zero, ◌+◌, ◌-◌, ◌*◌, ◌≤◌, List, [], ◌++◌, Bool, true, false, ◌==◌, Some, None, refl, ap, sym, ◌∙◌, subst, arith}
+use Rattle.std.proofs.Common.{◌≡◌, ℕ, suc, zero, ◌+◌, ◌-◌, ◌*◌, ◌≤◌, List, [], ◌++◌, Bool, true}
+use Rattle.std.proofs.Common.{false, ◌==◌, Some, None, refl, ap, sym, ◌∙◌, subst, arith}
 use Rattle.std.specs.declared.option.Option.{Option}
 use Rattle.std.proofs.lemmas.Bool.Decides.{nat_tests}
 use Rattle.board_lines.specs.Cadence.{KeepsCadenceTo}

@@ -18,7 +18,8 @@ use Rattle.host_turn.specs.Run.{Side, desk_of, goes_on}
 use Rattle.byte_time.specs.declared.UnderWay.{UnderWay}
 use Rattle.byte_time.specs.declared.meeting.Meeting.{Meeting}
 use Rattle.byte_time.specs.declared.meeting.Meeting.TheVariants.{Got, Inhibited, Idle, Sent, Cut}
-use Rattle.byte_time.specs.ByteTime.{Event, Quiet, Begins, Closes, Arrives, IsWhole, byte_cycle, carried, happened_at, is_open, quietly, sends}
+use Rattle.byte_time.specs.ByteTime.{Event, Quiet, Begins, Closes, Arrives, IsWhole, byte_cycle}
+use Rattle.byte_time.specs.ByteTime.{carried, happened_at, is_open, quietly, sends}
 use Rattle.quiet_log.specs.Quiet.{IsQuietAct}
 use Rattle.quiet_log.proofs.Acting.{IsQuietNext}
 

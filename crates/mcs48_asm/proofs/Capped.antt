@@ -1,5 +1,6 @@
 -- Lines with 65,536 for each large number and place: their places, their names and their faults.
-use Rattle.std.proofs.Common.{◌≡◌, ℕ, ◌+◌, ◌/◌, ◌%◌, ◌<◌, ◌≤◌, ◌&&◌, ◌||◌, ◌==◌, ◌⊎◌, inl, inr, not, Bool, true, false, cond, List, [], ◌∷◌, ◌++◌, map, Some, None, Option, is_some, is_none, refl, ap, sym, ◌∙◌, arith, nat_lt, nat_le}
+use Rattle.std.proofs.Common.{◌≡◌, ℕ, ◌+◌, ◌/◌, ◌%◌, ◌<◌, ◌≤◌, ◌&&◌, ◌||◌, ◌==◌, ◌⊎◌, inl, inr, not, Bool, true, false, cond, List, []}
+use Rattle.std.proofs.Common.{◌∷◌, ◌++◌, map, Some, None, Option, is_some, is_none, refl, ap, sym, ◌∙◌, arith, nat_lt, nat_le}
 use Rattle.std.specs.List.{list_any, filter, find}
 use Rattle.std.specs.Option.{option_map, option_map_or}
 use Rattle.std.specs.Str.{bytes_eq}
@@ -14,7 +15,8 @@ use Rattle.mcs48_asm.specs.Statements.{Statement, Nothing, Instruction, Origin, 
 use Rattle.mcs48_asm.specs.Places.{Placed, placed, covers, is_filled, count_of, start_of}
 use Rattle.mcs48_asm.specs.Names.{Definition, Meanings, labelled, equated, named, defined, definitions, value_named, meaning}
 use Rattle.mcs48_asm.specs.declared.flaw.Flaw.{Flaw}
-use Rattle.mcs48_asm.specs.Faults.{arguments, is_above, is_huge, is_past, is_too_large, has_wrong_number, is_equate, is_refused, has_unknown_name, is_defined_again, is_outside, is_past_end, is_filled_again, fault_of}
+use Rattle.mcs48_asm.specs.Faults.{arguments, is_above, is_huge, is_past, is_too_large, has_wrong_number, is_equate, is_refused}
+use Rattle.mcs48_asm.specs.Faults.{has_unknown_name, is_defined_again, is_outside, is_past_end, is_filled_again, fault_of}
 use Rattle.mcs48_asm.specs.Assembly.{fault_behind}
 use Rattle.mcs48_asm.specs.Capped.{capped, value_capped, argument_capped, statement_capped, line_capped, kept_places}
 use Rattle.mcs48_asm.proofs.Ranges.{any_places-alike}

@@ -1,5 +1,6 @@
 -- Keeping 65,536 for a large number, and reading on.
-use Rattle.std.proofs.Common.{◌≡◌, ℕ, Bool, true, false, ◌&&◌, List, [], ◌∷◌, map, Option, Some, None, Ok, Err, is_some, unwrap_or, refl, ap, sym, ◌∙◌}
+use Rattle.std.proofs.Common.{◌≡◌, ℕ, Bool, true, false, ◌&&◌, List, [], ◌∷◌, map, Option, Some}
+use Rattle.std.proofs.Common.{None, Ok, Err, is_some, unwrap_or, refl, ap, sym, ◌∙◌}
 use Rattle.std.specs.List.{slice_split}
 use Rattle.std.specs.Option.{option_map, option_or, option_and_then, ok_or}
 use Rattle.std.specs.declared.result.Result.{Result}

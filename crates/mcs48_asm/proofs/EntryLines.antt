@@ -1,5 +1,6 @@
 -- The line of a listing that an entry of the table writes says this instruction.
-use Rattle.std.proofs.Common.{◌≡◌, ℕ, ◌==◌, ◌&&◌, not, Bool, true, false, cond, nat_le, List, [], ◌∷◌, ◌++◌, length, codes, Some, None, Ok, refl, ap, ◌∙◌, append-nil}
+use Rattle.std.proofs.Common.{◌≡◌, ℕ, ◌==◌, ◌&&◌, not, Bool, true, false, cond, nat_le, List, [], ◌∷◌}
+use Rattle.std.proofs.Common.{◌++◌, length, codes, Some, None, Ok, refl, ap, ◌∙◌, append-nil}
 use Rattle.std.specs.List.{list_all, slice_split}
 use Rattle.std.specs.Option.{option_map, option_or}
 use Rattle.std.specs.Str.{bytes_eq}
@@ -11,11 +12,13 @@ use Rattle.mcs48_asm.specs.declared.flaw.Flaw.TheVariants.{Syntax}
 use Rattle.mcs48_asm.specs.Characters.{is_word_character, is_colon, is_semicolon, is_allowed}
 use Rattle.mcs48_asm.specs.Tokens.{words_of, first_of, goes_on, tokens_of}
 use Rattle.mcs48_asm.specs.Rows.{Form, read_all, instructions, is_instruction}
-use Rattle.mcs48_asm.specs.Statements.{Statement, instruction_with, first_fit, statement_in, statement_of, is_known_word, is_spelled, line_of_parts, line_with, flawed, line_of}
+use Rattle.mcs48_asm.specs.Statements.{Statement, instruction_with, first_fit, statement_in, statement_of}
+use Rattle.mcs48_asm.specs.Statements.{is_known_word, is_spelled, line_of_parts, line_with, flawed, line_of}
 use Rattle.mcs48_asm.proofs.Plain.{is_plain, IsPlain, all_weaker, one_part, uncut, plain-allowed, plain-semicolon, plain-colon, word-plain}
 use Rattle.mcs48_asm.proofs.Readings.{said}
 use Rattle.mcs48_asm.proofs.Tokenized.{is_token, token-before, token-one, word-token, before-comma, words-run, words-before}
-use Rattle.mcs48_asm.proofs.Entries.{is_good_word, is_shown, shown, all_same, any_unlike, AllListed, operand_tokens, said_all, read-same, read-unlike, too-many}
+use Rattle.mcs48_asm.proofs.Entries.{is_good_word, is_shown, shown, all_same, any_unlike, AllListed}
+use Rattle.mcs48_asm.proofs.Entries.{operand_tokens, said_all, read-same, read-unlike, too-many}
 
 -- the first form that fits has this first byte, and those before it do not fit
 abbrev pub hits : List Form → List ℕ → ℕ → List Operand → Bool

@@ -1,5 +1,6 @@
 -- What the program keeps: names in a map, and values in a text.
-use Rattle.std.proofs.Common.{◌≡◌, ℕ, Bool, true, false, cond, List, [], ◌∷◌, map, Some, None, is_some, unwrap_or, Option, refl, ap, sym, ◌∙◌}
+use Rattle.std.proofs.Common.{◌≡◌, ℕ, Bool, true, false, cond, List, [], ◌∷◌, map, Some, None}
+use Rattle.std.proofs.Common.{is_some, unwrap_or, Option, refl, ap, sym, ◌∙◌}
 use Rattle.std.specs.Option.{option_or, option_map, option_and_then, option_copied}
 use Rattle.std.specs.Borrow.{Bor}
 use Rattle.std.specs.Str.{bytes_eq}

@@ -1,5 +1,6 @@
 -- The lines so far, and one line more.
-use Rattle.std.proofs.Common.{◌≡◌, ℕ, ◌+◌, ◌-◌, ◌<◌, ◌&&◌, ◌||◌, Bool, true, false, cond, List, [], ◌∷◌, ◌++◌, length, map, Some, None, Ok, Err, Option, refl, ap, sym, ◌∙◌, slice_index, slice_index_or, append-nil, append_assoc, zero-add}
+use Rattle.std.proofs.Common.{◌≡◌, ℕ, ◌+◌, ◌-◌, ◌<◌, ◌&&◌, ◌||◌, Bool, true, false, cond, List, [], ◌∷◌, ◌++◌, length, map, Some, None, Ok}
+use Rattle.std.proofs.Common.{Err, Option, refl, ap, sym, ◌∙◌, slice_index, slice_index_or, append-nil, append_assoc, zero-add}
 use Rattle.std.specs.List.{list_any, range_with_len}
 use Rattle.std.specs.Option.{option_or, option_map}
 use Rattle.std.proofs.lemmas.Bool.{false_from_ne_true}

@@ -1,5 +1,6 @@
 -- Plain texts: what reading does with letters, digits, single blanks, commas and the marks of operands.
-use Rattle.std.proofs.Common.{◌≡◌, ℕ, ◌+◌, ◌==◌, ◌||◌, Bool, true, false, cond, not, take, List, [], ◌∷◌, ◌++◌, refl, ap, ◌∙◌, arith, one-add}
+use Rattle.std.proofs.Common.{◌≡◌, ℕ, ◌+◌, ◌==◌, ◌||◌, Bool, true, false, cond, not, take}
+use Rattle.std.proofs.Common.{List, [], ◌∷◌, ◌++◌, refl, ap, ◌∙◌, arith, one-add}
 use Rattle.std.specs.List.{list_all, slice_split, onto_first, before_first, prefix_len}
 use Rattle.std.specs.Char.{to_ascii_uppercase}
 use Rattle.std.proofs.lemmas.Bool.{and_parts, and_from}

@@ -1,5 +1,6 @@
 -- A test of each place.
-use Rattle.std.proofs.Common.{◌≡◌, ℕ, suc, ◌+◌, ◌-◌, ◌<◌, ◌≤◌, ◌||◌, Bool, true, false, ap, sym, ◌∙◌, arith, zero, refl, List, [], ◌∷◌, ◌&&◌, nat_le, nat_lt}
+use Rattle.std.proofs.Common.{◌≡◌, ℕ, suc, ◌+◌, ◌-◌, ◌<◌, ◌≤◌, ◌||◌, Bool, true, false, ap, sym, ◌∙◌}
+use Rattle.std.proofs.Common.{arith, zero, refl, List, [], ◌∷◌, ◌&&◌, nat_le, nat_lt}
 use native.Mathlib.Decide.{dec_lt}
 use Rattle.std.proofs.Math.Nat.{sub-zero}
 use Rattle.std.specs.List.{list_any, range_with_len}

@@ -1,5 +1,6 @@
 -- The listing of a program memory, assembled, is that memory.
-use Rattle.std.proofs.Common.{◌≡◌, ℕ, ◌+◌, ◌<◌, ◌≤◌, Bool, true, false, cond, List, [], ◌∷◌, length, take, slice_index, nat_le, Some, None, Ok, Option, IfSome, refl, All}
+use Rattle.std.proofs.Common.{◌≡◌, ℕ, ◌+◌, ◌<◌, ◌≤◌, Bool, true, false, cond, List, [], ◌∷◌, length, take}
+use Rattle.std.proofs.Common.{slice_index, nat_le, Some, None, Ok, Option, IfSome, refl, All}
 use Rattle.std.proofs.lemmas.Bool.{leb-true}
 use Rattle.mcs48_isa.specs.declared.operation.Decoded.{Decoded}
 use Rattle.mcs48_isa.specs.Table.{row_of}

@@ -1,5 +1,6 @@
 -- The bytes that a line of a listing writes: one or two, at places below 2,048.
-use Rattle.std.proofs.Common.{◌≡◌, ℕ, ◌+◌, ◌<◌, ◌≤◌, Bool, true, false, cond, List, [], ◌∷◌, length, slice_index, nat_le, Some, None, Option, IfSome, refl, arith, lit<, length-take, All, ⊎_elim}
+use Rattle.std.proofs.Common.{◌≡◌, ℕ, ◌+◌, ◌<◌, ◌≤◌, Bool, true, false, cond, List, [], ◌∷◌, length, slice_index}
+use Rattle.std.proofs.Common.{nat_le, Some, None, Option, IfSome, refl, arith, lit<, length-take, All, ⊎_elim}
 use Rattle.std.proofs.lemmas.Bool.{leb-true, cases_lt}
 use Rattle.std.proofs.lemmas.List.{get_or_past}
 use Rattle.mcs48_isa.specs.declared.operation.Decoded.{Decoded}

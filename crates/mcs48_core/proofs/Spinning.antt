@@ -18,7 +18,8 @@ use Rattle.mcs48_core.specs.Timer.{after_timer}
 abbrev timed : Cpu → Count → ℕ → ℕ → Bool → Bool → Bool → Cpu
 timed m run t pre tf rq level = record m { run = run; t = t; pre = pre; tf = tf; rq = rq; last_t1 = level }
 
-same_timed : (m : Cpu) (run : Count) (t t' pre pre' : ℕ) (tf tf' rq rq' level level' : Bool) → t ≡ t' → pre ≡ pre' → tf ≡ tf' → rq ≡ rq' → level ≡ level'
+same_timed : (m : Cpu) (run : Count) (t t' pre pre' : ℕ) (tf tf' rq rq' level level' : Bool)
+    → t ≡ t' → pre ≡ pre' → tf ≡ tf' → rq ≡ rq' → level ≡ level'
     → timed m run t pre tf rq level ≡ timed m run t' pre' tf' rq' level'
 same_timed m run t t' pre pre' tf tf' rq rq' level level' a b c d e =
     ap (λ v. timed m run v pre tf rq level) a ∙ ap (λ v. timed m run t' v tf rq level) b ∙ ap (λ v. timed m run t' pre' v rq level) c
@@ -34,12 +35,16 @@ no_more : (e : ℕ) → e + 2 * 0 ≡ e
 no_more e = omega arith
 
 -- no jump was made yet
-none_by : (run : Count) (m : Cpu) → m.pre < 32 → timed m run (elapsed run 0 m / 32) (elapsed run 0 m % 32) m.tf m.rq m.last_t1 ≡ record m { run = run }
-none_by Off m below = same_timed m Off _ m.t _ m.pre m.tf m.tf m.rq m.rq m.last_t1 m.last_t1 (whole m.t m.pre below) (rest m.t m.pre below) refl refl refl
+none_by : (run : Count) (m : Cpu)
+    → m.pre < 32 → timed m run (elapsed run 0 m / 32) (elapsed run 0 m % 32) m.tf m.rq m.last_t1 ≡ record m { run = run }
+none_by Off m below =
+    same_timed m Off _ m.t _ m.pre m.tf m.tf m.rq m.rq m.last_t1 m.last_t1 (whole m.t m.pre below) (rest m.t m.pre below) refl refl refl
 none_by Timer m below =
     same_timed m Timer _ m.t _ m.pre m.tf m.tf m.rq m.rq m.last_t1 m.last_t1
-    (ap (λ n. n / 32) (no_more (32 * m.t + m.pre)) ∙ whole m.t m.pre below) (ap (λ n. n % 32) (no_more (32 * m.t + m.pre)) ∙ rest m.t m.pre below) refl refl refl
-none_by Counter m below = same_timed m Counter _ m.t _ m.pre m.tf m.tf m.rq m.rq m.last_t1 m.last_t1 (whole m.t m.pre below) (rest m.t m.pre below) refl refl refl
+    (ap (λ n. n / 32) (no_more (32 * m.t + m.pre)) ∙ whole m.t m.pre below)
+    (ap (λ n. n % 32) (no_more (32 * m.t + m.pre)) ∙ rest m.t m.pre below) refl refl refl
+none_by Counter m below =
+    same_timed m Counter _ m.t _ m.pre m.tf m.tf m.rq m.rq m.last_t1 m.last_t1 (whole m.t m.pre below) (rest m.t m.pre below) refl refl refl
 
 pub none_spun : (m : Cpu) → m.pre < 32 → spun 0 m ≡ m
 none_spun m below = none_by m.run m below
@@ -96,20 +101,28 @@ pub record IsInPlace (bytes : List ℕ) (pins : Pins) (m : Cpu) : Type 0 where
   pub level : m.last_t1 ≡ pins.t1
 
 -- each of the jumps before the overflow is a step
-pub step_in_place : (bytes : List ℕ) (pins : Pins) (m : Cpu) (n : ℕ) → IsInPlace bytes pins m → (m.run ≡ Timer → elapsed Timer (n + 1) m < 8192)
+pub step_in_place : (bytes : List ℕ) (pins : Pins) (m : Cpu) (n : ℕ)
+    → IsInPlace bytes pins m → (m.run ≡ Timer → elapsed Timer (n + 1) m < 8192)
     → stepped bytes pins (spun n m) ≡ Some (record { cpu = spun (n + 1) m; cycles = 2 })
 step_in_place bytes pins m n h short =
     let s : Cpu = spun n m in
     ap (λ b. elim b as (λ v. Option Stepped) [
       | true ↦ Some (entered 3 pins s)
-      | false ↦ elim (takes_timer s) as (λ v. Option Stepped) [ true ↦ Some (entered 7 pins (record s { rq = false })) | false ↦ executed (row_at bytes s.pc) bytes pins s ]
+      | false ↦ elim (takes_timer s) as (λ v. Option Stepped) [
+        | true ↦ Some (entered 7 pins (record s { rq = false }))
+        | false ↦ executed (row_at bytes s.pc) bytes pins s
+      ]
     ]) h.no_external
-    ∙ ap (λ b. elim b as (λ v. Option Stepped) [ true ↦ Some (entered 7 pins (record s { rq = false })) | false ↦ executed (row_at bytes s.pc) bytes pins s ]) h.no_timer
+    ∙ ap (λ b. elim b as (λ v. Option Stepped) [
+      | true ↦ Some (entered 7 pins (record s { rq = false }))
+      | false ↦ executed (row_at bytes s.pc) bytes pins s
+    ]) h.no_timer
     ∙ ap (λ r. executed r bytes pins s) h.row
     ∙ ap (λ pc. Some (record { cpu = after_timer m.run 2 pins (record s { pc = pc }); cycles = 2 })) h.place
     ∙ ap (λ c. Some (record { cpu = c; cycles = 2 })) (turn m.run n pins m h.level short)
 
 -- so many jumps, of which the last one is before the overflow
-pub all_steps : (bytes : List ℕ) (pins : Pins) (m : Cpu) (count : ℕ) → IsInPlace bytes pins m → (m.run ≡ Timer → elapsed Timer count m < 8192)
+pub all_steps : (bytes : List ℕ) (pins : Pins) (m : Cpu) (count : ℕ)
+    → IsInPlace bytes pins m → (m.run ≡ Timer → elapsed Timer count m < 8192)
     → (j : ℕ) → j < count → stepped bytes pins (spun j m) ≡ Some (record { cpu = spun (j + 1) m; cycles = 2 })
 all_steps bytes pins m count h short j below = step_in_place bytes pins m j h (λ on. let s = short on in omega (arith, s, below))

@@ -10,7 +10,8 @@ use Rattle.mcs48_isa.specs.declared.operation.PortOp.{PortOp}
 use Rattle.mcs48_isa.specs.declared.operation.ControlOp.{ControlOp}
 use Rattle.mcs48_isa.specs.declared.operation.Op.{Op}
 use Rattle.mcs48_isa.specs.declared.operation.Op.TheVariants.{Moves, Alu, Unary, Flow, PortIo, Control}
-use Rattle.mcs48_isa.specs.declared.operation.MoveOp.TheVariants.{MovAR, MovAI, MovRA, MovIA, MovRN, MovIN, XchR, XchI, XchdI, MovxAI, MovxIA}
+use Rattle.mcs48_isa.specs.declared.operation.MoveOp.TheVariants.{MovAR, MovAI, MovRA, MovIA, MovRN, MovIN}
+use Rattle.mcs48_isa.specs.declared.operation.MoveOp.TheVariants.{XchR, XchI, XchdI, MovxAI, MovxIA}
 use Rattle.mcs48_isa.specs.declared.operation.AluOp.TheVariants.{AddR, AddI, AddcR, AddcI, AnlR, AnlI, OrlR, OrlI, XrlR, XrlI}
 use Rattle.mcs48_isa.specs.declared.operation.UnaryOp.TheVariants.{IncR, IncI, DecR}
 use Rattle.mcs48_isa.specs.declared.operation.FlowOp.TheVariants.{Jmp, Call, Djnz, Jb}

@@ -1,5 +1,6 @@
 -- How long a listing is: its lines are short, and there are at most as many as places.
-use Rattle.std.proofs.Common.{◌≡◌, ℕ, zero, suc, ◌+◌, ◌*◌, ◌≤◌, Bool, true, false, List, [], ◌∷◌, ◌++◌, length, nat_lt, nat_eq, slice_index, Some, None, Option, if◌then◌else◌, arith, lit≤, length-append}
+use Rattle.std.proofs.Common.{◌≡◌, ℕ, zero, suc, ◌+◌, ◌*◌, ◌≤◌, Bool, true, false, List, [], ◌∷◌, ◌++◌, length, nat_lt}
+use Rattle.std.proofs.Common.{nat_eq, slice_index, Some, None, Option, if◌then◌else◌, arith, lit≤, length-append}
 use Rattle.mcs48_isa.specs.declared.operation.Decoded.{Decoded}
 use Rattle.mcs48_isa.specs.declared.operation.MoveOp.{MoveOp}
 use Rattle.mcs48_isa.specs.declared.operation.AluOp.{AluOp}

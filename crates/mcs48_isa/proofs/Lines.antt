@@ -1,5 +1,7 @@
 -- The listing, a line at a time.
-use Rattle.std.proofs.Common.{◌≡◌, ◌≢◌, ℕ, zero, suc, ◌+◌, ◌<◌, ◌≤◌, List, [], ◌∷◌, ◌++◌, length, take, nat_eq, nat_lt, Bool, true, false, Some, None, IfSome, refl, arith, sym, subst, ap, ◌∙◌, append_assoc, slice_index, if◌then◌else◌, eq-eqb, length-take, lit<}
+use Rattle.std.proofs.Common.{◌≡◌, ◌≢◌, ℕ, zero, suc, ◌+◌, ◌<◌, ◌≤◌, List, [], ◌∷◌, ◌++◌, length, take, nat_eq, nat_lt, Bool, true, false}
+use Rattle.std.proofs.Common.{Some, None, IfSome, refl, arith, sym, subst, ap, ◌∙◌, append_assoc, slice_index, if◌then◌else◌, eq-eqb}
+use Rattle.std.proofs.Common.{length-take, lit<}
 use Rattle.std.specs.declared.option.Option.{Option}
 use Rattle.std.proofs.lemmas.List.{take_more}
 use Rattle.std.proofs.lemmas.Bool.Decides.{nat_tests}

@@ -9,7 +9,8 @@ use Rattle.mcs48_isa.specs.declared.operation.AluOp.{AluOp}
 use Rattle.mcs48_isa.specs.declared.operation.AluOp.TheVariants.{AddN, AddcN, AnlN, OrlN, XrlN}
 use Rattle.mcs48_isa.specs.declared.operation.UnaryOp.TheVariants.{IncR, DecR}
 use Rattle.mcs48_isa.specs.declared.operation.FlowOp.{FlowOp}
-use Rattle.mcs48_isa.specs.declared.operation.FlowOp.TheVariants.{Jmp, Call, Ret, Retr, Jmpp, Djnz, Jb, Jc, Jnc, Jz, Jnz, Jt0, Jnt0, Jt1, Jnt1, Jf0, Jf1, Jtf, Jni}
+use Rattle.mcs48_isa.specs.declared.operation.FlowOp.TheVariants.{Jmp, Call, Ret, Retr, Jmpp, Djnz, Jb, Jc, Jnc, Jz, Jnz}
+use Rattle.mcs48_isa.specs.declared.operation.FlowOp.TheVariants.{Jt0, Jnt0, Jt1, Jnt1, Jf0, Jf1, Jtf, Jni}
 use Rattle.mcs48_isa.specs.declared.operation.PortOp.{PortOp}
 use Rattle.mcs48_isa.specs.declared.operation.PortOp.TheVariants.{AnlP1, AnlP2, AnlBus, OrlP1, OrlP2, OrlBus}
 use Rattle.mcs48_isa.specs.Operands.{IsOp}

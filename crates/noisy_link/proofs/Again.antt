@@ -1,5 +1,6 @@
 -- What came wrong and is asked for again comes again.
-use Rattle.std.proofs.Common.{◌≡◌, ◌≤◌, ◌<◌, ℕ, zero, suc, ◌+◌, ◌-◌, ◌==◌, inl, Bool, true, false, List, Some, None, refl, ap, sym, ◌∙◌, subst, arith}
+use Rattle.std.proofs.Common.{◌≡◌, ◌≤◌, ◌<◌, ℕ, zero, suc, ◌+◌, ◌-◌, ◌==◌, inl, Bool, true, false}
+use Rattle.std.proofs.Common.{List, Some, None, refl, ap, sym, ◌∙◌, subst, arith}
 use Rattle.std.specs.Prelude.{if◌then◌else◌, nat_lt, nat_le}
 use Rattle.std.specs.declared.option.Option.{Option}
 use Rattle.std.proofs.lemmas.Bool.Decides.{nat_tests}
@@ -25,10 +26,12 @@ use Rattle.link_model.specs.TickEdges.{tick_edges}
 use Rattle.link_model.specs.Expected.{Whole, begins_from, from_meeting}
 use Rattle.quiet_log.specs.Once.{at_tick, meeting_at}
 use Rattle.quiet_log.proofs.Once.{arrives_as_offered}
-use Rattle.noisy_link.specs.Fates.{NoByte, Again, GivenUp, flipped_fate, fate_of, wrong_with, flip_in, arrival_in, side_before, wrong_before, fate_at}
+use Rattle.noisy_link.specs.Fates.{NoByte, Again, GivenUp, flipped_fate, fate_of, wrong_with}
+use Rattle.noisy_link.specs.Fates.{flip_in, arrival_in, side_before, wrong_before, fate_at}
 use Rattle.noisy_link.specs.Noise.{Does, pause, asked_for, next_try, ComesAgain}
 use Rattle.noisy_link.proofs.Cycles.{Stays, cycle_keeps, span_keeps}
-use Rattle.noisy_link.proofs.Links.{IsRequest, request_stays, IsAsked, asked_stays, requested, AwaitsReply, awaits_stays, handed, reply_sends}
+use Rattle.noisy_link.proofs.Links.{IsRequest, request_stays, IsAsked, asked_stays, requested}
+use Rattle.noisy_link.proofs.Links.{AwaitsReply, awaits_stays, handed, reply_sends}
 use Rattle.noisy_link.proofs.Counted.{earlier_side, later_side, done_by_fate}
 use Rattle.noisy_link.proofs.Keys.{IsLastSent, last_sent, test_runs, Replies, resends}
 
@@ -37,7 +40,8 @@ pub record IsSent (begins meeting : Meeting) (byte : ℕ) : Type 0 where
   pub began : begins ≡ Sent byte
   pub sent : meeting ≡ Sent byte
 
-sent_link : (l : Link UnderWay) (b byte wrong : ℕ) → fate_of (sent_or_cut b l) (flip_in l) wrong ≡ Again byte → (Sent b ≡ Sent byte) × (sent_or_cut b l ≡ Sent byte)
+sent_link : (l : Link UnderWay) (b byte wrong : ℕ)
+    → fate_of (sent_or_cut b l) (flip_in l) wrong ≡ Again byte → (Sent b ≡ Sent byte) × (sent_or_cut b l ≡ Sent byte)
 sent_link Free b byte wrong h = absurd cc
 sent_link (Hold since) b byte wrong h = absurd cc
 sent_link (Ask c since) b byte wrong h = absurd cc
@@ -53,17 +57,21 @@ sent_link (Busy u) b byte wrong h = by_flip u.flip h
         by_count false h = absurd cc
 
 is_sent : (events : List HostEvent) (begins : Meeting) (now byte wrong : ℕ) (m : Side UnderWay)
-    → fate_of (ended_as events begins now m) (flip_in (sends events now m).port.link) wrong ≡ Again byte → IsSent begins (ended_as events begins now m) byte
+    → fate_of (ended_as events begins now m) (flip_in (sends events now m).port.link) wrong ≡ Again byte
+    → IsSent begins (ended_as events begins now m) byte
 is_sent events (Got b) now byte wrong m h = absurd cc
 is_sent events Inhibited now byte wrong m h = absurd cc
 is_sent events Idle now byte wrong m h = absurd cc
-is_sent events (Sent b) now byte wrong m h = let e = sent_link (sends events now m).port.link b byte wrong h in record { began = e.0; sent = e.1 }
+is_sent events (Sent b) now byte wrong m h =
+    let e = sent_link (sends events now m).port.link b byte wrong h in record { began = e.0; sent = e.1 }
 is_sent events Cut now byte wrong m h = absurd cc
 
 -- nothing asked for is lost before the meeting of the next tick
-looks_asked : (events : List HostEvent) (byte since start : ℕ) (w : Whole LayeredKeyboard) → since + 64 ≤ start → IsAsked byte since w.side.port → IsRequest byte (earlier_side events start w).port
+looks_asked : (events : List HostEvent) (byte since start : ℕ) (w : Whole LayeredKeyboard)
+    → since + 64 ≤ start → IsAsked byte since w.side.port → IsRequest byte (earlier_side events start w).port
 looks_asked events byte since start w late h =
-    span_keeps (IsRequest byte) (request_stays byte) events 24 (232 + start) (says_lights (232 + start) w.shown w.keys.keyboard.lights (quietly events 232 start w.side))
+    span_keeps (IsRequest byte) (request_stays byte) events 24 (232 + start)
+        (says_lights (232 + start) w.shown w.keys.keyboard.lights (quietly events 232 start w.side))
     (requested byte since events 232 start w.side (omega arith) late h)
 
 module _ (layout : KeyLayout) (history : KeyHistory) (starts : ℕ → ℕ) where
@@ -74,23 +82,31 @@ module _ (layout : KeyLayout) (history : KeyHistory) (starts : ℕ → ℕ) wher
   edges_at n = layered (is_fn_place layout) (tick_edges starts history.edges n) (at_tick layout history starts n).keys.layers
 
   -- the keyboard after a tick with this meeting
-  keys_after : (n : ℕ) (meeting : Meeting) → meeting_at layout history starts n ≡ meeting → keys_at (suc n) ≡ ticked (keys_of layout) (met_as meeting) (edges_at n) (keys_at n)
+  keys_after : (n : ℕ) (meeting : Meeting)
+      → meeting_at layout history starts n ≡ meeting → keys_at (suc n) ≡ ticked (keys_of layout) (met_as meeting) (edges_at n) (keys_at n)
   keys_after n meeting h = ap (λ m. ticked (keys_of layout) (met_as m) (edges_at n) (keys_at n)) h
 
   module _ (P : Port UnderWay → Type 0) (stays : Stays P) (n : ℕ) where
     -- what stays so from a tick's start to its look at the link, to its meeting, and behind that to the next start
-    look_keeps : P (at_tick layout history starts n).side.port → P (earlier_side history.host (4096 + starts n) (at_tick layout history starts n)).port
+    look_keeps : P (at_tick layout history starts n).side.port
+        → P (earlier_side history.host (4096 + starts n) (at_tick layout history starts n)).port
     look_keeps h =
         let w : Whole LayeredKeyboard = at_tick layout history starts n in
         let start : ℕ = 4096 + starts n in
-        span_keeps P stays history.host 24 (232 + start) (says_lights (232 + start) w.shown w.keys.keyboard.lights (quietly history.host 232 start w.side))
+        span_keeps P stays history.host 24 (232 + start)
+            (says_lights (232 + start) w.shown w.keys.keyboard.lights (quietly history.host 232 start w.side))
         (span_keeps P stays history.host 232 start w.side h)
 
-    meeting_keeps : P (earlier_side history.host (4096 + starts n) (at_tick layout history starts n)).port → P (later_side history.host (4096 + starts n) (at_tick layout history starts n)).port
-    meeting_keeps h = span_keeps P stays history.host 32 (256 + (4096 + starts n)) (earlier_side history.host (4096 + starts n) (at_tick layout history starts n)) h
+    meeting_keeps : P (earlier_side history.host (4096 + starts n) (at_tick layout history starts n)).port
+        → P (later_side history.host (4096 + starts n) (at_tick layout history starts n)).port
+    meeting_keeps h =
+        span_keeps P stays history.host 32 (256 + (4096 + starts n))
+            (earlier_side history.host (4096 + starts n) (at_tick layout history starts n)) h
 
-    rest_keeps : (begins : Meeting) → begins_from (keyboard layout) history.host (4096 + starts n) (at_tick layout history starts n) ≡ begins
-        → P (carried history.host begins (288 + (4096 + starts n)) (later_side history.host (4096 + starts n) (at_tick layout history starts n))).port
+    rest_keeps : (begins : Meeting)
+        → begins_from (keyboard layout) history.host (4096 + starts n) (at_tick layout history starts n) ≡ begins
+        → P (carried history.host begins (288 + (4096 + starts n))
+            (later_side history.host (4096 + starts n) (at_tick layout history starts n))).port
         → P (at_tick layout history starts (suc n)).side.port
     rest_keeps begins e h =
         let start : ℕ = 4096 + starts n in
@@ -106,7 +122,8 @@ module _ (layout : KeyLayout) (history : KeyHistory) (starts : ℕ → ℕ) wher
     counted : wrong_before layout history starts n ≡ wrong
 
   -- how many came wrong, behind a tick that takes no byte off the line
-  count_stays : (n wrong : ℕ) (meeting : Meeting) → meeting_at layout history starts n ≡ meeting → ((flip : Option ℕ) → fate_of meeting flip wrong ≡ NoByte) → wrong_before layout history starts n ≡ wrong
+  count_stays : (n wrong : ℕ) (meeting : Meeting) → meeting_at layout history starts n ≡ meeting
+      → ((flip : Option ℕ) → fate_of meeting flip wrong ≡ NoByte) → wrong_before layout history starts n ≡ wrong
       → wrong_before layout history starts (suc n) ≡ wrong
   count_stays n wrong meeting e none c =
       let flip : Option ℕ = flip_in (side_before layout history starts n).port.link in
@@ -128,12 +145,15 @@ module _ (layout : KeyLayout) (history : KeyHistory) (starts : ℕ → ℕ) wher
       ap (λ tested. meeting_by tested (offer w.keys.keyboard) (earlier_side history.host start w).port.link later.port.link) runs in
       let m : meeting_at layout history starts n ≡ Idle = ap (λ v. ended_as history.host v (288 + start) later) b in
       let stays : Stays (IsAsked 0xfe since) = asked_stays 0xfe since in
-      let asked : IsAsked 0xfe since later.port = meeting_keeps (IsAsked 0xfe since) stays n (look_keeps (IsAsked 0xfe since) stays n h.asked) in
+      let asked : IsAsked 0xfe since later.port =
+          meeting_keeps (IsAsked 0xfe since) stays n (look_keeps (IsAsked 0xfe since) stays n h.asked) in
       record {
         idle = m;
         waits = record {
-          keys = subst (λ k. IsLastSent left byte k) (sym (keys_after n Idle m)) (test_runs (keys_of layout) (edges_at n) left byte (keys_at n) h.keys);
-          asked = rest_keeps (IsAsked 0xfe since) stays n Idle b (span_keeps (IsAsked 0xfe since) stays history.host 321 (288 + start) later asked);
+          keys = subst (λ k. IsLastSent left byte k) (sym (keys_after n Idle m))
+              (test_runs (keys_of layout) (edges_at n) left byte (keys_at n) h.keys);
+          asked = rest_keeps (IsAsked 0xfe since) stays n Idle b
+              (span_keeps (IsAsked 0xfe since) stays history.host 321 (288 + start) later asked);
           counted = count_stays n wrong Idle m (λ flip. refl) h.counted;
         };
       }
@@ -158,13 +178,15 @@ module _ (layout : KeyLayout) (history : KeyHistory) (starts : ℕ → ℕ) wher
       let m : meeting_at layout history starts n ≡ Got 0xfe = ap (λ v. ended_as history.host v (288 + start) later) b in
       record {
         asked = m;
-        keys = subst (λ k. Replies byte k) (sym (keys_after n (Got 0xfe) m)) (resends (keys_of layout) (edges_at n) byte (keys_at n) h.keys);
+        keys = subst (λ k. Replies byte k) (sym (keys_after n (Got 0xfe) m))
+            (resends (keys_of layout) (edges_at n) byte (keys_at n) h.keys);
         link = rest_keeps AwaitsReply awaits_stays n (Got 0xfe) b (handed history.host (288 + start) later);
         counted = count_stays n wrong (Got 0xfe) m (λ flip. refl) h.counted;
       }
 
   -- and the one behind it
-  sent_again : (byte n : ℕ) → Replies byte (keys_at n) → AwaitsReply (at_tick layout history starts n).side.port → meeting_at layout history starts n ≡ Sent byte
+  sent_again : (byte n : ℕ)
+      → Replies byte (keys_at n) → AwaitsReply (at_tick layout history starts n).side.port → meeting_at layout history starts n ≡ Sent byte
   sent_again byte n keys link =
       let start : ℕ = 4096 + starts n in
       let w : Whole LayeredKeyboard = at_tick layout history starts n in
@@ -187,7 +209,8 @@ module _ (layout : KeyLayout) (history : KeyHistory) (starts : ℕ → ℕ) wher
     sent : meeting_at layout history starts (suc (left + n)) ≡ Sent byte
     counted : wrong_before layout history starts (suc (left + n)) ≡ wrong
 
-  comes : (byte wrong since left n last : ℕ) → ((m : ℕ) → n ≤ m → m ≤ last → since + 64 ≤ 4096 + starts m) → left + n ≤ last → Waits byte wrong since left n → Comes byte wrong left n
+  comes : (byte wrong since left n last : ℕ) → ((m : ℕ) → n ≤ m → m ≤ last → since + 64 ≤ 4096 + starts m)
+      → left + n ≤ last → Waits byte wrong since left n → Comes byte wrong left n
   comes byte wrong since zero n last late within h =
       let z : n ≡ zero + n = omega arith in
       let g : GotAsked byte wrong n = got_asked byte wrong since n (late n (omega arith) (omega (arith, within))) h in
@@ -200,7 +223,8 @@ module _ (layout : KeyLayout) (history : KeyHistory) (starts : ℕ → ℕ) wher
   comes byte wrong since (suc left) n last late within h =
       let z : left + suc n ≡ suc left + n = omega arith in
       let o : WaitsOn byte wrong since left n = waits_on byte wrong since left n h in
-      let r : Comes byte wrong left (suc n) = comes byte wrong since left (suc n) last (λ m l u. late m (omega (arith, l)) u) (omega (arith, within)) o.waits in
+      let r : Comes byte wrong left (suc n) =
+          comes byte wrong since left (suc n) last (λ m l u. late m (omega (arith, l)) u) (omega (arith, within)) o.waits in
       record {
         idle = λ j l u. first j l u (nat_le j n) refl o.idle r.idle;
         asked = subst (λ v. meeting_at layout history starts v ≡ Got 0xfe) z r.asked;
@@ -219,7 +243,8 @@ module _ (layout : KeyLayout) (history : KeyHistory) (starts : ℕ → ℕ) wher
 
   -- behind a tick whose byte came wrong, and is asked for again
   waits_behind : (n byte : ℕ) → fate_at layout history starts n ≡ Again byte
-      → Waits (asked_for byte (keys_at n)) (suc (wrong_before layout history starts n)) (arrival_in layout history starts n) (pause (keys_at n)) (suc n)
+      → Waits (asked_for byte (keys_at n)) (suc (wrong_before layout history starts n))
+          (arrival_in layout history starts n) (pause (keys_at n)) (suc n)
   waits_behind n byte f =
       let start : ℕ = 4096 + starts n in
       let now : ℕ = arrival_in layout history starts n in
@@ -241,7 +266,8 @@ module _ (layout : KeyLayout) (history : KeyHistory) (starts : ℕ → ℕ) wher
       }
 
   -- it comes again
-  pub comes_again : (last n byte : ℕ) → KeepsCadenceTo starts last → next_try layout history starts n ≤ last → fate_at layout history starts n ≡ Again byte → ComesAgain layout history starts n byte
+  pub comes_again : (last n byte : ℕ) → KeepsCadenceTo starts last
+      → next_try layout history starts n ≤ last → fate_at layout history starts n ≡ Again byte → ComesAgain layout history starts n byte
   comes_again last n byte cadence within f =
       let left : ℕ = pause (keys_at n) in
       let now : ℕ = arrival_in layout history starts n in
@@ -250,7 +276,8 @@ module _ (layout : KeyLayout) (history : KeyHistory) (starts : ℕ → ℕ) wher
       let here = cadence n (omega (arith, within)) in
       let late : (m : ℕ) → suc n ≤ m → m ≤ last → now + 64 ≤ 4096 + starts m = λ m l u.
       let there = cadence m u in omega (arith, here.most, there.least, l) in
-      let r : Comes (asked_for byte (keys_at n)) (suc wrong) left (suc n) = comes (asked_for byte (keys_at n)) (suc wrong) now left (suc n) last late (omega (arith, within)) (waits_behind n byte f) in
+      let r : Comes (asked_for byte (keys_at n)) (suc wrong) left (suc n) =
+          comes (asked_for byte (keys_at n)) (suc wrong) now left (suc n) last late (omega (arith, within)) (waits_behind n byte f) in
       record {
         idle = λ j l u. r.idle j (omega (arith, l)) (omega (arith, u));
         asked = subst (λ v. meeting_at layout history starts v ≡ Got 0xfe) z r.asked;

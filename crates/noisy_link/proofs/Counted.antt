@@ -7,7 +7,8 @@ use Rattle.board_lines.specs.declared.event.HostEvent.{HostEvent}
 use Rattle.byte_time.specs.declared.UnderWay.{UnderWay}
 use Rattle.byte_time.specs.declared.meeting.Meeting.{Meeting}
 use Rattle.byte_time.specs.declared.meeting.Meeting.TheVariants.{Got, Inhibited, Idle, Sent, Cut}
-use Rattle.byte_time.specs.ByteTime.{Begins, Closes, Arrives, IsWhole, arriving, arrived_in, happened_at, byte_cycle, quietly, sent_or_cut, sends, ended_as, carried}
+use Rattle.byte_time.specs.ByteTime.{Begins, Closes, Arrives, IsWhole, arriving, arrived_in, happened_at}
+use Rattle.byte_time.specs.ByteTime.{byte_cycle, quietly, sent_or_cut, sends, ended_as, carried}
 use Rattle.ctl_core.specs.Controller.{ControllerState, asks_again, gave_up}
 use Rattle.ctl_core.specs.Translation.{translation, translates, arrived, after_wrong, after_received}
 use Rattle.ctl_core.specs.declared.translation.Translated.{Translated}
@@ -21,7 +22,8 @@ use Rattle.layout_reader.specs.Layouts.{KeyLayout}
 use Rattle.link_model.specs.Machine.{LayeredKeyboard, keyboard}
 use Rattle.link_model.specs.Expected.{Whole, to_look, to_meeting, begins_from}
 use Rattle.quiet_log.specs.Once.{at_tick, meeting_at}
-use Rattle.noisy_link.specs.Fates.{Again, GivenUp, wrong_fate, flipped_fate, fate_of, wrong_with, flip_in, arrival_in, side_before, wrong_before, fate_at}
+use Rattle.noisy_link.specs.Fates.{Again, GivenUp, wrong_fate, flipped_fate, fate_of, wrong_with}
+use Rattle.noisy_link.specs.Fates.{flip_in, arrival_in, side_before, wrong_before, fate_at}
 use Rattle.noisy_link.specs.Noise.{IsReceived, IsAskedAgain, IsGivenUp, Does, IsCounted}
 use Rattle.noisy_link.proofs.Cycles.{cycle_keeps, span_keeps}
 use Rattle.noisy_link.proofs.Resends.{Counts, counts_stay}
@@ -73,11 +75,14 @@ right_so byte s =
 wrong_so : (byte wrong : ℕ) (s : ControllerState) → s.resends ≡ wrong → (after_wrong s).resends ≡ wrong_with (wrong_fate wrong byte) wrong
 wrong_so byte wrong s h = subst (λ v. (after_wrong s).resends ≡ wrong_with (wrong_fate v byte) v) h (by (nat_lt s.resends 3))
   where
-    by : (b : Bool) → (if b then record s { resends = s.resends + 1 } else gave_up s).resends ≡ wrong_with (if b then Again byte else GivenUp byte) s.resends
+    by : (b : Bool)
+        → (if b then record s { resends = s.resends + 1 } else gave_up s).resends
+        ≡ wrong_with (if b then Again byte else GivenUp byte) s.resends
     by true = omega arith
     by false = refl
 
-arrives_so : (byte wrong : ℕ) (flip : Option ℕ) (s : ControllerState) → s.resends ≡ wrong → (core_after (arriving flip byte) s).resends ≡ wrong_with (flipped_fate flip wrong byte) wrong
+arrives_so : (byte wrong : ℕ) (flip : Option ℕ) (s : ControllerState)
+    → s.resends ≡ wrong → (core_after (arriving flip byte) s).resends ≡ wrong_with (flipped_fate flip wrong byte) wrong
 arrives_so byte wrong None s h = right_so byte s
 arrives_so byte wrong (Some bit) s h = wrong_so byte wrong s h
 
@@ -92,7 +97,8 @@ link_so now byte wrong (Busy u) p h = arrives_so byte wrong u.flip p.core h
 
 -- a tick from its meeting on
 carries : (events : List HostEvent) (begins : Meeting) (now wrong : ℕ) (m : Side UnderWay) → Counts wrong m.port
-    → Counts (wrong_with (fate_of (ended_as events begins now m) (flip_in (sends events now m).port.link) wrong) wrong) (carried events begins now m).port
+    → Counts (wrong_with (fate_of (ended_as events begins now m) (flip_in (sends events now m).port.link) wrong) wrong)
+        (carried events begins now m).port
 carries events (Got byte) now wrong m h = got_so events wrong now m h
 carries events Inhibited now wrong m h = span_keeps (Counts wrong) (counts_stay wrong) events 321 now m h
 carries events Idle now wrong m h = span_keeps (Counts wrong) (counts_stay wrong) events 321 now m h
@@ -120,9 +126,11 @@ module _ (layout : KeyLayout) (history : KeyHistory) (starts : ℕ → ℕ) wher
   few_before : (n : ℕ) → wrong_before layout history starts n ≤ 3
   few_before zero = omega arith
   few_before (suc n) =
-      few_with (meeting_at layout history starts n) (flip_in (side_before layout history starts n).port.link) (wrong_before layout history starts n) (few_before n)
+      few_with (meeting_at layout history starts n) (flip_in (side_before layout history starts n).port.link)
+          (wrong_before layout history starts n) (few_before n)
 
-  met_so : (n r : ℕ) → Counts r (at_tick layout history starts n).side.port → Counts r (later_side history.host (4096 + starts n) (at_tick layout history starts n)).port
+  met_so : (n r : ℕ) → Counts r (at_tick layout history starts n).side.port
+      → Counts r (later_side history.host (4096 + starts n) (at_tick layout history starts n)).port
   met_so n r h =
       let w : Whole LayeredKeyboard = at_tick layout history starts n in
       let start : ℕ = 4096 + starts n in
@@ -137,7 +145,8 @@ module _ (layout : KeyLayout) (history : KeyHistory) (starts : ℕ → ℕ) wher
       let later : Side UnderWay = later_side history.host start w in
       let begins : Meeting = begins_from (keyboard layout) history.host start w in
       let r : ℕ = wrong_before layout history starts (suc n) in
-      span_keeps (Counts r) (counts_stay r) history.host (starts (suc n) - starts n - 609) (609 + start) (carried history.host begins (288 + start) later)
+      span_keeps (Counts r) (counts_stay r) history.host (starts (suc n) - starts n - 609) (609 + start)
+          (carried history.host begins (288 + start) later)
       (carries history.host begins (288 + start) wrong later (met_so n wrong (at_start_so n)))
 
   pub counted : (n : ℕ) → IsCounted layout history starts n
@@ -152,32 +161,40 @@ module _ (layout : KeyLayout) (history : KeyHistory) (starts : ℕ → ℕ) wher
       }
 
 -- what is done with a byte that comes right, or wrong
-right_does : (now byte : ℕ) (u : UnderWay) (p : Port UnderWay) → p.link ≡ Busy u → u.flip ≡ None → IsReceived now byte p (happened_at now (Arrives byte) p)
+right_does : (now byte : ℕ) (u : UnderWay) (p : Port UnderWay)
+    → p.link ≡ Busy u → u.flip ≡ None → IsReceived now byte p (happened_at now (Arrives byte) p)
 right_does now byte u p h f =
-    let e : happened_at now (Arrives byte) p ≡ received now (Some byte) p = ap (λ l. arrived_in now byte l p) h ∙ ap (λ flip. received now (arriving flip byte) p) f in
+    let e : happened_at now (Arrives byte) p ≡ received now (Some byte) p =
+        ap (λ l. arrived_in now byte l p) h ∙ ap (λ flip. received now (arriving flip byte) p) f in
     record { core = ap (λ (q : Port UnderWay). q.core) e; link = ap (λ (q : Port UnderWay). q.link) e }
 
-wrong_received : (now byte bit : ℕ) (u : UnderWay) (p : Port UnderWay) → p.link ≡ Busy u → u.flip ≡ Some bit → happened_at now (Arrives byte) p ≡ received now None p
+wrong_received : (now byte bit : ℕ) (u : UnderWay) (p : Port UnderWay)
+    → p.link ≡ Busy u → u.flip ≡ Some bit → happened_at now (Arrives byte) p ≡ received now None p
 wrong_received now byte bit u p h f = ap (λ l. arrived_in now byte l p) h ∙ ap (λ flip. received now (arriving flip byte) p) f
 
-again_does : (now byte bit : ℕ) (u : UnderWay) (p : Port UnderWay) → p.link ≡ Busy u → u.flip ≡ Some bit → asks_again p.core ≡ true → IsAskedAgain now p (happened_at now (Arrives byte) p)
+again_does : (now byte bit : ℕ) (u : UnderWay) (p : Port UnderWay)
+    → p.link ≡ Busy u → u.flip ≡ Some bit → asks_again p.core ≡ true → IsAskedAgain now p (happened_at now (Arrives byte) p)
 again_does now byte bit u p h f a =
     let e = wrong_received now byte bit u p h f in
     record {
-      core = ap (λ (q : Port UnderWay). q.core) e ∙ ap (λ b. if b then record p.core { resends = p.core.resends + 1 } else gave_up p.core) a;
+      core = ap (λ (q : Port UnderWay). q.core) e
+          ∙ ap (λ b. if b then record p.core { resends = p.core.resends + 1 } else gave_up p.core) a;
       link = ap (λ (q : Port UnderWay). q.link) e ∙ ap (λ b. if b then Ask 0xfe now else Hold now) a;
     }
 
-given_up_does : (now byte bit : ℕ) (u : UnderWay) (p : Port UnderWay) → p.link ≡ Busy u → u.flip ≡ Some bit → asks_again p.core ≡ false → IsGivenUp now p (happened_at now (Arrives byte) p)
+given_up_does : (now byte bit : ℕ) (u : UnderWay) (p : Port UnderWay)
+    → p.link ≡ Busy u → u.flip ≡ Some bit → asks_again p.core ≡ false → IsGivenUp now p (happened_at now (Arrives byte) p)
 given_up_does now byte bit u p h f a =
     let e = wrong_received now byte bit u p h f in
     record {
-      core = ap (λ (q : Port UnderWay). q.core) e ∙ ap (λ b. if b then record p.core { resends = p.core.resends + 1 } else gave_up p.core) a;
+      core = ap (λ (q : Port UnderWay). q.core) e
+          ∙ ap (λ b. if b then record p.core { resends = p.core.resends + 1 } else gave_up p.core) a;
       link = ap (λ (q : Port UnderWay). q.link) e ∙ ap (λ b. if b then Ask 0xfe now else Hold now) a;
     }
 
 -- by the flip, and by the count
-does_by : (now byte wrong : ℕ) (u : UnderWay) (p : Port UnderWay) (flip : Option ℕ) → p.link ≡ Busy u → u.flip ≡ flip → p.core.resends ≡ wrong → Does (flipped_fate flip wrong byte) now p
+does_by : (now byte wrong : ℕ) (u : UnderWay) (p : Port UnderWay) (flip : Option ℕ)
+    → p.link ≡ Busy u → u.flip ≡ flip → p.core.resends ≡ wrong → Does (flipped_fate flip wrong byte) now p
 does_by now byte wrong u p None h f c = right_does now byte u p h f
 does_by now byte wrong u p (Some bit) h f c = by (nat_lt wrong 3) (ap (λ v. nat_lt v 3) c)
   where
@@ -185,7 +202,8 @@ does_by now byte wrong u p (Some bit) h f c = by (nat_lt wrong 3) (ap (λ v. nat
     by true e = again_does now byte bit u p h f e
     by false e = given_up_does now byte bit u p h f e
 
-does_link : (now byte wrong : ℕ) (l : Link UnderWay) (p : Port UnderWay) → p.link ≡ l → p.core.resends ≡ wrong → Does (fate_of (sent_or_cut byte l) (flip_in l) wrong) now p
+does_link : (now byte wrong : ℕ) (l : Link UnderWay) (p : Port UnderWay)
+    → p.link ≡ l → p.core.resends ≡ wrong → Does (fate_of (sent_or_cut byte l) (flip_in l) wrong) now p
 does_link now byte wrong Free p h c = tt
 does_link now byte wrong (Hold since) p h c = tt
 does_link now byte wrong (Ask asked since) p h c = tt
@@ -201,7 +219,8 @@ does_as events (Sent byte) now wrong m c = does_link (320 + now) byte wrong (sen
 does_as events Cut now wrong m c = tt
 
 -- so it is in each tick
-pub done_by_fate : (layout : KeyLayout) (history : KeyHistory) (starts : ℕ → ℕ) (n : ℕ) → Does (fate_at layout history starts n) (arrival_in layout history starts n) (side_before layout history starts n).port
+pub done_by_fate : (layout : KeyLayout) (history : KeyHistory) (starts : ℕ → ℕ) (n : ℕ)
+    → Does (fate_at layout history starts n) (arrival_in layout history starts n) (side_before layout history starts n).port
 done_by_fate layout history starts n =
     let w : Whole LayeredKeyboard = at_tick layout history starts n in
     let start : ℕ = 4096 + starts n in

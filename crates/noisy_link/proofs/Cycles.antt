@@ -15,16 +15,19 @@ abbrev pub Stays : (Port UnderWay → Type 0) → Type 0
 Stays P = (now : ℕ) (next : Option HostEvent) (d : Desk UnderWay) → P d.port → P (cycled is_open now next d).desk.port
 
 -- a cycle, whatever came over the link before it
-pub cycle_gives : (P Q : Port UnderWay → Type 0) (events : List HostEvent) (now : ℕ) (event : Event) (m : Side UnderWay) → ((next : Option HostEvent) (d : Desk UnderWay) → P d.port → Q (cycled is_open now next d).desk.port)
+pub cycle_gives : (P Q : Port UnderWay → Type 0) (events : List HostEvent) (now : ℕ) (event : Event) (m : Side UnderWay)
+    → ((next : Option HostEvent) (d : Desk UnderWay) → P d.port → Q (cycled is_open now next d).desk.port)
     → P (happened_at now event m.port) → Q (byte_cycle events now event m).port
 unfolding byte_cycle goes_on
 cycle_gives P Q events now event m gives h =
     gives (slice_get events m.done) (desk_of (record m { port = happened_at now event m.port })) h
 
-pub cycle_keeps : (P : Port UnderWay → Type 0) → Stays P → (events : List HostEvent) (now : ℕ) (event : Event) (m : Side UnderWay) → P (happened_at now event m.port) → P (byte_cycle events now event m).port
+pub cycle_keeps : (P : Port UnderWay → Type 0) → Stays P → (events : List HostEvent) (now : ℕ) (event : Event) (m : Side UnderWay)
+    → P (happened_at now event m.port) → P (byte_cycle events now event m).port
 cycle_keeps P stays events now event m h = cycle_gives P P events now event m (stays now) h
 
-pub span_keeps : (P : Port UnderWay → Type 0) → Stays P → (events : List HostEvent) (n now : ℕ) (m : Side UnderWay) → P m.port → P (quietly events n now m).port
+pub span_keeps : (P : Port UnderWay → Type 0)
+    → Stays P → (events : List HostEvent) (n now : ℕ) (m : Side UnderWay) → P m.port → P (quietly events n now m).port
 span_keeps P stays events zero now m h = h
 span_keeps P stays events (suc n) now m h =
     span_keeps P stays events n (suc now) (byte_cycle events now Quiet m) (cycle_keeps P stays events now Quiet m h)

@@ -14,13 +14,15 @@ use Rattle.noisy_link.proofs.Counted.{counted}
 use Rattle.noisy_link.proofs.Again.{comes_again}
 
 -- the fate of a byte that was sent, by what is left of its tries
-last_fate : (flip : Option ℕ) (wrong byte : ℕ) → zero + wrong ≡ 3 → (flipped_fate flip wrong byte ≡ Right byte) ⊎ (flipped_fate flip wrong byte ≡ GivenUp byte)
+last_fate : (flip : Option ℕ) (wrong byte : ℕ)
+    → zero + wrong ≡ 3 → (flipped_fate flip wrong byte ≡ Right byte) ⊎ (flipped_fate flip wrong byte ≡ GivenUp byte)
 last_fate None wrong byte e = inl refl
 last_fate (Some bit) wrong byte e =
     let t : nat_lt wrong 3 ≡ false = grind (arith, nat_tests, e) in
     inr (ap (λ b. if b then Again byte else GivenUp byte) t)
 
-earlier_fate : (flip : Option ℕ) (left wrong byte : ℕ) → suc left + wrong ≡ 3 → (flipped_fate flip wrong byte ≡ Right byte) ⊎ (flipped_fate flip wrong byte ≡ Again byte)
+earlier_fate : (flip : Option ℕ) (left wrong byte : ℕ)
+    → suc left + wrong ≡ 3 → (flipped_fate flip wrong byte ≡ Right byte) ⊎ (flipped_fate flip wrong byte ≡ Again byte)
 earlier_fate None left wrong byte e = inl refl
 earlier_fate (Some bit) left wrong byte e =
     let t : nat_lt wrong 3 ≡ true = grind (arith, nat_tests, e) in
@@ -37,16 +39,20 @@ past_or_not last n = by (nat_lt last n) refl
 module _ (layout : KeyLayout) (history : KeyHistory) (starts : ℕ → ℕ) (last : ℕ) (cadence : KeepsCadenceTo starts last) where
   -- one that is asked for again goes on, unless the run ends before
   goes_on : (left n byte : ℕ) → suc left + wrong_before layout history starts n ≡ 3 → fate_at layout history starts n ≡ Again byte
-      → (left + wrong_before layout history starts (next_try layout history starts n) ≡ 3 → meeting_at layout history starts (next_try layout history starts n) ≡ Sent (next_byte layout history starts n byte)
+      → (left + wrong_before layout history starts (next_try layout history starts n) ≡ 3
+          → meeting_at layout history starts (next_try layout history starts n) ≡ Sent (next_byte layout history starts n byte)
       → Ends layout history starts last left (next_try layout history starts n) (next_byte layout history starts n byte))
       → (last < next_try layout history starts n) ⊎ (next_try layout history starts n ≤ last)
-      → (last < next_try layout history starts n) ⊎ (ComesAgain layout history starts n byte × Ends layout history starts last left (next_try layout history starts n) (next_byte layout history starts n byte))
+      → (last < next_try layout history starts n)
+      ⊎ (ComesAgain layout history starts n byte
+          × Ends layout history starts last left (next_try layout history starts n) (next_byte layout history starts n byte))
   goes_on left n byte e a more (inl past) = inl past
   goes_on left n byte e a more (inr within) =
       let c : ComesAgain layout history starts n byte = comes_again layout history starts last n byte cadence within a in
       inr (c, more (omega (arith, e, c.counted)) c.sent)
 
-  ends_in : (left n byte : ℕ) → left + wrong_before layout history starts n ≡ 3 → meeting_at layout history starts n ≡ Sent byte → Ends layout history starts last left n byte
+  ends_in : (left n byte : ℕ) → left + wrong_before layout history starts n ≡ 3
+      → meeting_at layout history starts n ≡ Sent byte → Ends layout history starts last left n byte
   ends_in zero n byte e m =
       let wrong : ℕ = wrong_before layout history starts n in
       let flip : Option ℕ = flip_in (side_before layout history starts n).port.link in
@@ -58,10 +64,14 @@ module _ (layout : KeyLayout) (history : KeyHistory) (starts : ℕ → ℕ) (las
       let f : fate_at layout history starts n ≡ flipped_fate flip wrong byte = ap (λ v. fate_of v flip wrong) m in
       elim (earlier_fate flip left wrong byte e) [
         | inl r ↦ inl (f ∙ r)
-        | inr a ↦ inr (f ∙ a, goes_on left n byte e (f ∙ a) (λ rest sent. ends_in left (next_try layout history starts n) (next_byte layout history starts n byte) rest sent) (past_or_not last (next_try layout history starts n)))
+        | inr a ↦ inr
+            (f ∙ a, goes_on left n byte e (f ∙ a)
+                (λ rest sent. ends_in left (next_try layout history starts n) (next_byte layout history starts n byte) rest sent)
+                (past_or_not last (next_try layout history starts n)))
       ]
 
-  pub ends : (n byte : ℕ) → meeting_at layout history starts n ≡ Sent byte → Ends layout history starts last (3 - wrong_before layout history starts n) n byte
+  pub ends : (n byte : ℕ)
+      → meeting_at layout history starts n ≡ Sent byte → Ends layout history starts last (3 - wrong_before layout history starts n) n byte
   ends n byte m =
       let few = (counted layout history starts n).few in
       ends_in (3 - wrong_before layout history starts n) n byte (omega (arith, few)) m

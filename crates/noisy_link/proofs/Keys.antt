@@ -14,7 +14,8 @@ use Rattle.kbd_model.specs.Codes.{Keys}
 use Rattle.kbd_model.specs.Keyboard.{Keyboard, offered, offer}
 use Rattle.kbd_model.specs.Once.{is_reset_due}
 use Rattle.kbd_model.specs.Commands.{obeyed_in}
-use Rattle.kbd_model.specs.Tick.{reset, met, without_offered, sent_byte, tested_if, is_scanning, repeated, repeated_if, edge_if, edges_if, is_inhibited, scanned, ticked}
+use Rattle.kbd_model.specs.Tick.{reset, met, without_offered, sent_byte, tested_if, is_scanning, repeated}
+use Rattle.kbd_model.specs.Tick.{repeated_if, edge_if, edges_if, is_inhibited, scanned, ticked}
 use Rattle.noisy_link.specs.Noise.{pause, asked_for}
 
 -- what is kept besides what scans
@@ -34,7 +35,8 @@ repeats_keep true keys inhibited k = by k.repeats
     by (Some r) = record { test = refl; last = refl; reply = refl }
 repeats_keep false keys inhibited k = record { test = refl; last = refl; reply = refl }
 
-edge_keeps : (scanning : Bool) (keys : Keys) (place : ℕ) (down on_fn : Bool) (k : Keyboard) → Keeps k (edge_if scanning keys place down on_fn k)
+edge_keeps : (scanning : Bool) (keys : Keys) (place : ℕ) (down on_fn : Bool) (k : Keyboard)
+    → Keeps k (edge_if scanning keys place down on_fn k)
 edge_keeps true keys place true on_fn k = record { test = refl; last = refl; reply = refl }
 edge_keeps true keys place false on_fn k = record { test = refl; last = refl; reply = refl }
 edge_keeps false keys place down on_fn k = record { test = refl; last = refl; reply = refl }
@@ -48,13 +50,16 @@ edges_keep scanning keys (e ∷ es) k =
 scans_keep : (keys : Keys) (inhibited : Bool) (edges : List TickEdge) (k : Keyboard) → Keeps k (scanned keys inhibited edges k)
 scans_keep keys inhibited edges k =
     let a : Keyboard = repeated_if (is_scanning k) keys inhibited k in
-    both_keep k a (edges_if (is_scanning k) keys edges a) (repeats_keep (is_scanning k) keys inhibited k) (edges_keep (is_scanning k) keys edges a)
+    both_keep k a (edges_if (is_scanning k) keys edges a) (repeats_keep (is_scanning k) keys inhibited k)
+        (edges_keep (is_scanning k) keys edges a)
 
 -- a tick in which the test had ended
-ended_keeps : (keys : Keys) (meeting : KeyboardMeeting) (edges : List TickEdge) (k : Keyboard) → k.test ≡ 0 → Keeps (met meeting keys k) (ticked keys meeting edges k)
+ended_keeps : (keys : Keys) (meeting : KeyboardMeeting) (edges : List TickEdge) (k : Keyboard)
+    → k.test ≡ 0 → Keeps (met meeting keys k) (ticked keys meeting edges k)
 ended_keeps keys meeting edges k e =
     let a : Keyboard = met meeting keys k in
-    let z : ticked keys meeting edges k ≡ scanned keys (is_inhibited meeting) edges a = ap (λ v. scanned keys (is_inhibited meeting) edges (tested_if (not (v == 0)) a)) e in
+    let z : ticked keys meeting edges k ≡ scanned keys (is_inhibited meeting) edges a =
+        ap (λ v. scanned keys (is_inhibited meeting) edges (tested_if (not (v == 0)) a)) e in
     let r : Keeps a (scanned keys (is_inhibited meeting) edges a) = scans_keep keys (is_inhibited meeting) edges a in
     record {
       test = ap (λ (v : Keyboard). v.test) z ∙ r.test;
@@ -75,13 +80,16 @@ sent_by None keys byte k r e = record { test = e; last = refl }
 sent_by (Some reply) keys byte k r e = by reply.resets
   where
     by : (resets : Bool) → IsLastSent (if resets then 64 else 0) (if resets then 0xaa else if byte == 0xfe then k.last else byte)
-        (if resets then reset keys (record k { last = if byte == 0xfe then k.last else byte }) else record k { last = if byte == 0xfe then k.last else byte; reply = None })
+        (if resets then reset keys (record k { last = if byte == 0xfe then k.last else byte })
+            else record k { last = if byte == 0xfe then k.last else byte; reply = None })
     by true = record { test = refl; last = refl }
     by false = record { test = e; last = refl }
 
-pub last_sent : (keys : Keys) (edges : List TickEdge) (byte : ℕ) (k : Keyboard) → k.test ≡ 0 → offer k ≡ Some byte → IsLastSent (pause k) (asked_for byte k) (ticked keys kbd.Sent edges k)
+pub last_sent : (keys : Keys) (edges : List TickEdge) (byte : ℕ) (k : Keyboard)
+    → k.test ≡ 0 → offer k ≡ Some byte → IsLastSent (pause k) (asked_for byte k) (ticked keys kbd.Sent edges k)
 last_sent keys edges byte k e o =
-    let m : met kbd.Sent keys k ≡ without_offered k.reply keys (record k { last = if byte == 0xfe then k.last else byte }) = ap (λ v. sent_byte v keys k) o in
+    let m : met kbd.Sent keys k ≡ without_offered k.reply keys (record k { last = if byte == 0xfe then k.last else byte }) =
+        ap (λ v. sent_byte v keys k) o in
     let s = sent_by k.reply keys byte k refl e in
     let r = ended_keeps keys kbd.Sent edges k e in
     record {
@@ -90,13 +98,15 @@ last_sent keys edges byte k e o =
     }
 
 -- while the test runs
-pub test_runs : (keys : Keys) (edges : List TickEdge) (left byte : ℕ) (k : Keyboard) → IsLastSent (suc left) byte k → IsLastSent left byte (ticked keys kbd.Idle edges k)
+pub test_runs : (keys : Keys) (edges : List TickEdge) (left byte : ℕ) (k : Keyboard)
+    → IsLastSent (suc left) byte k → IsLastSent left byte (ticked keys kbd.Idle edges k)
 test_runs keys edges left byte k h =
     let a : Keyboard = tested_if true k in
     let less : k.test - 1 ≡ left = omega (arith, h.test) in
     let runs : (suc left == 0) ≡ false = grind (arith, nat_tests) in
     let z : ticked keys kbd.Idle edges k ≡ scanned keys false edges a =
-    ap (λ v. scanned keys false edges (tested_if (not (v == 0)) k)) h.test ∙ ap (λ b. scanned keys false edges (tested_if (not b) k)) runs in
+    ap (λ v. scanned keys false edges (tested_if (not (v == 0)) k)) h.test
+        ∙ ap (λ b. scanned keys false edges (tested_if (not b) k)) runs in
     let r : Keeps a (scanned keys false edges a) = scans_keep keys false edges a in
     record {
       test = ap (λ (v : Keyboard). v.test) z ∙ r.test ∙ less;
@@ -118,7 +128,8 @@ untested Ready keys k = refl
 untested WantRate keys k = refl
 untested WantLights keys k = refl
 
-pub resends : (keys : Keys) (edges : List TickEdge) (byte : ℕ) (k : Keyboard) → IsLastSent 0 byte k → Replies byte (ticked keys (kbd.Got 0xfe true) edges k)
+pub resends : (keys : Keys) (edges : List TickEdge) (byte : ℕ) (k : Keyboard)
+    → IsLastSent 0 byte k → Replies byte (ticked keys (kbd.Got 0xfe true) edges k)
 resends keys edges byte k h =
     let r = ended_keeps keys (kbd.Got 0xfe true) edges k h.test in
     let after : Keyboard = ticked keys (kbd.Got 0xfe true) edges k in

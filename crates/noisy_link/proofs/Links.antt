@@ -35,7 +35,8 @@ request_stays byte now next d h = ap (λ (l : Link UnderWay). (after_turn now (t
 abbrev pub IsAsked : ℕ → ℕ → Port UnderWay → Type 0
 IsAsked byte since p = (p.link ≡ Ask byte since) ⊎ (p.link ≡ Request byte)
 
-asked_by : (byte since now : ℕ) (late : Bool) (l : Link UnderWay) → l ≡ (if late then Request byte else Ask byte since) → (l ≡ Ask byte since) ⊎ (l ≡ Request byte)
+asked_by : (byte since now : ℕ) (late : Bool) (l : Link UnderWay)
+    → l ≡ (if late then Request byte else Ask byte since) → (l ≡ Ask byte since) ⊎ (l ≡ Request byte)
 asked_by byte since now true l h = inr h
 asked_by byte since now false l h = inl h
 
@@ -50,13 +51,15 @@ asked_stays byte since now next d (inl h) =
 asked_stays byte since now next d (inr h) = inr (request_stays byte now next d h)
 
 -- after 64 cycles it is requested
-late_request : (byte since now : ℕ) (next : Option HostEvent) (d : Desk UnderWay) → since + 64 ≤ now → IsAsked byte since d.port → IsRequest byte (cycled is_open now next d).desk.port
+late_request : (byte since now : ℕ) (next : Option HostEvent) (d : Desk UnderWay)
+    → since + 64 ≤ now → IsAsked byte since d.port → IsRequest byte (cycled is_open now next d).desk.port
 late_request byte since now next d late (inl h) =
     let t : nat_le (since + 64) now ≡ true = grind (arith, nat_tests, late) in
     settles_ask byte since now next d h ∙ ap (λ b. if b then Request byte else Ask byte since) t
 late_request byte since now next d late (inr h) = request_stays byte now next d h
 
-pub requested : (byte since : ℕ) (events : List HostEvent) (n now : ℕ) (m : Side UnderWay) → 1 ≤ n → since + 64 ≤ now → IsAsked byte since m.port → IsRequest byte (quietly events n now m).port
+pub requested : (byte since : ℕ) (events : List HostEvent) (n now : ℕ) (m : Side UnderWay)
+    → 1 ≤ n → since + 64 ≤ now → IsAsked byte since m.port → IsRequest byte (quietly events n now m).port
 requested byte since events zero now m some late h = absurd (omega (arith, some))
 requested byte since events (suc n) now m some late h =
     span_keeps (IsRequest byte) (request_stays byte) events n (suc now) (byte_cycle events now Quiet m)
@@ -83,7 +86,8 @@ awaits_stays now next d h =
 pub handed : (events : List HostEvent) (now : ℕ) (m : Side UnderWay)
     → AwaitsReply (byte_cycle events (320 + now) IsWhole (quietly events 319 (suc now) (byte_cycle events now (Begins false) m))).port
 handed events now m =
-    cycle_keeps AwaitsReply awaits_stays events (320 + now) IsWhole (quietly events 319 (suc now) (byte_cycle events now (Begins false) m)) (record { link = refl; awaits = refl })
+    cycle_keeps AwaitsReply awaits_stays events (320 + now) IsWhole (quietly events 319 (suc now) (byte_cycle events now (Begins false) m))
+        (record { link = refl; awaits = refl })
 
 -- the keyboard's byte behind it can't be broken off
 record IsReply (flip : Option ℕ) (breakable : Bool) (p : Port UnderWay) : Type 0 where
@@ -99,12 +103,17 @@ reply_stays flip breakable now next d h =
       awaits = ap (λ (p : Port UnderWay). (after_turn now t p).awaits) e ∙ still breakable;
     }
   where
-    kept : (breakable : Bool) → (after_turn now (turn_of now next d) (record d.port { link = Busy (record { from_keyboard = true; flip = flip; breakable = breakable }); awaits = true })).link
+    kept : (breakable : Bool)
+        → (after_turn now (turn_of now next d)
+            (record d.port { link = Busy (record { from_keyboard = true; flip = flip; breakable = breakable }); awaits = true })).link
         ≡ Busy (record { from_keyboard = true; flip = flip; breakable = breakable })
     kept true = refl
     kept false = refl
 
-    still : (breakable : Bool) → (after_turn now (turn_of now next d) (record d.port { link = Busy (record { from_keyboard = true; flip = flip; breakable = breakable }); awaits = true })).awaits ≡ true
+    still : (breakable : Bool)
+        → (after_turn now (turn_of now next d)
+            (record d.port { link = Busy (record { from_keyboard = true; flip = flip; breakable = breakable }); awaits = true })).awaits
+            ≡ true
     still true = refl
     still false = refl
 
@@ -112,13 +121,15 @@ closes_reply : (flip : Option ℕ) (p : Port UnderWay) → IsReply flip true p �
 closes_reply flip p h = record { link = ap closed h.link; awaits = h.awaits }
 
 -- it is still under way in its last cycle
-pub reply_sends : (events : List HostEvent) (now : ℕ) (m : Side UnderWay) → AwaitsReply m.port → (sends events now m).port.link ≡ Busy (record { from_keyboard = true; flip = m.port.flip; breakable = false })
+pub reply_sends : (events : List HostEvent) (now : ℕ) (m : Side UnderWay)
+    → AwaitsReply m.port → (sends events now m).port.link ≡ Busy (record { from_keyboard = true; flip = m.port.flip; breakable = false })
 reply_sends events now m h =
     let flip : Option ℕ = m.port.flip in
     let a : Side UnderWay = byte_cycle events now (Begins true) m in
     let b : Side UnderWay = quietly events 287 (suc now) a in
     let c : Side UnderWay = byte_cycle events (288 + now) Closes b in
-    let begins = cycle_keeps (IsReply flip true) (reply_stays flip true) events now (Begins true) m (record { link = refl; awaits = h.awaits }) in
+    let begins =
+        cycle_keeps (IsReply flip true) (reply_stays flip true) events now (Begins true) m (record { link = refl; awaits = h.awaits }) in
     let goes = span_keeps (IsReply flip true) (reply_stays flip true) events 287 (suc now) a begins in
     let closes = cycle_keeps (IsReply flip false) (reply_stays flip false) events (288 + now) Closes b (closes_reply flip b.port goes) in
     (span_keeps (IsReply flip false) (reply_stays flip false) events 31 (289 + now) c closes).link

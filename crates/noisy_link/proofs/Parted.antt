@@ -10,14 +10,19 @@ use Rattle.key_file.specs.Histories.{KeyHistory}
 use Rattle.layout_reader.specs.Layouts.{KeyLayout}
 use Rattle.quiet_log.specs.Once.{arrived, meeting_at, all_arrived}
 use Rattle.quiet_log.proofs.EachOnce.{same_order, moved_first}
-use Rattle.noisy_link.specs.Fates.{Fate, Again, GivenUp, fate_of, flip_in, side_before, wrong_before, fate_at, right, given_up, asked_again, all_right, all_given_up, all_asked_again}
+use Rattle.noisy_link.specs.Fates.{Fate, Again, GivenUp, fate_of, flip_in, side_before, wrong_before, fate_at, right}
+use Rattle.noisy_link.specs.Fates.{given_up, asked_again, all_right, all_given_up, all_asked_again}
 
 -- the byte of a tick, by its fate
-parts_wrong : (few : Bool) (byte : ℕ) → byte ∷ [] ≡ right (if few then Again byte else GivenUp byte) ++ (given_up (if few then Again byte else GivenUp byte) ++ asked_again (if few then Again byte else GivenUp byte))
+parts_wrong : (few : Bool) (byte : ℕ)
+    → byte ∷ [] ≡ right (if few then Again byte else GivenUp byte)
+    ++ (given_up (if few then Again byte else GivenUp byte) ++ asked_again (if few then Again byte else GivenUp byte))
 parts_wrong true byte = refl
 parts_wrong false byte = refl
 
-parts : (meeting : Meeting) (flip : Option ℕ) (wrong : ℕ) → arrived meeting ≡ right (fate_of meeting flip wrong) ++ (given_up (fate_of meeting flip wrong) ++ asked_again (fate_of meeting flip wrong))
+parts : (meeting : Meeting) (flip : Option ℕ) (wrong : ℕ)
+    → arrived meeting
+    ≡ right (fate_of meeting flip wrong) ++ (given_up (fate_of meeting flip wrong) ++ asked_again (fate_of meeting flip wrong))
 parts (Got byte) flip wrong = refl
 parts Inhibited flip wrong = refl
 parts Idle flip wrong = refl
@@ -34,7 +39,8 @@ swaps a b c d =
     (IsPermutation-append_right a (b ++ (c ++ d)) (c ++ (b ++ d)) (moved_first b c d))
     (same_order (a ++ (c ++ (b ++ d))) ((a ++ c) ++ (b ++ d)) (sym (append_assoc a c (b ++ d)))))
 
-one_more : (all a r g k r' g' k' : List ℕ) → IsPermutation all (r ++ (g ++ k)) → a ≡ r' ++ (g' ++ k') → IsPermutation (all ++ a) ((r ++ r') ++ ((g ++ g') ++ (k ++ k')))
+one_more : (all a r g k r' g' k' : List ℕ)
+    → IsPermutation all (r ++ (g ++ k)) → a ≡ r' ++ (g' ++ k') → IsPermutation (all ++ a) ((r ++ r') ++ ((g ++ g') ++ (k ++ k')))
 one_more all a r g k r' g' k' h e =
     let both : List ℕ = (r ++ (g ++ k)) ++ (r' ++ (g' ++ k')) in
     let first : IsPermutation (all ++ a) both =
@@ -47,12 +53,16 @@ one_more all a r g k r' g' k' h e =
     (IsPermutation-append_right (r ++ r') ((g ++ k) ++ (g' ++ k')) ((g ++ g') ++ (k ++ k')) (swaps g k g' k')))
 
 pub parted : (layout : KeyLayout) (history : KeyHistory) (starts : ℕ → ℕ) (n count : ℕ)
-    → IsPermutation (all_arrived layout history starts n count) (all_right layout history starts n count ++ (all_given_up layout history starts n count ++ all_asked_again layout history starts n count))
+    → IsPermutation (all_arrived layout history starts n count)
+        (all_right layout history starts n count
+            ++ (all_given_up layout history starts n count ++ all_asked_again layout history starts n count))
 parted layout history starts n zero = IsPermutation-refl []
 parted layout history starts n (suc count) =
     let j : ℕ = count + n in
     let fate : Fate = fate_at layout history starts j in
     one_more (all_arrived layout history starts n count) (arrived (meeting_at layout history starts j))
-    (all_right layout history starts n count) (all_given_up layout history starts n count) (all_asked_again layout history starts n count) (right fate) (given_up fate) (asked_again fate)
+    (all_right layout history starts n count) (all_given_up layout history starts n count) (all_asked_again layout history starts n count)
+    (right fate) (given_up fate) (asked_again fate)
     (parted layout history starts n count)
-    (parts (meeting_at layout history starts j) (flip_in (side_before layout history starts j).port.link) (wrong_before layout history starts j))
+    (parts (meeting_at layout history starts j) (flip_in (side_before layout history starts j).port.link)
+        (wrong_before layout history starts j))

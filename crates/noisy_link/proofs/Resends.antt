@@ -15,7 +15,8 @@ use Rattle.ctl_core.specs.declared.port.Input.{Input}
 use Rattle.ctl_core.specs.declared.command.Parameter.{Parameter}
 use Rattle.ctl_core.specs.declared.command.Parameter.TheVariants.{CommandByte, OutputPort}
 use Rattle.ctl_core.specs.declared.command.Command.{Command}
-use Rattle.ctl_core.specs.declared.command.Command.TheVariants.{ReadCommandByte, WriteCommandByte, SelfTest, InterfaceTest, Disable, Enable, ReadInputPort, ReadOutputPort, WriteOutputPort, PulseOutput, Unlisted}
+use Rattle.ctl_core.specs.declared.command.Command.TheVariants.{ReadCommandByte, WriteCommandByte, SelfTest, InterfaceTest, Disable, Enable}
+use Rattle.ctl_core.specs.declared.command.Command.TheVariants.{ReadInputPort, ReadOutputPort, WriteOutputPort, PulseOutput, Unlisted}
 use Rattle.ctl_link.specs.declared.link.Link.TheVariants.{Hold}
 use Rattle.ctl_link.specs.declared.port.Port.{Port}
 use Rattle.ctl_link.specs.Link.{held_since, took_where, may_break, broken_off}
@@ -74,17 +75,20 @@ taken_so : (port : Address) (byte : ℕ) (s : ControllerState) → (taken_by por
 taken_so P60 byte s = passed_so s.awaited byte (record s { input = None; awaited = None })
 taken_so P64 byte s = commanded_so (command_of byte) (record s { input = None; awaited = None })
 
-input_so : (now : ℕ) (held : Option ℕ) (input : Option Input) (p : Port UnderWay) → (took_where now held (taken_from input p.core) p).port.core.resends ≡ p.core.resends
+input_so : (now : ℕ) (held : Option ℕ) (input : Option Input) (p : Port UnderWay)
+    → (took_where now held (taken_from input p.core) p).port.core.resends ≡ p.core.resends
 input_so now None input p = refl
 input_so now (Some since) None p = refl
 input_so now (Some since) (Some input) p = taken_so input.port input.byte p.core
 
-takes_so : (now : ℕ) (held : Option ℕ) (full : Bool) (p : Port UnderWay) → (took_where now held (if full then None else taken p.core) p).port.core.resends ≡ p.core.resends
+takes_so : (now : ℕ) (held : Option ℕ) (full : Bool) (p : Port UnderWay)
+    → (took_where now held (if full then None else taken p.core) p).port.core.resends ≡ p.core.resends
 takes_so now None true p = refl
 takes_so now (Some since) true p = refl
 takes_so now held false p = input_so now held p.core.input p
 
-broken_so : (breaks : Bool) (now : ℕ) (p : Port UnderWay) → (if breaks then record p { link = Hold now } else p).core.resends ≡ p.core.resends
+broken_so : (breaks : Bool) (now : ℕ) (p : Port UnderWay)
+    → (if breaks then record p { link = Hold now } else p).core.resends ≡ p.core.resends
 broken_so true now p = refl
 broken_so false now p = refl
 

@@ -1,5 +1,6 @@
 -- Over any ticks each byte that waited or came to wait has arrived, or was taken away, or waits still.
-use Rattle.std.proofs.Common.{◌≡◌, ℕ, suc, zero, ◌+◌, ◌-◌, List, [], ◌∷◌, ◌++◌, length, drop, refl, ap, sym, ◌∙◌, subst, arith, append_assoc, append-nil}
+use Rattle.std.proofs.Common.{◌≡◌, ℕ, suc, zero, ◌+◌, ◌-◌, List, [], ◌∷◌, ◌++◌, length, drop, refl}
+use Rattle.std.proofs.Common.{ap, sym, ◌∙◌, subst, arith, append_assoc, append-nil}
 use Rattle.std.specs.List.Sorted.{IsPermutation}
 use Rattle.std.proofs.lemmas.List.Sorted.{IsPermutation-append_left, IsPermutation-append_right, IsPermutation-trans}
 use Rattle.byte_time.specs.declared.meeting.Meeting.{Meeting}
@@ -8,7 +9,8 @@ use Rattle.layout_reader.specs.Layouts.{KeyLayout}
 use Rattle.kbd_model.specs.Keyboard.{Keyboard}
 use Rattle.kbd_model.specs.Once.{waiting}
 use Rattle.link_model.specs.TickEdges.{tick_edges}
-use Rattle.quiet_log.specs.Once.{arrived, taken_away, left, put_before, Passes, at_tick, meeting_at, came, all_arrived, all_taken_away, all_came}
+use Rattle.quiet_log.specs.Once.{arrived, taken_away, left, put_before, Passes, at_tick}
+use Rattle.quiet_log.specs.Once.{meeting_at, came, all_arrived, all_taken_away, all_came}
 use Rattle.quiet_log.proofs.EachOnce.{same_order, moved_first, each_byte_once}
 use Rattle.quiet_log.proofs.Silent.{silent_in_test}
 

@@ -1,9 +1,11 @@
 -- A tick, whatever its meeting: what waited arrives, is taken away, or waits on.
-use Rattle.std.proofs.Common.{◌≡◌, ℕ, ◌⊎◌, inl, inr, List, [], ◌∷◌, ◌++◌, drop, Bool, true, false, not, ◌&&◌, ◌==◌, Some, None, refl, ap, sym, ◌∙◌, subst, append_assoc, append-nil}
+use Rattle.std.proofs.Common.{◌≡◌, ℕ, ◌⊎◌, inl, inr, List, [], ◌∷◌, ◌++◌, drop, Bool, true, false, not, ◌&&◌}
+use Rattle.std.proofs.Common.{◌==◌, Some, None, refl, ap, sym, ◌∙◌, subst, append_assoc, append-nil}
 use Rattle.std.specs.Prelude.{if◌then◌else◌, slice_get}
 use Rattle.std.specs.declared.option.Option.{Option}
 use Rattle.std.specs.List.Sorted.{IsPermutation}
-use Rattle.std.proofs.lemmas.List.Sorted.{IsPermutation-refl, IsPermutation-append_comm, IsPermutation-append_left, IsPermutation-append_right, IsPermutation-trans}
+use Rattle.std.proofs.lemmas.List.Sorted.{IsPermutation-refl, IsPermutation-append_comm}
+use Rattle.std.proofs.lemmas.List.Sorted.{IsPermutation-append_left, IsPermutation-append_right, IsPermutation-trans}
 use Rattle.board_lines.specs.declared.event.HostEvent.{HostEvent}
 use Rattle.byte_time.specs.declared.meeting.Meeting.{Meeting}
 use Rattle.byte_time.specs.declared.meeting.Meeting.TheVariants.{Got, Inhibited, Idle, Sent, Cut}
@@ -227,5 +229,6 @@ pub each_byte_once : (layout : KeyLayout) (events : List HostEvent) (edges : Lis
     → Passes (meeting_from (keyboard layout) events start w) w.keys.keyboard
     (whole_tick (keyboard layout) events edges start rest w).keys.keyboard
 each_byte_once layout events edges start rest w silent =
-    passes_by (keys_of layout) (layered (is_fn_place layout) edges w.keys.layers) w.keys.keyboard silent (meeting_from (keyboard layout) events start w)
+    passes_by (keys_of layout) (layered (is_fn_place layout) edges w.keys.layers) w.keys.keyboard
+        silent (meeting_from (keyboard layout) events start w)
     (tested_or_idle layout events start w) (λ byte h. (arrives_as_offered layout events start byte w h).1)

@@ -1,5 +1,6 @@
 -- Over ticks without a command or a reset, all that waited arrives in its order, or waits still.
-use Rattle.std.proofs.Common.{◌≡◌, ℕ, suc, zero, ◌+◌, ◌-◌, ◌≤◌, ◌<◌, List, [], ◌++◌, Bool, Some, refl, ap, sym, ◌∙◌, subst, arith, append_assoc, append-nil}
+use Rattle.std.proofs.Common.{◌≡◌, ℕ, suc, zero, ◌+◌, ◌-◌, ◌≤◌, ◌<◌, List, [], ◌++◌, Bool, Some}
+use Rattle.std.proofs.Common.{refl, ap, sym, ◌∙◌, subst, arith, append_assoc, append-nil}
 use Rattle.board_lines.specs.declared.event.HostEvent.{HostEvent}
 use Rattle.byte_time.specs.declared.meeting.Meeting.{Meeting}
 use Rattle.byte_time.specs.declared.meeting.Meeting.TheVariants.{Got, Inhibited, Idle, Sent, Cut}
@@ -50,7 +51,8 @@ plain_tick : (layout : KeyLayout) (events : List HostEvent) (edges : List (ℕ �
     → Leaves (arrived (meeting_from (keyboard layout) events start w)) (waiting w.keys.keyboard)
     (waiting (whole_tick (keyboard layout) events edges start rest w).keys.keyboard)
 plain_tick layout events edges start rest w e p =
-    passes_by (keys_of layout) (layered (is_fn_place layout) edges w.keys.layers) w.keys.keyboard (meeting_from (keyboard layout) events start w) e
+    passes_by (keys_of layout) (layered (is_fn_place layout) edges w.keys.layers) w.keys.keyboard
+        (meeting_from (keyboard layout) events start w) e
     (λ byte h. (arrives_as_offered layout events start byte w h).1) p
 
 -- from tick to tick

@@ -1,5 +1,6 @@
 -- While the test runs no reply waits.
-use Rattle.std.proofs.Common.{◌≡◌, ℕ, suc, zero, ◌+◌, ◌%◌, ◌==◌, Bool, true, false, not, ◌⊎◌, inl, inr, List, [], ◌∷◌, Some, None, refl, ap, ◌∙◌}
+use Rattle.std.proofs.Common.{◌≡◌, ℕ, suc, zero, ◌+◌, ◌%◌, ◌==◌, Bool, true, false, not, ◌⊎◌}
+use Rattle.std.proofs.Common.{inl, inr, List, [], ◌∷◌, Some, None, refl, ap, ◌∙◌}
 use Rattle.std.specs.Prelude.{if◌then◌else◌, nat_lt, nat_le}
 use Rattle.std.specs.declared.option.Option.{Option}
 use Rattle.byte_time.specs.declared.meeting.Meeting.{Meeting}
@@ -15,7 +16,8 @@ use Rattle.kbd_model.specs.declared.state.Reply.{Reply}
 use Rattle.kbd_model.specs.Codes.{Keys, keys_of}
 use Rattle.kbd_model.specs.Keyboard.{Keyboard, offer}
 use Rattle.kbd_model.specs.Commands.{commanded, parameter, obeyed_in}
-use Rattle.kbd_model.specs.Tick.{reset, met, without_offered, sent_byte, tested_if, is_scanning, repeated, repeated_if, edge_if, edges_if, is_inhibited, scanned, ticked}
+use Rattle.kbd_model.specs.Tick.{reset, met, without_offered, sent_byte, tested_if, is_scanning, repeated}
+use Rattle.kbd_model.specs.Tick.{repeated_if, edge_if, edges_if, is_inhibited, scanned, ticked}
 use Rattle.kbd_model.proofs.Adds.{rest_adds}
 use Rattle.key_file.specs.Histories.{KeyHistory}
 use Rattle.layout_reader.specs.Layouts.{KeyLayout, is_fn_place}
@@ -130,6 +132,7 @@ silent_in_test layout history starts zero = inr refl
 silent_in_test layout history starts (suc n) =
     let w : Whole LayeredKeyboard = at_tick layout history starts n in
     let start : ℕ = 4096 + starts n in
-    silent_by (keys_of layout) (layered (is_fn_place layout) (tick_edges starts history.edges n) w.keys.layers) w.keys.keyboard (silent_in_test layout history starts n)
+    silent_by (keys_of layout) (layered (is_fn_place layout) (tick_edges starts history.edges n) w.keys.layers)
+        w.keys.keyboard (silent_in_test layout history starts n)
     (meeting_at layout history starts n) (tested_or_idle layout history.host start w)
     (λ byte h. (arrives_as_offered layout history.host start byte w h).1)

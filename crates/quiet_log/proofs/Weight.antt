@@ -10,7 +10,8 @@ use Rattle.board_lines.specs.declared.event.HostEvent.{HostEvent}
 use Rattle.ctl_core.specs.Controller.{ControllerState, interrupt_enabled}
 use Rattle.ctl_core.specs.Commands.{taken_by, taken_from, commanded, command_of, passed}
 use Rattle.ctl_core.specs.declared.command.Command.{Command}
-use Rattle.ctl_core.specs.declared.command.Command.TheVariants.{ReadCommandByte, WriteCommandByte, SelfTest, InterfaceTest, Disable, Enable, ReadInputPort, ReadOutputPort, WriteOutputPort, PulseOutput, Unlisted}
+use Rattle.ctl_core.specs.declared.command.Command.TheVariants.{ReadCommandByte, WriteCommandByte, SelfTest, InterfaceTest, Disable, Enable}
+use Rattle.ctl_core.specs.declared.command.Command.TheVariants.{ReadInputPort, ReadOutputPort, WriteOutputPort, PulseOutput, Unlisted}
 use Rattle.ctl_core.specs.declared.command.Parameter.{Parameter}
 use Rattle.ctl_core.specs.declared.command.Parameter.TheVariants.{CommandByte, OutputPort}
 use Rattle.ctl_core.specs.declared.port.Port.{Port as InputPort}

@@ -1,5 +1,6 @@
 -- What INT 09h does with each key that types a character, and with the shift keys, by trying each.
-use Rattle.std.proofs.Common.{◌≡◌, ℕ, suc, zero, ◌<◌, ◌%◌, Bool, true, false, ◌==◌, List, [], ◌∷◌, Some, None, refl, ap, sym, ◌∙◌, subst, arith}
+use Rattle.std.proofs.Common.{◌≡◌, ℕ, suc, zero, ◌<◌, ◌%◌, Bool, true, false, ◌==◌, List, []}
+use Rattle.std.proofs.Common.{◌∷◌, Some, None, refl, ap, sym, ◌∙◌, subst, arith}
 use Rattle.std.specs.Prelude.{if◌then◌else◌, nat_eq}
 use Rattle.std.specs.declared.option.Option.{Option}
 use Rattle.std.proofs.lemmas.Bool.Decides.{nat_tests}

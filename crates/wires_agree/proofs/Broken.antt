@@ -1,5 +1,6 @@
 -- How a frame of the keyboard ends: it arrives whole, or was broken off.
-use Rattle.std.proofs.Common.{◌≡◌, ℕ, suc, ◌+◌, ◌-◌, ◌*◌, ◌≤◌, ◌<◌, List, [], ◌∷◌, ◌++◌, Bool, true, false, ◌&&◌, Some, None, refl, ap, sym, ◌∙◌, subst, arith}
+use Rattle.std.proofs.Common.{◌≡◌, ℕ, suc, ◌+◌, ◌-◌, ◌*◌, ◌≤◌, ◌<◌, List, [], ◌∷◌, ◌++◌, Bool, true}
+use Rattle.std.proofs.Common.{false, ◌&&◌, Some, None, refl, ap, sym, ◌∙◌, subst, arith}
 use Rattle.std.specs.Prelude.{if◌then◌else◌, nat_lt}
 use Rattle.std.proofs.lemmas.Bool.Decides.{nat_tests}
 use Rattle.std.specs.declared.option.Option.{Option}
@@ -17,7 +18,8 @@ use Rattle.ctl_wire.specs.declared.wire.Wire.TheVariants.{Recv}
 use Rattle.ctl_wire.specs.Wire.{edge_at, turned, is_breakable}
 use Rattle.pc_wires.specs.Wires.{Pc, board_cycle}
 use Rattle.byte_time.specs.declared.UnderWay.{UnderWay}
-use Rattle.byte_time.specs.ByteTime.{quietly, byte_cycle, happened_at, closed, Quiet, Begins, Closes, Arrives, arrived_in, arriving, sends, is_open}
+use Rattle.byte_time.specs.ByteTime.{quietly, byte_cycle, happened_at, closed, Quiet, Begins, Closes}
+use Rattle.byte_time.specs.ByteTime.{Arrives, arrived_in, arriving, sends, is_open}
 use Rattle.byte_time.proofs.Quiet.{quiet_more}
 use Rattle.wires_agree.specs.Without.{seen_in_bytes, without_bits, port_by, link_by}
 use Rattle.wires_agree.specs.Cycles.{board_cycles}

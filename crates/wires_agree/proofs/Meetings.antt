@@ -1,5 +1,6 @@
 -- What the link does between the looks of a tick and its meeting.
-use Rattle.std.proofs.Common.{◌≡◌, ℕ, suc, zero, ◌+◌, ◌≤◌, ◌<◌, List, true, false, ◌&&◌, ◌||◌, Some, None, refl, ap, ◌∙◌, ◌⊎◌, inl, inr, arith}
+use Rattle.std.proofs.Common.{◌≡◌, ℕ, suc, zero, ◌+◌, ◌≤◌, ◌<◌, List, true, false, ◌&&◌, ◌||◌}
+use Rattle.std.proofs.Common.{Some, None, refl, ap, ◌∙◌, ◌⊎◌, inl, inr, arith}
 use Rattle.std.specs.Prelude.{if◌then◌else◌}
 use Rattle.ctl_core.specs.Controller.{is_disabled}
 use Rattle.ctl_core.specs.Commands.{taken}

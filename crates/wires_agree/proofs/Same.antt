@@ -9,7 +9,8 @@ use Rattle.ctl_core.specs.declared.controller.Did.TheVariants.{Nothing, ToKeyboa
 use Rattle.ctl_link.specs.declared.link.Link.{Link}
 use Rattle.ctl_link.specs.declared.link.Link.TheVariants.{Free, Hold, Ask, Request, Busy}
 use Rattle.ctl_link.specs.declared.port.Port.{Port}
-use Rattle.ctl_link.specs.Link.{Settled, core_after, filled_by, link_behind, received, held_since, asking, took, took_where, takes_input, link_after, moves_link, settled, may_break, broken_off}
+use Rattle.ctl_link.specs.Link.{Settled, core_after, filled_by, link_behind, received, held_since, asking, took}
+use Rattle.ctl_link.specs.Link.{took_where, takes_input, link_after, moves_link, settled, may_break, broken_off}
 use Rattle.board_lines.specs.declared.event.HostEvent.{HostEvent}
 use Rattle.host_turn.specs.Host.{Turn, is_done}
 use Rattle.host_turn.specs.Run.{Side, goes_on, with_cycled}

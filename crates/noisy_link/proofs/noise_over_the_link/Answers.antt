@@ -11,7 +11,8 @@ pub returns-clause-counted : goal.returns-clause-counted
 returns-clause-counted c = counted
 
 pub returns-clause-again : goal.returns-clause-again
-returns-clause-again c = λ layout history starts last n byte cadence within fate. comes_again layout history starts last n byte cadence within fate
+returns-clause-again c =
+    λ layout history starts last n byte cadence within fate. comes_again layout history starts last n byte cadence within fate
 
 pub returns-clause-ends : goal.returns-clause-ends
 returns-clause-ends c = λ layout history starts last n byte cadence sent. ends layout history starts last cadence n byte sent

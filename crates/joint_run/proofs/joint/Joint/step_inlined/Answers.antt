@@ -6,5 +6,6 @@ use Rattle.joint_run.proofs.joint.Joint.step_inlined.Goals as goal
 pub returns-clause-run : goal.returns-clause-run
 returns-clause-run g c =
     step_of_run c.args.due.now c.args.self.now (told c.step.result c.step.new.seen) c.step.new.self
-    (subst (λ m. IsJointStep c.args.due.now m (due_step c.args.due.now m) (told c.step.result c.step.new.seen) c.step.new.self) c.self.view_is c.step.ensures.step)
+    (subst (λ m. IsJointStep c.args.due.now m (due_step c.args.due.now m) (told c.step.result c.step.new.seen) c.step.new.self)
+        c.self.view_is c.step.ensures.step)
     (are_few_told c.step.result c.step.new.seen c.step.ensures.some c.step.ensures.few)

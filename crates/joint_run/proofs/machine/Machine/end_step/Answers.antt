@@ -11,7 +11,8 @@ returns-clause-ended c =
     let m = c.args.self.now in
     let due = c.args.due.now in
     let is =
-    passed_by m due c.args.cycles c.port_2-p2.result c.as_slice.result.now c.pass-host.new.self c.pass-host.new.items.items c.pass-host.result c.port_2-p2.ensures c.as_slice.ensures.value
+    passed_by m due c.args.cycles c.port_2-p2.result c.as_slice.result.now c.pass-host.new.self c.pass-host.new.items.items
+        c.pass-host.result c.port_2-p2.ensures c.as_slice.ensures.value
     c.pass-host.ensures.passed in
     ap (λ o. record (machine_after (without_edges due) m (ended c.args.cycles due m)) { outside = o }) is.outside
 
@@ -20,12 +21,14 @@ returns-clause-seen c =
     let m = c.args.self.now in
     let due = c.args.due.now in
     let is =
-    passed_by m due c.args.cycles c.port_2-p2.result c.as_slice.result.now c.pass-host.new.self c.pass-host.new.items.items c.pass-host.result c.port_2-p2.ensures c.as_slice.ensures.value
+    passed_by m due c.args.cycles c.port_2-p2.result c.as_slice.result.now c.pass-host.new.self c.pass-host.new.items.items
+        c.pass-host.result c.port_2-p2.ensures c.as_slice.ensures.value
     c.pass-host.ensures.passed in
     record {
       cycles = refl;
       edges = refl;
       host = is.done;
       items = is.items;
-      lines = ap (λ l. l ∷ c.pass-host.result.2 ∷ []) is.first ∙ ap (λ l. wires (latch_of m.mcu.p2) (passed 1 m.cycle m.mcu.p2 due.host.items m.outside).pc ∷ l ∷ []) is.last;
+      lines = ap (λ l. l ∷ c.pass-host.result.2 ∷ []) is.first
+          ∙ ap (λ l. wires (latch_of m.mcu.p2) (passed 1 m.cycle m.mcu.p2 due.host.items m.outside).pc ∷ l ∷ []) is.last;
     }
