@@ -39,7 +39,7 @@ module _ (d : Board) (bytes : List ℕ) (hk : HasKernel bytes) (alike : IsSilent
   abbrev pub shine : Bool → d.State
   shine l =
       shining d bytes hk alike small low (held_before d bytes hk alike small low w s few) (w.cycle + 3)
-          (cpu_at_head d bytes hk alike small low w s few l)
+      (cpu_at_head d bytes hk alike small low w s few l)
       (board3 d bytes hk alike small low w s few) (stacked (cells_in w.cpu.ram)) (drop 112 w.cpu.ram)
 
   -- the board so many cycles later

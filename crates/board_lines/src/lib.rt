@@ -19,4 +19,3 @@ pub use laws::{edges_shown, first_edges_shown};
 pub use lines::Lines;
 pub use matrix::Matrix;
 pub use place::Place;
-

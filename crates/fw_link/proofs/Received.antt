@@ -78,7 +78,7 @@ module _ (outside : Board) (bytes : List ℕ) (has : HasKernel bytes) (start : �
         off = is.2;
         board_now =
             is.3 ∙ spans outside start (received_latch begun.p2) 28 0 start 0 begun.p2 board board refl
-                (λ cycle within. before_cells begun.p2 cycle within) refl;
+            (λ cycle within. before_cells begun.p2 cycle within) refl;
       })
       (awaits outside bytes has start begun board cells ring free)
 
@@ -100,7 +100,7 @@ module _ (outside : Board) (bytes : List ℕ) (has : HasKernel bytes) (start : �
       (start + stage.off) stage.cpu.p2 stage.cpu.p1 stage.board few one same_cycle same_latch held.board_now ∙ ap wire eighth in
       from_stage outside (kernel_in true bytes) (has_rows true bytes has) start R_PARITY begun counted ring stage
       (At outside (record stage.cpu { p2 = let_go }) R_STOP
-          (with_parity outside bytes has (start + stage.off) stage.cpu stage.board counted ring) ring 32
+      (with_parity outside bytes has (start + stage.off) stage.cpu stage.board counted ring) ring 32
       (board_behind_bit outside bytes has (start + stage.off) stage.cpu stage.board counted ring))
       (At outside begun R_STOP got ring (28 + 32 * 9) (at_offset (28 + 32 * 9))) held.cpu
       (λ end arrives. record {
@@ -146,7 +146,7 @@ module _ (outside : Board) (bytes : List ℕ) (has : HasKernel bytes) (start : �
         off = (let count : end.off ≡ 32 = arrives.off in omega (arith, count, off_is));
         now =
             arrives.now ∙ cell_span outside bytes has start begun board cells ring released small 9 (start + stage.off)
-                stage.cpu.p2 stage.board nine same_cycle same_latch held.now;
+            stage.cpu.p2 stage.board nine same_cycle same_latch held.now;
       })
       (takes_stop outside bytes has (start + stage.off) stage.cpu stage.board got ring free)
 
@@ -185,7 +185,7 @@ module _ (outside : Board) (bytes : List ℕ) (has : HasKernel bytes) (start : �
   -- released at its end
   pub received_frame : IsFree begun
       → Leads outside (kernel_in true bytes) start (begin_at outside GOT cells ring begun board)
-          (At outside begun COMMAND got ring 366 (at_offset 366))
+      (At outside begun COMMAND got ring 366 (at_offset 366))
   received_frame free =
       let kernel = kernel_in true bytes in
       let has' = has_rows true bytes has in
@@ -194,11 +194,11 @@ module _ (outside : Board) (bytes : List ℕ) (has : HasKernel bytes) (start : �
       (λ stage is free.
       chain outside kernel has' start (In 0) End stage
       (counts_down outside kernel has' start In
-          (λ left stage held free. one_bit outside bytes has start begun board cells ring released small left stage held free) 8 stage is
+      (λ left stage held free. one_bit outside bytes has start begun board cells ring released small left stage held free) 8 stage is
       free)
       (λ stage held free.
       chain outside kernel has' start (At outside begun R_STOP got ring (28 + 32 * 9) (at_offset (28 + 32 * 9)))
-          End stage (parity_cell stage held free)
+      End stage (parity_cell stage held free)
       (λ stage held free.
       chain outside kernel has' start (At outside begun R_ACK got ring (28 + 32 * 10) (at_offset (28 + 32 * 10))) End stage
       (stop_cell stage held free) last_fall)))

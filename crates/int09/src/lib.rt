@@ -12,4 +12,3 @@ mod rules;
 mod said;
 
 pub use bios::{Bios, Flags9};
-

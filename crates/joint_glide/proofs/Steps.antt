@@ -59,7 +59,7 @@ module _ (due : Due) (m : Machine) (none : made_first m.cycle due.edges.items �
       → IsJointStep due m (due_step due m) (Ok seen) new
   ended_so cycles cpu seen new h count e s =
       let at : new ≡ machine_after due m (came due m cycles cpu) =
-          e ∙ ap (λ k. record (machine_after due m (came due m cycles cpu)) { matrix = k }) (sym same_keys) in
+      e ∙ ap (λ k. record (machine_after due m (came due m cycles cpu)) { matrix = k }) (sym same_keys) in
       let told : IsSeen due m (came due m cycles cpu) seen = record {
         cycles = s.cycles;
         edges = s.edges ∙ sym (ap length none);

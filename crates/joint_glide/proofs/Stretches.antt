@@ -52,7 +52,7 @@ module _ (due : Due) (tick : ℕ) (old : Machine) (to : ℕ) (still : IsStillTo 
         → record here { mcu = next; cycle = here.cycle + cycles; steps = here.steps + 1 } ≡ stood old next (steps + 1) (passed + cycles)
     on_one next cycles =
         same_stood old next (old.cycle + passed + cycles) (old.cycle + (passed + cycles)) (old.steps + steps + 1)
-            (old.steps + (steps + 1)) (omega arith) (omega arith)
+        (old.steps + (steps + 1)) (omega arith) (omega arith)
 
     module _ (cycles : ℕ) (next : Cpu) (some : 0 < cycles) (few : cycles < 3) (kept : next.p2 ≡ cpu.p2)
         (room : old.cycle + passed + cycles ≤ to)
@@ -70,14 +70,14 @@ module _ (due : Due) (tick : ℕ) (old : Machine) (to : ℕ) (still : IsStillTo 
           (stood old next (steps + 1) (passed + cycles))
       one_told =
           subst (λ (n : Machine). IsJointStep due here (due_step due here) (Ok (told_quietly cycles (outside_wires cpu.p2 old.outside))) n)
-              (on_one next cycles)
+          (on_one next cycles)
           (quiet_step due here (none_made before_end) cycles next some few kept (still_here cycles room) h)
 
       pub one_more : AreQuiet due tick steps old here
           → (next.pc % 2048 == tick) ≡ false → AreQuiet due tick (steps + 1) old (stood old next (steps + 1) (passed + cycles))
       one_more quiet off =
           subst (λ (k : ℕ). AreQuiet due tick k old (stood old next (steps + 1) (passed + cycles)))
-              (sym (add-one steps)) (here, quiet, one_quiet, off)
+          (sym (add-one steps)) (here, quiet, one_quiet, off)
 
     -- the last step writes port 2
     pub ends_written : (cycles : ℕ) (next : Cpu) (seen : Seen) (new : Machine) → old.cycle + passed < to
@@ -97,13 +97,13 @@ module _ (due : Due) (tick : ℕ) (old : Machine) (to : ℕ) (still : IsStillTo 
       → AreQuiet due tick steps' old (stood old cpu steps' passed')
   renumbered cpu steps steps' passed passed' a b quiet =
       subst (λ (n : ℕ). AreQuiet due tick steps' old (stood old cpu steps' n)) b
-          (subst (λ (n : ℕ). AreQuiet due tick n old (stood old cpu n passed)) a quiet)
+      (subst (λ (n : ℕ). AreQuiet due tick n old (stood old cpu n passed)) a quiet)
 
   -- jumps to where the processor stands
   pub jumped : (cpu : Cpu) (steps passed count : ℕ) → cpu.p2 ≡ old.mcu.p2 → spun 0 cpu ≡ cpu → (cpu.pc % 2048 == tick) ≡ false
       → ((j : ℕ) → j < count
-          → stepped old.image.bytes (pins_now (stood old cpu steps passed)) (spun j cpu)
-          ≡ Some (record { cpu = spun (j + 1) cpu; cycles = 2 }))
+      → stepped old.image.bytes (pins_now (stood old cpu steps passed)) (spun j cpu)
+      ≡ Some (record { cpu = spun (j + 1) cpu; cycles = 2 }))
       → old.cycle + passed + 2 * count ≤ to → AreQuiet due tick steps old (stood old cpu steps passed)
       → AreQuiet due tick (steps + count) old (stood old (spun count cpu) (steps + count) (passed + 2 * count))
   jumped cpu steps passed zero latch start off each room quiet =
@@ -111,20 +111,20 @@ module _ (due : Due) (tick : ℕ) (old : Machine) (to : ℕ) (still : IsStillTo 
       (subst (λ (n : Machine). AreQuiet due tick steps old n)
       (ap (λ c. stood old c steps passed) (sym start)
       ∙ same_stood old (spun 0 cpu) (old.cycle + passed) (old.cycle + (passed + 2 * 0)) (old.steps + steps)
-          (old.steps + (steps + 0)) (omega arith) (omega arith)) quiet)
+      (old.steps + (steps + 0)) (omega arith) (omega arith)) quiet)
   jumped cpu steps passed (suc count) latch start off each room quiet =
       let before = jumped cpu steps passed count latch start off (λ j below. each j (omega (arith, below))) (omega (arith, room)) quiet in
       let made : stepped old.image.bytes (pins_now (stood old cpu steps passed)) (spun count cpu)
-          ≡ Some (record { cpu = spun (count + 1) cpu; cycles = 2 }) = each count (omega arith) in
+      ≡ Some (record { cpu = spun (count + 1) cpu; cycles = 2 }) = each count (omega arith) in
       let is : IsStep old.image.bytes (spun count cpu) (stepped old.image.bytes (pins_now (stood old cpu steps passed)) (spun count cpu))
-          (Ok 2) (spun (count + 1) cpu) =
+      (Ok 2) (spun (count + 1) cpu) =
       subst (λ (o : Option Stepped). IsStep old.image.bytes (spun count cpu) o (Ok 2) (spun (count + 1) cpu)) (sym made) (refl, refl) in
       let more : AreQuiet due tick (steps + count + 1) old (stood old (spun (count + 1) cpu) (steps + count + 1) (passed + 2 * count + 2)) =
       one_more (spun count cpu) (steps + count) (passed + 2 * count) latch 2 (spun (count + 1) cpu) (omega arith)
-          (omega arith) refl (omega (arith, room)) is before off in
+      (omega arith) refl (omega (arith, room)) is before off in
       subst (λ (k : ℕ). AreQuiet due tick (steps + k) old (stood old (spun k cpu) (steps + k) (passed + 2 * k))) (add-one count)
       (renumbered (spun (count + 1) cpu) (steps + count + 1) (steps + (count + 1)) (passed + 2 * count + 2)
-          (passed + 2 * (count + 1)) (omega arith) (omega arith) more)
+      (passed + 2 * (count + 1)) (omega arith) (omega arith) more)
 
   -- the stretch, and its last step
   pub gone : (steps room : ℕ) (last new : Machine) (seen : Seen) → AreQuiet due tick steps old last → last.cycle ≤ old.cycle + room
@@ -186,15 +186,15 @@ calls_are_quiet due tick (suc k) to old new still h room =
     let some = c.some in
     let outside : between.outside ≡ old.outside = ap (λ (n : Machine). n.outside) a.parts in
     let still_now : (y : ℕ)
-        → between.cycle ≤ y → y < between.cycle + c.cycles → IsStill y between.mcu.p2 (slice_get due.host.items 0) between.outside =
+    → between.cycle ≤ y → y < between.cycle + c.cycles → IsStill y between.mcu.p2 (slice_get due.host.items 0) between.outside =
     λ y l u.
     subst (λ p. IsStill y p (slice_get due.host.items 0) between.outside) (sym a.latch)
     (subst (λ (o : Outside). IsStill y old.mcu.p2 (slice_get due.host.items 0) o) (sym outside)
-        (still.still y (omega (arith, l, since)) (omega (arith, u, at, room)))) in
+    (still.still y (omega (arith, l, since)) (omega (arith, u, at, room)))) in
     let is : IsStep between.image.bytes between.mcu (stepped between.image.bytes (pins_now between) between.mcu) (Ok c.cycles) new.mcu =
     subst (λ (o : Option Stepped). IsStep between.image.bytes between.mcu o (Ok c.cycles) new.mcu) (sym c.step) (refl, refl) in
     let quiet : IsQuiet due between new =
     subst (λ (n : Machine). IsQuiet due between n) (sym c.parts)
     (is_quiet due between (still.edges between.cycle since (omega (arith, some, at, room)))
-        c.cycles new.mcu c.some c.few c.latch still_now is) in
+    c.cycles new.mcu c.some c.few c.latch still_now is) in
     (between, calls_are_quiet due tick k to old between still h.1 (omega (arith, at, room)), quiet, h.3)

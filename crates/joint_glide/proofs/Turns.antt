@@ -69,7 +69,7 @@ module _ (due : Due) (tick : ℕ) (old j : Machine) (room steps passed : ℕ) (s
           let at : new ≡ stood old x.mcu steps passed = counted steps passed e in
           let is : IsJointStep due here (due_step due here) (Ok seen) end =
           ends_written due tick old (old.cycle + room) still j.mcu steps passed latch cycles x.mcu seen
-              end before_end (called (Ok cycles) x.mcu h) count
+          end before_end (called (Ok cycles) x.mcu h) count
           (ends ∙ ap (λ (m : Machine). machine_after (without_edges due) m (ended cycles due m)) at)
           (subst (λ (m : Machine). IsSeen (without_edges due) m (ended cycles due m) seen) at tells) in
           let more : 0 < seen.cycles = omega (arith, some, count) in
@@ -89,10 +89,10 @@ module _ (due : Due) (tick : ℕ) (old j : Machine) (room steps passed : ℕ) (s
             let is : IsJointStep due here (due_step due here) (Ok seen) new =
             subst (λ (s : Seen). IsJointStep due here (due_step due here) (Ok s) new) same
             (subst (λ (n : Machine).
-                IsJointStep due here (due_step due here) (Ok (told_quietly cycles (outside_wires j.mcu.p2 old.outside))) n)
+            IsJointStep due here (due_step due here) (Ok (told_quietly cycles (outside_wires j.mcu.p2 old.outside))) n)
             (sym (counted (steps + 1) (passed + cycles) e))
             (one_told due tick old (old.cycle + room) still j.mcu steps passed latch cycles x.mcu some
-                few kept in_room (called (Ok cycles) x.mcu h))) in
+            few kept in_room (called (Ok cycles) x.mcu h))) in
             let count : seen.cycles ≡ cycles = ap (λ (s : Seen). s.cycles) tells in
             let more : 0 < seen.cycles = omega (arith, some, count) in
             let less : seen.cycles < 3 = omega (arith, few, count) in
@@ -101,24 +101,24 @@ module _ (due : Due) (tick : ℕ) (old j : Machine) (room steps passed : ℕ) (s
         pub turn_on : (x.mcu.pc % 2048 == tick) ≡ false → AreQuiet due tick (steps + 1) old (stood old x.mcu (steps + 1) (passed + cycles))
         turn_on off =
             one_more due tick old (old.cycle + room) still j.mcu steps passed latch cycles x.mcu some few
-                kept in_room (called (Ok cycles) x.mcu h) quiet off
+            kept in_room (called (Ok cycles) x.mcu h) quiet off
 
         -- and jumps to where the processor stands then
         pub turn_leapt : (end : Machine) (jumps : ℕ) → (x.mcu.pc % 2048 == tick) ≡ false → spun 0 x.mcu ≡ x.mcu
             → ((k : ℕ) → k < jumps
-                → stepped x.image.bytes (pins_now x) (spun k x.mcu) ≡ Some (record { cpu = spun (k + 1) x.mcu; cycles = 2 }))
+            → stepped x.image.bytes (pins_now x) (spun k x.mcu) ≡ Some (record { cpu = spun (k + 1) x.mcu; cycles = 2 }))
             → end ≡ record x { mcu = spun jumps x.mcu } → passed + cycles + 2 * jumps ≤ room
             → AreQuiet due tick (steps + 1 + jumps) old (stood old end.mcu (steps + 1 + jumps) (passed + cycles + 2 * jumps))
         turn_leapt end jumps off start each e low =
             let all : x ≡ record old { mcu = x.mcu } = parts_on old j x parts only in
             let more : (k : ℕ) → k < jumps
-                → stepped old.image.bytes (pins_now (stood old x.mcu (steps + 1) (passed + cycles))) (spun k x.mcu)
-                ≡ Some (record { cpu = spun (k + 1) x.mcu; cycles = 2 }) =
+            → stepped old.image.bytes (pins_now (stood old x.mcu (steps + 1) (passed + cycles))) (spun k x.mcu)
+            ≡ Some (record { cpu = spun (k + 1) x.mcu; cycles = 2 }) =
             λ k below. subst
-                (λ (m : Machine). stepped m.image.bytes (pins_now m) (spun k x.mcu)
-                    ≡ Some (record { cpu = spun (k + 1) x.mcu; cycles = 2 })) all (each k below) in
+            (λ (m : Machine). stepped m.image.bytes (pins_now m) (spun k x.mcu)
+            ≡ Some (record { cpu = spun (k + 1) x.mcu; cycles = 2 })) all (each k below) in
             let at : end.mcu ≡ spun jumps x.mcu = ap (λ (m : Machine). m.mcu) e in
             subst (λ (c : Cpu). AreQuiet due tick (steps + 1 + jumps) old (stood old c (steps + 1 + jumps) (passed + cycles + 2 * jumps)))
-                (sym at)
+            (sym at)
             (jumped due tick old (old.cycle + room) still x.mcu (steps + 1) (passed + cycles) jumps (kept ∙ latch)
-                start off more (omega (arith, low)) (turn_on off))
+            start off more (omega (arith, low)) (turn_on off))

@@ -24,7 +24,7 @@ first_made cycle [] order = refl
 first_made cycle (e ∷ es) order =
     let none : List Edge = [] in
     elim (is_made cycle e) as (λ b. is_made cycle e ≡ b
-        → (if b then e ∷ filter (is_made cycle) es else filter (is_made cycle) es) ≡ (if b then e ∷ made_first cycle es else none)) [
+    → (if b then e ∷ filter (is_made cycle) es else filter (is_made cycle) es) ≡ (if b then e ∷ made_first cycle es else none)) [
       | true ↦ λ h. ap (λ v. e ∷ v) (first_made cycle es (tail_in_order e es order))
       | false ↦ λ h. none_after cycle e es order h
     ] refl
@@ -36,7 +36,7 @@ module _ (cycle : ℕ) where
   behind_made (e ∷ es) ys h =
       let none : List Edge = [] in
       elim (is_made cycle e) as (λ b. (if b then e ∷ made_first cycle es else none) ≡ e ∷ es
-          → (if b then e ∷ made_first cycle (es ++ ys) else none) ≡ e ∷ (es ++ made_first cycle ys)) [
+      → (if b then e ∷ made_first cycle (es ++ ys) else none) ≡ e ∷ (es ++ made_first cycle ys)) [
         | true ↦ λ g. ap (λ v. e ∷ v) (behind_made es ys (cc g))
         | false ↦ λ g. absurd (cc g)
       ] h
@@ -53,7 +53,7 @@ module _ (cycle : ℕ) where
   is_prefix (suc n) (e ∷ es) =
       let none : List Edge = [] in
       elim (is_made cycle e) as (λ b. (if b then e ∷ made_first cycle (take n es) else none)
-          ≡ take (length (if b then e ∷ made_first cycle (take n es) else none)) (e ∷ es)) [
+      ≡ take (length (if b then e ∷ made_first cycle (take n es) else none)) (e ∷ es)) [
         | true ↦ ap (λ v. e ∷ v) (is_prefix n es)
         | false ↦ refl
       ]
@@ -67,7 +67,7 @@ all_later cycle later l [] h = refl
 all_later cycle later l (e ∷ es) h =
     let none : List Edge = [] in
     elim (is_made cycle e) as (λ b. is_made cycle e ≡ b
-        → (if b then e ∷ made_first cycle es else none) ≡ e ∷ es → made_first later (e ∷ es) ≡ e ∷ es) [
+    → (if b then e ∷ made_first cycle es else none) ≡ e ∷ es → made_first later (e ∷ es) ≡ e ∷ es) [
       | true ↦ λ m g. ap (λ b. if b then e ∷ made_first later es else none) (made_later cycle later e l m)
           ∙ ap (λ v. e ∷ v) (all_later cycle later l es (cc g))
       | false ↦ λ m g. absurd (cc g)
@@ -79,7 +79,7 @@ made_twice cycle [] = refl
 made_twice cycle (e ∷ es) =
     let none : List Edge = [] in
     elim (is_made cycle e) as (λ b. is_made cycle e ≡ b
-        → made_first cycle (if b then e ∷ made_first cycle es else none) ≡ (if b then e ∷ made_first cycle es else none)) [
+    → made_first cycle (if b then e ∷ made_first cycle es else none) ≡ (if b then e ∷ made_first cycle es else none)) [
       | true ↦ λ h. ap (λ b. if b then e ∷ made_first cycle (made_first cycle es) else none) h ∙ ap (λ v. e ∷ v) (made_twice cycle es)
       | false ↦ λ h. refl
     ] refl
@@ -102,7 +102,7 @@ module _ (edges : List Edge) (order : AreInOrder edges) (made cycle : ℕ) (due 
       ∙ behind_made cycle (take made edges) (drop made edges) reached
       ∙ ap (λ es. take made edges ++ made_first cycle es) (sym (take-append-drop (length due) (drop made edges)))
       ∙ ap (λ es. take made edges ++ es)
-          (before_unmade cycle (take (length due) (drop made edges)) (drop (length due) (drop made edges)) all)
+      (before_unmade cycle (take (length due) (drop made edges)) (drop (length due) (drop made edges)) all)
       ∙ ap (λ es. take made edges ++ made_first cycle es) (sym next)
 
   pub taken_now : take (made + length (made_first cycle due)) edges ≡ take made edges ++ made_first cycle due

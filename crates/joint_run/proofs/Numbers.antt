@@ -12,7 +12,7 @@ module _ (d : Board) (tick : ℕ) (bytes : List ℕ) (from : World d.State) wher
 
   calm_by : (n k : ℕ) (w e : World d.State)
       → ((t : World d.State) → run_at d bytes from (suc k) ≡ Some t
-          → calm d tick bytes n t ≡ Some e → Reaches (suc k + n) e (starts_before d tick bytes from (suc k)))
+      → calm d tick bytes n t ≡ Some e → Reaches (suc k + n) e (starts_before d tick bytes from (suc k)))
       → run_at d bytes from k ≡ Some w → (b : Bool) → at_tick d tick w ≡ b → (o : Option (World d.State)) → joint_step d bytes w ≡ o
       → (elim (elim b as (λ v. Option (World d.State)) [ true ↦ None | false ↦ o ]) as (λ v. Option (World d.State)) [
         | None ↦ None

@@ -94,7 +94,7 @@ module _ (edges : List Edge) (events : List HostEvent) (order : AreInOrder edges
   goes n seen new run e s some few =
       let count : m.cycle + seen.cycles ≡ m.cycle + n.cycles = s.cycles in
       let same : (came n).board ≡ behind done w.board.pc.side.log (alone n) =
-          board_same n (omega (arith, some, count)) (omega (arith, few, count)) in
+      board_same n (omega (arith, some, count)) (omega (arith, few, count)) in
       let on : m.steps + 1 ≡ suc m.steps = omega arith in
       let edges_now : take (made + seen.edges) edges ≡ take made edges ++ firsts = taken_edges seen.edges s.edges in
       record {
@@ -130,5 +130,5 @@ pub step_of_run : (due : Due) (m : Machine) (result : Result Seen Stuck) (new : 
     → IsStepOfRun due m result new
 step_of_run due m result new h few edges events made w order r d =
     by_row edges events order m made w r due d
-        (stepped m.image.bytes (pins_by (keys_in_step due m) m.mcu.p1 m.mcu.p2 (beside m.outside 0 [])) m.mcu)
+    (stepped m.image.bytes (pins_by (keys_in_step due m) m.mcu.p1 m.mcu.p2 (beside m.outside 0 [])) m.mcu)
     result new (run_on edges events order m made w r due d) h few

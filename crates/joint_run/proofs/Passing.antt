@@ -55,7 +55,7 @@ cycle_is events p2 now o done log =
     opened events p2 now o done log
     ∙ ap (λ t. record { pc = record { side = t; clock = line.clk }; shown = lights_of p2 }) (going events now (record s { port = p }))
     ∙ ap (λ v. beside (record { desk = c.desk; clock = line.clk; shown = lights_of p2 }) (if c.done then done + 1 else done) v)
-        (append_assoc log lights (stamped now c.items))
+    (append_assoc log lights (stamped now c.items))
 
 count_first : (d : Bool) → (if d then 0 + 1 else 0) ≡ bool_byte d
 count_first true = refl
@@ -77,7 +77,7 @@ module _ (events : List HostEvent) (p2 now : ℕ) (o o1 : Outside) (d1 : Bool) (
       let c : Passed = outside_cycle now p2 next1 o in
       cycle_is events p2 now o 0 []
       ∙ ap (λ v. beside (outside_cycle now p2 v o).outside (if (outside_cycle now p2 v o).done then 0 + 1 else 0)
-          ([] ++ (outside_cycle now p2 v o).items)) (sym n1)
+      ([] ++ (outside_cycle now p2 v o).items)) (sym n1)
       ∙ ap (λ v. beside c.outside (if c.done then 0 + 1 else 0) (v ++ c.items)) (sym z)
       ∙ ap (λ v. beside v (if c.done then 0 + 1 else 0) (i0 ++ c.items)) (sym a1)
       ∙ ap (λ v. beside o1 (if v then 0 + 1 else 0) (i0 ++ c.items)) (sym b1)
@@ -93,8 +93,8 @@ module _ (events : List HostEvent) (p2 now : ℕ) (o o1 : Outside) (d1 : Bool) (
         ap (λ v. joint_cycle events p2 (now + 1) v) pass_one
         ∙ cycle_is events p2 (now + 1) o1 (bool_byte d1) i1
         ∙ ap (λ v. beside (outside_cycle (now + 1) p2 v o1).outside
-            (if (outside_cycle (now + 1) p2 v o1).done then bool_byte d1 + 1 else bool_byte d1)
-            (i1 ++ (outside_cycle (now + 1) p2 v o1).items)) (sym n2)
+        (if (outside_cycle (now + 1) p2 v o1).done then bool_byte d1 + 1 else bool_byte d1)
+        (i1 ++ (outside_cycle (now + 1) p2 v o1).items)) (sym n2)
         ∙ ap (λ v. beside v (if c.done then bool_byte d1 + 1 else bool_byte d1) (i1 ++ c.items)) (sym a2)
         ∙ ap (λ v. beside o2 (if v then bool_byte d1 + 1 else bool_byte d1) (i1 ++ c.items)) (sym b2)
         ∙ ap (λ v. beside o2 v (i1 ++ c.items)) (count_second d1 d2)

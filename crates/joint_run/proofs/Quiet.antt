@@ -113,8 +113,8 @@ module _ (line : Lines) (lit now : ℕ) (next : Option HostEvent) (o : Outside) 
   looks free level =
       ap ended_at (wires_free line o.desk.port.link free)
       ∙ ap (λ b. ended line.clk
-          (cycled is_breakable now next
-              (record o.desk { port = if b then edge_at now line.dat o.desk.port.link o.desk.port else o.desk.port }))) level
+      (cycled is_breakable now next
+      (record o.desk { port = if b then edge_at now line.dat o.desk.port.link o.desk.port else o.desk.port }))) level
 
   -- nothing is said
   says : (lit == o.shown) ≡ true → ended line.clk (record { desk = o.desk; items = []; done = false })

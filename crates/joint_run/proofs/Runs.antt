@@ -40,7 +40,7 @@ module _ (events due : List HostEvent) (p2 : ℕ) (done : ℕ) (log : List Stamp
       let c : Passed = outside_cycle now p2 (slice_get due k) o in
       cycle_is events p2 now o (done + k) (log ++ said)
       ∙ ap (λ v. beside (outside_cycle now p2 v o).outside (if (outside_cycle now p2 v o).done then done + k + 1 else done + k)
-          ((log ++ said) ++ (outside_cycle now p2 v o).items)) e
+      ((log ++ said) ++ (outside_cycle now p2 v o).items)) e
       ∙ ap (λ v. beside c.outside v ((log ++ said) ++ c.items)) (count_on c.done done k)
       ∙ ap (λ v. beside c.outside (done + (if c.done then k + 1 else k)) v) (append_assoc log said c.items)
       ∙ ap (λ v. behind done log v) (sym (cycle_is due p2 now o k said))

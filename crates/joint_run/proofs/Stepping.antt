@@ -24,7 +24,7 @@ module _ (due : Due) (m : Machine) where
   by_row seen new cpu e s (Some n) h =
       let k : seen.cycles ≡ n.cycles = cc h.0 in
       let a : new ≡ machine_after due m (came n.cycles n.cpu) =
-          e ∙ ap (λ k. machine_after due m (came k cpu)) k ∙ ap (λ c. machine_after due m (came n.cycles c)) h.1 in
+      e ∙ ap (λ k. machine_after due m (came k cpu)) k ∙ ap (λ c. machine_after due m (came n.cycles c)) h.1 in
       let b : IsSeen due m (came n.cycles cpu) seen = subst (λ k. IsSeen due m (came k cpu) seen) k s in
       (a, subst (λ c. IsSeen due m (came n.cycles c) seen) h.1 b)
 

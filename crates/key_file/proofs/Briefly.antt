@@ -33,7 +33,7 @@ from_end-more n m xs e some next =
     let len : length (xs ++ e ∷ []) ≡ length xs + 1 = length-append xs (e ∷ []) in
     let place : length (xs ++ e ∷ []) - m ≡ length xs - n = omega (arith, len, next) in
     elim (nat_le n (length xs)) as (λ b. nat_le n (length xs) ≡ b
-        → from_end m (xs ++ e ∷ []) ≡ (if b then slice_get xs (length xs - n) else None)) [
+    → from_end m (xs ++ e ∷ []) ≡ (if b then slice_get xs (length xs - n) else None)) [
       | true ↦ λ h.
           let there : nat_le m (length (xs ++ e ∷ [])) ≡ true = grind (arith, nat_tests, len, next, h) in
           let enough : n ≤ length xs = grind (arith, nat_tests, h) in
@@ -49,7 +49,7 @@ pub latest-push : (xs : List Edge) (e : Edge)
     → latest_of (xs ++ e ∷ []) ≡ from_end 3 xs ∷ from_end 2 xs ∷ from_end 1 xs ∷ Some e ∷ []
 latest-push xs e =
     ap (λ a. a ∷ from_end 3 (xs ++ e ∷ []) ∷ from_end 2 (xs ++ e ∷ []) ∷ from_end 1 (xs ++ e ∷ []) ∷ [])
-        (from_end-more 3 4 xs e (omega arith) refl)
+    (from_end-more 3 4 xs e (omega arith) refl)
     ∙ ap (λ a. from_end 3 xs ∷ a ∷ from_end 2 (xs ++ e ∷ []) ∷ from_end 1 (xs ++ e ∷ []) ∷ []) (from_end-more 2 3 xs e (omega arith) refl)
     ∙ ap (λ a. from_end 3 xs ∷ from_end 2 xs ∷ a ∷ from_end 1 (xs ++ e ∷ []) ∷ []) (from_end-more 1 2 xs e (omega arith) refl)
     ∙ ap (λ a. from_end 3 xs ∷ from_end 2 xs ∷ from_end 1 xs ∷ a ∷ []) (from_end-one xs e)

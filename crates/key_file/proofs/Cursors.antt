@@ -110,7 +110,7 @@ given_from : (layout : KeyLayout) (number : ℕ) (before : Before) (texts : List
 given_from layout number before [] history h = ended layout before number history before.end h
 given_from layout number before (line ∷ more) history h =
     given_by layout number before line more history (λ after g. given_from layout (number + 1) after more history g)
-        (said_by layout (fields line)) refl h
+    (said_by layout (fields line)) refl h
 
 pub untold : (r : Result KeyHistory (Fault Rule)) (history : KeyHistory) → with_fault_told r ≡ Ok history → r ≡ Ok history
 untold (Ok h) history is = let same : h ≡ history = cc is in ap (λ x. Ok x) same

@@ -53,7 +53,7 @@ of_place-at : (xs : List Edge) (e : Edge) (ys : List Edge)
 of_place-at xs e ys =
     let same : (e.place == e.place) ≡ true = grind (arith, nat_tests) in
     filter-append (λ f. f.place == e.place) xs (e ∷ ys)
-        ∙ ap (λ b. of_place e.place xs ++ cond b (e ∷ of_place e.place ys) (of_place e.place ys)) same
+    ∙ ap (λ b. of_place e.place xs ++ cond b (e ∷ of_place e.place ys) (of_place e.place ys)) same
 
 turned : (down before : Bool) → down ≡ not before → cond down before (not before) ≡ false
 turned true true h = absurd (cc)
@@ -91,9 +91,9 @@ pub edge_unbroken : (history : KeyHistory) (before : Before) (e : Edge) (edges :
     → first_broken (edge_judgements (brief_of before) e ++ more) ≡ first_broken more
 edge_unbroken history before e edges accepted are more =
     let own : of_place e.place history.edges ≡ of_place e.place before.edges ++ e ∷ of_place e.place edges =
-        ap (of_place e.place) (sym are) ∙ of_place-at before.edges e edges in
+    ap (of_place e.place) (sym are) ∙ of_place-at before.edges e edges in
     let turns = turn_at false (of_place e.place before.edges) e (of_place e.place edges)
-        (subst (Alternates false) own (accepted.alternate e.place)) in
+    (subst (Alternates false) own (accepted.alternate e.place)) in
     fits (brief_of before) e more
     (turned e.down (is_down (last_edge e.place before.edges)) (turns ∙ ap not (sym (down-last e.place before.edges))))
     (λ x is. dwell_at (of_place e.place before.edges) e (of_place e.place edges) x (subst Dwells own (accepted.dwell e.place)) is)

@@ -60,7 +60,7 @@ pub last-push : (last : List (Option Edge)) (edges : List Edge) (e : Edge) (k pl
     → get_or (slice_set last k (Some e)) place None ≡ last_edge place (edges ++ e ∷ [])
 last-push last edges e k place h is inside =
     elim (e.place == place) as (λ b. (e.place == place) ≡ b
-        → get_or (slice_set last k (Some e)) place None ≡ last_edge place (edges ++ e ∷ [])) [
+    → get_or (slice_set last k (Some e)) place None ≡ last_edge place (edges ++ e ∷ [])) [
       | true ↦ λ test.
           let same : e.place ≡ place = grind (arith, nat_tests, test) in
           subst (λ n. get_or (slice_set last k (Some e)) n None ≡ Some e) (is ∙ same) (get_or-set_same last k (Some e) None inside)

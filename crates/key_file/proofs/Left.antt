@@ -40,7 +40,7 @@ module _ (history : KeyHistory) (accepted : IsAccepted history) (before : Before
       → IsLeft history before edges host → 0 < length edges + length host → nat_le 65536 (length before.edges + length before.host) ≡ false
   room edges host left some =
       let a : length before.edges + length edges ≡ length history.edges =
-          sym (length-append before.edges edges) ∙ ap length left.edges_are in
+      sym (length-append before.edges edges) ∙ ap length left.edges_are in
       let b : length before.host + length host ≡ length history.host = sym (length-append before.host host) ∙ ap length left.host_are in
       let c = accepted.number_in_range in
       let d : length before.edges + length before.host < 65536 = omega arith in
@@ -65,7 +65,7 @@ module _ (history : KeyHistory) (accepted : IsAccepted history) (before : Before
   edge_taken e edges host left order =
       let range : e.stamp ≤ 240000000 = omega (arith, edge_before_end e edges host left, accepted.end_in_range) in
       taken before (EdgeOf e) order range left.goes_on (room (e ∷ edges) host left (omega arith))
-          (edge_unbroken history before e edges accepted left.edges_are)
+      (edge_unbroken history before e edges accepted left.edges_are)
 
   pub edge_left : (e : Edge) (edges : List Edge) (host : List HostEvent)
       → IsLeft history before (e ∷ edges) host → IsLeft history (with_event before (EdgeOf e)) edges host

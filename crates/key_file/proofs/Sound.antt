@@ -63,7 +63,7 @@ alternate-push before e place turns fits true h =
     let same : e.place ≡ place = grind (arith, nat_tests, h) in
     let down = ap not (down-last e.place before.edges) in
     rw (of_place-push place before.edges e same)
-        (alternates-push false (of_place place before.edges) e turns (fits.turns ∙ down ∙ rw same refl))
+    (alternates-push false (of_place place before.edges) e turns (fits.turns ∙ down ∙ rw same refl))
 alternate-push before e place turns fits false h =
     rw (of_place-other place before.edges e (λ same. grind (arith, nat_tests, h, same))) turns
 

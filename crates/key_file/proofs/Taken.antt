@@ -101,7 +101,7 @@ flip_of-layout layout stamp arguments event h =
     let a = step (some_or Form (option_and_then bit_of (only arguments))) flip event h in
     let same : HostOf (record { stamp = stamp; act = act.Flip a.value }) ≡ event = cc (a.then) in
     let bit : IsDataOrParity a.value =
-        argument_bit (only arguments) a.value (some_of Form (option_and_then bit_of (only arguments)) a.value a.was) in
+    argument_bit (only arguments) a.value (some_of Form (option_and_then bit_of (only arguments)) a.value a.was) in
     subst (IsOf layout) same (tt, bit)
 
 alone-layout : (layout : KeyLayout) (event after : Event) (arguments : List (List ℕ))
@@ -135,7 +135,7 @@ event_in-layout layout [] event h = absurd (cc)
 event_in-layout layout (first ∷ []) event h = absurd (cc)
 event_in-layout layout (first ∷ second ∷ arguments) event h =
     let a = step (some_or Form (stamp_of first))
-        (λ stamp. and_then (some_or UnknownWord (word_named second)) (λ w. event_of layout stamp w arguments)) event h in
+    (λ stamp. and_then (some_or UnknownWord (word_named second)) (λ w. event_of layout stamp w arguments)) event h in
     let b = step (some_or UnknownWord (word_named second)) (λ w. event_of layout a.value w arguments) event a.then in
     event_of-layout layout a.value b.value arguments event b.then
 

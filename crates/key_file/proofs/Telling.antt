@@ -94,7 +94,7 @@ tell_from : (layout : KeyLayout) (number : ℕ) (before : Before) (texts : List 
 tell_from layout number before [] history h = record { form = tt; order = stopped layout before number history before.end h }
 tell_from layout number before (line ∷ more) history h =
     tell_by layout number before line more history (λ after g. tell_from layout (number + 1) after more history g)
-        (said_by layout (fields line)) refl h
+    (said_by layout (fields line)) refl h
 
 -- a text's history is told by it
 pub read-told : (layout : KeyLayout) (text : List ℕ) (history : KeyHistory)

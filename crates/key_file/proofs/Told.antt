@@ -30,7 +30,7 @@ said_taken : (layout : KeyLayout) (line : List ℕ) (more : List (List ℕ)) (sa
 said_taken layout line more said number before after is taken =
     let rest : Before → Result KeyHistory (Fault Rule) = λ after. outcome_of layout (number + 1) after more in
     ap (λ said. and_then (at_item number (and_then said (take_said before))) rest) is
-        ∙ ap (λ taken. and_then (at_item number taken) rest) taken
+    ∙ ap (λ taken. and_then (at_item number taken) rest) taken
 
 -- behind the end a line that says nothing is taken
 ended_by : (layout : KeyLayout) (history : KeyHistory) (line : List ℕ) (more : List (List ℕ)) (said : Option Event)
@@ -50,7 +50,7 @@ ended layout history [] number before form none edges host end =
     ap (λ end. at_item number (history_at before end)) end ∙ rw (edges, host) refl
 ended layout history (line ∷ more) number before form none edges host end =
     ended_by layout history line more (said_in layout line) number before form.0 none
-        (λ none. ended layout history more (number + 1) before form.1 none edges host end)
+    (λ none. ended layout history more (number + 1) before form.1 none edges host end)
 
 -- where no event is said, neither an edge nor an event of the host is
 no_edge : (said : Option Event) (events : List Event) (edges : List Edge)
@@ -90,28 +90,28 @@ module _ (layout : KeyLayout) (history : KeyHistory) (accepted : IsAccepted hist
       said_taken layout line more None number before before is refl ∙ next (number + 1) before form left order
   read_by (Some (EdgeOf e)) number before is form left order =
       said_taken layout line more (Some (EdgeOf e)) number before (with_event before (EdgeOf e)) is
-          (edge_taken history accepted before e (edges_in layout more) (host_in layout more) left order.0)
+      (edge_taken history accepted before e (edges_in layout more) (host_in layout more) left order.0)
       ∙ next (number + 1) (with_event before (EdgeOf e)) form
-          (edge_left history accepted before e (edges_in layout more) (host_in layout more) left) order.1
+      (edge_left history accepted before e (edges_in layout more) (host_in layout more) left) order.1
   read_by (Some (HostOf e)) number before is form left order =
       said_taken layout line more (Some (HostOf e)) number before (with_event before (HostOf e)) is
-          (host_taken history accepted before e (edges_in layout more) (host_in layout more) left order.0)
+      (host_taken history accepted before e (edges_in layout more) (host_in layout more) left order.0)
       ∙ next (number + 1) (with_event before (HostOf e)) form
-          (host_left history accepted before e (edges_in layout more) (host_in layout more) left) order.1
+      (host_left history accepted before e (edges_in layout more) (host_in layout more) left) order.1
   read_by (Some (End stamp)) number before is form left order =
       let edges : before.edges ≡ history.edges =
-          sym (append-nil before.edges) ∙ ap (λ es. before.edges ++ es) (sym (no_edges layout more order.2)) ∙ left.edges_are in
+      sym (append-nil before.edges) ∙ ap (λ es. before.edges ++ es) (sym (no_edges layout more order.2)) ∙ left.edges_are in
       let host : before.host ≡ history.host =
-          sym (append-nil before.host) ∙ ap (λ es. before.host ++ es) (sym (no_host_events layout more order.2)) ∙ left.host_are in
+      sym (append-nil before.host) ∙ ap (λ es. before.host ++ es) (sym (no_host_events layout more order.2)) ∙ left.host_are in
       said_taken layout line more (Some (End stamp)) number before (with_event before (End stamp)) is
-          (end_taken history accepted before stamp left.goes_on order.0 order.1)
+      (end_taken history accepted before stamp left.goes_on order.0 order.1)
       ∙ ended layout history more (number + 1) (with_event before (End stamp)) form order.2 edges host (ap Some order.1)
 
 are_read : (layout : KeyLayout) (history : KeyHistory) → IsAccepted history → (texts : List (List ℕ)) → AreRead layout history texts
 are_read layout history accepted [] number before form left order = absurd order
 are_read layout history accepted (line ∷ more) number before form left order =
     read_by layout history accepted line more (are_read layout history accepted more)
-        (said_in layout line) number before form.0 form.1 left order
+    (said_in layout line) number before form.0 form.1 left order
 
 -- an accepted history that a text tells is read from it
 pub told-read : (layout : KeyLayout) (text : List ℕ) (history : KeyHistory)
@@ -119,5 +119,5 @@ pub told-read : (layout : KeyLayout) (text : List ℕ) (history : KeyHistory)
 unfolding history_of
 told-read layout text history accepted tells =
     ap with_fault_told
-        (are_read layout history accepted (lines text) 1 at_first tells.form
-            (record { edges_are = tells.edges; host_are = tells.host; goes_on = refl }) tells.order)
+    (are_read layout history accepted (lines text) 1 at_first tells.form
+    (record { edges_are = tells.edges; host_are = tells.host; goes_on = refl }) tells.order)

@@ -57,7 +57,7 @@ fits before event h =
     let late = judge (Late (stamp_at event)) (nat_lt 240000000 (stamp_at event)) ∷ last in
     let after = judge AfterEnd (is_some before.end) ∷ late in
     let a = unbroken_head (Order before.stamp (stamp_at event)) (nat_lt (stamp_at event) before.stamp)
-        (key_judgements before event ++ after) h in
+    (key_judgements before event ++ after) h in
     let b = unbroken_append (key_judgements before event) after a.1 in
     let c = unbroken_head AfterEnd (is_some before.end) late b.1 in
     let d = unbroken_head (Late (stamp_at event)) (nat_lt 240000000 (stamp_at event)) last c.1 in

@@ -44,7 +44,7 @@ module _ (layout : KeyLayout) (end : ℕ) where
       let name = name-word key.key own.key in
       let line = key_text stamp (codes "press") (name_at key.key) in
       follows-edge layout end line (press_line stamp key ++ rest) rest
-          (first-line line rest (key-line stamp (codes "press") (name_at key.key) short (word-by (codes "press") refl) name))
+      (first-line line rest (key-line stamp (codes "press") (name_at key.key) short (word-by (codes "press") refl) name))
       from (name_at key.key) (presses key stamp) edges host later (press-said layout stamp (name_at key.key) short name) own.place more
 
   release-follows : (from stamp : ℕ) (key : Entry) (edges : List Edge) (host : List HostEvent) (rest : List ℕ)
@@ -55,7 +55,7 @@ module _ (layout : KeyLayout) (end : ℕ) where
       let name = name-word key.key own.key in
       let line = key_text stamp (codes "release") (name_at key.key) in
       follows-edge layout end line (release_line stamp key ++ rest) rest
-          (first-line line rest (key-line stamp (codes "release") (name_at key.key) short (word-by (codes "release") refl) name))
+      (first-line line rest (key-line stamp (codes "release") (name_at key.key) short (word-by (codes "release") refl) name))
       from (name_at key.key) (releases key stamp) edges host later (release-said layout stamp (name_at key.key) short name) own.place more
 
   take-follows : (from start : ℕ) (edges : List Edge) (host : List HostEvent) (rest : List ℕ)
@@ -65,7 +65,7 @@ module _ (layout : KeyLayout) (end : ℕ) where
   take-follows from start edges host rest later short more =
       let line = word_text (start + 14336) (codes "take") in
       follows-host layout end line (take_line (start + 14336) ++ rest) rest
-          (first-line line rest (word-line (start + 14336) (codes "take") short (word-by (codes "take") refl)))
+      (first-line line rest (word-line (start + 14336) (codes "take") short (word-by (codes "take") refl)))
       from (take_of start) edges host later (take-said layout (start + 14336) short)
       (follows-earlier layout end (start + 14336) (start + 20480) edges host rest (omega arith) more)
 
@@ -75,7 +75,7 @@ module _ (layout : KeyLayout) (end : ℕ) where
       let line = word_text end (codes "end") in
       let word = word-by (codes "end") refl in
       follows-end layout end line (end_line end) []
-          (ap lines (sym (append-nil (end_line end))) ∙ first-line line [] (word-line end (codes "end") short word))
+      (ap lines (sym (append-nil (end_line end))) ∙ first-line line [] (word-line end (codes "end") short word))
       from (decimal end) later (stamp-back end short) (word-said layout end (codes "end") short word) refl
 
   -- a stroke, and what follows it
@@ -92,7 +92,7 @@ module _ (layout : KeyLayout) (end : ℕ) where
   stroke-follows start (Shifted shift key) edges host rest h own more =
       subst (Follows layout end start (edges_of start (Shifted shift key) ++ edges) (take_of start ∷ host))
       (sym (regroup_five (press_line start shift) (press_line (start + 2048) key) (release_line (start + 8192) key)
-          (release_line (start + 10240) shift) (take_line (start + 14336)) rest))
+      (release_line (start + 10240) shift) (take_line (start + 14336)) rest))
       (press-follows start start shift _ _ _ (omega arith) (omega arith) own.0
       (press-follows start (start + 2048) key _ _ _ (omega arith) (omega arith) own.1
       (release-follows (start + 2048) (start + 8192) key _ _ _ (omega arith) (omega arith) own.1
@@ -106,14 +106,14 @@ module _ (layout : KeyLayout) (end : ℕ) where
   strokes-follow number [] own ends few =
       let last : end ≡ stroke_start number = omega arith in
       subst (λ stamp. Follows layout end (stroke_start number) [] [] (end_line stamp)) last
-          (end-follows (stroke_start number) (omega arith) (omega arith))
+      (end-follows (stroke_start number) (omega arith) (omega arith))
   strokes-follow number (stroke ∷ strokes) own ends few =
       let next : stroke_start (suc number) ≡ stroke_start number + 20480 = omega arith in
       stroke-follows (stroke_start number) stroke (edges_from (suc number) strokes) (takes_from (suc number) strokes)
-          (lines_from (suc number) strokes) (omega arith) own.0
+      (lines_from (suc number) strokes) (omega arith) own.0
       (subst (λ stamp.
-          Follows layout end stamp (edges_from (suc number) strokes) (takes_from (suc number) strokes) (lines_from (suc number) strokes))
-          next
+      Follows layout end stamp (edges_from (suc number) strokes) (takes_from (suc number) strokes) (lines_from (suc number) strokes))
+      next
       (strokes-follow (suc number) strokes own.1 (omega arith) (omega arith)))
 
 -- the keys of a text's strokes are the layout's
@@ -137,4 +137,4 @@ unfolding plan_of planned
 plan-back layout strokes own few accepted =
     told-read layout (plan_of strokes) (planned strokes) accepted
     (follows-tells layout (planned strokes) (stroke_start 0) (plan_of strokes)
-        (strokes-follow layout (planned strokes).end 0 strokes own (omega arith) (omega arith)))
+    (strokes-follow layout (planned strokes).end 0 strokes own (omega arith) (omega arith)))

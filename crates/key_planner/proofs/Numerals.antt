@@ -33,7 +33,7 @@ number_after-push (d ∷ ds) n m c is low high = by (decimal_digit d) is (λ k m
   where
     by : (digit : Option ℕ) → option_and_then (λ value. number_after 10 decimal_digit (10 * n + value) ds) digit ≡ Some m
         → ((k : ℕ) → number_after 10 decimal_digit k ds ≡ Some m
-            → number_after 10 decimal_digit k (ds ++ c ∷ []) ≡ Some (10 * m + (c - 48)))
+        → number_after 10 decimal_digit k (ds ++ c ∷ []) ≡ Some (10 * m + (c - 48)))
         → option_and_then (λ value. number_after 10 decimal_digit (10 * n + value) (ds ++ c ∷ [])) digit ≡ Some (10 * m + (c - 48))
     by None h more = absurd (cc)
     by (Some value) h more = more (10 * n + value) h
@@ -61,10 +61,10 @@ stamp-back n h =
     let short = length-decimal-le 9 n (omega arith) (omega arith) (omega arith) in
     let last = digit_at n (length (decimal n) - 1) (omega arith) (omega arith) in
     let no_s : (slice_index (decimal n) (length (decimal n) - 1) == 115) ≡ false =
-        ne_eqb (slice_index (decimal n) (length (decimal n) - 1)) 115 (λ e. omega (arith, last.1, e)) in
+    ne_eqb (slice_index (decimal n) (length (decimal n) - 1)) 115 (λ e. omega (arith, last.1, e)) in
     let no_ms : has_ms (decimal n) ≡ false =
     and_right (nat_le 2 (length (decimal n)) && slice_index (decimal n) (length (decimal n) - 2) == 109)
-        (slice_index (decimal n) (length (decimal n) - 1) == 115) no_s in
+    (slice_index (decimal n) (length (decimal n) - 1) == 115) no_s in
     let at_least : nat_lt 0 (length (decimal n)) ≡ true = grind (arith, nat_tests, some) in
     let at_most : nat_le (length (decimal n)) 9 ≡ true = grind (arith, nat_tests, short) in
     cond-false (has_ms (decimal n)) _ (decimal_of 9 (decimal n)) no_ms ∙ rw (at_least, at_most) (decimal-number n (omega arith))

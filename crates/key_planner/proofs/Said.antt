@@ -30,15 +30,15 @@ said layout stamp line more h are =
     let first = digit_at stamp 0 (omega arith) (decimal-word stamp (omega arith)).some in
     let stays : is_skipped (decimal stamp ∷ more) ≡ false = ne_eqb (slice_index (decimal stamp) 0) 35 (λ e. omega (arith, first.0, e)) in
     ap (said_by layout) are
-        ∙ cond-false (is_skipped (decimal stamp ∷ more)) (Ok None)
-            (and_then (event_in layout (decimal stamp ∷ more)) (λ event. Ok (Some event))) stays
+    ∙ cond-false (is_skipped (decimal stamp ∷ more)) (Ok None)
+    (and_then (event_in layout (decimal stamp ∷ more)) (λ event. Ok (Some event))) stays
 
 key-said : (layout : KeyLayout) (stamp : ℕ) (word name : List ℕ) → stamp < 1000000000 → IsWord word → IsWord name
     → said_by layout (fields (key_text stamp word name))
     ≡ and_then (event_in layout (decimal stamp ∷ word ∷ name ∷ [])) (λ event. Ok (Some event))
 key-said layout stamp word name h k l =
     said layout stamp (key_text stamp word name) (word ∷ name ∷ []) h
-        (fields-three (decimal stamp) word name (decimal-word stamp (omega arith)) k l)
+    (fields-three (decimal stamp) word name (decimal-word stamp (omega arith)) k l)
 
 pub word-said : (layout : KeyLayout) (stamp : ℕ) (word : List ℕ) → stamp < 1000000000 → IsWord word
     → said_by layout (fields (word_text stamp word)) ≡ and_then (event_in layout (decimal stamp ∷ word ∷ [])) (λ event. Ok (Some event))

@@ -31,8 +31,13 @@ key-size stamp word key h k =
     let stamp_short = length-decimal-le 9 stamp (omega arith) (omega arith) (omega arith) in
     let name = name_at key.key in
     let text = (decimal stamp ++ 32 ∷ word) ++ 32 ∷ name in
-    omega (arith, name-short key.key k, length-append text (10 ∷ []), length-append (decimal stamp ++ 32 ∷ word) (32 ∷ name),
-        length-append (decimal stamp) (32 ∷ word))
+    omega (
+      arith,
+      name-short key.key k,
+      length-append text (10 ∷ []),
+      length-append (decimal stamp ++ 32 ∷ word) (32 ∷ name),
+      length-append (decimal stamp) (32 ∷ word),
+    )
 
 stroke-size : (layout : KeyLayout) (start : ℕ) (stroke : Stroke)
     → start ≤ 240000000 → AreOwn layout stroke → length (stroke_lines start stroke) ≤ 128
@@ -52,7 +57,7 @@ stroke-size layout start (Shifted shift key) h own =
     let two = length-append (press_line start shift) (press_line (start + 2048) key) in
     let three = length-append (press_line start shift ++ press_line (start + 2048) key) (release_line (start + 8192) key) in
     let four = length-append (press_line start shift ++ press_line (start + 2048) key ++ release_line (start + 8192) key)
-        (release_line (start + 10240) shift) in
+    (release_line (start + 10240) shift) in
     let sum = length-append (key_lines start (Shifted shift key)) (take_line (start + 14336)) in
     omega (arith, a, b, c, d, take, two, three, four, sum)
 

@@ -33,8 +33,8 @@ module _ (layout : KeyLayout) (text : List ℕ) (playable : StrokesArePlayable) 
         let made = strokes_are layout sound text strokes are in
         let count : length strokes ≤ 10000 = omega (arith, lengths layout.entries text strokes made) in
         ap found_history
-            (plan-back layout strokes (strokes-own layout text strokes sound made) count
-                (playable layout text strokes sound few are).accepted.accepted)
+        (plan-back layout strokes (strokes-own layout text strokes sound made) count
+        (playable layout text strokes sound few are).accepted.accepted)
 
     types : Types layout text (plan_of strokes)
     types =

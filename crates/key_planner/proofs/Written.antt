@@ -46,4 +46,4 @@ module _ (layout : KeyLayout) (text : List ℕ) (number : ℕ) (plan : List ℕ)
       → IsSoFar layout text (number + 1) (plan ++ stroke_lines (stroke_start number) stroke)
   so_far-next stroke within is =
       subst (λ n. IsSoFar layout text n (plan ++ stroke_lines (stroke_start number) stroke))
-          (sym (add-one number)) (so_far-suc stroke within is)
+      (sym (add-one number)) (so_far-suc stroke within is)

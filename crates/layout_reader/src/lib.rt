@@ -19,4 +19,3 @@ pub use fault::LayoutFault;
 pub use layout::Layout;
 pub use reading::read_layout;
 pub use sample::us84_layout;
-

@@ -31,4 +31,3 @@ pub use assembling::assemble;
 pub use examples::worked_examples;
 pub use fault::AsmFault;
 pub use laws::large_numbers;
-

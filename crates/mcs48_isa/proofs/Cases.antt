@@ -22,8 +22,31 @@ Sixteen P = P 0 × P 1 × P 2 × P 3 × P 4 × P 5 × P 6 × P 7 × P 8 × P 9 �
 pub pick : (P : ℕ → Type 0) → Sixteen P → (k : ℕ) → k < 16 → P k
 pick P each k h =
     from_each P 0 16
-    ((each.0, (each.1, (each.2, (each.3, (each.4, (each.5, (each.6, (each.7,
-        (each.8, (each.9, (each.10, (each.11, (each.12, (each.13, (each.14, (each.15, tt)))))))))))))))))
+    ((
+      each.0,
+      (
+        each.1,
+        (
+          each.2,
+          (
+            each.3,
+            (
+              each.4,
+              (
+                each.5,
+                (
+                  each.6,
+                  (
+                    each.7,
+                    (each.8, (each.9, (each.10, (each.11, (each.12, (each.13, (each.14, (each.15, tt)))))))),
+                  ),
+                ),
+              ),
+            ),
+          ),
+        ),
+      ),
+    ))
     k (omega arith) (omega arith)
 
 -- the fact at each pointer register, register or bit, and port of the expander

@@ -71,7 +71,7 @@ looks_asked : (events : List HostEvent) (byte since start : ℕ) (w : Whole Laye
     → since + 64 ≤ start → IsAsked byte since w.side.port → IsRequest byte (earlier_side events start w).port
 looks_asked events byte since start w late h =
     span_keeps (IsRequest byte) (request_stays byte) events 24 (232 + start)
-        (says_lights (232 + start) w.shown w.keys.keyboard.lights (quietly events 232 start w.side))
+    (says_lights (232 + start) w.shown w.keys.keyboard.lights (quietly events 232 start w.side))
     (requested byte since events 232 start w.side (omega arith) late h)
 
 module _ (layout : KeyLayout) (history : KeyHistory) (starts : ℕ → ℕ) where
@@ -94,19 +94,19 @@ module _ (layout : KeyLayout) (history : KeyHistory) (starts : ℕ → ℕ) wher
         let w : Whole LayeredKeyboard = at_tick layout history starts n in
         let start : ℕ = 4096 + starts n in
         span_keeps P stays history.host 24 (232 + start)
-            (says_lights (232 + start) w.shown w.keys.keyboard.lights (quietly history.host 232 start w.side))
+        (says_lights (232 + start) w.shown w.keys.keyboard.lights (quietly history.host 232 start w.side))
         (span_keeps P stays history.host 232 start w.side h)
 
     meeting_keeps : P (earlier_side history.host (4096 + starts n) (at_tick layout history starts n)).port
         → P (later_side history.host (4096 + starts n) (at_tick layout history starts n)).port
     meeting_keeps h =
         span_keeps P stays history.host 32 (256 + (4096 + starts n))
-            (earlier_side history.host (4096 + starts n) (at_tick layout history starts n)) h
+        (earlier_side history.host (4096 + starts n) (at_tick layout history starts n)) h
 
     rest_keeps : (begins : Meeting)
         → begins_from (keyboard layout) history.host (4096 + starts n) (at_tick layout history starts n) ≡ begins
         → P (carried history.host begins (288 + (4096 + starts n))
-            (later_side history.host (4096 + starts n) (at_tick layout history starts n))).port
+        (later_side history.host (4096 + starts n) (at_tick layout history starts n))).port
         → P (at_tick layout history starts (suc n)).side.port
     rest_keeps begins e h =
         let start : ℕ = 4096 + starts n in
@@ -146,7 +146,7 @@ module _ (layout : KeyLayout) (history : KeyHistory) (starts : ℕ → ℕ) wher
       let m : meeting_at layout history starts n ≡ Idle = ap (λ v. ended_as history.host v (288 + start) later) b in
       let stays : Stays (IsAsked 0xfe since) = asked_stays 0xfe since in
       let asked : IsAsked 0xfe since later.port =
-          meeting_keeps (IsAsked 0xfe since) stays n (look_keeps (IsAsked 0xfe since) stays n h.asked) in
+      meeting_keeps (IsAsked 0xfe since) stays n (look_keeps (IsAsked 0xfe since) stays n h.asked) in
       record {
         idle = m;
         waits = record {
@@ -224,7 +224,7 @@ module _ (layout : KeyLayout) (history : KeyHistory) (starts : ℕ → ℕ) wher
       let z : left + suc n ≡ suc left + n = omega arith in
       let o : WaitsOn byte wrong since left n = waits_on byte wrong since left n h in
       let r : Comes byte wrong left (suc n) =
-          comes byte wrong since left (suc n) last (λ m l u. late m (omega (arith, l)) u) (omega (arith, within)) o.waits in
+      comes byte wrong since left (suc n) last (λ m l u. late m (omega (arith, l)) u) (omega (arith, within)) o.waits in
       record {
         idle = λ j l u. first j l u (nat_le j n) refl o.idle r.idle;
         asked = subst (λ v. meeting_at layout history starts v ≡ Got 0xfe) z r.asked;
@@ -244,7 +244,7 @@ module _ (layout : KeyLayout) (history : KeyHistory) (starts : ℕ → ℕ) wher
   -- behind a tick whose byte came wrong, and is asked for again
   waits_behind : (n byte : ℕ) → fate_at layout history starts n ≡ Again byte
       → Waits (asked_for byte (keys_at n)) (suc (wrong_before layout history starts n))
-          (arrival_in layout history starts n) (pause (keys_at n)) (suc n)
+      (arrival_in layout history starts n) (pause (keys_at n)) (suc n)
   waits_behind n byte f =
       let start : ℕ = 4096 + starts n in
       let now : ℕ = arrival_in layout history starts n in
@@ -277,7 +277,7 @@ module _ (layout : KeyLayout) (history : KeyHistory) (starts : ℕ → ℕ) wher
       let late : (m : ℕ) → suc n ≤ m → m ≤ last → now + 64 ≤ 4096 + starts m = λ m l u.
       let there = cadence m u in omega (arith, here.most, there.least, l) in
       let r : Comes (asked_for byte (keys_at n)) (suc wrong) left (suc n) =
-          comes (asked_for byte (keys_at n)) (suc wrong) now left (suc n) last late (omega (arith, within)) (waits_behind n byte f) in
+      comes (asked_for byte (keys_at n)) (suc wrong) now left (suc n) last late (omega (arith, within)) (waits_behind n byte f) in
       record {
         idle = λ j l u. r.idle j (omega (arith, l)) (omega (arith, u));
         asked = subst (λ v. meeting_at layout history starts v ≡ Got 0xfe) z r.asked;

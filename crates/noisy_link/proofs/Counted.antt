@@ -98,7 +98,7 @@ link_so now byte wrong (Busy u) p h = arrives_so byte wrong u.flip p.core h
 -- a tick from its meeting on
 carries : (events : List HostEvent) (begins : Meeting) (now wrong : ℕ) (m : Side UnderWay) → Counts wrong m.port
     → Counts (wrong_with (fate_of (ended_as events begins now m) (flip_in (sends events now m).port.link) wrong) wrong)
-        (carried events begins now m).port
+    (carried events begins now m).port
 carries events (Got byte) now wrong m h = got_so events wrong now m h
 carries events Inhibited now wrong m h = span_keeps (Counts wrong) (counts_stay wrong) events 321 now m h
 carries events Idle now wrong m h = span_keeps (Counts wrong) (counts_stay wrong) events 321 now m h
@@ -127,7 +127,7 @@ module _ (layout : KeyLayout) (history : KeyHistory) (starts : ℕ → ℕ) wher
   few_before zero = omega arith
   few_before (suc n) =
       few_with (meeting_at layout history starts n) (flip_in (side_before layout history starts n).port.link)
-          (wrong_before layout history starts n) (few_before n)
+      (wrong_before layout history starts n) (few_before n)
 
   met_so : (n r : ℕ) → Counts r (at_tick layout history starts n).side.port
       → Counts r (later_side history.host (4096 + starts n) (at_tick layout history starts n)).port
@@ -146,7 +146,7 @@ module _ (layout : KeyLayout) (history : KeyHistory) (starts : ℕ → ℕ) wher
       let begins : Meeting = begins_from (keyboard layout) history.host start w in
       let r : ℕ = wrong_before layout history starts (suc n) in
       span_keeps (Counts r) (counts_stay r) history.host (starts (suc n) - starts n - 609) (609 + start)
-          (carried history.host begins (288 + start) later)
+      (carried history.host begins (288 + start) later)
       (carries history.host begins (288 + start) wrong later (met_so n wrong (at_start_so n)))
 
   pub counted : (n : ℕ) → IsCounted layout history starts n
@@ -165,7 +165,7 @@ right_does : (now byte : ℕ) (u : UnderWay) (p : Port UnderWay)
     → p.link ≡ Busy u → u.flip ≡ None → IsReceived now byte p (happened_at now (Arrives byte) p)
 right_does now byte u p h f =
     let e : happened_at now (Arrives byte) p ≡ received now (Some byte) p =
-        ap (λ l. arrived_in now byte l p) h ∙ ap (λ flip. received now (arriving flip byte) p) f in
+    ap (λ l. arrived_in now byte l p) h ∙ ap (λ flip. received now (arriving flip byte) p) f in
     record { core = ap (λ (q : Port UnderWay). q.core) e; link = ap (λ (q : Port UnderWay). q.link) e }
 
 wrong_received : (now byte bit : ℕ) (u : UnderWay) (p : Port UnderWay)

@@ -40,12 +40,12 @@ module _ (layout : KeyLayout) (history : KeyHistory) (starts : ℕ → ℕ) (las
   -- one that is asked for again goes on, unless the run ends before
   goes_on : (left n byte : ℕ) → suc left + wrong_before layout history starts n ≡ 3 → fate_at layout history starts n ≡ Again byte
       → (left + wrong_before layout history starts (next_try layout history starts n) ≡ 3
-          → meeting_at layout history starts (next_try layout history starts n) ≡ Sent (next_byte layout history starts n byte)
+      → meeting_at layout history starts (next_try layout history starts n) ≡ Sent (next_byte layout history starts n byte)
       → Ends layout history starts last left (next_try layout history starts n) (next_byte layout history starts n byte))
       → (last < next_try layout history starts n) ⊎ (next_try layout history starts n ≤ last)
       → (last < next_try layout history starts n)
       ⊎ (ComesAgain layout history starts n byte
-          × Ends layout history starts last left (next_try layout history starts n) (next_byte layout history starts n byte))
+      × Ends layout history starts last left (next_try layout history starts n) (next_byte layout history starts n byte))
   goes_on left n byte e a more (inl past) = inl past
   goes_on left n byte e a more (inr within) =
       let c : ComesAgain layout history starts n byte = comes_again layout history starts last n byte cadence within a in
@@ -64,10 +64,12 @@ module _ (layout : KeyLayout) (history : KeyHistory) (starts : ℕ → ℕ) (las
       let f : fate_at layout history starts n ≡ flipped_fate flip wrong byte = ap (λ v. fate_of v flip wrong) m in
       elim (earlier_fate flip left wrong byte e) [
         | inl r ↦ inl (f ∙ r)
-        | inr a ↦ inr
-            (f ∙ a, goes_on left n byte e (f ∙ a)
-                (λ rest sent. ends_in left (next_try layout history starts n) (next_byte layout history starts n byte) rest sent)
-                (past_or_not last (next_try layout history starts n)))
+        | inr a ↦ inr (
+          f ∙ a,
+          goes_on left n byte e (f ∙ a)
+              (λ rest sent. ends_in left (next_try layout history starts n) (next_byte layout history starts n byte) rest sent)
+              (past_or_not last (next_try layout history starts n)),
+        )
       ]
 
   pub ends : (n byte : ℕ)

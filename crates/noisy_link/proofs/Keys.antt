@@ -51,7 +51,7 @@ scans_keep : (keys : Keys) (inhibited : Bool) (edges : List TickEdge) (k : Keybo
 scans_keep keys inhibited edges k =
     let a : Keyboard = repeated_if (is_scanning k) keys inhibited k in
     both_keep k a (edges_if (is_scanning k) keys edges a) (repeats_keep (is_scanning k) keys inhibited k)
-        (edges_keep (is_scanning k) keys edges a)
+    (edges_keep (is_scanning k) keys edges a)
 
 -- a tick in which the test had ended
 ended_keeps : (keys : Keys) (meeting : KeyboardMeeting) (edges : List TickEdge) (k : Keyboard)
@@ -59,7 +59,7 @@ ended_keeps : (keys : Keys) (meeting : KeyboardMeeting) (edges : List TickEdge) 
 ended_keeps keys meeting edges k e =
     let a : Keyboard = met meeting keys k in
     let z : ticked keys meeting edges k ≡ scanned keys (is_inhibited meeting) edges a =
-        ap (λ v. scanned keys (is_inhibited meeting) edges (tested_if (not (v == 0)) a)) e in
+    ap (λ v. scanned keys (is_inhibited meeting) edges (tested_if (not (v == 0)) a)) e in
     let r : Keeps a (scanned keys (is_inhibited meeting) edges a) = scans_keep keys (is_inhibited meeting) edges a in
     record {
       test = ap (λ (v : Keyboard). v.test) z ∙ r.test;
@@ -81,7 +81,7 @@ sent_by (Some reply) keys byte k r e = by reply.resets
   where
     by : (resets : Bool) → IsLastSent (if resets then 64 else 0) (if resets then 0xaa else if byte == 0xfe then k.last else byte)
         (if resets then reset keys (record k { last = if byte == 0xfe then k.last else byte })
-            else record k { last = if byte == 0xfe then k.last else byte; reply = None })
+        else record k { last = if byte == 0xfe then k.last else byte; reply = None })
     by true = record { test = refl; last = refl }
     by false = record { test = e; last = refl }
 
@@ -89,7 +89,7 @@ pub last_sent : (keys : Keys) (edges : List TickEdge) (byte : ℕ) (k : Keyboard
     → k.test ≡ 0 → offer k ≡ Some byte → IsLastSent (pause k) (asked_for byte k) (ticked keys kbd.Sent edges k)
 last_sent keys edges byte k e o =
     let m : met kbd.Sent keys k ≡ without_offered k.reply keys (record k { last = if byte == 0xfe then k.last else byte }) =
-        ap (λ v. sent_byte v keys k) o in
+    ap (λ v. sent_byte v keys k) o in
     let s = sent_by k.reply keys byte k refl e in
     let r = ended_keeps keys kbd.Sent edges k e in
     record {
@@ -106,7 +106,7 @@ test_runs keys edges left byte k h =
     let runs : (suc left == 0) ≡ false = grind (arith, nat_tests) in
     let z : ticked keys kbd.Idle edges k ≡ scanned keys false edges a =
     ap (λ v. scanned keys false edges (tested_if (not (v == 0)) k)) h.test
-        ∙ ap (λ b. scanned keys false edges (tested_if (not b) k)) runs in
+    ∙ ap (λ b. scanned keys false edges (tested_if (not b) k)) runs in
     let r : Keeps a (scanned keys false edges a) = scans_keep keys false edges a in
     record {
       test = ap (λ (v : Keyboard). v.test) z ∙ r.test ∙ less;

@@ -87,7 +87,7 @@ pub handed : (events : List HostEvent) (now : ℕ) (m : Side UnderWay)
     → AwaitsReply (byte_cycle events (320 + now) IsWhole (quietly events 319 (suc now) (byte_cycle events now (Begins false) m))).port
 handed events now m =
     cycle_keeps AwaitsReply awaits_stays events (320 + now) IsWhole (quietly events 319 (suc now) (byte_cycle events now (Begins false) m))
-        (record { link = refl; awaits = refl })
+    (record { link = refl; awaits = refl })
 
 -- the keyboard's byte behind it can't be broken off
 record IsReply (flip : Option ℕ) (breakable : Bool) (p : Port UnderWay) : Type 0 where
@@ -105,15 +105,15 @@ reply_stays flip breakable now next d h =
   where
     kept : (breakable : Bool)
         → (after_turn now (turn_of now next d)
-            (record d.port { link = Busy (record { from_keyboard = true; flip = flip; breakable = breakable }); awaits = true })).link
+        (record d.port { link = Busy (record { from_keyboard = true; flip = flip; breakable = breakable }); awaits = true })).link
         ≡ Busy (record { from_keyboard = true; flip = flip; breakable = breakable })
     kept true = refl
     kept false = refl
 
     still : (breakable : Bool)
         → (after_turn now (turn_of now next d)
-            (record d.port { link = Busy (record { from_keyboard = true; flip = flip; breakable = breakable }); awaits = true })).awaits
-            ≡ true
+        (record d.port { link = Busy (record { from_keyboard = true; flip = flip; breakable = breakable }); awaits = true })).awaits
+        ≡ true
     still true = refl
     still false = refl
 
@@ -129,7 +129,7 @@ reply_sends events now m h =
     let b : Side UnderWay = quietly events 287 (suc now) a in
     let c : Side UnderWay = byte_cycle events (288 + now) Closes b in
     let begins =
-        cycle_keeps (IsReply flip true) (reply_stays flip true) events now (Begins true) m (record { link = refl; awaits = h.awaits }) in
+    cycle_keeps (IsReply flip true) (reply_stays flip true) events now (Begins true) m (record { link = refl; awaits = h.awaits }) in
     let goes = span_keeps (IsReply flip true) (reply_stays flip true) events 287 (suc now) a begins in
     let closes = cycle_keeps (IsReply flip false) (reply_stays flip false) events (288 + now) Closes b (closes_reply flip b.port goes) in
     (span_keeps (IsReply flip false) (reply_stays flip false) events 31 (289 + now) c closes).link

@@ -54,8 +54,8 @@ one_more all a r g k r' g' k' h e =
 
 pub parted : (layout : KeyLayout) (history : KeyHistory) (starts : ℕ → ℕ) (n count : ℕ)
     → IsPermutation (all_arrived layout history starts n count)
-        (all_right layout history starts n count
-            ++ (all_given_up layout history starts n count ++ all_asked_again layout history starts n count))
+    (all_right layout history starts n count
+    ++ (all_given_up layout history starts n count ++ all_asked_again layout history starts n count))
 parted layout history starts n zero = IsPermutation-refl []
 parted layout history starts n (suc count) =
     let j : ℕ = count + n in
@@ -65,4 +65,4 @@ parted layout history starts n (suc count) =
     (right fate) (given_up fate) (asked_again fate)
     (parted layout history starts n count)
     (parts (meeting_at layout history starts j) (flip_in (side_before layout history starts j).port.link)
-        (wrong_before layout history starts j))
+    (wrong_before layout history starts j))

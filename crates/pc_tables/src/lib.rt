@@ -14,4 +14,3 @@ mod words;
 pub use item::{Item, item_line, item_text, push_item};
 pub use key::{Key, code_of, key_named, key_spelled, name_of, scan_of};
 pub use words::{WordRow, letter_on, word_row};
-

@@ -230,5 +230,5 @@ pub each_byte_once : (layout : KeyLayout) (events : List HostEvent) (edges : Lis
     (whole_tick (keyboard layout) events edges start rest w).keys.keyboard
 each_byte_once layout events edges start rest w silent =
     passes_by (keys_of layout) (layered (is_fn_place layout) edges w.keys.layers) w.keys.keyboard
-        silent (meeting_from (keyboard layout) events start w)
+    silent (meeting_from (keyboard layout) events start w)
     (tested_or_idle layout events start w) (λ byte h. (arrives_as_offered layout events start byte w h).1)

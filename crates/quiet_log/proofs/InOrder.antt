@@ -52,7 +52,7 @@ plain_tick : (layout : KeyLayout) (events : List HostEvent) (edges : List (ℕ �
     (waiting (whole_tick (keyboard layout) events edges start rest w).keys.keyboard)
 plain_tick layout events edges start rest w e p =
     passes_by (keys_of layout) (layered (is_fn_place layout) edges w.keys.layers) w.keys.keyboard
-        (meeting_from (keyboard layout) events start w) e
+    (meeting_from (keyboard layout) events start w) e
     (λ byte h. (arrives_as_offered layout events start byte w h).1) p
 
 -- from tick to tick

@@ -133,6 +133,6 @@ silent_in_test layout history starts (suc n) =
     let w : Whole LayeredKeyboard = at_tick layout history starts n in
     let start : ℕ = 4096 + starts n in
     silent_by (keys_of layout) (layered (is_fn_place layout) (tick_edges starts history.edges n) w.keys.layers)
-        w.keys.keyboard (silent_in_test layout history starts n)
+    w.keys.keyboard (silent_in_test layout history starts n)
     (meeting_at layout history starts n) (tested_or_idle layout history.host start w)
     (λ byte h. (arrives_as_offered layout history.host start byte w h).1)

@@ -16,4 +16,3 @@ pub use fields::next_field;
 pub use line::next_line;
 pub use numbers::{decimal, decimal_digit, hexadecimal};
 pub use pieces::{single, split_once};
-

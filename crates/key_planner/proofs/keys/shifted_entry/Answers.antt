@@ -7,11 +7,11 @@ use Rattle.key_planner.proofs.keys.shifted_entry.Goals as goal
 pub returns-in-Some : goal.returns-in-Some
 returns-in-Some c =
     let found = find_from_yields_List (enters shifted c.args.character) _ _ c.find.result c.find.ensures.ran
-        (YieldsList-from_slice c.args.entries.now cc) (λ x b q k. search (rules, tests)) in
+    (YieldsList-from_slice c.args.entries.now cc) (λ x b q k. search (rules, tests)) in
     rw c.in-Some.is at found
 
 pub returns-in-None : goal.returns-in-None
 returns-in-None c =
     let found = find_from_yields_List (enters shifted c.args.character) _ _ c.find.result c.find.ensures.ran
-        (YieldsList-from_slice c.args.entries.now cc) (λ x b q k. search (rules, tests)) in
+    (YieldsList-from_slice c.args.entries.now cc) (λ x b q k. search (rules, tests)) in
     rw c.in-None.is at found

@@ -13,9 +13,9 @@ returns-clause-history c =
     let layout = c.args.layout.now in
     let text = c.args.text.now in
     IfOk-weaker c.written.result (λ plan. text_plan layout text ≡ Some plan.items)
-        (λ plan. option_map planned (strokes_of layout text) ≡ Some (history_in layout plan.items))
+    (λ plan. option_map planned (strokes_of layout text) ≡ Some (history_in layout plan.items))
     (λ plan is. plan-history layout text c.typed_histories.ensures.playable c.typed_logs.ensures.says
-        c.is_layout.ensures c.requires.within plan.items is) c.written.ensures.plan
+    c.is_layout.ensures c.requires.within plan.items is) c.written.ensures.plan
 
 pub returns-clause-types : goal.returns-clause-types
 returns-clause-types c =
@@ -23,4 +23,4 @@ returns-clause-types c =
     let text = c.args.text.now in
     IfOk-weaker c.written.result (λ plan. text_plan layout text ≡ Some plan.items) (λ plan. Types layout text plan.items)
     (λ plan is. plan-types layout text c.typed_histories.ensures.playable c.typed_logs.ensures.says c.is_layout.ensures
-        c.requires.within plan.items is) c.written.ensures.plan
+    c.requires.within plan.items is) c.written.ensures.plan

@@ -20,4 +20,4 @@ loop-number-preserved c =
     let lines : c.push_stroke.new.plan.items ≡ plan ++ stroke_lines (stroke_start number) stroke =
     c.in_ok-push_stroke.ensures ∙ ap (λ start. plan ++ stroke_lines start stroke) c.stroke_start.ensures.start in
     subst (IsSoFar layout text (number + 1)) (sym lines)
-        (so_far-next layout text number plan c.loop-number.invariant stroke c.loop-number-test.true is)
+    (so_far-next layout text number plan c.loop-number.invariant stroke c.loop-number-test.true is)

@@ -18,6 +18,6 @@ loop-row-preserved c =
     let line = state_row c.args.mcu.now c.args.steps c.args.cycles in
     let pushed : c.extend_from_slice.new.self.items ≡ c.loop-row.text.items ++ line c.loop-row.row =
     c.in_ok-extend_from_slice.ensures.items
-        ∙ ap (λ piece. c.loop-row.text.items ++ piece) (c.deref.ensures.0 ∙ c.state_line.ensures.line) in
+    ∙ ap (λ piece. c.loop-row.text.items ++ piece) (c.deref.ensures.0 ∙ c.state_line.ensures.line) in
     ap (λ text. text ++ flat_map line (drop (c.loop-row.row + 1) rows)) pushed ∙ append_assoc c.loop-row.text.items _ _
     ∙ ap (λ rest. c.loop-row.text.items ++ rest) (lines_from line c.loop-row.row c.loop-row-test.true) ∙ c.loop-row.invariant

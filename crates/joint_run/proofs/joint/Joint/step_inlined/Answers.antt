@@ -7,5 +7,5 @@ pub returns-clause-run : goal.returns-clause-run
 returns-clause-run g c =
     step_of_run c.args.due.now c.args.self.now (told c.step.result c.step.new.seen) c.step.new.self
     (subst (λ m. IsJointStep c.args.due.now m (due_step c.args.due.now m) (told c.step.result c.step.new.seen) c.step.new.self)
-        c.self.view_is c.step.ensures.step)
+    c.self.view_is c.step.ensures.step)
     (are_few_told c.step.result c.step.new.seen c.step.ensures.some c.step.ensures.few)

@@ -12,7 +12,7 @@ returns-clause-ended c =
     let due = c.args.due.now in
     let is =
     passed_by m due c.args.cycles c.port_2-p2.result c.as_slice.result.now c.pass-host.new.self c.pass-host.new.items.items
-        c.pass-host.result c.port_2-p2.ensures c.as_slice.ensures.value
+    c.pass-host.result c.port_2-p2.ensures c.as_slice.ensures.value
     c.pass-host.ensures.passed in
     ap (λ o. record (machine_after (without_edges due) m (ended c.args.cycles due m)) { outside = o }) is.outside
 
@@ -22,7 +22,7 @@ returns-clause-seen c =
     let due = c.args.due.now in
     let is =
     passed_by m due c.args.cycles c.port_2-p2.result c.as_slice.result.now c.pass-host.new.self c.pass-host.new.items.items
-        c.pass-host.result c.port_2-p2.ensures c.as_slice.ensures.value
+    c.pass-host.result c.port_2-p2.ensures c.as_slice.ensures.value
     c.pass-host.ensures.passed in
     record {
       cycles = refl;

@@ -16,7 +16,7 @@ returns-clause-step g c =
     (subst (λ k. IsStep m.image.bytes m.mcu (stepped m.image.bytes c.pins-given.result m.mcu) (Ok k) cpu) count c.in_ok-cycles.ensures.step)
     (subst (λ k. c.end_step.new.self ≡ machine_after rest m (came rest m k cpu)) count
     (c.end_step.ensures.ended
-        ∙ ap (λ x. machine_after rest x (ended c.in_ok-cycles.cycles c.args.due.now x)) c.step_processor.ensures.parts))
+    ∙ ap (λ x. machine_after rest x (ended c.in_ok-cycles.cycles c.args.due.now x)) c.step_processor.ensures.parts))
     (subst (λ k. IsSeen rest m (came rest m k cpu) c.end_step.new.seen) count
     (seen_by m cpu c.in_ok-cycles.cycles c.args.due.now c.step_processor.new.self c.end_step.new.seen
-        c.step_processor.ensures.parts c.end_step.ensures.seen))
+    c.step_processor.ensures.parts c.end_step.ensures.seen))
