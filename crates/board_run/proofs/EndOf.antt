@@ -8,7 +8,7 @@ use Rattle.board_lines.specs.declared.event.HostEvent.{HostEvent}
 use Rattle.board_run.specs.Running.{EndsAt, GoesOnTo, IsOutcome, Outcome, is_over, place_of}
 use Rattle.board_run.specs.declared.ended.End.{End}
 use Rattle.board_run.specs.declared.ended.End.TheVariants.{Over, Stuck}
-use Rattle.fw_debug.specs.Stuck.{sticks}
+use Rattle.board_probes.specs.Stuck.{sticks}
 use Rattle.joint_feed.specs.Stories.{Story, state_at}
 use Rattle.joint_run.specs.Joint.{Beside, joint_board, joint_pins, log_of}
 use Rattle.joint_run.specs.Run.{World, after_step, joint_step, seen, step_on}

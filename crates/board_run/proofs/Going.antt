@@ -8,9 +8,9 @@ use Rattle.std.proofs.lemmas.Bool.Decides.{nat_tests}
 use Rattle.std.proofs.Math.Seq.{drop-append_seam}
 use Rattle.board_run.specs.Advance.{HasAdvanced, IsAdvanced, IsStanding}
 use Rattle.board_run.specs.Running.{GoesOnTo, is_over, place_of}
-use Rattle.fw_debug.proofs.Sights.{same_sight}
-use Rattle.fw_debug.specs.Looks.{looked_at}
-use Rattle.fw_debug.specs.Probes.{Sight, Watch, looked, sight_in, sight_of}
+use Rattle.board_probes.proofs.Sights.{same_sight}
+use Rattle.board_probes.specs.Looks.{looked_at}
+use Rattle.board_probes.specs.Probes.{Sight, Watch, looked, sight_in, sight_of}
 use Rattle.host_turn.specs.declared.stamped.Stamped.{Stamped}
 use Rattle.joint_feed.proofs.Going.{here}
 use Rattle.joint_feed.specs.Course.{IsSaid, IsStepOn, IsToldStep}

@@ -6,8 +6,8 @@ use Rattle.board_run.specs.Ending.{IsEnding}
 use Rattle.board_run.specs.Putting.{HaveLookedAtSome, IsLogBrokenOff}
 use Rattle.board_run.specs.Texts.{log_text}
 use Rattle.board_run.specs.declared.ended.End.TheVariants as ends
-use Rattle.fw_debug.specs.Looks.{looked_at, looks}
-use Rattle.fw_debug.specs.Probes.{Watch}
+use Rattle.board_probes.specs.Looks.{looked_at, looks}
+use Rattle.board_probes.specs.Probes.{Watch}
 use Rattle.host_turn.specs.declared.stamped.Stamped.{Stamped}
 use Rattle.io_edge.specs.Said.{IsBrokenOff, IsSaid, Shown}
 use Rattle.io_edge.proofs.Pieces.{none_said, said_then_broken, said_then_said}

@@ -2,8 +2,8 @@
 use Rattle.std.specs.Prelude.{◌≡◌, ◌<◌, ◌^◌, suc, List, ◌++◌, Ok, Err}
 use Rattle.std.specs.declared.result.Result.{Result}
 use Rattle.board_run.specs.Running.{GoesOnTo, IsStuckAt}
-use Rattle.fw_debug.specs.Looks.{looked_at}
-use Rattle.fw_debug.specs.Probes.{Watch}
+use Rattle.board_probes.specs.Looks.{looked_at}
+use Rattle.board_probes.specs.Probes.{Watch}
 use Rattle.joint_feed.specs.Ahead.{HasTaken}
 use Rattle.joint_feed.specs.Course.{IsOnCourse}
 use Rattle.joint_feed.specs.Stories.{Story, state_at, story}

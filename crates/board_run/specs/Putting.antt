@@ -2,8 +2,8 @@
 use Rattle.std.specs.Prelude.{◌≡◌, ℕ, List}
 use Rattle.board_run.specs.Running.{GoesOnTo, IsOutcome, Outcome}
 use Rattle.board_run.specs.Texts.{log_text}
-use Rattle.fw_debug.specs.Looks.{looks}
-use Rattle.fw_debug.specs.Probes.{Watch}
+use Rattle.board_probes.specs.Looks.{looks}
+use Rattle.board_probes.specs.Probes.{Watch}
 use Rattle.io_edge.specs.Said.{IsBrokenOff, Shown}
 use Rattle.joint_feed.specs.Stories.{Story}
 

@@ -2,7 +2,7 @@
 use Rattle.std.specs.Prelude.{◌≡◌, ℕ, zero, suc, ◌+◌, ◌%◌, Bool, true, false, nat_le, List, slice_index, Some, None}
 use Rattle.board_run.specs.declared.ended.End.{End}
 use Rattle.board_run.specs.declared.ended.End.TheVariants.{Over, Stuck}
-use Rattle.fw_debug.specs.Stuck.{sticks}
+use Rattle.board_probes.specs.Stuck.{sticks}
 use Rattle.host_turn.specs.declared.stamped.Stamped.{Stamped}
 use Rattle.joint_feed.specs.Stories.{Story, state_at}
 use Rattle.joint_run.specs.Joint.{Beside, log_of}

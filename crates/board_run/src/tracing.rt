@@ -5,7 +5,7 @@ ghost use Rattle.board_run.specs.Advance.{IsReady};
 ghost use Rattle.board_run.specs.Ending.{IsEnding};
 ghost use Rattle.board_run.specs.Putting.{HaveLookedAtSome};
 ghost use Rattle.board_run.specs.Tracing.{AreChangesBrokenOff};
-ghost use Rattle.fw_debug.specs.Looks.{looks};
+ghost use Rattle.board_probes.specs.Looks.{looks};
 ghost use Rattle.io_edge.specs.Said.{IsSaid, shown};
 ghost use Rattle.joint_feed.specs.Stories.{story};
 ghost use Rattle.key_file.specs.Feeds.{Fed};
@@ -13,7 +13,7 @@ ghost use Rattle.wire_trace.specs.Trace.{changes_to};
 
 use crate::board::{advance, is_over};
 use crate::ended::End;
-use fw_debug::{LineDecoder, Probe};
+use board_probes::{LineDecoder, Probe};
 use io_edge::{Sink, SinkFault};
 use joint_feed::Course;
 use key_file::Feed;

@@ -5,8 +5,8 @@ use Rattle.std.specs.declared.option.Option.{Option}
 use Rattle.std.specs.declared.result.Result.{Result}
 use Rattle.std.proofs.lemmas.Bool.Decides.{nat_tests}
 use Rattle.board_lines.specs.declared.lines.Lines.{Lines}
-use Rattle.fw_debug.specs.Probes.{Watch, sight_of}
-use Rattle.fw_debug.specs.Resting.{all_rest}
+use Rattle.board_probes.specs.Probes.{Watch, sight_of}
+use Rattle.board_probes.specs.Resting.{all_rest}
 use Rattle.fw_kernel.specs.declared.labels.TheConstants.{TICK}
 use Rattle.fw_logic.specs.JointRun.{TellsTick}
 use Rattle.joint_feed.specs.Stories.{Story}

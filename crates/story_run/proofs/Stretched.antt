@@ -3,8 +3,8 @@ use Rattle.std.proofs.Common.{◌≡◌, ◌<◌, ℕ, suc, Bool, true, false, L
 use Rattle.std.specs.declared.option.Option.{Option}
 use Rattle.std.specs.declared.result.Result.{Result}
 use Rattle.board_lines.specs.declared.lines.Lines.{Lines}
-use Rattle.fw_debug.specs.Probes.{Watch, sight_of}
-use Rattle.fw_debug.specs.Resting.{all_rest}
+use Rattle.board_probes.specs.Probes.{Watch, sight_of}
+use Rattle.board_probes.specs.Resting.{all_rest}
 use Rattle.joint_feed.proofs.Going.{no_further}
 use Rattle.joint_feed.specs.Stories.{Story, state_at}
 use Rattle.joint_feed.specs.declared.course.Course.{Course}

@@ -2,7 +2,7 @@
 use Rattle.std.specs.Prelude.{◌≡◌, ◌<◌, ℕ, ◌+◌, Bool, true, false, [], Ok, Err}
 use Rattle.std.specs.declared.result.Result.{Result}
 use Rattle.board_lines.specs.declared.lines.Lines.{Lines}
-use Rattle.fw_debug.specs.Probes.{sight_of}
+use Rattle.board_probes.specs.Probes.{sight_of}
 use Rattle.fw_kernel.specs.declared.labels.TheConstants.{TICK}
 use Rattle.joint_feed.specs.declared.course.Course.{Course}
 use Rattle.joint_glide.specs.Quiet.{HasGone}

@@ -3,15 +3,15 @@
 
 ghost use Rattle.std.specs.Prelude.{◌≡◌, ◌<◌, ◌≤◌, List, [], true, map, Ok};
 ghost use Rattle.joint_feed.specs.Stories.{Story};
-ghost use Rattle.fw_debug.specs.Probes.{Watch, sight_of};
-ghost use Rattle.fw_debug.specs.Resting.{all_rest};
+ghost use Rattle.board_probes.specs.Probes.{Watch, sight_of};
+ghost use Rattle.board_probes.specs.Resting.{all_rest};
 ghost use Rattle.story_run.specs.Gliding.{IsGlide, IsGoing, IsStretch, looked_behind};
 ghost use Rattle.story_run.specs.Stretching.{CanFollow, IsMade};
 
 use crate::ending::{Ending, Halt, must_halt};
 use crate::stretching::make_steps;
 use board_lines::Lines;
-use fw_debug::{Probe, all_rest, look_all};
+use board_probes::{Probe, all_rest, look_all};
 use joint_feed::Course;
 use joint_run::{Joint, Seen};
 use mcs48_core::Stuck;

@@ -1,7 +1,7 @@
 -- Steps were made one after another, and what the last one took is counted.
 use Rattle.std.proofs.Common.{◌≡◌, ◌≤◌, ◌<◌, ◌^◌, ℕ, suc, ◌+◌, ◌-◌, List, ◌++◌, length, map, refl, ap, sym, subst, ◌∙◌, arith}
-use Rattle.fw_debug.specs.Looks.{looked_at, looks}
-use Rattle.fw_debug.specs.Probes.{Watch}
+use Rattle.board_probes.specs.Looks.{looked_at, looks}
+use Rattle.board_probes.specs.Probes.{Watch}
 use Rattle.joint_feed.proofs.Going.{edges_few as edges_taken, host_few as host_taken}
 use Rattle.joint_feed.specs.Ahead.{HasTaken, IsFed}
 use Rattle.joint_feed.specs.Stories.{Story, state_at, story}

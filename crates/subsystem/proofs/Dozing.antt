@@ -1,9 +1,9 @@
 -- Steps that probes which rest needn't look at.
 use Rattle.std.proofs.Common.{◌≡◌, ◌<◌, ℕ, Bool, true, List, map, refl, ap, sym, subst, ◌∙◌}
-use Rattle.fw_debug.proofs.AtRest.{all_rested}
-use Rattle.fw_debug.proofs.Over.{seen_map}
-use Rattle.fw_debug.specs.Probes.{Sight, Watch, looked, sight_of}
-use Rattle.fw_debug.specs.Resting.{all_rest}
+use Rattle.board_probes.proofs.AtRest.{all_rested}
+use Rattle.board_probes.proofs.Over.{seen_map}
+use Rattle.board_probes.specs.Probes.{Sight, Watch, looked, sight_of}
+use Rattle.board_probes.specs.Resting.{all_rest}
 use Rattle.key_file.specs.Histories.{KeyHistory}
 use Rattle.subsystem.specs.declared.pace.Pace.{Pace}
 use Rattle.subsystem.specs.Gliding.{HasGlided, IsGoing, IsOnward, IsStepped, looked_now}

@@ -1,9 +1,9 @@
 -- Steps that follow one another at once.
 use Rattle.std.proofs.Common.{◌≡◌, ◌<◌, ◌^◌, ℕ, suc, ◌+◌, ◌-◌, false, List, [], ◌++◌, length, map, Some, Ok, refl, ap, sym, subst, ◌∙◌, arith}
 use Rattle.std.proofs.lemmas.List.{append-nil}
-use Rattle.fw_debug.specs.Looks.{looked_at, looks}
-use Rattle.fw_debug.proofs.Sights.{same_sight}
-use Rattle.fw_debug.specs.Probes.{Sight, Watch, looked, sight_in, sight_of}
+use Rattle.board_probes.specs.Looks.{looked_at, looks}
+use Rattle.board_probes.proofs.Sights.{same_sight}
+use Rattle.board_probes.specs.Probes.{Sight, Watch, looked, sight_in, sight_of}
 use Rattle.fw_logic.specs.JointRun.{TellsTick}
 use Rattle.std.specs.declared.option.Option.{Option}
 use Rattle.joint_feed.proofs.Going.{here, on, step, on_again, steps_more as one_more_step, cycle_more, is_said}

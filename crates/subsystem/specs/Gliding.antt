@@ -1,7 +1,7 @@
 -- Steps that are made one after another as long as nothing of them has to be counted or told.
 use Rattle.std.specs.Prelude.{◌≡◌, ◌≤◌, ◌<◌, ℕ, suc, List, map, false, Ok}
-use Rattle.fw_debug.specs.Looks.{looked_at, looks}
-use Rattle.fw_debug.specs.Probes.{Watch, looked, sight_of}
+use Rattle.board_probes.specs.Looks.{looked_at, looks}
+use Rattle.board_probes.specs.Probes.{Watch, looked, sight_of}
 use Rattle.fw_logic.specs.JointRun.{KeepsTime}
 use Rattle.joint_feed.specs.Stories.{state_at, story}
 use Rattle.joint_run.specs.Due.{due_step, IsJointStep}

@@ -1,7 +1,7 @@
 -- Probes that ride on a run.
 use Rattle.std.specs.Prelude.{◌≡◌, ℕ, List}
-use Rattle.fw_debug.specs.Looks.{looks}
-use Rattle.fw_debug.specs.Probes.{Watch}
+use Rattle.board_probes.specs.Looks.{looks}
+use Rattle.board_probes.specs.Probes.{Watch}
 use Rattle.joint_feed.specs.Stories.{Story}
 use Rattle.subsystem.specs.Running.{GoesOnTo}
 

@@ -5,12 +5,12 @@ ghost use Rattle.std.specs.Prelude.{◌≡◌, ◌<◌, ◌^◌, List, [], true,
 ghost use Rattle.joint_run.specs.Due.{due_step, told, IsJointStep};
 ghost use Rattle.joint_run.specs.History.{IsStepOfRun};
 ghost use Rattle.key_file.specs.Histories.{KeyHistory};
-ghost use Rattle.fw_debug.specs.Probes.{Watch, sight_of};
-ghost use Rattle.fw_debug.specs.Resting.{all_rest};
+ghost use Rattle.board_probes.specs.Probes.{Watch, sight_of};
+ghost use Rattle.board_probes.specs.Resting.{all_rest};
 ghost use Rattle.subsystem.specs.Gliding.{HasGlided, IsGoing, IsOnward, IsStepped, looked_now};
 
 use crate::pace::Pace;
-use fw_debug::{Probe, all_rest, look_all};
+use board_probes::{Probe, all_rest, look_all};
 use fw_logic::at_tick;
 use joint_feed::Course;
 use joint_run::{Joint, Seen};

@@ -2,8 +2,8 @@
 
 ghost use Rattle.std.specs.Prelude.{◌≡◌, ◌+◌, ◌-◌, ◌++◌, ◌^◌, ◌<◌, ◌≤◌, suc, List, [], length, map, Ok, true, false, nat_le};
 ghost use Rattle.std.specs.Prelude.{vec_capacity, IfOk, OnErr, OnOk};
-ghost use Rattle.fw_debug.specs.Looks.{looks};
-ghost use Rattle.fw_debug.specs.Probes.{Watch};
+ghost use Rattle.board_probes.specs.Looks.{looks};
+ghost use Rattle.board_probes.specs.Probes.{Watch};
 ghost use Rattle.fw_logic.specs.JointRun.{KeepsTime, TellsTick};
 ghost use Rattle.int09.specs.Bios.{start};
 ghost use Rattle.joint_feed.specs.Ahead.{HasTaken};
@@ -13,7 +13,7 @@ ghost use Rattle.key_file.specs.Feeds.{Fed};
 ghost use Rattle.subsystem.specs.Account.{in_tick};
 ghost use Rattle.subsystem.specs.Progress.{IsSoFar, IsJudged, lines_to, with_start};
 
-use fw_debug::Probe;
+use board_probes::Probe;
 use fw_logic::at_tick;
 use int09::Bios;
 use joint_feed::Course;

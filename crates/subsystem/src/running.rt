@@ -3,7 +3,7 @@
 ghost use Rattle.std.specs.Prelude.{◌≡◌, ◌<◌, ◌-◌, [], true, length, map, IfOk, OnErr, OnOk};
 ghost use Rattle.board_lines.specs.Cadence.{KeepsCadenceTo, listed};
 ghost use Rattle.fw_compile.specs.Image.{image_of};
-ghost use Rattle.fw_debug.specs.Looks.{looks};
+ghost use Rattle.board_probes.specs.Looks.{looks};
 ghost use Rattle.fw_logic.specs.JointRun.{KeepsTime};
 ghost use Rattle.joint_feed.specs.Ahead.{HasTaken};
 ghost use Rattle.joint_feed.specs.Stories.{story};
@@ -19,8 +19,8 @@ use crate::account::push_lines;
 use crate::law::{keeps_time, runs_are_expected};
 use crate::outcome::{Run, copied};
 use crate::pace::Pace;
+use board_probes::Probe;
 use fw_compile::compile;
-use fw_debug::Probe;
 use int09::Bios;
 use key_file::{Feed, History, ListFeed};
 use layout_reader::Layout;

@@ -16,7 +16,7 @@ ghost use Rattle.wires_heard.specs.Hearing.{HearsAll};
 
 use crate::fault::TraceFault;
 use crate::sampling::put_sample;
-use fw_debug::LineDecoder;
+use board_probes::LineDecoder;
 use io_edge::{Sink, SinkFault, say};
 use key_file::Feed;
 use layout_reader::Layout;

@@ -1,7 +1,7 @@
 use Rattle.std.proofs.Common.{◌<◌, ◌+◌, sym, ◌∙◌, arith}
 use Rattle.std.proofs.lemmas.Bool.Decides.{nat_tests}
-use Rattle.fw_debug.proofs.Over.{seen_map}
-use Rattle.fw_debug.specs.Probes.{looked, sight_of}
+use Rattle.board_probes.proofs.Over.{seen_map}
+use Rattle.board_probes.specs.Probes.{looked, sight_of}
 use Rattle.joint_feed.specs.Stories.{story}
 use Rattle.board_run.proofs.Going.{made_here, stuck_here, told_on}
 use Rattle.board_run.proofs.board.advance.Goals as goal

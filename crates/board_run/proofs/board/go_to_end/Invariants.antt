@@ -1,7 +1,7 @@
 use Rattle.std.proofs.Common.{◌≡◌, ◌<◌, ◌^◌, ◌-◌, map}
 use Rattle.board_run.specs.Advance.{IsStanding}
 use Rattle.board_run.specs.Texts.{log_text}
-use Rattle.fw_debug.specs.Looks.{looks}
+use Rattle.board_probes.specs.Looks.{looks}
 use Rattle.io_edge.specs.Said.{IsSaid, shown}
 use Rattle.joint_feed.specs.Ahead.{HasTaken}
 use Rattle.joint_feed.specs.Stories.{story}

@@ -1,5 +1,5 @@
 use Rattle.std.proofs.Common.{ap, sym, subst, refl, ◌∙◌, Ok, Err, map, arith}
-use Rattle.fw_debug.specs.Transfers.{Ear}
+use Rattle.board_probes.specs.Transfers.{Ear}
 use Rattle.io_edge.specs.Said.{IsBrokenOff, shown}
 use Rattle.joint_feed.proofs.Going.{here}
 use Rattle.joint_feed.specs.Stories.{Story, story}

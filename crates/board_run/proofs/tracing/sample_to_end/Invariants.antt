@@ -1,6 +1,6 @@
 use Rattle.std.proofs.Common.{◌≡◌, ◌<◌, ◌^◌, ◌-◌, map}
 use Rattle.board_run.specs.Advance.{IsStanding}
-use Rattle.fw_debug.specs.Looks.{looks}
+use Rattle.board_probes.specs.Looks.{looks}
 use Rattle.io_edge.specs.Said.{IsSaid, shown}
 use Rattle.joint_feed.specs.Ahead.{HasTaken}
 use Rattle.joint_feed.specs.Stories.{story}

@@ -1,5 +1,5 @@
 use Rattle.std.proofs.Common.{◌≡◌, ◌≤◌, ◌^◌, ◌+◌, ◌-◌, ◌*◌, ◌/◌, length, map, vec_capacity}
-use Rattle.fw_debug.specs.Looks.{looks}
+use Rattle.board_probes.specs.Looks.{looks}
 use Rattle.io_edge.specs.Said.{IsSaid, shown}
 use Rattle.joint_feed.specs.Ahead.{HasTaken}
 use Rattle.joint_feed.specs.Stories.{story}
