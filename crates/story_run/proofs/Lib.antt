@@ -9,4 +9,6 @@ pub mod Dozing
 pub mod Advanced
 pub mod Held
 pub mod Told
+pub mod Slept
+pub mod Stretched
 pub mod Loop

@@ -15,6 +15,7 @@ use Rattle.story_run.specs.declared.ending.Ending.TheVariants.{TickStart, Stamp}
 use Rattle.story_run.specs.declared.ending.Halt.{Halt}
 use Rattle.story_run.specs.Gliding.{IsGoing, IsTimely}
 use Rattle.story_run.specs.Running.{GoesOnTo, is_over}
+use Rattle.story_run.specs.Stretching.{NoneHalts}
 use Rattle.story_run.proofs.Steps.{on_at, step_later}
 
 -- the run is never stuck
@@ -93,3 +94,23 @@ soon u s c g =
     let now = g.standing.on.in_run.cycle in
     let range = g.accepted.end_in_range in
     omega (arith, near, now, range)
+
+-- one that is to end at its end stamp is before it
+before_end : (e : Ending) (s : Story) (w : World Beside) → e ≡ Stamp → is_over e s w ≡ false → w.cycle < 4096 + s.stop
+before_end TickStart s w is off = absurd (cc is)
+before_end Stamp s w is off = grind (arith, nat_tests, off)
+
+pub before_stamp : (u : Halt) (s : Story) (c : Course) → IsGoing u s c → u.ending ≡ Stamp → c.joint.cycle < 4096 + u.stop
+before_stamp u s c g is =
+    let before = before_end u.ending s g.standing.on.world is g.not_over in
+    let now = g.standing.on.in_run.cycle in
+    let stop = g.stop in
+    omega (arith, before, now, stop)
+
+none_by : (e : Ending) (stop cycle : ℕ) → (e ≡ Stamp → cycle < 4096 + stop) → NoneHalts e stop TICK (cycle + 0)
+none_by TickStart stop cycle before = refl
+none_by Stamp stop cycle before = let b = before refl in omega (arith, b)
+
+-- no steps lead to no halt
+pub none_halts : (u : Halt) (s : Story) (c : Course) → IsGoing u s c → NoneHalts u.ending u.stop TICK (c.joint.cycle + 0)
+none_halts u s c g = none_by u.ending u.stop c.joint.cycle (before_stamp u s c g)

@@ -1,6 +1,7 @@
 pub mod Running
 pub mod Answers
 pub mod Gliding
+pub mod Stretching
 pub mod Advance
 pub mod Telling
 pub mod Looking

@@ -1,37 +1,20 @@
 //! Steps of a run, one after another, as long as nothing of them has to be counted or told. Probes that rest look only where
 //! they would miss something.
 
-ghost use Rattle.std.specs.Prelude.{◌≡◌, ◌<◌, ◌≤◌, ◌^◌, List, [], true, false, map, Ok, OnErr, OnOk};
-ghost use Rattle.joint_run.specs.Due.{due_step, told, IsJointStep};
-ghost use Rattle.joint_run.specs.History.{IsStepOfRun};
+ghost use Rattle.std.specs.Prelude.{◌≡◌, ◌<◌, ◌≤◌, List, [], true, map, Ok};
 ghost use Rattle.joint_feed.specs.Stories.{Story};
 ghost use Rattle.board_probes.specs.Probes.{Watch, sight_of};
 ghost use Rattle.board_probes.specs.Resting.{all_rest};
 ghost use Rattle.story_run.specs.Gliding.{IsGlide, IsGoing, IsStretch, looked_behind};
+ghost use Rattle.story_run.specs.Stretching.{CanFollow, IsMade};
 
 use crate::ending::{Ending, Halt, must_halt};
+use crate::stretching::make_steps;
 use board_lines::Lines;
 use board_probes::{Probe, all_rest, look_all};
 use joint_feed::Course;
 use joint_run::{Joint, Seen};
 use mcs48_core::Stuck;
-
-/// One joint step by the events that are handed in, told in the course. The whole step is built into this place.
-#[inline(always)]
-fn make_step<const SITE: u8>(course: &mut Course) -> Result<(), Stuck>
-    requires near { course.old.joint.cycle < 2 ^ 62 }
-    ensures step { let due = course.old.ahead.due in let m = course.old.joint in
-        IsJointStep due m (due_step due m) (told result course.new.seen) course.new.joint }
-    ensures run { IsStepOfRun course.old.ahead.due course.old.joint (told result course.new.seen) course.new.joint }
-    ensures ahead { course.new.ahead ≡ course.old.ahead }
-    ensures unchanged { OnErr result (course.new.joint ≡ course.old.joint) }
-    ensures some { OnOk result (0 < course.new.seen.cycles) }
-    ensures few { OnOk result (course.new.seen.cycles < 3) }
-{
-    course
-        .joint
-        .step_inlined::<SITE>(&course.ahead.due, &mut course.seen)
-}
 
 /// Whether a step took no event and said nothing.
 fn is_silent(seen: &Seen) -> bool
@@ -82,36 +65,38 @@ fn keeps_levels(wires: bool, lines: Lines, joint: &Joint) -> bool
     !wires || are_levels(joint, lines)
 }
 
-/// Makes one joint step. Answers whether the next one can follow at once: it took no event, said nothing, and led to no
-/// halt and to no change of wires that are sampled.
+/// Whether the next step can follow at once: the last one took no event, said nothing, and led to no halt and to no
+/// change of wires that are sampled.
+#[inline(always)]
+fn can_follow(course: &Course, halt: Halt, lines: Lines) -> bool
+    requires range { halt.stop ≤ 240000000 }
+    ensures { result ≡ true → CanFollow halt lines course.now }
+{
+    is_silent(&course.seen)
+        && !must_halt(halt.ending, &course.joint, halt.stop)
+        && keeps_levels(halt.wires, lines, &course.joint)
+}
+
+/// Makes joint steps: one, or, where the probes rest, quiet ones before it. Answers whether the next one can follow at
+/// once.
 #[inline(always)]
 fn goes_quietly<const SITE: u8>(
     course: &mut Course,
     halt: Halt,
     lines: Lines,
+    rest: bool,
 ) -> Result<bool, Stuck>
     requires going { (s : Story) × IsGoing halt s course.old }
     requires range { halt.stop ≤ 240000000 }
-    ensures stretch { (s : Story) → IsGoing halt s course.old → (halt.wires ≡ true → (sight_of course.old.joint).lines ≡ lines)
-        → (before : List Watch) → IsStretch halt s course.old before result course.new (looked_behind course.old.joint.steps course.new before) }
-    ensures still { OnErr result (course.new.joint ≡ course.old.joint) }
-    ensures later { result ≡ Ok true → course.old.joint.cycle < course.new.joint.cycle }
+    ensures made { IsMade halt lines rest course.old result course.new }
 {
-    match make_step::<SITE>(course) {
+    match make_steps::<SITE>(course, halt, rest) {
         Err(stuck) => match halt.ending {
             // A program that keeps its time never comes to a byte without an instruction.
             Ending::TickStart => unreachable!(),
             Ending::Stamp => Err(stuck),
         },
-        Ok(()) => {
-            if !is_silent(&course.seen) {
-                return Ok(false);
-            }
-            if must_halt(halt.ending, &course.joint, halt.stop) {
-                return Ok(false);
-            }
-            Ok(keeps_levels(halt.wires, lines, &course.joint))
-        }
+        Ok(()) => Ok(can_follow(course, halt, lines)),
     }
 }
 
@@ -129,12 +114,13 @@ fn goes_unseen<const SITE: u8>(
     requires going { (s : Story) × IsGoing halt s course.old }
     requires range { halt.stop ≤ 240000000 }
     requires levels { halt.wires ≡ true → (sight_of course.old.joint).lines ≡ lines }
+    requires level { (sight_of course.old.joint).lines.clk ≡ clk }
     ensures stretch { (s : Story) → IsGoing halt s course.old → (before : List Watch) → (rest ≡ true → all_rest clk before ≡ true)
         → IsStretch halt s course.old before result course.new (looked_behind course.old.joint.steps course.new before) }
     ensures later { result ≡ Ok true → course.old.joint.cycle < course.new.joint.cycle }
 {
     'steps: loop {
-        match goes_quietly::<SITE>(course, halt, lines) {
+        match goes_quietly::<SITE>(course, halt, lines, rest) {
             Err(stuck) => return Err(stuck),
             Ok(false) => return Ok(false),
             Ok(true) => {}

@@ -8,6 +8,7 @@
 mod advancing;
 mod ending;
 mod gliding;
+mod stretching;
 mod telling;
 
 pub use advancing::advance;
