@@ -10,8 +10,10 @@
 mod change;
 mod fault;
 mod sampling;
+mod telling;
 mod tracing;
 
 pub use fault::TraceFault;
 pub use sampling::put_sample;
+pub use telling::Changes;
 pub use tracing::{put_header, trace};

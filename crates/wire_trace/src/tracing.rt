@@ -7,22 +7,19 @@ ghost use Rattle.joint_feed.specs.Stories.{story};
 ghost use Rattle.key_file.specs.Accepted.{IsAcceptedFor};
 ghost use Rattle.key_file.specs.Feeds.{Fed};
 ghost use Rattle.layout_reader.specs.Layouts.{IsKeyLayout, KeyLayout};
-ghost use Rattle.subsystem.specs.Progress.{IsJudged, IsReady};
 ghost use Rattle.wire_trace.specs.declared.fault.TraceFault.TheVariants.{Memory, Write};
-ghost use Rattle.wire_trace.specs.Ending.{AreChangesBrokenOff, IsTraceBrokenOff, IsTraceSaid};
+ghost use Rattle.wire_trace.specs.Ending.{IsTraceBrokenOff, IsTraceSaid};
 ghost use Rattle.wire_trace.specs.Text.{header};
-ghost use Rattle.wire_trace.specs.Trace.{changes_to};
 ghost use Rattle.wires_heard.specs.Hearing.{HearsAll};
 
 use crate::fault::TraceFault;
-use crate::sampling::put_sample;
-use fw_debug::LineDecoder;
+use crate::telling::Changes;
 use io_edge::{Sink, SinkFault, say};
 use key_file::Feed;
 use layout_reader::Layout;
-use mcs48_isa::Image;
 use std::alloc::Global;
-use subsystem::{Engine, Pace};
+use story_run::{Ending, tell_run};
+use subsystem::Engine;
 use wires_heard::wires_are_heard;
 
 /// What stands before the first sample.
@@ -40,44 +37,25 @@ pub fn put_header<K: Sink>(out: &mut K) -> Result<(), SinkFault>
     say(out, HEADER)
 }
 
-/// Goes on from power-on to the run's end, and puts what each sample adds.
-fn put_changes<F: Feed, K: Sink>(
-    pace: &mut Pace,
-    image: &Image,
-    feed: &mut F,
+/// Puts the text of a run that is ready.
+fn put_trace<F: Feed, K: Sink>(
+    alloc: Global,
+    engine: Engine<F>,
     out: &mut K,
 ) -> Result<(), SinkFault>
-    requires ready { IsReady image.now.bytes (F.told feed.old) pace.old }
-    ensures judged { OnOk result (IsJudged (story image.now.bytes (F.told feed.old).history) true pace.new) }
-    ensures said { let run = story image.now.bytes (F.told feed.old).history in
-        OnOk result (IsSaid (shown (K.taken out.old) (K.told out.old) (K.faults out.old))
-        (shown (K.taken out.new) (K.told out.new) (K.faults out.new)) (changes_to run pace.new.course.joint.steps)) }
-    ensures broken { let run = story image.now.bytes (F.told feed.old).history in
-        OnErr result (AreChangesBrokenOff run (shown (K.taken out.old) (K.told out.old) (K.faults out.old))
-        (shown (K.taken out.new) (K.told out.new) (K.faults out.new))) }
-{
-    let mut decoder = LineDecoder::new();
-    'steps: while !pace.judge_within(image, feed) {
-        pace.step(image, feed);
-        let cycle = pace.course.joint.cycle();
-        let lines = pace.course.joint.lines();
-        put_sample(out, &mut decoder, cycle, lines)?;
-    }
-    Ok(())
-}
-
-/// Puts the text of a run that is ready.
-fn put_trace<F: Feed, K: Sink>(engine: Engine<F>, out: &mut K) -> Result<(), SinkFault>
     ensures said { OnOk result (IsTraceSaid engine (shown (K.taken out.old) (K.told out.old) (K.faults out.old))
         (shown (K.taken out.new) (K.told out.new) (K.faults out.new))) }
     ensures broken { OnErr result (IsTraceBrokenOff engine (shown (K.taken out.old) (K.told out.old) (K.faults out.old))
         (shown (K.taken out.new) (K.told out.new) (K.faults out.new))) }
 {
-    let (image, feed, pace) = engine.into_parts();
+    let (feed, course) = engine.into_parts();
     let mut feed = feed;
-    let mut pace = pace;
+    let mut course = course;
+    let mut changes = Changes::new();
+    let mut probes = Vec::new(alloc);
     put_header(out)?;
-    put_changes(&mut pace, &image, &mut feed, out)
+    let _end = tell_run::<F, K, SinkFault, Changes, 6>(&mut course, &mut feed, Ending::TickStart, &mut changes, out, &mut probes)?;
+    Ok(())
 }
 
 /// Puts the two wires of the run of a layout's compiled image, under the history of a feed of which nothing was taken and
@@ -114,7 +92,7 @@ pub fn trace<F: Feed, K: Sink>(
     wires_are_heard();
     match Engine::new(alloc, layout, feed) {
         Err(_error) => Err(TraceFault::Memory),
-        Ok(engine) => match put_trace(engine, out) {
+        Ok(engine) => match put_trace(alloc, engine, out) {
             Err(_fault) => Err(TraceFault::Write),
             Ok(()) => Ok(()),
         },
