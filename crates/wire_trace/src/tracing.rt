@@ -1,12 +1,15 @@
 //! The trace of a run.
 
-ghost use Rattle.std.specs.Prelude.{◌≡◌, true, Err, OnErr, OnOk};
+ghost use Rattle.std.specs.Prelude.{◌≡◌, true, Err, IfOk, OnErr, OnOk};
 ghost use Rattle.fw_compile.specs.Image.{image_of};
 ghost use Rattle.io_edge.specs.Said.{IsBrokenOff, IsSaid, shown};
+ghost use Rattle.joint_feed.specs.Ahead.{HasTaken};
 ghost use Rattle.joint_feed.specs.Stories.{story};
-ghost use Rattle.key_file.specs.Accepted.{IsAcceptedFor};
+ghost use Rattle.key_file.specs.Accepted.{IsAccepted, IsAcceptedFor};
 ghost use Rattle.key_file.specs.Feeds.{Fed};
 ghost use Rattle.layout_reader.specs.Layouts.{IsKeyLayout, KeyLayout};
+ghost use Rattle.story_run.specs.declared.ending.Ending.TheVariants.{TickStart};
+ghost use Rattle.story_run.specs.Gliding.{IsStanding, IsTimely};
 ghost use Rattle.wire_trace.specs.declared.fault.TraceFault.TheVariants.{Memory, Write};
 ghost use Rattle.wire_trace.specs.Ending.{IsTraceBrokenOff, IsTraceSaid};
 ghost use Rattle.wire_trace.specs.Text.{header};
@@ -14,12 +17,15 @@ ghost use Rattle.wires_heard.specs.Hearing.{HearsAll};
 
 use crate::fault::TraceFault;
 use crate::telling::Changes;
+use agreement::run_and_model_agree;
+use fw_compile::compile;
+use int09::Bios;
 use io_edge::{Sink, SinkFault, say};
+use joint_feed::Course;
 use key_file::Feed;
 use layout_reader::Layout;
-use std::alloc::Global;
+use std::alloc::{AllocError, Global};
 use story_run::{Ending, tell_run};
-use subsystem::Engine;
 use wires_heard::wires_are_heard;
 
 /// What stands before the first sample.
@@ -37,24 +43,52 @@ pub fn put_header<K: Sink>(out: &mut K) -> Result<(), SinkFault>
     say(out, HEADER)
 }
 
-/// Puts the text of a run that is ready.
+/// The run of a layout's compiled image under the history of a feed of which nothing was taken and which is accepted for
+/// this layout, at power-on, with all the memory that it takes: the buffer of INT 09h.
+fn begun<F: Feed>(alloc: Global, layout: &Layout, feed: &mut F) -> Result<Course, AllocError>
+    requires no_edge { (F.told feed.old).edges ≡ 0 }
+    requires no_host { (F.told feed.old).host ≡ 0 }
+    requires accepted { IsAcceptedFor layout.now (F.told feed.old).history }
+    ensures layout { IsKeyLayout layout.now }
+    ensures accepted { IsAccepted (F.told feed.new).history }
+    ensures run { IfOk result (λ course. story course.joint.image.bytes (F.told feed.new).history
+        ≡ story (image_of layout.now) (F.told feed.old).history) }
+    ensures timely { IfOk result (λ course. IsTimely TickStart (story course.joint.image.bytes (F.told feed.new).history)) }
+    ensures standing { IfOk result (λ course. IsStanding TickStart (story course.joint.image.bytes (F.told feed.new).history) course) }
+    ensures steps { IfOk result (λ course. course.joint.steps ≡ 0) }
+    ensures taken { IfOk result (λ course. HasTaken (F.told feed.new) course.ahead) }
+{
+    let _ = layout.rate();
+    let _ = layout.entries();
+    run_and_model_agree();
+    let image = compile(layout);
+    let bios = Bios::new(alloc)?;
+    Ok(Course::begin(&image, bios, feed))
+}
+
+/// Puts the text of a run that is at power-on.
 fn put_trace<F: Feed, K: Sink>(
     alloc: Global,
-    engine: Engine<F>,
+    course: &mut Course,
+    feed: &mut F,
     out: &mut K,
 ) -> Result<(), SinkFault>
-    ensures said { OnOk result (IsTraceSaid engine (shown (K.taken out.old) (K.told out.old) (K.faults out.old))
+    requires accepted { IsAccepted (F.told feed.old).history }
+    requires timely { IsTimely TickStart (story course.old.joint.image.bytes (F.told feed.old).history) }
+    requires standing { IsStanding TickStart (story course.old.joint.image.bytes (F.told feed.old).history) course.old }
+    requires steps { course.old.joint.steps ≡ 0 }
+    requires taken { HasTaken (F.told feed.old) course.old.ahead }
+    ensures said { let run = story course.old.joint.image.bytes (F.told feed.old).history in
+        OnOk result (IsTraceSaid run (shown (K.taken out.old) (K.told out.old) (K.faults out.old))
         (shown (K.taken out.new) (K.told out.new) (K.faults out.new))) }
-    ensures broken { OnErr result (IsTraceBrokenOff engine (shown (K.taken out.old) (K.told out.old) (K.faults out.old))
+    ensures broken { let run = story course.old.joint.image.bytes (F.told feed.old).history in
+        OnErr result (IsTraceBrokenOff run (shown (K.taken out.old) (K.told out.old) (K.faults out.old))
         (shown (K.taken out.new) (K.told out.new) (K.faults out.new))) }
 {
-    let (feed, course) = engine.into_parts();
-    let mut feed = feed;
-    let mut course = course;
     let mut changes = Changes::new();
     let mut probes = Vec::new(alloc);
     put_header(out)?;
-    let _end = tell_run::<F, K, SinkFault, Changes, 6>(&mut course, &mut feed, Ending::TickStart, &mut changes, out, &mut probes)?;
+    let _end = tell_run::<F, K, SinkFault, Changes, 6>(course, feed, Ending::TickStart, &mut changes, out, &mut probes)?;
     Ok(())
 }
 
@@ -90,11 +124,15 @@ pub fn trace<F: Feed, K: Sink>(
         ≡ shown (K.taken out.old) (K.told out.old) (K.faults out.old) }
 {
     wires_are_heard();
-    match Engine::new(alloc, layout, feed) {
+    let mut feed = feed;
+    match begun(alloc, layout, &mut feed) {
         Err(_error) => Err(TraceFault::Memory),
-        Ok(engine) => match put_trace(alloc, engine, out) {
-            Err(_fault) => Err(TraceFault::Write),
-            Ok(()) => Ok(()),
-        },
+        Ok(course) => {
+            let mut course = course;
+            match put_trace(alloc, &mut course, &mut feed, out) {
+                Err(_fault) => Err(TraceFault::Write),
+                Ok(()) => Ok(()),
+            }
+        }
     }
 }

@@ -1,15 +1,18 @@
 -- Samples of wires that keep their levels: they add nothing, and are heard as if they weren't.
-use Rattle.std.proofs.Common.{◌≡◌, ◌≤◌, ℕ, zero, suc, ◌+◌, ◌-◌, Bool, true, false, not, ◌&&◌, ◌||◌, List, [], ◌++◌, Some, None, cond, refl, ap, sym, subst, ◌∙◌, arith}
+use Rattle.std.proofs.Common.{◌≡◌, ◌≤◌, ℕ, zero, suc, ◌+◌, ◌-◌, Bool, true, false, not, ◌&&◌, ◌||◌, List, [], ◌++◌, Some, None, refl, ap, sym, subst, ◌∙◌, arith}
+use Rattle.std.specs.Prelude.{if◌then◌else◌}
 use Rattle.std.proofs.lemmas.List.{append-nil}
 use Rattle.std.specs.declared.option.Option.{Option}
 use Rattle.board_lines.specs.declared.lines.Lines.{Lines}
-use Rattle.fw_debug.specs.Transfers.{Ear, heard, is_fall, wires_at, with_fall, fall_at}
+use Rattle.fw_debug.specs.Transfers.{Ear, completed, fall_at, heard, is_fall, transfer_by, wires_at, with_fall}
 use Rattle.fw_debug.specs.declared.heard.Fall.{Fall}
+use Rattle.fw_debug.specs.declared.heard.Sample.{Sample}
+use Rattle.fw_debug.specs.declared.heard.Transfer.{Transfer}
 use Rattle.joint_feed.specs.Stories.{Story, state_at}
 use Rattle.joint_run.specs.Joint.{Beside}
 use Rattle.joint_run.specs.Run.{World}
 use Rattle.story_run.specs.Gliding.{lines_at, lines_in}
-use Rattle.wire_trace.specs.Text.{differ, sample_text, turns}
+use Rattle.wire_trace.specs.Text.{change_text, differ, sample_text, turns}
 use Rattle.wire_trace.specs.Trace.{changes_to, text_in}
 use Rattle.wires_heard.specs.Hearing.{heard_in, heard_to, sample_in}
 
@@ -17,6 +20,25 @@ use Rattle.wires_heard.specs.Hearing.{heard_in, heard_to, sample_in}
 pub record HearAlike (a b : Ear) : Type 0 where
   pub wires : wires_at a.last ≡ wires_at b.last
   pub falls : a.falls ≡ b.falls
+
+-- whatever it is
+with_falls : Sample → List Fall → Ear
+with_falls x falls = record { last = Some x; falls = falls }
+
+pub alike_heard : (x : Sample) (a b : Ear) → HearAlike a b → heard x a ≡ heard x b
+unfolding with_falls
+alike_heard x a b h =
+    ap (with_falls x)
+    (ap (λ (l : Lines). if is_fall l x.lines then with_fall (fall_at x) a.falls else a.falls) h.wires
+    ∙ ap (λ (f : List Fall). if is_fall (wires_at b.last) x.lines then with_fall (fall_at x) f else f) h.falls)
+
+pub alike_text : (x : Sample) (a b : Ear) → HearAlike a b → sample_text x a ≡ sample_text x b
+alike_text x a b h =
+    let same : completed x a ≡ completed x b =
+    ap (λ (l : Lines). if is_fall l x.lines then transfer_by (with_fall (fall_at x) a.falls) else None) h.wires
+    ∙ ap (λ (f : List Fall). if is_fall (wires_at b.last) x.lines then transfer_by (with_fall (fall_at x) f) else None) h.falls in
+    ap (λ (l : Lines). if differ l x.lines then change_text x.cycle l x.lines (completed x a) else []) h.wires
+    ∙ ap (λ (t : Option Transfer). if differ (wires_at b.last) x.lines then change_text x.cycle (wires_at b.last) x.lines t else []) same
 
 no_turn : (b : Bool) → turns b b ≡ false
 no_turn true = refl
@@ -37,7 +59,7 @@ module _ (w : World Beside) (ear : Ear) (level : (sample_in w).lines ≡ wires_a
   adds_nothing : sample_text (sample_in w) ear ≡ []
   adds_nothing =
       let still : differ (wires_at ear.last) (sample_in w).lines ≡ false = ap (differ (wires_at ear.last)) level ∙ no_change (wires_at ear.last) in
-      grind (still)
+      ap (λ (b : Bool). if b then change_text w.cycle (wires_at ear.last) (sample_in w).lines (completed (sample_in w) ear) else []) still
 
   heard_still : HearAlike (heard (sample_in w) ear) ear
   heard_still = record {
@@ -45,7 +67,7 @@ module _ (w : World Beside) (ear : Ear) (level : (sample_in w).lines ≡ wires_a
     falls =
         let none : is_fall (wires_at ear.last) (sample_in w).lines ≡ false =
         ap (λ (l : Lines). is_fall (wires_at ear.last) l) level ∙ no_fall (wires_at ear.last).clk in
-        ap (λ (b : Bool). cond b (with_fall (fall_at (sample_in w)) ear.falls) ear.falls) none;
+        ap (λ (b : Bool). if b then with_fall (fall_at (sample_in w)) ear.falls else ear.falls) none;
   }
 
 module _ (s : Story) (k : ℕ) (level : lines_at s k ≡ Some (wires_at (heard_to s k).last)) where
