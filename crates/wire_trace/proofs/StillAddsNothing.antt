@@ -4,10 +4,10 @@ use Rattle.std.specs.Prelude.{if◌then◌else◌}
 use Rattle.std.proofs.lemmas.List.{append-nil}
 use Rattle.std.specs.declared.option.Option.{Option}
 use Rattle.board_lines.specs.declared.lines.Lines.{Lines}
-use Rattle.fw_debug.specs.Transfers.{Ear, completed, fall_at, heard, is_fall, transfer_by, wires_at, with_fall}
-use Rattle.fw_debug.specs.declared.heard.Fall.{Fall}
-use Rattle.fw_debug.specs.declared.heard.Sample.{Sample}
-use Rattle.fw_debug.specs.declared.heard.Transfer.{Transfer}
+use Rattle.board_probes.specs.Transfers.{Ear, completed, fall_at, heard, is_fall, transfer_by, wires_at, with_fall}
+use Rattle.board_probes.specs.declared.heard.Fall.{Fall}
+use Rattle.board_probes.specs.declared.heard.Sample.{Sample}
+use Rattle.board_probes.specs.declared.heard.Transfer.{Transfer}
 use Rattle.joint_feed.specs.Stories.{Story, state_at}
 use Rattle.joint_run.specs.Joint.{Beside}
 use Rattle.joint_run.specs.Run.{World}

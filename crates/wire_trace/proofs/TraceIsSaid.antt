@@ -2,7 +2,7 @@
 use Rattle.std.proofs.Common.{◌≡◌, ◌≤◌, ℕ, suc, true, List, ◌++◌, Some, refl, ap, sym, subst, ◌∙◌, arith}
 use Rattle.std.proofs.lemmas.List.{append_assoc}
 use Rattle.board_lines.specs.declared.lines.Lines.{Lines}
-use Rattle.fw_debug.specs.Transfers.{Ear, silence, wires_at}
+use Rattle.board_probes.specs.Transfers.{Ear, silence, wires_at}
 use Rattle.fw_logic.specs.JointRun.{KeepsTime}
 use Rattle.io_edge.specs.Said.{IsBrokenOff, IsSaid, Shown}
 use Rattle.io_edge.proofs.Pieces.{broken_before, lines_behind, none_said, said_then_broken, said_then_said}
@@ -19,7 +19,7 @@ use Rattle.story_run.specs.Advance.{IsEnding}
 use Rattle.story_run.specs.Looking.{BrokeOff}
 use Rattle.story_run.specs.Running.{EndsAt, GoesOnTo, IsOverBehind, is_over}
 use Rattle.story_run.specs.Telling.{IsToldTo}
-use Rattle.fw_debug.specs.Probes.{Watch}
+use Rattle.board_probes.specs.Probes.{Watch}
 use Rattle.joint_run.specs.Joint.{Beside}
 use Rattle.joint_run.specs.Run.{World}
 use Rattle.wire_trace.proofs.ChangesGrow.{later_changes}
