@@ -1,8 +1,8 @@
 -- What is run has one run on the board.
 use Rattle.std.proofs.Common.{◌≡◌, ◌<◌, ℕ, zero, suc, true, false, List, ltb, Some, refl, ap, sym, subst, ◌∙◌, arith}
 use Rattle.std.proofs.lemmas.Bool.Decides.{nat_tests}
-use Rattle.board_run.specs.declared.ended.End.{End}
-use Rattle.board_run.specs.declared.ended.End.TheVariants.{Over, Stuck}
+use Rattle.story_run.specs.declared.ending.End.{End}
+use Rattle.story_run.specs.declared.ending.End.TheVariants.{Over, Stuck}
 use Rattle.board_run.specs.Running.{EndsAt, GoesOnTo, IsOutcome, Outcome, is_over}
 use Rattle.host_turn.specs.declared.stamped.Stamped.{Stamped}
 use Rattle.joint_feed.proofs.Going.{same_state}
@@ -10,7 +10,7 @@ use Rattle.joint_feed.specs.Stories.{Story, state_at}
 use Rattle.joint_run.specs.Joint.{Beside, log_of}
 use Rattle.joint_run.specs.Run.{World}
 use Rattle.mcs48_core.specs.Cpu.{Cpu}
-use Rattle.board_run.proofs.Steps.{before, on_at}
+use Rattle.story_run.proofs.Steps.{before, on_at}
 
 module _ (s : Story) where
   -- a run doesn't go on where it ends

@@ -5,9 +5,10 @@ use Rattle.std.specs.Prelude.{if◌then◌else◌}
 use Rattle.std.specs.declared.option.Option.{Option}
 use Rattle.board_lines.specs.declared.event.Edge.{Edge}
 use Rattle.board_lines.specs.declared.event.HostEvent.{HostEvent}
-use Rattle.board_run.specs.Running.{EndsAt, GoesOnTo, IsOutcome, Outcome, is_over, place_of}
-use Rattle.board_run.specs.declared.ended.End.{End}
-use Rattle.board_run.specs.declared.ended.End.TheVariants.{Over, Stuck}
+use Rattle.board_run.specs.Running.{EndsAt, GoesOnTo, IsOutcome, Outcome, is_over}
+use Rattle.story_run.specs.Running.{place_of}
+use Rattle.story_run.specs.declared.ending.End.{End}
+use Rattle.story_run.specs.declared.ending.End.TheVariants.{Over, Stuck}
 use Rattle.board_probes.specs.Stuck.{sticks}
 use Rattle.joint_feed.specs.Stories.{Story, state_at}
 use Rattle.joint_run.specs.Joint.{Beside, joint_board, joint_pins, log_of}
@@ -17,7 +18,7 @@ use Rattle.mcs48_core.specs.Step.{Stepped, entered, executed, row_at, stepped, t
 use Rattle.mcs48_core.specs.declared.levels.Pins.{Pins}
 use Rattle.mcs48_isa.specs.declared.operation.Decoded.{Decoded}
 use Rattle.board_run.proofs.Alike.{reached_by}
-use Rattle.board_run.proofs.Steps.{before, joined, on_at, step_later}
+use Rattle.story_run.proofs.Steps.{before, joined, on_at, step_later}
 
 -- a step with the pin INT high is missing exactly where the processor is stuck
 none_executed : (r : Option Decoded) (bytes : List ℕ) (pins : Pins) (m : Cpu) → is_none (executed r bytes pins m) ≡ is_none r

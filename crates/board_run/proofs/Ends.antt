@@ -2,11 +2,11 @@
 use Rattle.std.proofs.Common.{ap}
 use Rattle.board_run.specs.Ending.{IsEnding, ending}
 use Rattle.board_run.specs.Running.{IsOutcome}
-use Rattle.board_run.specs.declared.ended.End.{End}
+use Rattle.story_run.specs.declared.ending.End.{End}
 use Rattle.joint_feed.proofs.Going.{here}
 use Rattle.joint_feed.specs.Stories.{Story}
 use Rattle.joint_feed.specs.declared.course.Course.{Course}
-use Rattle.subsystem.specs.Running.{logged}
+use Rattle.story_run.specs.Running.{logged}
 
 -- the machine is what the run comes to
 pub ends : (s : Story) (c : Course) (end : End) → IsEnding s c end → IsOutcome s (ending s (record { end = end; joint = c.joint }))

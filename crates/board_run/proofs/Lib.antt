@@ -1,10 +1,6 @@
-pub mod Steps
-pub mod Stuck
 pub mod Alike
-pub mod Going
 pub mod Lines
 pub mod Whole
-pub mod Loop
 pub mod Traced
 pub mod Ends
 pub mod Telling

@@ -7,7 +7,7 @@ use Rattle.board_run.specs.Texts.{line_text, log_text}
 use Rattle.host_turn.specs.declared.stamped.Stamped.{Stamped}
 use Rattle.io_edge.proofs.Pieces.{AreLines, EndsLine, lines_behind}
 use Rattle.pc_tables.specs.Items.{line_of, text_of}
-use Rattle.subsystem.specs.Progress.{AreIn}
+use Rattle.story_run.specs.Running.{AreIn}
 
 -- a line ends with LF
 pub line_ends : (s : Stamped) → EndsLine (line_text s)

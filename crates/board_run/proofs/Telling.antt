@@ -3,8 +3,8 @@ use Rattle.std.proofs.Common.{◌≡◌, ◌≤◌, ◌<◌, ℕ, zero, suc, ◌
 use Rattle.std.proofs.lemmas.Bool.Decides.{nat_tests}
 use Rattle.std.proofs.Math.Seq.{get_or-append_seam}
 use Rattle.board_lines.specs.Cadence.{listed}
-use Rattle.board_run.specs.declared.ended.End.{End}
-use Rattle.board_run.specs.declared.ended.End.TheVariants.{Over, Stuck}
+use Rattle.story_run.specs.declared.ending.End.{End}
+use Rattle.story_run.specs.declared.ending.End.TheVariants.{Over, Stuck}
 use Rattle.board_run.specs.Agreement.{TellsRun}
 use Rattle.board_run.specs.Running.{EndsAt, GoesOnTo, IsOutcome, Outcome, is_over}
 use Rattle.fw_logic.specs.JointRun.{KeepsTime}
@@ -14,14 +14,14 @@ use Rattle.joint_feed.specs.Stories.{Story, state_at}
 use Rattle.joint_run.specs.Joint.{Beside, joint_start}
 use Rattle.joint_run.specs.Run.{World}
 use Rattle.subsystem.proofs.Agreed.{run_last, run_starts}
-use Rattle.subsystem.specs.Progress.{AreIn}
-use Rattle.subsystem.specs.Running.{lines_of, starts_among}
+use Rattle.story_run.specs.Running.{AreIn, starts_among}
+use Rattle.subsystem.specs.Running.{lines_of}
 use Rattle.subsystem.specs.Running as layout
 use Rattle.std.proofs.lemmas.List.{append_assoc}
 use Rattle.wire_trace.proofs.Whole.{later_changes}
 use Rattle.wire_trace.specs.Text.{header}
 use Rattle.wire_trace.specs.Trace.{changes_to}
-use Rattle.board_run.proofs.Steps.{on_at, said_between, step_later}
+use Rattle.story_run.proofs.Steps.{on_at, said_between, step_later}
 
 module _ (s : Story) (t : KeepsTime s.bytes s.edges s.events) where
   -- it is never stuck

@@ -1,10 +1,11 @@
 -- A run on the board comes to its end, and what its first steps say is the beginning of its log.
 use Rattle.std.proofs.Common.{◌≡◌, ◌≤◌, ℕ, zero, suc, ◌+◌, ◌-◌, true, false, ◌++◌, Some, None, refl, ap, sym, subst, ◌∙◌, arith}
 use Rattle.std.proofs.lemmas.Bool.Decides.{nat_tests}
-use Rattle.board_run.specs.declared.ended.End.{End}
-use Rattle.board_run.specs.declared.ended.End.TheVariants.{Over, Stuck}
+use Rattle.story_run.specs.declared.ending.End.{End}
+use Rattle.story_run.specs.declared.ending.End.TheVariants.{Over, Stuck}
 use Rattle.board_run.specs.Putting.{IsLogBrokenOff}
-use Rattle.board_run.specs.Running.{EndsAt, GoesOnTo, IsOutcome, Outcome, is_over, place_of}
+use Rattle.board_run.specs.Running.{EndsAt, GoesOnTo, IsOutcome, Outcome, is_over}
+use Rattle.story_run.specs.Running.{place_of}
 use Rattle.board_run.specs.Texts.{log_text}
 use Rattle.io_edge.proofs.Pieces.{broken_before}
 use Rattle.io_edge.specs.Said.{IsBrokenOff, Shown}
@@ -12,8 +13,8 @@ use Rattle.joint_feed.specs.Stories.{Story, state_at}
 use Rattle.joint_run.specs.Joint.{Beside, joint_board, log_of}
 use Rattle.joint_run.specs.Run.{World, joint_step, step_on}
 use Rattle.board_run.proofs.Lines.{are_lines, log_text-append}
-use Rattle.board_run.proofs.Steps.{said_between, step_later}
-use Rattle.board_run.proofs.Stuck.{stuck_where_none}
+use Rattle.story_run.proofs.Steps.{said_between, step_later}
+use Rattle.story_run.proofs.Stuck.{stuck_where_none}
 
 module _ (s : Story) where
   -- a run that ends behind the first k steps at least

@@ -1,6 +1,6 @@
 -- The laws of runs on the board.
 use Rattle.std.specs.Prelude.{◌≡◌, ◌≤◌, ◌<◌, ℕ, ◌+◌, List, ◌++◌}
-use Rattle.board_run.specs.declared.ended.End.TheVariants.{Over}
+use Rattle.story_run.specs.declared.ending.End.TheVariants.{Over}
 use Rattle.board_run.specs.Running.{IsOutcome, Outcome}
 use Rattle.fw_compile.specs.Image.{image_of}
 use Rattle.host_turn.specs.declared.stamped.Stamped.{Stamped}
@@ -8,7 +8,7 @@ use Rattle.joint_feed.specs.Stories.{Story, story}
 use Rattle.key_file.specs.Accepted.{IsAcceptedFor}
 use Rattle.key_file.specs.Histories.{KeyHistory}
 use Rattle.layout_reader.specs.Layouts.{IsKeyLayout, KeyLayout}
-use Rattle.subsystem.specs.Progress.{AreIn}
+use Rattle.story_run.specs.Running.{AreIn}
 use Rattle.subsystem.specs.Running.{lines_of}
 use Rattle.subsystem.specs.Running as layout
 use Rattle.wire_trace.specs.Trace.{trace_to}

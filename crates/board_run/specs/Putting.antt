@@ -1,11 +1,15 @@
 -- What is left of a run in which a put failed.
-use Rattle.std.specs.Prelude.{◌≡◌, ℕ, List}
-use Rattle.board_run.specs.Running.{GoesOnTo, IsOutcome, Outcome}
+use Rattle.std.specs.Prelude.{ℕ, List}
+use Rattle.board_run.specs.Running.{IsOutcome, Outcome}
 use Rattle.board_run.specs.Texts.{log_text}
-use Rattle.board_probes.specs.Looks.{looks}
 use Rattle.board_probes.specs.Probes.{Watch}
 use Rattle.io_edge.specs.Said.{IsBrokenOff, Shown}
 use Rattle.joint_feed.specs.Stories.{Story}
+use Rattle.story_run.specs.declared.ending.Ending.TheVariants.{Stamp}
+use Rattle.story_run.specs.Looking.{BrokeOff}
+use Rattle.story_run.specs.Looking as run
+use Rattle.story_run.specs.Running.{log_at, step_says}
+use Rattle.story_run.specs.Telling.{IsBrokenBehind}
 
 -- the text of the run's whole log is broken off, as the run would have come to it
 pub record IsLogBrokenOff (s : Story) (before after : Shown) : Type 0 where
@@ -13,8 +17,14 @@ pub record IsLogBrokenOff (s : Story) (before after : Shown) : Type 0 where
   pub is : IsOutcome s run
   pub part : IsBrokenOff before after (log_text run.log)
 
+-- it is broken off in what the step behind the first k says
+abbrev pub IsLogBrokenAt : Story → Shown → Shown → ℕ → Type 0
+IsLogBrokenAt s before after k = IsBrokenBehind before after (log_text (log_at s k)) (log_text (step_says s k))
+
+-- and the probes have looked at the states up to the one that this step led to
+abbrev pub HaveLookedToBreak : Story → Shown → Shown → List Watch → List Watch → Type 0
+HaveLookedToBreak s before after first probes = BrokeOff Stamp s (IsLogBrokenAt s before after) first probes
+
 -- the probes have looked at the states that some first steps of the run lead to, of which there may be none
-pub record HaveLookedAtSome (s : Story) (before after : List Watch) : Type 0 where
-  pub steps : ℕ
-  pub goes_on : GoesOnTo s steps
-  pub looked : after ≡ looks s steps before
+abbrev pub HaveLookedAtSome : Story → List Watch → List Watch → Type 0
+HaveLookedAtSome s before after = run.HaveLookedAtSome Stamp s before after

@@ -1,40 +1,30 @@
 -- A run of any program on the board, from power-on to the end stamp or to a byte that begins no instruction.
-use Rattle.std.specs.Prelude.{◌≡◌, ℕ, zero, suc, ◌+◌, ◌%◌, Bool, true, false, nat_le, List, slice_index, Some, None}
-use Rattle.board_run.specs.declared.ended.End.{End}
-use Rattle.board_run.specs.declared.ended.End.TheVariants.{Over, Stuck}
-use Rattle.board_probes.specs.Stuck.{sticks}
+use Rattle.std.specs.Prelude.{◌≡◌, ℕ, Bool, List, Some}
 use Rattle.host_turn.specs.declared.stamped.Stamped.{Stamped}
 use Rattle.joint_feed.specs.Stories.{Story, state_at}
 use Rattle.joint_run.specs.Joint.{Beside, log_of}
 use Rattle.joint_run.specs.Run.{World}
 use Rattle.mcs48_core.specs.Cpu.{Cpu}
 use Rattle.mcs48_core.specs.declared.stepping.Stuck.{Stuck as Place}
+use Rattle.story_run.specs.declared.ending.End.{End}
+use Rattle.story_run.specs.declared.ending.Ending.TheVariants.{Stamp}
+use Rattle.story_run.specs.Running as run
 
 -- the run is over at a state: a step from there would begin at or after the end stamp
 abbrev pub is_over : Story → World Beside → Bool
-is_over s w = nat_le (4096 + s.stop) w.cycle
+is_over s w = run.is_over Stamp s w
 
 -- each of the first k states is there, and the run isn't over at it
 abbrev pub GoesOnTo : Story → ℕ → Type 0
-GoesOnTo s zero = Unit {0}
-GoesOnTo s (suc k) = GoesOnTo s k × (w : World Beside) × (state_at s k ≡ Some w) × (is_over s w ≡ false)
+GoesOnTo s k = run.GoesOnTo Stamp s k
 
--- the program counter, and the byte there
-abbrev pub place_of : List ℕ → Cpu → Place
-place_of bytes m = record { pc = m.pc; byte = slice_index bytes (m.pc % 2048) }
-
--- the run is stuck at the state behind the first k steps: it isn't over there, and its next step would execute the
--- byte at the counter, which begins no instruction. So no state follows
-pub record IsStuckAt (s : Story) (k : ℕ) (w : World Beside) (place : Place) : Type 0 where
-  pub before_end : is_over s w ≡ false
-  pub no_row : sticks s.bytes w.cpu ≡ true
-  pub none : state_at s (suc k) ≡ None
-  pub at : place ≡ place_of s.bytes w.cpu
+-- the run is stuck at the state behind the first k steps
+abbrev pub IsStuckAt : Story → ℕ → World Beside → Place → Type 0
+IsStuckAt s k w place = run.IsStuckAt Stamp s k w place
 
 -- the run ends at the state behind the first k steps
 abbrev pub EndsAt : Story → ℕ → World Beside → End → Type 0
-EndsAt s k w Over = is_over s w ≡ true
-EndsAt s k w (Stuck place) = IsStuckAt s k w place
+EndsAt s k w end = run.EndsAt Stamp s k w end
 
 -- what a run comes to: what was said, each item with its cycle; why it ended; the processor at its end; and how many
 -- steps and cycles were made

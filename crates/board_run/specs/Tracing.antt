@@ -1,17 +1,33 @@
 -- What is left of a trace on the board in which a put failed.
-use Rattle.io_edge.specs.Said.{IsBrokenOff, Shown}
-use Rattle.joint_feed.specs.Stories.{Story}
+use Rattle.std.specs.Prelude.{List, ◌⊎◌, ◌≡◌}
 use Rattle.board_run.specs.Running.{IsOutcome, Outcome}
-use Rattle.wire_trace.specs.Trace.{changes_to, trace_to}
+use Rattle.board_probes.specs.Probes.{Watch}
+use Rattle.io_edge.specs.Said.{IsBrokenOff, IsSaid, Shown}
+use Rattle.joint_feed.specs.Stories.{Story}
+use Rattle.story_run.specs.declared.ending.Ending.TheVariants.{Stamp}
+use Rattle.story_run.specs.Looking.{BrokeOff}
+use Rattle.wire_trace.specs.Ending.{AreChangesBrokenAt}
+use Rattle.wire_trace.specs.Text.{header}
+use Rattle.wire_trace.specs.Trace.{trace_to}
 
--- what the run's samples add is broken off, as the run would have come to it
-pub record AreChangesBrokenOff (s : Story) (before after : Shown) : Type 0 where
-  pub run : Outcome
-  pub is : IsOutcome s run
-  pub part : IsBrokenOff before after (changes_to s run.steps)
-
--- the trace of the whole run is
+-- the trace of the whole run is broken off, as the run would have come to it
 pub record IsTraceBrokenOff (s : Story) (before after : Shown) : Type 0 where
   pub run : Outcome
   pub is : IsOutcome s run
   pub part : IsBrokenOff before after (trace_to s run.steps)
+
+-- it is broken off behind the header, in what a step adds, and the probes have looked at the states up to the one that
+-- this step led to
+pub record BrokeOffBehindHeader (s : Story) (before after : Shown) (first probes : List Watch) : Type 0 where
+  pub behind : Shown
+  pub said : IsSaid before behind header
+  pub broke : BrokeOff Stamp s (AreChangesBrokenAt s behind after) first probes
+
+-- or it is in the header, before the first step, and the probes have looked at nothing
+pub record BrokeOffInHeader (before after : Shown) (first probes : List Watch) : Type 0 where
+  pub broken : IsBrokenOff before after header
+  pub looked : probes ≡ first
+
+abbrev pub HaveTracedToBreak : Story → Shown → Shown → List Watch → List Watch → Type 0
+HaveTracedToBreak s before after first probes =
+    BrokeOffInHeader before after first probes ⊎ BrokeOffBehindHeader s before after first probes

@@ -3,16 +3,8 @@
 ghost use Rattle.std.specs.Prelude.{◌≡◌};
 
 use joint_run::Joint;
-use mcs48_core::{Mcu, Stuck};
-
-/// Why a run on the board ended.
-#[derive(Clone, Copy, Debug, PartialEq, Eq, Drop)]
-pub enum End {
-    /// The next step would begin at or after the end stamp.
-    Over,
-    /// The next step would execute a byte that begins no instruction: the program counter, and the byte there.
-    Stuck(Stuck),
-}
+use mcs48_core::Mcu;
+use story_run::End;
 
 /// A run on the board from power-on to its end, whose log was put into a sink line by line.
 #[derive(Drop)]
@@ -22,7 +14,8 @@ pub struct Ended {
 }
 
 impl Ended {
-    /// Why it ended.
+    /// Why it ended: the next step would begin at or after the end stamp, or would execute a byte that begins no
+    /// instruction.
     pub fn end(&self) -> End
         ensures end { result ≡ self.now.end }
     {

@@ -11,10 +11,11 @@ mod board;
 mod ended;
 mod law;
 mod line;
+mod telling;
 #[cfg(test)]
 mod tests;
-mod tracing;
 
 pub use board::Board;
-pub use ended::{End, Ended};
+pub use ended::Ended;
 pub use law::{boards_are_alike, boards_tell_runs};
+pub use story_run::End;

@@ -3,7 +3,7 @@
 ghost use Rattle.std.specs.Prelude.{◌≡◌, ◌<◌, ◌^◌, OnErr, OnOk};
 ghost use Rattle.board_run.specs.Texts.{line_text, log_text};
 ghost use Rattle.io_edge.specs.Said.{IsBrokenOff, IsSaid, shown};
-ghost use Rattle.subsystem.specs.Progress.{AreIn};
+ghost use Rattle.story_run.specs.Running.{AreIn};
 
 use arrayvec::ArrayVec;
 use host_turn::Stamped;

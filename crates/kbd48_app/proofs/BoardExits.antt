@@ -3,8 +3,8 @@ use Rattle.std.proofs.Common.{◌≡◌, ℕ, List, None, Some, Ok, inr, refl, a
 use Rattle.std.specs.declared.option.Option.{Option}
 use Rattle.board_run.proofs.EndOf.{end_found, end_of, outcome_of}
 use Rattle.board_run.specs.Running.{IsOutcome, Outcome}
-use Rattle.board_run.specs.declared.ended.End.{End}
-use Rattle.board_run.specs.declared.ended.End.TheVariants.{Over, Stuck}
+use Rattle.story_run.specs.declared.ending.End.{End}
+use Rattle.story_run.specs.declared.ending.End.TheVariants.{Over, Stuck}
 use Rattle.hexfile.specs.Hex.{hex_of}
 use Rattle.io_edge.specs.Shelf.{Told, after_fetch, fetched, Found}
 use Rattle.joint_feed.specs.Stories.{story}

@@ -2,8 +2,8 @@
 use Rattle.std.proofs.Common.{◌≡◌, ℕ, ◌-◌, ◌^◌, ◌<◌, Bool, true, false, List, ◌++◌, length, Some, None, Ok, Err, IfSome, ap, sym, ◌∙◌, subst, inl, inr, refl, arith, ◌⊎◌}
 use Rattle.std.specs.declared.option.Option.{Option}
 use Rattle.board_run.proofs.EndOf.{end_of}
-use Rattle.board_run.specs.declared.ended.End.{End}
-use Rattle.board_run.specs.declared.ended.End.TheVariants.{Over, Stuck}
+use Rattle.story_run.specs.declared.ending.End.{End}
+use Rattle.story_run.specs.declared.ending.End.TheVariants.{Over, Stuck}
 use Rattle.cycle_cert.specs.Answers.{answer_of as certificate_said}
 use Rattle.cycle_cert.specs.Faults.{number_of}
 use Rattle.board_probes.specs.Probes.{Watch}

@@ -4,8 +4,8 @@ use Rattle.std.proofs.Common.{◌≡◌, ◌⊎◌, ℕ, true, List, [], ◌++�
 use Rattle.std.specs.Option.{option_map}
 use Rattle.std.specs.declared.option.Option.{Option}
 use Rattle.board_run.specs.Running.{Outcome}
-use Rattle.board_run.specs.declared.ended.End.{End}
-use Rattle.board_run.specs.declared.ended.End.TheVariants.{Over, Stuck}
+use Rattle.story_run.specs.declared.ending.End.{End}
+use Rattle.story_run.specs.declared.ending.End.TheVariants.{Over, Stuck}
 use Rattle.board_probes.specs.Probes.{Watch}
 use Rattle.hexfile.specs.Hex.{HexOutcome, hex_of}
 use Rattle.io_edge.specs.Said.{Shown, TakesAll}

@@ -3,8 +3,8 @@ use Rattle.std.specs.Prelude.{ℕ, Bool, true, false, List, [], Ok, Err, if◌th
 use Rattle.board_run.specs.Putting.{HaveLookedAtSome}
 use Rattle.board_run.specs.Running.{Outcome}
 use Rattle.board_run.specs.Texts.{log_text}
-use Rattle.board_run.specs.declared.ended.End.{End}
-use Rattle.board_run.specs.declared.ended.End.TheVariants.{Over, Stuck}
+use Rattle.story_run.specs.declared.ending.End.{End}
+use Rattle.story_run.specs.declared.ending.End.TheVariants.{Over, Stuck}
 use Rattle.board_probes.specs.Probes.{Watch}
 use Rattle.joint_feed.specs.Stories.{Story}
 use Rattle.mcs48_core.specs.StateText.{state_text_of}

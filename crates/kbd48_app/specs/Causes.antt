@@ -2,7 +2,7 @@
 use Rattle.std.specs.Prelude.{◌≡◌, ◌⊎◌, ℕ, List, Some, Ok, Err}
 use Rattle.std.specs.declared.option.Option.{Option}
 use Rattle.board_run.specs.Running.{IsOutcome, Outcome}
-use Rattle.board_run.specs.declared.ended.End.TheVariants.{Stuck as BoardStuck}
+use Rattle.story_run.specs.declared.ending.End.TheVariants.{Stuck as BoardStuck}
 use Rattle.hexfile.specs.Hex.{hex_of}
 use Rattle.hexfile.specs.declared.fault.HexFault.{HexFault}
 use Rattle.mcs48_asm.specs.Assembly.{assembly_of}

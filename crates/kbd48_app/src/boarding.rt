@@ -5,7 +5,7 @@ ghost use Rattle.std.specs.Prelude.{◌≡◌, ◌⊎◌, ◌≤◌, Err, length
 ghost use Rattle.io_edge.specs.Faults.{Rose};
 ghost use Rattle.io_edge.specs.Said.{shown};
 ghost use Rattle.key_file.specs.Accepted.{IsAccepted};
-ghost use Rattle.subsystem.specs.Ending.{history_of};
+ghost use Rattle.story_run.specs.Gliding.{history_of};
 ghost use Rattle.kbd48_app.specs.Kinds.{limit_of};
 ghost use Rattle.kbd48_app.specs.Answers.{IsBoardTold, MayEnd};
 ghost use Rattle.kbd48_app.specs.Plans.{Boards, program_plan};

@@ -3,7 +3,7 @@
 
 ghost use Rattle.std.specs.Prelude.{◌≡◌, ◌≤◌, [], if◌then◌else◌, Err, length, map, OnErr, OnOk};
 ghost use Rattle.io_edge.specs.Said.{IsBrokenOff, IsSaid, shown};
-ghost use Rattle.subsystem.specs.Ending.{history_of};
+ghost use Rattle.story_run.specs.Gliding.{history_of};
 ghost use Rattle.subsystem.specs.Looking.{HaveLookedAtSome};
 ghost use Rattle.subsystem.specs.Running.{IsOutcome, Outcome};
 ghost use Rattle.key_file.specs.Accepted.{IsAccepted};

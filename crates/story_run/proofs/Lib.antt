@@ -3,6 +3,7 @@ pub mod Steps
 pub mod Stuck
 pub mod Timekeeping
 pub mod Over
+pub mod Ended
 pub mod Quiet
 pub mod Quietly
 pub mod Dozing

@@ -1,6 +1,6 @@
 -- A run of a program under a history, from power-on to its end.
 use Rattle.std.specs.Prelude.{◌≡◌, ◌≤◌, ◌<◌, ℕ, zero, suc, ◌+◌, ◌-◌, ◌%◌, Bool, true, false, ◌&&◌, nat_le, List, [], ◌∷◌}
-use Rattle.std.specs.Prelude.{◌++◌, slice_index, Some, None, if◌then◌else◌}
+use Rattle.std.specs.Prelude.{◌++◌, length, drop, slice_index, Some, None, if◌then◌else◌}
 use Rattle.std.specs.declared.option.Option.{Option}
 use Rattle.board_probes.specs.Stuck.{sticks}
 use Rattle.host_turn.specs.declared.stamped.Stamped.{Stamped}
@@ -42,6 +42,13 @@ abbrev pub EndsAt : Ending → Story → ℕ → World Beside → End → Type 0
 EndsAt e s k w Over = is_over e s w ≡ true
 EndsAt e s k w (Stuck place) = IsStuckAt e s k w place
 
+-- the run is over behind the first k steps, and goes on at each state before
+pub record IsOverBehind (e : Ending) (s : Story) (k : ℕ) : Type 0 where
+  pub goes_on : GoesOnTo e s k
+  pub world : World Beside
+  pub reached : state_at s k ≡ Some world
+  pub over : is_over e s world ≡ true
+
 -- the stamp of the tick that starts at a state, if one does
 abbrev pub start_stamp : Story → Option (World Beside) → List ℕ
 start_stamp s None = []
@@ -59,6 +66,10 @@ logged (Some w) = log_of w.board
 
 abbrev pub log_at : Story → ℕ → List Stamped
 log_at s k = logged (state_at s k)
+
+-- what the step behind the first k says
+abbrev pub step_says : Story → ℕ → List Stamped
+step_says s k = drop (length (log_at s k)) (log_at s (suc k))
 
 -- items were said in these cycles
 abbrev pub AreIn : ℕ → ℕ → List Stamped → Type 0

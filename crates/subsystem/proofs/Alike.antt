@@ -8,7 +8,8 @@ use Rattle.joint_feed.specs.Stories.{Story, state_at}
 use Rattle.joint_run.specs.Joint.{Beside, log_of}
 use Rattle.joint_run.specs.Run.{World}
 use Rattle.subsystem.specs.Agreement.{AreAlike}
-use Rattle.subsystem.specs.Running.{IsOutcome, lines_of, start_stamp, starts_among, Outcome}
+use Rattle.subsystem.specs.Running.{IsOutcome, lines_of, Outcome}
+use Rattle.story_run.specs.Running.{start_stamp, starts_among}
 use Rattle.subsystem.proofs.Agreed.{run_starts, run_last}
 
 -- later states leave the starts as they are

@@ -1,30 +1,23 @@
--- The run at power-on.
-use Rattle.std.proofs.Common.{◌≡◌, ◌<◌, ℕ, [], length, Some, ap, sym, subst, ◌∙◌, arith}
-use Rattle.joint_feed.proofs.Going.{here, same_state}
+-- Before the first step nothing is told.
+use Rattle.std.proofs.Common.{◌≡◌, ◌≤◌, ℕ, ◌-◌, Bool, true, false, List, [], ◌∷◌, ◌++◌, refl, sym, ◌∙◌, arith}
+use Rattle.std.specs.Prelude.{if◌then◌else◌}
+use Rattle.fw_logic.specs.JointRun.{KeepsTime}
 use Rattle.joint_feed.specs.Course.{IsOnCourse}
-use Rattle.joint_feed.specs.Stories.{Story, state_at}
-use Rattle.joint_run.specs.Joint.{Beside, joint_start, log_of}
-use Rattle.joint_run.specs.Run.{World}
-use Rattle.subsystem.specs.declared.pace.Pace.{Pace}
-use Rattle.subsystem.specs.Progress.{AreIn, IsSoFar}
-use Rattle.subsystem.specs.Running.{GoesOnTo, starts_among}
+use Rattle.joint_feed.specs.Stories.{Story, starts_tick}
+use Rattle.joint_feed.specs.declared.course.Course.{Course}
+use Rattle.joint_run.specs.Joint.{joint_start}
+use Rattle.story_run.specs.declared.ending.Ending.TheVariants.{TickStart}
+use Rattle.story_run.specs.Running.{starts_among}
+use Rattle.subsystem.specs.declared.starts.Starts.{Starts}
+use Rattle.subsystem.specs.Telling.{HasNoted}
 
-pub begins : (s : Story) (p : Pace) → IsOnCourse s p.course → p.course.joint.steps ≡ 0 → p.starts.items ≡ [] → IsSoFar s p
-begins s p on steps starts =
-    let none : length p.starts.items ≡ 0 = ap length starts in
-    let there : Some joint_start ≡ Some on.world = sym (ap (state_at s) steps) ∙ here s p.course on in
-    let first : joint_start ≡ on.world = same_state there in
-    let silent : log_of on.world.board ≡ [] = sym (ap (λ (w : World Beside). log_of w.board) first) in
-    record {
-      stands = record {
-        course = on;
-        said = subst (AreIn 0 on.world.cycle) (sym silent) tt;
-        on = subst (GoesOnTo s) (sym steps) tt;
-      };
-      told = record {
-        among = starts ∙ ap (starts_among s) (sym steps);
-        few = omega (arith, none);
-        begun = λ j below. absurd (omega (arith, below, none));
-        before = λ j below. let l : j < length (starts_among s 0) = subst (λ (k : ℕ). j < length (starts_among s k)) steps below in absurd (omega (arith, l));
-      };
-    }
+not_early : (b : Bool) → (b ≡ true → 4096 ≤ 0) → (if b then (0 - 4096) ∷ [] else []) ≡ []
+not_early true early = let e = early refl in absurd (omega (arith, e))
+not_early false early = refl
+
+-- no tick starts at power-on
+none_first : (s : Story) → KeepsTime s.bytes s.edges s.events → starts_among s 1 ≡ []
+none_first s t = not_early (starts_tick s joint_start) (λ on. t.none_early 0 joint_start refl on)
+
+pub begins : (s : Story) → KeepsTime s.bytes s.edges s.events → (it : Starts) → it.stamps.items ≡ [] → HasNoted TickStart s 0 it
+begins s t it none = record { ending = refl; starts = none ∙ sym (none_first s t) }

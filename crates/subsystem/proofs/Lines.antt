@@ -4,7 +4,8 @@ use Rattle.std.proofs.lemmas.List.{length-append}
 use Rattle.board_lines.specs.Cadence.{begun, listed}
 use Rattle.host_turn.specs.declared.stamped.Stamped.{Stamped}
 use Rattle.subsystem.specs.Account.{in_tick}
-use Rattle.subsystem.specs.Progress.{AreIn, line_so_far}
+use Rattle.subsystem.specs.Progress.{line_so_far}
+use Rattle.story_run.specs.Running.{AreIn}
 use Rattle.subsystem.specs.Running.{line_of, lines_of}
 use Rattle.subsystem.proofs.Ticks.{begun_later, all_begun}
 

@@ -3,21 +3,8 @@ use Rattle.std.proofs.Common.{◌≡◌, ℕ, List, Ok, Err, OnErr, ap, subst, s
 use Rattle.std.specs.declared.result.Result.{Result}
 use Rattle.board_probes.specs.Looks.{looks}
 use Rattle.board_probes.specs.Probes.{Watch}
-use Rattle.joint_feed.specs.Stories.{Story, story}
-use Rattle.joint_feed.specs.declared.course.Course.{Course}
-use Rattle.key_file.specs.Histories.{KeyHistory}
+use Rattle.joint_feed.specs.Stories.{Story}
 use Rattle.subsystem.specs.Looking.{HaveLookedAtSome}
-
--- where no step was made they have looked at as many
-pub looks_still : (s : Story) (old new : Course) (first before : List Watch) → new ≡ old → before ≡ looks s old.joint.steps first → before ≡ looks s new.joint.steps first
-looks_still s old new first before e so_far = so_far ∙ sym (ap (λ (it : Course). looks s it.joint.steps first) e)
-
--- looks by the same history under another name
-pub looks_on : (bytes : List ℕ) (h k : KeyHistory) (from to : ℕ) (first before after : List Watch) → h ≡ k
-    → ((probes : List Watch) → before ≡ looks (story bytes h) from probes → after ≡ looks (story bytes h) to probes)
-    → before ≡ looks (story bytes k) from first → after ≡ looks (story bytes k) to first
-looks_on bytes h k from to first before after same more so =
-    subst (λ (v : KeyHistory). (probes : List Watch) → before ≡ looks (story bytes v) from probes → after ≡ looks (story bytes v) to probes) same more first so
 
 -- what was said of a run and of its steps is so of the same run by another name
 pub looked_whole : (s t : Story) (steps k : ℕ) (before after : List Watch) → s ≡ t → k ≡ steps → after ≡ looks s steps before → after ≡ looks t k before

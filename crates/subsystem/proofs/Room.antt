@@ -1,34 +1,12 @@
--- A run needs little room: a start for each tick, and small counts.
+-- The counts of a run are small.
 use Rattle.std.proofs.Common.{◌≡◌, ◌≤◌, ◌<◌, ◌^◌, ℕ, zero, suc, ◌+◌, ◌*◌, ◌/◌, List, [], ◌∷◌, ◌++◌, length, map, refl, ap, sym, ◌∙◌, arith, append_assoc, length-append}
 use Rattle.std.specs.Prelude.{Bool, count_by, cond}
 use Rattle.std.proofs.lemmas.List.{length-map}
-use Rattle.std.proofs.lemmas.List.Sums.{sum_by-append}
-use Rattle.board_lines.specs.Cadence.{listed}
-use Rattle.fw_logic.specs.JointRun.{KeepsTime}
-use Rattle.joint_feed.specs.Stories.{Story}
+use Rattle.std.proofs.lemmas.List.Sums.{count_by-le-length, sum_by-append}
 use Rattle.link_model.specs.declared.line.LogLine.{LogLine}
 use Rattle.subsystem.specs.declared.counts.Counts.{Counts}
-use Rattle.subsystem.specs.declared.pace.Pace.{Pace}
-use Rattle.subsystem.specs.Counts.{is_port, is_word, is_beep, with_lines}
-use Rattle.subsystem.specs.Progress.{IsSoFar}
-use Rattle.subsystem.specs.Running.{starts_among}
+use Rattle.subsystem.specs.Counts.{is_port, is_word, is_beep, none_counted, with_lines}
 use Rattle.subsystem.specs.Texts.{line_text, log_text}
-use Rattle.subsystem.proofs.Timekeeping.{numbered}
-
-few_by : (s : Story) (t : KeepsTime s.bytes s.edges s.events) (p : Pace) (h : IsSoFar s p) (n : ℕ) → length p.starts.items ≡ n → n < s.stop / 2048 + 2
-few_by s t p h zero e = omega arith
-few_by s t p h (suc m) e =
-    let k = p.course.joint.steps in
-    let same : length p.starts.items ≡ length (starts_among s k) = ap length h.told.among in
-    let below : m < length (starts_among s k) = omega (arith, e, same) in
-    let near = (t.near m (listed (starts_among s k) m) ((numbered s t k).1 m below)).least in
-    let read : listed p.starts.items m ≡ listed (starts_among s k) m = ap (λ (v : List ℕ). listed v m) h.told.among in
-    let before = h.told.before m below in
-    omega (arith, near, read, before)
-
--- a tick start is at its multiple of 2,048 at least, so there is room for one more
-pub few_before : (s : Story) → KeepsTime s.bytes s.edges s.events → (p : Pace) → IsSoFar s p → length p.starts.items < s.stop / 2048 + 2
-few_before s t p h = few_by s t p h (length p.starts.items) refl
 
 -- the text of more lines
 pub log_text-append : (xs ys : List LogLine) → log_text (xs ++ ys) ≡ log_text xs ++ log_text ys
@@ -56,6 +34,20 @@ pub record AreFew (counts : Counts) : Type 0 where
   pub ports : counts.ports < 2 ^ 40
   pub words : counts.words < 2 ^ 40
   pub beeps : counts.beeps < 2 ^ 40
+
+pub few_counted : (counts : Counts) (lines : List LogLine) (steps cycle : ℕ) → counts ≡ with_lines none_counted lines → length lines ≤ 16 * steps → steps ≤ cycle → cycle < 2 ^ 31 → AreFew counts
+few_counted counts lines steps cycle e short few soon =
+    let p : counts.ports ≡ 0 + count_by is_port lines = ap (λ (c : Counts). c.ports) e in
+    let w : counts.words ≡ 0 + count_by is_word lines = ap (λ (c : Counts). c.words) e in
+    let b : counts.beeps ≡ 0 + count_by is_beep lines = ap (λ (c : Counts). c.beeps) e in
+    let lp = count_by-le-length is_port lines in
+    let lw = count_by-le-length is_word lines in
+    let lb = count_by-le-length is_beep lines in
+    record {
+      ports = omega (arith, p, lp, short, few, soon);
+      words = omega (arith, w, lw, short, few, soon);
+      beeps = omega (arith, b, lb, short, few, soon);
+    }
 
 -- a step more, with its lines
 pub short_more : {X : Type 0} (before all : List LogLine) (f : X → LogLine) (items : List X) (k n : ℕ) → all ≡ before ++ map f items → length before ≤ 16 * k → length items ≤ 16 → k < n → length all ≤ 16 * n

@@ -12,12 +12,13 @@ use Rattle.fw_logic.specs.JointRun.{KeepsTime}
 use Rattle.joint_feed.specs.Stories.{Story, state_at, starts_tick}
 use Rattle.joint_run.specs.Joint.{Beside}
 use Rattle.joint_run.specs.Run.{World}
-use Rattle.subsystem.specs.Running.{GoesOnTo, IsOutcome, Outcome, is_over, start_stamp, starts_among}
+use Rattle.story_run.specs.Running.{start_stamp, starts_among}
+use Rattle.subsystem.specs.Running.{GoesOnTo, IsOutcome, Outcome, is_over}
 use Rattle.subsystem.specs.Sessions.{EndsBehind}
 use Rattle.subsystem.proofs.Agreed.{run_last, run_starts}
 use Rattle.subsystem.proofs.Alike.{starts_stay}
 use Rattle.subsystem.proofs.Lines.{one_longer}
-use Rattle.subsystem.proofs.Timekeeping.{still_near}
+use Rattle.story_run.proofs.Timekeeping.{still_near}
 
 module _ (s : Story) (t : KeepsTime s.bytes s.edges s.events) (run : Outcome) (h : IsOutcome s run) where
   -- a tick that starts before the last state starts before the end stamp

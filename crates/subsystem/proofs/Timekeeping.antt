@@ -14,85 +14,11 @@ use Rattle.mcs48_core.specs.Step.{Stepped, stepped}
 use Rattle.joint_run.specs.Joint.{Beside, joint_board, joint_start}
 use Rattle.joint_run.specs.Run.{World, after_step, joint_step, seen, step_on}
 use Rattle.joint_run.specs.Starts.{start_in, starts_before, IsStart, IsEnd}
-use Rattle.subsystem.specs.Running.{GoesOnTo, IsOutcome, is_over, start_stamp, starts_among, Outcome}
+use Rattle.subsystem.specs.Running.{GoesOnTo, IsOutcome, is_over, Outcome}
+use Rattle.story_run.specs.Running.{start_stamp, starts_among}
 use Rattle.subsystem.proofs.Lines.{one_longer}
 
--- the cycle never falls
-after_grows : (s : Story) (w v : World Beside) (n : Option Stepped) → after_step (joint_board s.edges s.events) w n ≡ Some v → w.cycle ≤ v.cycle
-after_grows s w v None h = absurd cc
-after_grows s w v (Some n) h = let e : w.cycle + n.cycles ≡ v.cycle = ap (λ (u : World Beside). u.cycle) (same_state h) in omega (arith, e)
-
-pub one_grows : (s : Story) (k : ℕ) (w v : World Beside) → state_at s k ≡ Some w → state_at s (suc k) ≡ Some v → w.cycle ≤ v.cycle
-one_grows s k w v h g =
-    let step : joint_step (joint_board s.edges s.events) s.bytes w ≡ Some v = sym (ap (step_on (joint_board s.edges s.events) s.bytes) h) ∙ g in
-    after_grows s w v (stepped s.bytes (seen (joint_board s.edges s.events) w) w.cpu) step
-
 module _ (s : Story) (t : KeepsTime s.bytes s.edges s.events) where
-  grows : (k m : ℕ) (w v : World Beside) → k ≤ m → state_at s k ≡ Some w → state_at s m ≡ Some v → w.cycle ≤ v.cycle
-  grows k zero w v l h g =
-      let e : k ≡ 0 = omega (arith, l) in
-      let f : Some w ≡ Some v = sym h ∙ ap (state_at s) e ∙ g in
-      let same : w.cycle ≡ v.cycle = ap (λ (u : World Beside). u.cycle) (same_state f) in
-      omega (arith, same)
-  grows k (suc m) w v l h g =
-      elim (leb k m) as (λ b. leb k m ≡ b → w.cycle ≤ v.cycle) [
-        | true ↦ λ f.
-            let on = t.goes_on m in
-            let below : k ≤ m = grind (arith, nat_tests, f) in
-            let a = grows k m w on.0 below h on.1 in
-            let b = one_grows s m on.0 v on.1 g in
-            omega (arith, a, b)
-        | false ↦ λ f.
-            let e : k ≡ suc m = grind (arith, nat_tests, f, l) in
-            let i : Some w ≡ Some v = sym h ∙ ap (state_at s) e ∙ g in
-            let same : w.cycle ≡ v.cycle = ap (λ (u : World Beside). u.cycle) (same_state i) in
-            omega (arith, same)
-      ] refl
-
-  -- a state before the present one
-  pub on_at : (k j : ℕ) → GoesOnTo s k → j < k → (w : World Beside) × (state_at s j ≡ Some w) × (is_over s w ≡ false)
-  on_at zero j h l = absurd (omega (arith, l))
-  on_at (suc k) j h l =
-      elim (leb k j) as (λ b. leb k j ≡ b → (w : World Beside) × (state_at s j ≡ Some w) × (is_over s w ≡ false)) [
-        | true ↦ λ f. let e : k ≡ j = grind (arith, nat_tests, f, l) in (h.1, ap (state_at s) (sym e) ∙ h.2, h.3)
-        | false ↦ λ f. on_at k j h.0 (grind (arith, nat_tests, f))
-      ] refl
-
-  -- the end is a start that comes soon enough
-  end_soon : (n : ℕ) (e : IsEnd (joint_board s.edges s.events) TICK s.bytes joint_start s.stop n) → e.start.state.cycle < s.stop + 6152
-  end_soon zero e =
-      let near = t.near zero e.stamp e.start in
-      let a = near.most in
-      let b = e.start.cycle in
-      omega (arith, a, b)
-  end_soon (suc m) e =
-      let near = t.near (suc m) e.stamp e.start in
-      let earlier = t.starts m in
-      let before = e.before m earlier.0 (omega arith) earlier.1 in
-      let least = (t.near m earlier.0 earlier.1).least in
-      let a = near.most in
-      let b = e.start.cycle in
-      omega (arith, a, b, before, least)
-
-  -- a run that isn't over by now is near its end
-  pub still_near : (k : ℕ) (w : World Beside) → GoesOnTo s k → state_at s k ≡ Some w → is_over s w ≡ false → w.cycle < s.stop + 6152
-  still_near k w on here off =
-      let end = t.ends s.stop in
-      let e = end.1 in
-      let soon = end_soon end.0 e in
-      let reaches = e.reaches in
-      let stamp = e.start.cycle in
-      elim (leb k e.start.steps) as (λ b. leb k e.start.steps ≡ b → w.cycle < s.stop + 6152) [
-        | true ↦ λ f. let a = grows k e.start.steps w e.start.state (grind (arith, nat_tests, f)) here e.start.reached in omega (arith, a, soon)
-        | false ↦ λ f.
-            let j = on_at k e.start.steps on (grind (arith, nat_tests, f)) in
-            let same : Some j.0 ≡ Some e.start.state = sym j.1 ∙ e.start.reached in
-            let open_still : is_over s e.start.state ≡ false = sym (ap (is_over s) (same_state same)) ∙ j.2 in
-            let reached : nat_le (4096 + s.stop) e.start.state.cycle ≡ true = grind (arith, nat_tests, reaches, stamp) in
-            let over : is_over s e.start.state ≡ true = ap (λ b. b && nat_le (4096 + s.stop) e.start.state.cycle) e.start.at ∙ reached in
-            absurd (cc (open_still, over))
-      ] refl
-
   -- the starts that are told are the run's, by their numbers
   abbrev pub Numbered : ℕ → Type 0
   Numbered k = (length (starts_among s k) ≡ starts_before (joint_board s.edges s.events) TICK s.bytes joint_start k)

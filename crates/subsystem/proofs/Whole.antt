@@ -17,15 +17,17 @@ use Rattle.joint_run.specs.Joint.{Beside, joint_board, log_of}
 use Rattle.joint_run.specs.Run.{World, joint_step, step_on}
 use Rattle.link_model.specs.declared.line.LogLine.{LogLine}
 use Rattle.pc_tables.specs.Items.{text_of}
-use Rattle.subsystem.specs.Progress.{AreIn, line_so_far, lines_to}
+use Rattle.subsystem.specs.Progress.{line_so_far, lines_to, told_by}
+use Rattle.story_run.specs.Running.{AreIn, logged, start_stamp, starts_among}
 use Rattle.subsystem.specs.Putting.{IsLogBrokenOff}
-use Rattle.subsystem.specs.Running.{GoesOnTo, IsOutcome, Outcome, is_over, lines_of, logged, start_stamp, starts_among}
+use Rattle.subsystem.specs.Running.{GoesOnTo, IsOutcome, Outcome, is_over, lines_of}
 use Rattle.subsystem.specs.Texts.{line_text, log_text}
 use Rattle.subsystem.proofs.Agreed.{run_last, run_starts}
 use Rattle.subsystem.proofs.Lines.{lines_later, lines_whole, one_longer}
 use Rattle.subsystem.proofs.Room.{log_text-append}
-use Rattle.subsystem.proofs.Said.{Said, said_then, step_log}
-use Rattle.subsystem.proofs.Timekeeping.{numbered, on_at, one_grows}
+use Rattle.story_run.specs.declared.ending.Ending.TheVariants.{TickStart}
+use Rattle.story_run.proofs.Steps.{on_at, said_by, step_said}
+use Rattle.subsystem.proofs.Timekeeping.{numbered}
 
 -- the text of the log is of whole lines
 pub line_ends : (line : LogLine) → EndsLine (line_text line)
@@ -34,10 +36,6 @@ line_ends line = (decimal line.tick ++ 32 ∷ text_of line.item, refl)
 pub are_lines : (lines : List LogLine) → AreLines (log_text lines)
 are_lines [] = inl refl
 are_lines (line ∷ lines) = lines_behind (line_text line) (log_text lines) (inr (line_ends line)) (are_lines lines)
-
--- what the first k steps say, by the starts among their states
-abbrev pub told_by : Story → ℕ → List LogLine
-told_by s k = lines_to s (starts_among s k) k
 
 module _ (s : Story) (t : KeepsTime s.bytes s.edges s.events) where
   -- the run comes to its end
@@ -85,7 +83,7 @@ module _ (s : Story) (t : KeepsTime s.bytes s.edges s.events) where
         | true ↦ λ f. grind (arith, nat_tests, f)
         | false ↦ λ f.
             let w = h.world in
-            let j = on_at s t k run.steps on (grind (arith, nat_tests, f)) in
+            let j = on_at s TickStart k run.steps on (grind (arith, nat_tests, f)) in
             let same : w ≡ j.0 = same_state (sym h.reached ∙ j.1) in
             let xs = starts_among s run.steps in
             let long = run_last s run h in
@@ -101,31 +99,14 @@ module _ (s : Story) (t : KeepsTime s.bytes s.edges s.events) where
             absurd (cc (open_still, over))
       ] refl
 
-  -- what a step says
-  said_more : (k : ℕ) (w next : World Beside) → state_at s k ≡ Some w → state_at s (suc k) ≡ Some next → Said w.cycle next.cycle (log_of w.board) (log_of next.board)
-  said_more k w next h g =
-      let step : joint_step (joint_board s.edges s.events) s.bytes w ≡ Some next = sym (ap (step_on (joint_board s.edges s.events) s.bytes) h) ∙ g in
-      step_log s.edges s.events s.bytes w next step
-
-  -- what was said so far was said in earlier cycles
-  said_by : (k : ℕ) (w : World Beside) → state_at s k ≡ Some w → AreIn 0 w.cycle (log_of w.board)
-  said_by zero w h = subst (λ (v : World Beside). AreIn 0 v.cycle (log_of v.board)) (same_state h) tt
-  said_by (suc k) w h =
-      let on = t.goes_on k in
-      let more = said_more k on.0 w on.1 h in
-      let before : Said 0 on.0.cycle [] (log_of on.0.board) = record { more = log_of on.0.board; behind = refl; each = said_by k on.0 on.1 } in
-      let grown = one_grows s k on.0 w on.1 h in
-      let both = said_then 0 on.0.cycle w.cycle [] (log_of on.0.board) (log_of w.board) (omega arith) grown before more in
-      subst (λ (v : List Stamped). AreIn 0 w.cycle v) (sym both.behind) both.each
-
   -- the start at a state changes no line of what was said before it
-  still_told : (k : ℕ) (w : World Beside) → state_at s k ≡ Some w
+  pub still_told : (k : ℕ) (w : World Beside) → state_at s k ≡ Some w
       → map (line_so_far (starts_among s (suc k))) (log_of w.board) ≡ map (line_so_far (starts_among s k)) (log_of w.board)
   still_told k w h =
       let xs = starts_among s k in
       ap (λ (o : Option (World Beside)). map (line_so_far (xs ++ start_stamp s o)) (log_of w.board)) h
       ∙ (elim (starts_tick s w) as (λ b. map (line_so_far (xs ++ (if b then (w.cycle - 4096) ∷ [] else []))) (log_of w.board) ≡ map (line_so_far xs) (log_of w.board)) [
-        | true ↦ lines_later xs (w.cycle - 4096) w.cycle (log_of w.board) (omega arith) (said_by k w h)
+        | true ↦ lines_later xs (w.cycle - 4096) w.cycle (log_of w.board) (omega arith) (said_by s k w h)
         | false ↦ ap (λ v. map (line_so_far v) (log_of w.board)) (append-nil xs)
       ])
 
@@ -136,7 +117,7 @@ module _ (s : Story) (t : KeepsTime s.bytes s.edges s.events) where
       let later = t.goes_on (suc k) in
       let w = on.0 in
       let next = later.0 in
-      let more = said_more k w next on.1 later.1 in
+      let more = step_said s k w next on.1 later.1 in
       let line = line_so_far (starts_among s (suc k)) in (
         map line more.more,
         ap (λ (o : Option (World Beside)). map line (logged o)) later.1

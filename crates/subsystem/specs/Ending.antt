@@ -1,8 +1,8 @@
 -- What a run comes to whose log wasn't kept.
 use Rattle.joint_feed.specs.Stories.{Story}
-use Rattle.key_file.specs.Histories.{KeyHistory}
+use Rattle.story_run.specs.Running.{log_at}
 use Rattle.subsystem.specs.declared.ended.Ended.{Ended}
-use Rattle.subsystem.specs.Running.{Outcome, lines_of, log_at}
+use Rattle.subsystem.specs.Running.{Outcome, lines_of}
 
 -- its log is what the run's steps said, each item with its tick
 abbrev pub ending : Story → Ended → Outcome
@@ -13,7 +13,3 @@ ending s ended = record {
   steps = ended.steps;
   cycles = ended.cycles;
 }
-
--- the history of what is run
-abbrev pub history_of : Story → KeyHistory
-history_of s = record { edges = s.edges; host = s.events; end = s.stop }

@@ -8,4 +8,4 @@ pub mod Texts
 pub mod Counts
 pub mod Putting
 pub mod Ending
-pub mod Gliding
+pub mod Telling

@@ -1,6 +1,15 @@
 -- What a sink has of a run's text where a put failed.
+use Rattle.std.specs.Prelude.{ℕ, suc, ◌-◌, List, length, map}
+use Rattle.board_probes.specs.Probes.{Watch}
 use Rattle.io_edge.specs.Said.{IsBrokenOff, Shown}
 use Rattle.joint_feed.specs.Stories.{Story}
+use Rattle.link_model.specs.declared.line.LogLine.{LogLine}
+use Rattle.story_run.specs.declared.ending.Ending.TheVariants.{TickStart}
+use Rattle.story_run.specs.Looking.{BrokeOff}
+use Rattle.story_run.specs.Running.{starts_among, step_says}
+use Rattle.story_run.specs.Telling.{IsBrokenBehind}
+use Rattle.subsystem.specs.Account.{in_tick}
+use Rattle.subsystem.specs.Progress.{told_by}
 use Rattle.subsystem.specs.Running.{IsOutcome, Outcome}
 use Rattle.subsystem.specs.Texts.{log_text}
 
@@ -9,3 +18,15 @@ pub record IsLogBrokenOff (s : Story) (before after : Shown) : Type 0 where
   pub run : Outcome
   pub is : IsOutcome s run
   pub part : IsBrokenOff before after (log_text run.log)
+
+-- the lines of what the step behind the first k says, in the tick that started last
+abbrev pub step_lines : Story → ℕ → List LogLine
+step_lines s k = map (in_tick (length (starts_among s (suc k)) - 1)) (step_says s k)
+
+-- it is broken off in these lines
+abbrev pub IsLogBrokenAt : Story → Shown → Shown → ℕ → Type 0
+IsLogBrokenAt s before after k = IsBrokenBehind before after (log_text (told_by s k)) (log_text (step_lines s k))
+
+-- and the probes have looked at the states up to the one that this step led to
+abbrev pub HaveLookedToBreak : Story → Shown → Shown → List Watch → List Watch → Type 0
+HaveLookedToBreak s before after first probes = BrokeOff TickStart s (IsLogBrokenAt s before after) first probes

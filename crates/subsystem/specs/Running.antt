@@ -9,26 +9,18 @@ use Rattle.joint_run.specs.Joint.{Beside, log_of}
 use Rattle.joint_run.specs.Run.{World}
 use Rattle.mcs48_core.specs.Cpu.{Cpu}
 use Rattle.link_model.specs.declared.line.LogLine.{LogLine}
+use Rattle.story_run.specs.declared.ending.Ending.TheVariants.{TickStart}
+use Rattle.story_run.specs.Running.{starts_among}
+use Rattle.story_run.specs.Running as run
 use Rattle.subsystem.specs.declared.outcome.Run.{Run}
-
--- the stamp of the tick that starts at a state, if one does
-abbrev pub start_stamp : Story → Option (World Beside) → List ℕ
-start_stamp s None = []
-start_stamp s (Some w) = if starts_tick s w then (w.cycle - 4096) ∷ [] else []
-
--- the stamps of the ticks that start at the first k states
-abbrev pub starts_among : Story → ℕ → List ℕ
-starts_among s zero = []
-starts_among s (suc k) = starts_among s k ++ start_stamp s (state_at s k)
 
 -- the run is over at a state: a tick starts at or after the end stamp
 abbrev pub is_over : Story → World Beside → Bool
-is_over s w = starts_tick s w && nat_le (4096 + s.stop) w.cycle
+is_over s w = run.is_over TickStart s w
 
 -- it isn't at any of the first k states
 abbrev pub GoesOnTo : Story → ℕ → Type 0
-GoesOnTo s zero = Unit {0}
-GoesOnTo s (suc k) = GoesOnTo s k × (w : World Beside) × (state_at s k ≡ Some w) × (is_over s w ≡ false)
+GoesOnTo s k = run.GoesOnTo TickStart s k
 
 -- an item of the log with its tick
 abbrev pub line_of : List ℕ → Stamped → LogLine
@@ -36,14 +28,6 @@ line_of starts s = record { tick = tick_of (listed starts) (length starts - 1) s
 
 abbrev pub lines_of : List ℕ → List Stamped → List LogLine
 lines_of starts log = map (line_of starts) log
-
--- what was said up to the state behind the first k steps; nothing where there is no such state
-abbrev pub logged : Option (World Beside) → List Stamped
-logged None = []
-logged (Some w) = log_of w.board
-
-abbrev pub log_at : Story → ℕ → List Stamped
-log_at s k = logged (state_at s k)
 
 -- what a run comes to: the log, the stamps of the tick starts, the processor at the last of them, and how many steps
 -- and cycles were made

@@ -1,6 +1,6 @@
 //! A run in bounded memory: its events come from a feed, and its log goes to a sink as it arises.
 
-ghost use Rattle.std.specs.Prelude.{◌≡◌, ◌-◌, true, length, map, IfOk, OnErr, OnOk};
+ghost use Rattle.std.specs.Prelude.{◌≡◌, ◌-◌, length, map, IfOk, OnErr};
 ghost use Rattle.board_lines.specs.Cadence.{KeepsCadenceTo, listed};
 ghost use Rattle.fw_compile.specs.Image.{image_of};
 ghost use Rattle.board_probes.specs.Looks.{looks};
@@ -11,10 +11,11 @@ ghost use Rattle.key_file.specs.Feeds.{Fed};
 ghost use Rattle.layout_reader.specs.Layouts.{IsKeyLayout, KeyLayout};
 ghost use Rattle.subsystem.specs.Agreement.{IsAsExpected};
 ghost use Rattle.subsystem.specs.Counts.{none_counted, with_lines};
-ghost use Rattle.subsystem.specs.Ending.{ending, history_of};
+ghost use Rattle.subsystem.specs.Ending.{ending};
+ghost use Rattle.story_run.specs.Gliding.{history_of};
 ghost use Rattle.subsystem.specs.Looking.{HaveLookedAtSome};
-ghost use Rattle.subsystem.specs.Progress.{IsJudged, IsReady, lines_to};
-ghost use Rattle.subsystem.specs.Putting.{IsLogBrokenOff};
+ghost use Rattle.subsystem.specs.Progress.{IsReady};
+ghost use Rattle.subsystem.specs.Putting.{HaveLookedToBreak, IsLogBrokenOff};
 ghost use Rattle.subsystem.specs.Running.{IsOutcome};
 ghost use Rattle.subsystem.specs.Texts.{log_text};
 
@@ -22,17 +23,18 @@ use crate::counts::Counts;
 use crate::ended::Ended;
 use crate::law::{keeps_time, runs_are_expected};
 use crate::outcome::copied;
-use crate::pace::Pace;
-use crate::putting::put_items;
+use crate::starts::Starts;
+use crate::telling::Putting;
 use board_probes::Probe;
 use fw_compile::compile;
 use int09::Bios;
 use io_edge::{Sink, SinkFault};
+use joint_feed::Course;
 use key_file::Feed;
 use layout_reader::Layout;
-use mcs48_isa::Image;
 use std::alloc::{AllocError, Global};
 use std::marker::Model;
+use story_run::{Ending, tell_run};
 
 /// The cycles of a tick.
 const TICK_CYCLES: u64 = 2_048;
@@ -41,75 +43,39 @@ const TICK_CYCLES: u64 = 2_048;
 /// clause sees what is run.
 #[derive(Drop)]
 pub struct Engine<F: Feed> {
-    image: Image,
     feed: F,
-    pace: Pace,
+    course: Course,
+    starts: Starts,
 }
 
 impl<F: Feed> Model for Engine<F> {
     ghost use Rattle.joint_feed.specs.Stories.{Story, story};
-    ghost use Rattle.subsystem.specs.Progress.{IsReady};
+    ghost use Rattle.subsystem.specs.Progress.{HasRoom, IsReady};
 
     ghost Value = { Story };
 
-    ghost view = { λ e. story e.image.bytes (F.told e.feed).history };
+    ghost view = { λ e. story e.course.joint.image.bytes (F.told e.feed).history };
 
-    ghost invariant = { λ e. IsReady e.image.bytes (F.told e.feed) e.pace };
-}
-
-/// Goes on from power-on to the run's end. After each step each probe looks, and then the lines of what the step said are
-/// put.
-fn go_to_end<F: Feed, K: Sink>(
-    pace: &mut Pace,
-    counts: &mut Counts,
-    image: &Image,
-    feed: &mut F,
-    out: &mut K,
-    probes: &mut Vec<Box<dyn Probe>>,
-) -> Result<(), SinkFault>
-    requires ready { IsReady image.now.bytes (F.told feed.old) pace.old }
-    requires none { counts.old ≡ none_counted }
-    ensures judged { OnOk result (IsJudged (story image.now.bytes (F.told feed.old).history) true pace.new) }
-    ensures said { let run = story image.now.bytes (F.told feed.old).history in
-        OnOk result (IsSaid (shown (K.taken out.old) (K.told out.old) (K.faults out.old))
-        (shown (K.taken out.new) (K.told out.new) (K.faults out.new))
-        (log_text (lines_to run pace.new.starts.items pace.new.course.joint.steps))) }
-    ensures counts { let run = story image.now.bytes (F.told feed.old).history in
-        OnOk result (counts.new ≡ with_lines none_counted (lines_to run pace.new.starts.items pace.new.course.joint.steps)) }
-    ensures broken { OnErr result (IsLogBrokenOff (story image.now.bytes (F.told feed.old).history)
-        (shown (K.taken out.old) (K.told out.old) (K.faults out.old))
-        (shown (K.taken out.new) (K.told out.new) (K.faults out.new))) }
-    ensures looked { let run = story image.now.bytes (F.told feed.old).history in
-        let before = map (λ b. watch b) probes.old.items in
-        OnOk result (map (λ b. watch b) probes.new.items ≡ looks run pace.new.course.joint.steps before) }
-    ensures looked_so_far { let run = story image.now.bytes (F.told feed.old).history in
-        let before = map (λ b. watch b) probes.old.items in
-        OnErr result (HaveLookedAtSome run before (map (λ b. watch b) probes.new.items)) }
-{
-    'steps: while !pace.judge_within(image, feed) {
-        pace.advance(image, feed, probes);
-        put_items(out, counts, pace.tick(), pace.course.seen.items.as_slice())?;
-    }
-    Ok(())
+    ghost invariant = { λ e. IsReady (F.told e.feed) e.course × HasRoom (F.told e.feed) e.starts };
 }
 
 /// What a run that is over comes to.
-fn ended_of(pace: Pace, counts: Counts) -> Ended
-    ensures starts { result.starts ≡ pace.starts }
-    ensures end { result.end ≡ pace.course.joint.mcu }
-    ensures steps { result.steps ≡ pace.course.joint.steps }
-    ensures cycles { result.cycles ≡ pace.course.joint.cycle }
-    ensures counts { result.counts ≡ counts }
+fn ended_of(course: &Course, told: Putting) -> Ended
+    ensures starts { result.starts ≡ told.starts.stamps }
+    ensures end { result.end ≡ course.now.joint.mcu }
+    ensures steps { result.steps ≡ course.now.joint.steps }
+    ensures cycles { result.cycles ≡ course.now.joint.cycle }
+    ensures counts { result.counts ≡ told.counts }
 {
-    let steps = pace.course.joint.steps();
-    let cycles = pace.course.joint.cycle();
-    let end = copied(pace.course.joint.mcu());
+    let steps = course.joint.steps();
+    let cycles = course.joint.cycle();
+    let end = copied(course.joint.mcu());
     Ended {
-        starts: pace.starts,
+        starts: told.starts.stamps,
         end,
         steps,
         cycles,
-        counts,
+        counts: told.counts,
     }
 }
 
@@ -129,19 +95,23 @@ impl<F: Feed> Engine<F> {
         let image = compile(layout);
         let bios = Bios::new(alloc)?;
         let most = feed.end() / TICK_CYCLES + 2;
-        let starts = Vec::with_capacity(alloc, most as usize)?;
+        let stamps = Vec::with_capacity(alloc, most as usize)?;
         let mut feed = feed;
-        let pace = Pace::begin(starts, &image, bios, &mut feed);
-        Ok(Engine { image, feed, pace })
+        let course = Course::begin(&image, bios, &mut feed);
+        Ok(Engine {
+            feed,
+            course,
+            starts: Starts { stamps },
+        })
     }
 
-    /// The parts of the run, for a caller that makes its steps and keeps something else of them: the image, the feed, and the
-    /// joint machine before the first step, with room for each tick start.
-    pub fn into_parts(self) -> (Image, F, Pace)
-        ensures ready { IsReady result.0.bytes (F.told result.1) result.2 }
-        ensures run { story result.0.bytes (F.told result.1).history ≡ self }
+    /// The parts of the run, for a caller that tells something else of it: the feed, and the joint machine before the first
+    /// step.
+    pub fn into_parts(self) -> (F, Course)
+        ensures ready { IsReady (F.told result.0) result.1 }
+        ensures run { story result.1.joint.image.bytes (F.told result.0).history ≡ self }
     {
-        (self.image, self.feed, self.pace)
+        (self.feed, self.course)
     }
 
     /// Makes the joint run from power-on to the first tick start at or after the end stamp, before the step that begins
@@ -150,8 +120,8 @@ impl<F: Feed> Engine<F> {
     ///
     /// On Ok the sink has taken the whole text of the log, which is the one that the model expects for the layout, its
     /// count of faults is as it was, and the probes have looked at each state. A failure comes only where a put failed:
-    /// then the sink has the text of the whole log up to that put, and the probes have looked at the states of some first
-    /// steps, the one that said the line among them.
+    /// then the sink has the text of the whole log up to that put, and the probes have looked at the states up to the one of
+    /// the step that said the line.
     pub fn run_to<K: Sink>(
         self,
         out: &mut K,
@@ -171,13 +141,17 @@ impl<F: Feed> Engine<F> {
         ensures looked { let before = map (λ b. watch b) probes.old.items in
             IfOk result (λ ended. map (λ b. watch b) probes.new.items ≡ looks self ended.steps before) }
         ensures looked_so_far { HaveLookedAtSome self (map (λ b. watch b) probes.old.items) (map (λ b. watch b) probes.new.items) }
+        ensures looked_to_break { OnErr result (HaveLookedToBreak self (shown (K.taken out.old) (K.told out.old) (K.faults out.old))
+            (shown (K.taken out.new) (K.told out.new) (K.faults out.new)) (map (λ b. watch b) probes.old.items) (map (λ b. watch b) probes.new.items)) }
     {
         runs_are_expected();
-        let image = self.image;
         let mut feed = self.feed;
-        let mut pace = self.pace;
-        let mut counts = Counts::none();
-        go_to_end(&mut pace, &mut counts, &image, &mut feed, out, probes)?;
-        Ok(ended_of(pace, counts))
+        let mut course = self.course;
+        let mut putting = Putting {
+            starts: self.starts,
+            counts: Counts::none(),
+        };
+        let _end = tell_run::<F, K, SinkFault, Putting, 5>(&mut course, &mut feed, Ending::TickStart, &mut putting, out, probes)?;
+        Ok(ended_of(&course, putting))
     }
 }

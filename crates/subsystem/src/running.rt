@@ -1,78 +1,44 @@
 //! The run.
 
-ghost use Rattle.std.specs.Prelude.{◌≡◌, ◌<◌, ◌-◌, [], true, length, map, IfOk, OnErr, OnOk};
+ghost use Rattle.std.specs.Prelude.{◌≡◌, ◌<◌, ◌-◌, true, length, map, IfOk};
 ghost use Rattle.board_lines.specs.Cadence.{KeepsCadenceTo, listed};
 ghost use Rattle.fw_compile.specs.Image.{image_of};
 ghost use Rattle.board_probes.specs.Looks.{looks};
-ghost use Rattle.fw_logic.specs.JointRun.{KeepsTime};
-ghost use Rattle.joint_feed.specs.Ahead.{HasTaken};
 ghost use Rattle.joint_feed.specs.Stories.{story};
-ghost use Rattle.key_file.specs.Accepted.{IsAccepted, IsAcceptedFor};
-ghost use Rattle.key_file.specs.Feeds.{Fed};
+ghost use Rattle.key_file.specs.Accepted.{IsAcceptedFor};
 ghost use Rattle.link_model.specs.Expected.{expected_log};
 ghost use Rattle.quiet_log.specs.Quiet.{IsQuiet, quiet_log};
 ghost use Rattle.subsystem.specs.Looking.{HaveLookedAtSome};
-ghost use Rattle.subsystem.specs.Progress.{IsSoFar, IsJudged, lines_to};
 ghost use Rattle.subsystem.specs.Running.{IsRun};
 
-use crate::account::push_lines;
 use crate::law::{keeps_time, runs_are_expected};
 use crate::outcome::{Run, copied};
-use crate::pace::Pace;
+use crate::starts::Starts;
+use crate::telling::Keeping;
 use board_probes::Probe;
 use fw_compile::compile;
 use int09::Bios;
-use key_file::{Feed, History, ListFeed};
+use joint_feed::Course;
+use key_file::{History, ListFeed};
 use layout_reader::Layout;
 use link_model::LogLine;
-use mcs48_isa::Image;
 use std::alloc::{AllocError, Global};
-
-/// Goes on from power-on to the run's end, and keeps the log.
-fn run_on<F: Feed>(
-    pace: &mut Pace,
-    log: &mut Vec<LogLine>,
-    image: &Image,
-    feed: &mut F,
-    probes: &mut Vec<Box<dyn Probe>>,
-) -> Result<(), AllocError>
-    requires accepted { IsAccepted (F.told feed.old).history }
-    requires so_far { IsSoFar (story image.now.bytes (F.told feed.old).history) pace.old }
-    requires first { pace.old.course.joint.steps ≡ 0 }
-    requires silent { log.old.items ≡ [] }
-    requires time { let h = (F.told feed.old).history in KeepsTime image.now.bytes h.edges h.host }
-    requires taken { HasTaken (F.told feed.old) pace.old.course.ahead }
-    ensures judged { OnOk result (IsJudged (story image.now.bytes (F.told feed.old).history) true pace.new) }
-    ensures log { let run = story image.now.bytes (F.told feed.old).history in
-        OnOk result (log.new.items ≡ lines_to run pace.new.starts.items pace.new.course.joint.steps) }
-    ensures looked { let run = story image.now.bytes (F.told feed.old).history in
-        let before = map (λ b. watch b) probes.old.items in
-        OnOk result (map (λ b. watch b) probes.new.items ≡ looks run pace.new.course.joint.steps before) }
-    ensures looked_so_far { let run = story image.now.bytes (F.told feed.old).history in
-        let before = map (λ b. watch b) probes.old.items in
-        OnErr result (HaveLookedAtSome run before (map (λ b. watch b) probes.new.items)) }
-{
-    'steps: while !pace.judge(image, feed)? {
-        pace.advance(image, feed, probes);
-        push_lines(log, pace.tick(), pace.course.seen.items.as_slice())?;
-    }
-    Ok(())
-}
+use story_run::{Ending, tell_run};
 
 /// What a run that is over comes to.
-fn outcome_of(pace: Pace, log: Vec<LogLine>) -> Run
+fn outcome_of(course: &Course, starts: Starts, log: Vec<LogLine>) -> Run
     ensures log { result.log ≡ log }
-    ensures starts { result.starts ≡ pace.starts }
-    ensures end { result.end ≡ pace.course.joint.mcu }
-    ensures steps { result.steps ≡ pace.course.joint.steps }
-    ensures cycles { result.cycles ≡ pace.course.joint.cycle }
+    ensures starts { result.starts ≡ starts.stamps }
+    ensures end { result.end ≡ course.now.joint.mcu }
+    ensures steps { result.steps ≡ course.now.joint.steps }
+    ensures cycles { result.cycles ≡ course.now.joint.cycle }
 {
-    let steps = pace.course.joint.steps();
-    let cycles = pace.course.joint.cycle();
-    let end = copied(pace.course.joint.mcu());
+    let steps = course.joint.steps();
+    let cycles = course.joint.cycle();
+    let end = copied(course.joint.mcu());
     Run {
         log,
-        starts: pace.starts,
+        starts: starts.stamps,
         end,
         steps,
         cycles,
@@ -113,8 +79,12 @@ pub fn run(
     let _ = history.end();
     let bios = Bios::new(alloc)?;
     let mut feed = ListFeed::new(history);
-    let mut pace = Pace::begin(Vec::new(alloc), &image, bios, &mut feed);
+    let mut course = Course::begin(&image, bios, &mut feed);
     let mut log = Vec::new(alloc);
-    run_on(&mut pace, &mut log, &image, &mut feed, probes)?;
-    Ok(outcome_of(pace, log))
+    let starts = Starts {
+        stamps: Vec::new(alloc),
+    };
+    let mut keeping = Keeping { starts };
+    let _end = tell_run::<ListFeed, Vec<LogLine>, AllocError, Keeping, 4>(&mut course, &mut feed, Ending::TickStart, &mut keeping, &mut log, probes)?;
+    Ok(outcome_of(&course, keeping.starts, log))
 }

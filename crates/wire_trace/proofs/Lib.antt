@@ -1,4 +1,5 @@
 pub mod OfLines
-pub mod Sampled
-pub mod Traced
-pub mod Whole
+pub mod ChangesGrow
+pub mod StillAddsNothing
+pub mod SampleIsOfState
+pub mod TraceIsSaid

@@ -1,24 +1,26 @@
 -- What a sink has of the trace of a whole run.
-use Rattle.std.specs.Prelude.{ℕ}
+use Rattle.std.specs.Prelude.{ℕ, suc}
 use Rattle.io_edge.specs.Said.{IsBrokenOff, IsSaid, Shown}
-use Rattle.joint_feed.specs.Stories.{Story}
-use Rattle.subsystem.specs.Running.{GoesOnTo, IsOutcome, Outcome}
-use Rattle.wire_trace.specs.Trace.{changes_to, trace_to}
+use Rattle.joint_feed.specs.Stories.{Story, state_at}
+use Rattle.story_run.specs.declared.ending.Ending.TheVariants.{TickStart}
+use Rattle.story_run.specs.Running.{IsOverBehind}
+use Rattle.story_run.specs.Telling.{IsBrokenBehind}
+use Rattle.wire_trace.specs.Trace.{changes_to, text_in, trace_to}
+use Rattle.wires_heard.specs.Hearing.{heard_to}
 
--- the trace of a run is said
+-- the trace of a run is said, up to the first tick start at or after the end stamp
 pub record IsTraceSaid (s : Story) (before after : Shown) : Type 0 where
-  pub run : Outcome
-  pub is : IsOutcome s run
-  pub said : IsSaid before after (trace_to s run.steps)
+  pub steps : ℕ
+  pub is_over : IsOverBehind TickStart s steps
+  pub said : IsSaid before after (trace_to s steps)
 
 -- its saying is broken off
 pub record IsTraceBrokenOff (s : Story) (before after : Shown) : Type 0 where
-  pub run : Outcome
-  pub is : IsOutcome s run
-  pub broken : IsBrokenOff before after (trace_to s run.steps)
-
--- the saying of what some first steps of a run add is broken off
-pub record AreChangesBrokenOff (s : Story) (before after : Shown) : Type 0 where
   pub steps : ℕ
-  pub goes_on : GoesOnTo s steps
-  pub broken : IsBrokenOff before after (changes_to s steps)
+  pub is_over : IsOverBehind TickStart s steps
+  pub broken : IsBrokenOff before after (trace_to s steps)
+
+-- the saying of what the samples add is broken off in what that of the step behind the first k adds
+abbrev pub AreChangesBrokenAt : Story → Shown → Shown → ℕ → Type 0
+AreChangesBrokenAt s before after k =
+    IsBrokenBehind before after (changes_to s k) (text_in (state_at s (suc k)) (heard_to s k))

@@ -1,28 +1,31 @@
 //! The trace of a run.
 
-ghost use Rattle.std.specs.Prelude.{◌≡◌, true, Err, OnErr, OnOk};
+ghost use Rattle.std.specs.Prelude.{◌≡◌, true, Err, IfOk, OnErr, OnOk};
 ghost use Rattle.fw_compile.specs.Image.{image_of};
 ghost use Rattle.io_edge.specs.Said.{IsBrokenOff, IsSaid, shown};
+ghost use Rattle.joint_feed.specs.Ahead.{HasTaken};
 ghost use Rattle.joint_feed.specs.Stories.{story};
-ghost use Rattle.key_file.specs.Accepted.{IsAcceptedFor};
+ghost use Rattle.key_file.specs.Accepted.{IsAccepted, IsAcceptedFor};
 ghost use Rattle.key_file.specs.Feeds.{Fed};
 ghost use Rattle.layout_reader.specs.Layouts.{IsKeyLayout, KeyLayout};
-ghost use Rattle.subsystem.specs.Progress.{IsJudged, IsReady};
+ghost use Rattle.story_run.specs.declared.ending.Ending.TheVariants.{TickStart};
+ghost use Rattle.story_run.specs.Gliding.{IsStanding, IsTimely};
 ghost use Rattle.wire_trace.specs.declared.fault.TraceFault.TheVariants.{Memory, Write};
-ghost use Rattle.wire_trace.specs.Ending.{AreChangesBrokenOff, IsTraceBrokenOff, IsTraceSaid};
+ghost use Rattle.wire_trace.specs.Ending.{IsTraceBrokenOff, IsTraceSaid};
 ghost use Rattle.wire_trace.specs.Text.{header};
-ghost use Rattle.wire_trace.specs.Trace.{changes_to};
 ghost use Rattle.wires_heard.specs.Hearing.{HearsAll};
 
 use crate::fault::TraceFault;
-use crate::sampling::put_sample;
-use board_probes::LineDecoder;
+use crate::telling::Changes;
+use agreement::run_and_model_agree;
+use fw_compile::compile;
+use int09::Bios;
 use io_edge::{Sink, SinkFault, say};
+use joint_feed::Course;
 use key_file::Feed;
 use layout_reader::Layout;
-use mcs48_isa::Image;
-use std::alloc::Global;
-use subsystem::{Engine, Pace};
+use std::alloc::{AllocError, Global};
+use story_run::{Ending, tell_run};
 use wires_heard::wires_are_heard;
 
 /// What stands before the first sample.
@@ -40,44 +43,53 @@ pub fn put_header<K: Sink>(out: &mut K) -> Result<(), SinkFault>
     say(out, HEADER)
 }
 
-/// Goes on from power-on to the run's end, and puts what each sample adds.
-fn put_changes<F: Feed, K: Sink>(
-    pace: &mut Pace,
-    image: &Image,
+/// The run of a layout's compiled image under the history of a feed of which nothing was taken and which is accepted for
+/// this layout, at power-on, with all the memory that it takes: the buffer of INT 09h.
+fn begun<F: Feed>(alloc: Global, layout: &Layout, feed: &mut F) -> Result<Course, AllocError>
+    requires no_edge { (F.told feed.old).edges ≡ 0 }
+    requires no_host { (F.told feed.old).host ≡ 0 }
+    requires accepted { IsAcceptedFor layout.now (F.told feed.old).history }
+    ensures layout { IsKeyLayout layout.now }
+    ensures accepted { IsAccepted (F.told feed.new).history }
+    ensures run { IfOk result (λ course. story course.joint.image.bytes (F.told feed.new).history
+        ≡ story (image_of layout.now) (F.told feed.old).history) }
+    ensures timely { IfOk result (λ course. IsTimely TickStart (story course.joint.image.bytes (F.told feed.new).history)) }
+    ensures standing { IfOk result (λ course. IsStanding TickStart (story course.joint.image.bytes (F.told feed.new).history) course) }
+    ensures steps { IfOk result (λ course. course.joint.steps ≡ 0) }
+    ensures taken { IfOk result (λ course. HasTaken (F.told feed.new) course.ahead) }
+{
+    let _ = layout.rate();
+    let _ = layout.entries();
+    run_and_model_agree();
+    let image = compile(layout);
+    let bios = Bios::new(alloc)?;
+    Ok(Course::begin(&image, bios, feed))
+}
+
+/// Puts the text of a run that is at power-on.
+fn put_trace<F: Feed, K: Sink>(
+    alloc: Global,
+    course: &mut Course,
     feed: &mut F,
     out: &mut K,
 ) -> Result<(), SinkFault>
-    requires ready { IsReady image.now.bytes (F.told feed.old) pace.old }
-    ensures judged { OnOk result (IsJudged (story image.now.bytes (F.told feed.old).history) true pace.new) }
-    ensures said { let run = story image.now.bytes (F.told feed.old).history in
-        OnOk result (IsSaid (shown (K.taken out.old) (K.told out.old) (K.faults out.old))
-        (shown (K.taken out.new) (K.told out.new) (K.faults out.new)) (changes_to run pace.new.course.joint.steps)) }
-    ensures broken { let run = story image.now.bytes (F.told feed.old).history in
-        OnErr result (AreChangesBrokenOff run (shown (K.taken out.old) (K.told out.old) (K.faults out.old))
+    requires accepted { IsAccepted (F.told feed.old).history }
+    requires timely { IsTimely TickStart (story course.old.joint.image.bytes (F.told feed.old).history) }
+    requires standing { IsStanding TickStart (story course.old.joint.image.bytes (F.told feed.old).history) course.old }
+    requires steps { course.old.joint.steps ≡ 0 }
+    requires taken { HasTaken (F.told feed.old) course.old.ahead }
+    ensures said { let run = story course.old.joint.image.bytes (F.told feed.old).history in
+        OnOk result (IsTraceSaid run (shown (K.taken out.old) (K.told out.old) (K.faults out.old))
+        (shown (K.taken out.new) (K.told out.new) (K.faults out.new))) }
+    ensures broken { let run = story course.old.joint.image.bytes (F.told feed.old).history in
+        OnErr result (IsTraceBrokenOff run (shown (K.taken out.old) (K.told out.old) (K.faults out.old))
         (shown (K.taken out.new) (K.told out.new) (K.faults out.new))) }
 {
-    let mut decoder = LineDecoder::new();
-    'steps: while !pace.judge_within(image, feed) {
-        pace.step(image, feed);
-        let cycle = pace.course.joint.cycle();
-        let lines = pace.course.joint.lines();
-        put_sample(out, &mut decoder, cycle, lines)?;
-    }
-    Ok(())
-}
-
-/// Puts the text of a run that is ready.
-fn put_trace<F: Feed, K: Sink>(engine: Engine<F>, out: &mut K) -> Result<(), SinkFault>
-    ensures said { OnOk result (IsTraceSaid engine (shown (K.taken out.old) (K.told out.old) (K.faults out.old))
-        (shown (K.taken out.new) (K.told out.new) (K.faults out.new))) }
-    ensures broken { OnErr result (IsTraceBrokenOff engine (shown (K.taken out.old) (K.told out.old) (K.faults out.old))
-        (shown (K.taken out.new) (K.told out.new) (K.faults out.new))) }
-{
-    let (image, feed, pace) = engine.into_parts();
-    let mut feed = feed;
-    let mut pace = pace;
+    let mut changes = Changes::new();
+    let mut probes = Vec::new(alloc);
     put_header(out)?;
-    put_changes(&mut pace, &image, &mut feed, out)
+    let _end = tell_run::<F, K, SinkFault, Changes, 6>(course, feed, Ending::TickStart, &mut changes, out, &mut probes)?;
+    Ok(())
 }
 
 /// Puts the two wires of the run of a layout's compiled image, under the history of a feed of which nothing was taken and
@@ -112,11 +124,15 @@ pub fn trace<F: Feed, K: Sink>(
         ≡ shown (K.taken out.old) (K.told out.old) (K.faults out.old) }
 {
     wires_are_heard();
-    match Engine::new(alloc, layout, feed) {
+    let mut feed = feed;
+    match begun(alloc, layout, &mut feed) {
         Err(_error) => Err(TraceFault::Memory),
-        Ok(engine) => match put_trace(engine, out) {
-            Err(_fault) => Err(TraceFault::Write),
-            Ok(()) => Ok(()),
-        },
+        Ok(course) => {
+            let mut course = course;
+            match put_trace(alloc, &mut course, &mut feed, out) {
+                Err(_fault) => Err(TraceFault::Write),
+                Ok(()) => Ok(()),
+            }
+        }
     }
 }

@@ -1,0 +1,80 @@
+-- What a run has come to that was told.
+use Rattle.std.proofs.Common.{◌≡◌, ℕ, suc, List, ◌++◌, ap, sym, subst, ◌∙◌}
+use Rattle.std.proofs.Common.{false}
+use Rattle.fw_logic.specs.JointRun.{KeepsTime}
+use Rattle.board_probes.specs.Probes.{Watch}
+use Rattle.io_edge.proofs.Pieces.{said_then_broken}
+use Rattle.io_edge.specs.Said.{IsBrokenOff, IsSaid, Shown}
+use Rattle.joint_feed.specs.Stories.{Story}
+use Rattle.joint_feed.specs.declared.course.Course.{Course}
+use Rattle.link_model.specs.declared.line.LogLine.{LogLine}
+use Rattle.story_run.specs.declared.ending.End.{End}
+use Rattle.story_run.specs.declared.ending.Ending.TheVariants.{TickStart}
+use Rattle.story_run.specs.Advance.{IsEnding}
+use Rattle.story_run.specs.Looking.{BrokeOff}
+use Rattle.story_run.specs.Running.{log_at, starts_among}
+use Rattle.story_run.specs.Telling.{IsToldTo}
+use Rattle.subsystem.specs.declared.ended.Ended.{Ended}
+use Rattle.subsystem.specs.declared.starts.Starts.{Starts}
+use Rattle.subsystem.specs.declared.telling.Putting.{Putting}
+use Rattle.subsystem.specs.Counts.{none_counted, with_lines}
+use Rattle.subsystem.specs.Ending.{ending}
+use Rattle.subsystem.specs.Looking.{HaveLookedAtSome}
+use Rattle.subsystem.specs.Progress.{told_by}
+use Rattle.subsystem.specs.Putting.{HaveLookedToBreak, IsLogBrokenOff, step_lines}
+use Rattle.subsystem.specs.Running.{IsOutcome, Outcome, lines_of}
+use Rattle.subsystem.specs.Telling.{HasNoted, HasPut}
+use Rattle.subsystem.specs.Texts.{log_text}
+use Rattle.subsystem.proofs.Ends.{ends, told_whole}
+use Rattle.subsystem.proofs.Room.{log_text-append}
+use Rattle.subsystem.proofs.Told.{told_quiet, told_step}
+use Rattle.subsystem.proofs.Whole.{are_lines, broken_off}
+
+module _ (s : Story) (t : KeepsTime s.bytes s.edges s.events) (c : Course) (end : End) (h : IsEnding TickStart s c end) where
+  -- into a sink
+  module _ (it : Putting) (x y : Shown) (told : IsToldTo TickStart false s (λ k. HasPut TickStart s k it × IsSaid x y (log_text (told_by s k))) c.joint.steps)
+      (ended : Ended) (starts : ended.starts ≡ it.starts.stamps) (mcu : ended.end ≡ c.joint.mcu) (steps : ended.steps ≡ c.joint.steps)
+      (cycles : ended.cycles ≡ c.joint.cycle) (counts : ended.counts ≡ it.counts) where
+    stamps : ended.starts.items ≡ starts_among s (suc c.joint.steps)
+    stamps = ap (λ v. v.items) starts ∙ told.told_so.0.noted.starts ∙ sym told.quiet.starts
+
+    lines : told_by s told.steps ≡ (ending s ended).log
+    lines =
+        told_quiet s t told.steps c.joint.steps told.quiet ∙ told_whole s t c end h ended.starts.items stamps
+        ∙ ap (λ (k : ℕ). lines_of ended.starts.items (log_at s k)) (sym steps)
+
+    pub came : IsOutcome s (ending s ended)
+    came = ends s t c end h (ending s ended) (ap (λ (k : ℕ). lines_of ended.starts.items (log_at s k)) steps) stamps mcu steps cycles
+
+    pub came_said : IsSaid x y (log_text (ending s ended).log)
+    came_said = subst (λ (l : List LogLine). IsSaid x y (log_text l)) lines told.told_so.1
+
+    pub came_counted : ended.counts ≡ with_lines none_counted (ending s ended).log
+    came_counted = counts ∙ told.told_so.0.counts ∙ ap (with_lines none_counted) lines
+
+  -- into a list
+  module _ (it : Starts) (log : List LogLine) (told : IsToldTo TickStart false s (λ k. HasNoted TickStart s k it × (log ≡ told_by s k)) c.joint.steps)
+      (run : Outcome) (kept : run.log ≡ log) (starts : run.starts ≡ it.stamps.items) (mcu : run.end ≡ c.joint.mcu) (steps : run.steps ≡ c.joint.steps)
+      (cycles : run.cycles ≡ c.joint.cycle) where
+    noted : run.starts ≡ starts_among s (suc c.joint.steps)
+    noted = starts ∙ told.told_so.0.starts ∙ sym told.quiet.starts
+
+    pub came_kept : IsOutcome s run
+    came_kept =
+        ends s t c end h run
+        (kept ∙ told.told_so.1 ∙ told_quiet s t told.steps c.joint.steps told.quiet ∙ told_whole s t c end h run.starts noted)
+        noted mcu steps cycles
+
+-- or where its telling broke off
+pub looked_some_by : (s : Story) (broken : ℕ → Type 0) (before after : List Watch) → BrokeOff TickStart s broken before after → HaveLookedAtSome s before after
+looked_some_by s broken before after b = record { steps = suc b.last; goes_on = b.goes_on; looked = b.looked }
+
+pub broken_whole : (s : Story) → KeepsTime s.bytes s.edges s.events → (x y : Shown) (before after : List Watch) → HaveLookedToBreak s x y before after → IsLogBrokenOff s x y
+broken_whole s t x y before after b =
+    let k = b.last in
+    let part = b.broken_so in
+    let text : log_text (told_by s k) ++ log_text (step_lines s k) ≡ log_text (told_by s (suc k)) =
+    sym (log_text-append (told_by s k) (step_lines s k)) ∙ ap log_text (sym (told_step s t k)) in
+    broken_off s t (suc k) x y b.goes_on
+    (subst (λ v. IsBrokenOff x y v) text
+    (said_then_broken x part.between y (log_text (told_by s k)) (log_text (step_lines s k)) (are_lines (told_by s k)) part.said part.broken))

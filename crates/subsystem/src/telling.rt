@@ -1,0 +1,65 @@
+//! What is told of a run: each item of its log with its tick. The tick starts are kept.
+
+ghost use Rattle.std.specs.Prelude.{◌≡◌, ◌++◌, false};
+ghost use Rattle.io_edge.specs.Said.{IsSaid, shown};
+ghost use Rattle.subsystem.specs.Progress.{told_by};
+ghost use Rattle.subsystem.specs.Putting.{IsLogBrokenAt};
+ghost use Rattle.subsystem.specs.Telling.{HasNoted, HasPut};
+ghost use Rattle.subsystem.specs.Texts.{log_text};
+
+use crate::account::push_lines;
+use crate::counts::Counts;
+use crate::putting::put_items;
+use crate::starts::Starts;
+use io_edge::{Sink, SinkFault};
+use joint_feed::Course;
+use link_model::LogLine;
+use std::alloc::AllocError;
+use story_run::Teller;
+
+/// Keeps the lines in a list.
+#[derive(Drop)]
+pub struct Keeping {
+    pub starts: Starts,
+}
+
+impl Teller<Vec<LogLine>, AllocError> for Keeping {
+    ghost WIRES = { false };
+
+    ghost has_told = { λ e s first k it out. HasNoted e s k it.starts × (out.items ≡ first.items ++ told_by s k) };
+
+    ghost is_broken = { λ e s first k out. Unit {0} };
+
+    const WIRES: bool = false;
+
+    fn tell(&mut self, out: &mut Vec<LogLine>, course: &Course) -> Result<(), AllocError> {
+        push_lines(out, self.starts.tick(), course.seen.items.as_slice())?;
+        self.starts.note(&course.joint)
+    }
+}
+
+/// Puts the lines into a sink, and counts them.
+#[derive(Drop)]
+pub struct Putting {
+    pub starts: Starts,
+    pub counts: Counts,
+}
+
+impl<K: Sink> Teller<K, SinkFault> for Putting {
+    ghost WIRES = { false };
+
+    ghost has_told = { λ e s first k it out. HasPut e s k it × IsSaid (shown (K.taken first) (K.told first) (K.faults first))
+        (shown (K.taken out) (K.told out) (K.faults out)) (log_text (told_by s k)) };
+
+    ghost is_broken = { λ e s first k out. IsLogBrokenAt s (shown (K.taken first) (K.told first) (K.faults first))
+        (shown (K.taken out) (K.told out) (K.faults out)) k };
+
+    const WIRES: bool = false;
+
+    fn tell(&mut self, out: &mut K, course: &Course) -> Result<(), SinkFault> {
+        let tick = self.starts.tick();
+        put_items(out, &mut self.counts, tick, course.seen.items.as_slice())?;
+        self.starts.note_within(&course.joint);
+        Ok(())
+    }
+}

@@ -1,0 +1,110 @@
+-- A sample of the machine is one of the state that its last step led to, and is heard as behind the step before.
+use Rattle.std.proofs.Common.{◌≡◌, ◌≤◌, ◌<◌, ℕ, zero, suc, Bool, true, Some, None, Ok, Err, OnErr, OnOk, refl, ap, sym, subst, ◌∙◌, arith}
+use Rattle.std.specs.declared.option.Option.{Option}
+use Rattle.std.specs.declared.result.Result.{Result}
+use Rattle.std.proofs.lemmas.Bool.Decides.{nat_tests}
+use Rattle.board_lines.specs.declared.lines.Lines.{Lines}
+use Rattle.board_probes.proofs.Sights.{same_sight}
+use Rattle.board_probes.specs.Probes.{Sight}
+use Rattle.board_probes.specs.Transfers.{Ear, heard, is_behind, sample, wires_at}
+use Rattle.board_probes.specs.declared.heard.Sample.{Sample}
+use Rattle.io_edge.specs.Said.{IsBrokenOff, IsSaid, Shown}
+use Rattle.joint_feed.proofs.Going.{here}
+use Rattle.joint_feed.specs.Stories.{Story, state_at}
+use Rattle.joint_feed.specs.declared.course.Course.{Course}
+use Rattle.joint_run.specs.Cycle.{outside_wires}
+use Rattle.joint_run.specs.Joint.{Beside}
+use Rattle.joint_run.specs.Run.{World}
+use Rattle.io_edge.proofs.Pieces.{said_then_said}
+use Rattle.story_run.specs.declared.ending.Ending.{Ending}
+use Rattle.story_run.specs.Advance.{IsBehind}
+use Rattle.story_run.specs.Gliding.{lines_at, lines_in}
+use Rattle.wire_trace.proofs.OfLines.{changes_are_lines}
+use Rattle.wire_trace.proofs.StillAddsNothing.{HearAlike, alike_heard, alike_text, still_to}
+use Rattle.wire_trace.specs.Ending.{AreChangesBrokenAt}
+use Rattle.wire_trace.specs.Telling.{HasHeard}
+use Rattle.wire_trace.specs.Text.{sample_text}
+use Rattle.wire_trace.specs.Trace.{changes_to, text_in}
+use Rattle.wires_heard.specs.Hearing.{heard_in, heard_to, sample_in}
+
+-- what follows from what is so where it was done, or where it failed
+pub on_ok : {A E P Q : Type 0} (result : Result A E) → (P → Q) → OnOk result P → OnOk result Q
+on_ok (Ok a) f p = f p
+on_ok (Err e) f p = tt
+
+pub on_err : {A E P Q : Type 0} (result : Result A E) → (P → Q) → OnErr result P → OnErr result Q
+on_err (Ok a) f p = tt
+on_err (Err e) f p = f p
+
+-- what is so, is so of a failure too
+pub on_err_so : {A E P : Type 0} (result : Result A E) → P → OnErr result P
+on_err_so (Ok a) p = tt
+on_err_so (Err e) p = p
+
+-- the last sample is none of a later cycle
+abbrev IsHeardBy : Option Sample → ℕ → Type 0
+IsHeardBy None cycle = Unit {0}
+IsHeardBy (Some s) cycle = s.cycle ≤ cycle
+
+heard_by : (s : Story) (k : ℕ) (w : World Beside) → state_at s k ≡ Some w → IsHeardBy (heard_to s k).last w.cycle
+heard_by s zero w there = tt
+heard_by s (suc k) w there =
+    let l : w.cycle ≤ w.cycle = omega arith in
+    subst (λ (o : Option (World Beside)). IsHeardBy (heard_in o (heard_to s k)).last w.cycle) (sym there) l
+
+-- so the next one is behind it
+rises : (o : Option Sample) (before cycle : ℕ) → IsHeardBy o before → before < cycle → is_behind cycle o ≡ true
+rises None before cycle h l = refl
+rises (Some s) before cycle h l = let m : s.cycle < cycle = omega (arith, h, l) in grind (arith, nat_tests, m)
+
+module _ (e : Ending) (s : Story) (k : ℕ) (c : Course) (b : IsBehind e true s k c) (old : Ear) (h : HasHeard s k old) where
+  abbrev w : World Beside
+  w = b.standing.on.world
+
+  there : state_at s (suc b.last) ≡ Some w
+  there = subst (λ (n : ℕ). state_at s n ≡ Some w) b.steps (here s c b.standing.on)
+
+  -- the wires kept their levels up to the step before
+  still : HearAlike (heard_to s b.last) (heard_to s k) × (changes_to s b.last ≡ changes_to s k)
+  still = still_to s k (h.levels ∙ ap (λ (a : Ear). Some (wires_at a.last)) h.all) b.last b.quiet.later (b.quiet.levels refl)
+
+  pub rises_now : (cycle : ℕ) → cycle ≡ c.joint.cycle → is_behind cycle old.last ≡ true
+  rises_now cycle now =
+      let later = b.later in
+      subst (λ (a : Ear). is_behind cycle a.last ≡ true) (sym h.all)
+      (rises (heard_to s k).last b.from.cycle cycle (heard_by s k b.from b.there) (omega (arith, later, now)))
+
+  module _ (cycle : ℕ) (lines : Lines) (now : cycle ≡ c.joint.cycle) (level : lines ≡ outside_wires c.joint.mcu.p2 c.joint.outside) where
+    same : sample cycle lines ≡ sample_in w
+    same =
+        ap (λ (n : ℕ). sample n lines) now ∙ ap (λ (l : Lines). sample c.joint.cycle l) level
+        ∙ ap (λ (v : Sight). sample v.cycle v.lines) (same_sight c.joint w b.standing.on.in_run.mcu b.standing.on.in_run.outside b.standing.on.in_run.cycle)
+
+    -- what is kept
+    pub heard_now : (new : Ear) → new ≡ heard (sample cycle lines) old → HasHeard s c.joint.steps new
+    heard_now new is = record {
+      all = is ∙ ap (λ (x : Sample). heard x old) same ∙ ap (heard (sample_in w)) h.all
+          ∙ sym (alike_heard (sample_in w) (heard_to s b.last) (heard_to s k) still.0)
+          ∙ sym (ap (λ (o : Option (World Beside)). heard_in o (heard_to s b.last)) there) ∙ sym (ap (heard_to s) b.steps);
+      levels = ap lines_in (here s c b.standing.on) ∙ ap (λ (x : Sample). Some x.lines) (sym same) ∙ sym (ap (λ (a : Ear). Some (wires_at a.last)) is);
+    }
+
+    -- what it adds
+    text_now : sample_text (sample cycle lines) old ≡ text_in (state_at s (suc b.last)) (heard_to s b.last)
+    text_now =
+        ap (λ (x : Sample). sample_text x old) same ∙ ap (sample_text (sample_in w)) h.all
+        ∙ sym (alike_text (sample_in w) (heard_to s b.last) (heard_to s k) still.0)
+        ∙ sym (ap (λ (o : Option (World Beside)). text_in o (heard_to s b.last)) there)
+
+    module _ (first between after : Shown) (said : IsSaid first between (changes_to s k)) where
+      said_still : IsSaid first between (changes_to s b.last)
+      said_still = subst (λ v. IsSaid first between v) (sym still.1) said
+
+      pub said_now : IsSaid between after (sample_text (sample cycle lines) old) → IsSaid first after (changes_to s c.joint.steps)
+      said_now added =
+          subst (λ v. IsSaid first after v) (sym (ap (changes_to s) b.steps))
+          (said_then_said first between after (changes_to s b.last) (text_in (state_at s (suc b.last)) (heard_to s b.last)) (changes_are_lines s b.last) said_still
+          (subst (λ v. IsSaid between after v) text_now added))
+
+      pub broken_now : IsBrokenOff between after (sample_text (sample cycle lines) old) → AreChangesBrokenAt s first after b.last
+      broken_now added = record { between = between; said = said_still; broken = subst (λ v. IsBrokenOff between after v) text_now added }
