@@ -1,5 +1,6 @@
 -- What is told of a run.
-use Rattle.std.specs.Prelude.{ℕ, Bool}
+use Rattle.std.specs.Prelude.{ℕ, Bool, List}
+use Rattle.io_edge.specs.Said.{IsBrokenOff, IsSaid, Shown}
 use Rattle.joint_feed.specs.Stories.{Story}
 use Rattle.story_run.specs.declared.ending.Ending.{Ending}
 use Rattle.story_run.specs.Gliding.{IsQuiet}
@@ -9,3 +10,9 @@ pub record IsToldTo (e : Ending) (wires : Bool) (s : Story) (told : ℕ → Type
   pub steps : ℕ
   pub told_so : told steps
   pub quiet : IsQuiet e wires s steps n
+
+-- a sink has the whole text of a run's first steps, and behind it the next step's, broken off
+pub record IsBrokenBehind (before after : Shown) (text next : List ℕ) : Type 0 where
+  pub between : Shown
+  pub said : IsSaid before between text
+  pub broken : IsBrokenOff between after next
