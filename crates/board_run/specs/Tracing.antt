@@ -1,7 +1,7 @@
 -- What is left of a trace on the board in which a put failed.
 use Rattle.std.specs.Prelude.{List, ◌⊎◌, ◌≡◌}
 use Rattle.board_run.specs.Running.{IsOutcome, Outcome}
-use Rattle.fw_debug.specs.Probes.{Watch}
+use Rattle.board_probes.specs.Probes.{Watch}
 use Rattle.io_edge.specs.Said.{IsBrokenOff, IsSaid, Shown}
 use Rattle.joint_feed.specs.Stories.{Story}
 use Rattle.story_run.specs.declared.ending.Ending.TheVariants.{Stamp}

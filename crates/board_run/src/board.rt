@@ -6,7 +6,7 @@ ghost use Rattle.board_run.specs.Putting.{HaveLookedAtSome, HaveLookedToBreak, I
 ghost use Rattle.board_run.specs.Running.{IsOutcome};
 ghost use Rattle.board_run.specs.Texts.{log_text};
 ghost use Rattle.board_run.specs.Tracing.{HaveTracedToBreak, IsTraceBrokenOff};
-ghost use Rattle.fw_debug.specs.Looks.{looks};
+ghost use Rattle.board_probes.specs.Looks.{looks};
 ghost use Rattle.io_edge.specs.Said.{IsSaid, shown};
 ghost use Rattle.joint_feed.specs.Stories.{story};
 ghost use Rattle.key_file.specs.Accepted.{IsAccepted};
@@ -16,7 +16,7 @@ ghost use Rattle.wire_trace.specs.Trace.{trace_to};
 
 use crate::ended::Ended;
 use crate::telling::ByStamp;
-use fw_debug::Probe;
+use board_probes::Probe;
 use int09::Bios;
 use io_edge::{Sink, SinkFault};
 use joint_feed::Course;

@@ -4,8 +4,8 @@
 ghost use Rattle.std.specs.Prelude.{◌≤◌, length};
 
 use super::{Board, End, Ended};
+use board_probes::{AddressProbe, Probe};
 use fw_compile::compile;
-use fw_debug::{AddressProbe, Probe};
 use io_edge::MemSink;
 use key_file::{History, ListFeed, read_history};
 use layout_reader::us84_layout;

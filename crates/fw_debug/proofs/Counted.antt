@@ -1,28 +1,15 @@
--- What probes have counted after looks, a walk and a hunt.
-use Rattle.std.proofs.Common.{cond, ◌≡◌, ℕ, zero, suc, Bool, true, false, List, map, Some, None, refl, ap, sym, ◌∙◌, arith}
+-- What probes have counted after a walk and a hunt.
+use Rattle.std.proofs.Common.{cond, ◌≡◌, ℕ, zero, suc, Bool, true, false, map, Some, None, refl, ap, sym, ◌∙◌, arith}
 use Rattle.std.specs.declared.option.Option.{Option}
 use Rattle.std.proofs.lemmas.Simd.{map-map}
 use Rattle.joint_run.specs.Joint.{Beside}
 use Rattle.joint_run.specs.Run.{World}
 use Rattle.joint_feed.specs.Stories.{Story, state_at}
-use Rattle.fw_debug.specs.Counts.{counted_between}
-use Rattle.fw_debug.specs.CountLaw.{LooksCount, IsCounted, WalkCounts, HuntCounts}
-use Rattle.fw_debug.specs.Looks.{looked_at}
-use Rattle.fw_debug.specs.Probes.{Watch, first_met, sight_in}
+use Rattle.board_probes.specs.Counts.{counted_between}
+use Rattle.fw_debug.specs.CountLaw.{IsCounted, WalkCounts, HuntCounts}
+use Rattle.board_probes.specs.Probes.{first_met, sight_in}
 use Rattle.fw_debug.specs.Sessions.{Debug, Debuggee, Hunted, session_is_over, next_from, next_state, stepped_to, walk, hunt}
-use Rattle.fw_debug.proofs.Counting.{counted_both, counted_nowhere, counted_once, looked_if, map_as, map_same}
-
-looked_each : (step : ℕ) (o : Option (World Beside)) (probes : List Watch) → looked_at step o probes ≡ map (looked_if step o) probes
-looked_each step None probes = map_same (looked_if step None) (λ w. refl) probes
-looked_each step (Some v) probes = refl
-
-pub looks_count : LooksCount
-looks_count s zero probes = map_same (counted_between s 0 0) (counted_nowhere s 0) probes
-looks_count s (suc n) probes =
-    ap (looked_at (suc n) (state_at s (suc n))) (looks_count s n probes)
-    ∙ looked_each (suc n) (state_at s (suc n)) (map (counted_between s 0 n) probes)
-    ∙ map-map (looked_if (suc n) (state_at s (suc n))) (counted_between s 0 n) probes
-    ∙ map_as _ _ (λ w. sym (counted_both s 0 n (suc n) (omega arith) (omega arith) w ∙ counted_once s n (counted_between s 0 n w))) probes
+use Rattle.board_probes.proofs.Counting.{counted_both, counted_nowhere, counted_once, looked_if, map_as, map_same}
 
 -- nothing is done
 pub counted_still : (s : Story) (d : Debug) → IsCounted s d d

@@ -8,12 +8,12 @@ use Rattle.std.specs.declared.option.Option.{Option}
 use Rattle.std.proofs.lemmas.Option.{slice_get-map}
 use Rattle.fw_debug.specs.declared.command.Command.{Command}
 use Rattle.fw_debug.specs.declared.command.Command.TheVariants.{Step, Go, Show, Ram, Arm, Tell, Drop}
-use Rattle.fw_debug.specs.Counts.{counted_between}
+use Rattle.board_probes.specs.Counts.{counted_between}
 use Rattle.fw_debug.specs.CountLaw.{IsCounted, number_behind, number_after, obeyed_all, LinesCount, CountsSinceArmed}
-use Rattle.fw_debug.specs.Probes.{Watch, armed}
+use Rattle.board_probes.specs.Probes.{Watch, armed}
 use Rattle.fw_debug.specs.Sessions.{Debug, Debuggee, walk, hunt}
 use Rattle.fw_debug.specs.Told.{arm_at, obeyed}
-use Rattle.fw_debug.proofs.Counting.{counted_both, counted_nowhere, counts_from_none}
+use Rattle.board_probes.proofs.Counting.{counted_both, counted_nowhere, counts_from_none}
 use Rattle.fw_debug.proofs.Counted.{walk_counts, hunt_counts}
 
 -- the others stay when one is armed

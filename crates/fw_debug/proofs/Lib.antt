@@ -1,17 +1,10 @@
 pub mod Asked
 pub mod AtNumber
-pub mod AtRest
 pub mod Counted
-pub mod Counting
 pub mod Fields
-pub mod Hearing
-pub mod Hits
 pub mod Lasting
 pub mod Making
 pub mod Obeyed
 pub mod Printed
-pub mod Over
-pub mod Reading
 pub mod Right
-pub mod Sights
 pub mod Standing

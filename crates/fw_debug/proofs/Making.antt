@@ -5,7 +5,7 @@ use Rattle.joint_run.specs.Joint.{Beside}
 use Rattle.joint_run.specs.Run.{World}
 use Rattle.joint_run.specs.declared.machine.Machine.{Machine}
 use Rattle.joint_feed.specs.Stories.{state_at}
-use Rattle.fw_debug.specs.Probes.{Watch, Sight, looked, first_met, sight_in, sight_of}
+use Rattle.board_probes.specs.Probes.{Watch, Sight, looked, first_met, sight_in, sight_of}
 use Rattle.fw_debug.specs.Sessions.{Sitting, Debug, Debuggee, Hunted, debug, next_state, stepped_to, walk, hunt}
 use Rattle.fw_debug.specs.Advance.{IsStateAt, IsAdvanced}
 use Rattle.fw_debug.specs.Making.{IsMadeTo, IsMore}

@@ -12,7 +12,7 @@ use Rattle.fw_debug.specs.declared.rule.LineFault.TheVariants.{Memory}
 use Rattle.fw_debug.specs.declared.rule.Rule.{Rule}
 use Rattle.fw_debug.specs.Lines.{IsLine}
 use Rattle.fw_debug.specs.Obeyed.{IsObeyed, IsObeyedInPart, behind, begun, lines_told}
-use Rattle.fw_debug.specs.Probes.{Watch}
+use Rattle.board_probes.specs.Probes.{Watch}
 use Rattle.fw_debug.specs.Sessions.{Debug, Debuggee, Sitting}
 use Rattle.fw_debug.specs.Told.{Told, line_told, told}
 

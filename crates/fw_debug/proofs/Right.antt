@@ -15,10 +15,10 @@ use Rattle.fw_debug.specs.declared.command.Command.TheVariants.{Step, Go, Show, 
 use Rattle.fw_debug.specs.declared.rule.Rule.{Rule}
 use Rattle.fw_debug.specs.declared.rule.Rule.TheVariants.{Form, Probe}
 use Rattle.fw_debug.specs.Commands.{command_in}
-use Rattle.fw_debug.specs.Counts.{counted_between}
+use Rattle.board_probes.specs.Counts.{counted_between}
 use Rattle.fw_debug.specs.Faults.{IsRight, IsVerdict}
 use Rattle.fw_debug.specs.Obeyed.{behind, lines_told}
-use Rattle.fw_debug.specs.Probes.{Watch}
+use Rattle.board_probes.specs.Probes.{Watch}
 use Rattle.fw_debug.specs.Scripts.{judged, left, missing, script_of, take_line}
 use Rattle.fw_debug.specs.Sessions.{Debug, Debuggee, walk, hunt}
 use Rattle.fw_debug.specs.Told.{Told, arm_at, obeyed, told}

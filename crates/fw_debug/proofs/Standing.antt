@@ -18,9 +18,9 @@ use Rattle.joint_feed.specs.declared.course.Course.{Course}
 use Rattle.joint_feed.specs.Course.{IsOnCourse, IsStepOn}
 use Rattle.joint_feed.specs.Stories.{Story, state_at, starts_tick}
 use Rattle.fw_debug.specs.Sessions.{Debuggee, sitting, session_is_over, next_from, next_state, has_ended}
-use Rattle.fw_debug.specs.Stuck.{sticks}
+use Rattle.board_probes.specs.Stuck.{sticks}
 use Rattle.fw_debug.specs.Advance.{IsStateAt, IsAdvanced}
-use Rattle.fw_debug.proofs.Sights.{same_sight}
+use Rattle.board_probes.proofs.Sights.{same_sight}
 
 none_after : (d : Board) (w : World d.State) (o : Option Stepped) → is_none (after_step d w o) ≡ is_none o
 none_after d w None = refl

@@ -1,6 +1,6 @@
--- What probes count: the number of the steps whose state meets them, and the first of these.
-use Rattle.std.specs.Prelude.{◌≡◌, ◌≤◌, ℕ, ◌-◌, ◌^◌, ◌==◌, nat_lt, min, if◌then◌else◌}
-use Rattle.std.specs.Prelude.{List, [], ◌∷◌, ◌++◌, length, map, slice_get, Some, None, Ok}
+-- What probes count in a session: the number of the steps whose state meets them, and the first of these.
+use Rattle.std.specs.Prelude.{◌≡◌, ◌≤◌, ℕ, ◌-◌, ◌==◌, nat_lt, if◌then◌else◌}
+use Rattle.std.specs.Prelude.{List, [], ◌∷◌, ◌++◌, map, slice_get, Some, None, Ok}
 use Rattle.std.specs.Option.{option_and_then}
 use Rattle.std.specs.declared.option.Option.{Option}
 use Rattle.joint_feed.specs.Stories.{Story}
@@ -9,15 +9,11 @@ use Rattle.fw_debug.specs.declared.command.Command.{Command}
 use Rattle.fw_debug.specs.declared.command.Command.TheVariants.{Arm, Drop}
 use Rattle.fw_debug.specs.Commands.{command_in}
 use Rattle.fw_debug.specs.Obeyed.{lines_told}
-use Rattle.fw_debug.specs.Probes.{Watch, armed}
-use Rattle.fw_debug.specs.Counts.{met_between, counted_between}
-use Rattle.fw_debug.specs.Looks.{looks}
+use Rattle.board_probes.specs.Probes.{Watch, armed}
+use Rattle.board_probes.specs.Counts.{counted_between}
+use Rattle.board_probes.specs.LooksLaw.{IsTally}
 use Rattle.fw_debug.specs.Sessions.{Debug, Debuggee, walk, hunt}
 use Rattle.fw_debug.specs.Told.{Told, obeyed}
-
--- after a look at each of the states that the first n steps lead to
-abbrev pub LooksCount : Type 0
-LooksCount = (s : Story) (n : ℕ) (probes : List Watch) → looks s n probes ≡ map (counted_between s 0 n) probes
 
 -- each probe has looked at each state between the steps of one time in a session and those of another
 pub record IsCounted (s : Story) (old new : Debug) : Type 0 where
@@ -31,18 +27,6 @@ WalkCounts = (s : Debuggee) (count : ℕ) (d : Debug) → IsCounted s.story d (w
 -- after those that a line `go` makes
 abbrev pub HuntCounts : Type 0
 HuntCounts = (s : Debuggee) (count : ℕ) (d : Debug) → IsCounted s.story d (hunt s count d).debug
-
--- what is told by a probe that had counted nothing: how many of the steps between meet it, and the least of them
-pub record IsTally (s : Story) (k n : ℕ) (old new : Watch) : Type 0 where
-  pub kind : new.kind ≡ old.kind
-  pub arms : new.counted.arms ≡ old.counted.arms
-  pub count : new.counted.count ≡ min (length (met_between s k n old)) (2 ^ 64 - 1)
-  pub first : new.counted.first ≡ slice_get (met_between s k n old) 0
-
--- such a probe tells so
-abbrev pub CountsFromNone : Type 0
-CountsFromNone = (s : Story) (k n : ℕ) (watch : Watch)
-    → watch.counted.count ≡ 0 → watch.counted.first ≡ None → IsTally s k n watch (counted_between s k n watch)
 
 -- the number that a probe has behind a line; none where the line arms it or drops it
 abbrev pub number_behind : Command → ℕ → Option ℕ

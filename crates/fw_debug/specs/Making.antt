@@ -4,7 +4,7 @@ use Rattle.joint_run.specs.Joint.{Beside}
 use Rattle.joint_run.specs.Run.{World}
 use Rattle.fw_debug.specs.declared.stepping.Made.{Made}
 use Rattle.fw_debug.specs.declared.stepping.Made.TheVariants.{Ended, Missed, Hit}
-use Rattle.fw_debug.specs.Probes.{Watch, first_met, sight_in}
+use Rattle.board_probes.specs.Probes.{Watch, first_met, sight_in}
 use Rattle.fw_debug.specs.Sessions.{Sitting, debug, next_state, stepped_to}
 
 -- a step was made to this state

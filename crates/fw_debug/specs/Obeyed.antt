@@ -4,7 +4,7 @@ use Rattle.std.specs.Str.Lines.{lines}
 use Rattle.std.specs.declared.result.Result.{Result}
 use Rattle.first_fault.specs.FirstFault.{and_then}
 use Rattle.fw_debug.specs.declared.rule.Rule.{Rule}
-use Rattle.fw_debug.specs.Probes.{Watch}
+use Rattle.board_probes.specs.Probes.{Watch}
 use Rattle.fw_debug.specs.Sessions.{Debug, Debuggee}
 use Rattle.fw_debug.specs.Told.{Told, line_told, told}
 

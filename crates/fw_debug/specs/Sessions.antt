@@ -5,7 +5,7 @@ use Rattle.std.specs.declared.option.Option.{Option}
 use Rattle.joint_run.specs.Joint.{Beside}
 use Rattle.joint_run.specs.Run.{World}
 use Rattle.joint_feed.specs.Stories.{Story, state_at, starts_tick}
-use Rattle.fw_debug.specs.Probes.{Watch, looked, first_met, sight_in}
+use Rattle.board_probes.specs.Probes.{Watch, looked, first_met, sight_in}
 
 -- what is debugged: a program with its history, and how many cycles behind the end stamp its run ends at the latest
 pub record Debuggee : Type 0 where

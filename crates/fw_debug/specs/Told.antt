@@ -15,7 +15,7 @@ use Rattle.text_lines.specs.Fields.{is_blank_line}
 use Rattle.fw_debug.specs.declared.command.Command.{Command}
 use Rattle.fw_debug.specs.declared.command.Command.TheVariants.{Step, Go, Show, Ram, Arm, Tell, Drop}
 use Rattle.fw_debug.specs.declared.rule.Rule.{Rule}
-use Rattle.fw_debug.specs.Probes.{Watch, armed}
+use Rattle.board_probes.specs.Probes.{Watch, armed}
 use Rattle.fw_debug.specs.Scripts.{judged}
 use Rattle.fw_debug.specs.Sessions.{Debug, Debuggee, has_ended, walk, hunt}
 

@@ -2,11 +2,10 @@
 
 ghost use Rattle.std.specs.Prelude.{◌≡◌, ℕ, ◌<◌, length, map, slice_get};
 ghost use Rattle.std.specs.List.{remove};
-ghost use Rattle.fw_debug.specs.Probes.{armed};
+ghost use Rattle.board_probes.specs.Probes.{armed};
 ghost use Rattle.fw_debug.specs.Told.{arm_at, tally_shown, tally_text};
 
-use crate::probe::Probe;
-use crate::tally::Tally;
+use board_probes::{Probe, Tally};
 
 /// It is armed.
 fn arm_one(probe: &mut Box<dyn Probe>, a: u16, b: u8)

@@ -11,10 +11,10 @@ ghost use Rattle.fw_debug.specs.Told.{steps_text, shown, cell_shown, obeyed, lin
 
 use crate::command::Command;
 use crate::listed::{arm_at, drop_at, tally_at};
-use crate::probe::Probe;
 use crate::rule::{LineFault, judged};
 use crate::session::Session;
 use crate::texts::{at_text, hit_text, number_text, ram_text, tally_text};
+use board_probes::Probe;
 use mcs48_core::state_text;
 use std::alloc::{AllocError, Global};
 use text_lines::is_blank_line;

@@ -6,9 +6,9 @@ ghost use Rattle.fw_debug.specs.Faults.{IsRight};
 ghost use Rattle.fw_debug.specs.Obeyed.{IsObeyed, IsObeyedInPart};
 
 use crate::debuggee::Debuggee;
-use crate::probe::Probe;
 use crate::rule::LineFault;
 use crate::session::Session;
+use board_probes::Probe;
 use std::alloc::Global;
 use text_lines::next_line;
 

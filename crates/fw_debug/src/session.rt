@@ -6,7 +6,7 @@ ghost use Rattle.joint_feed.specs.Stories.{state_at};
 ghost use Rattle.joint_run.specs.Joint.{Beside};
 ghost use Rattle.joint_run.specs.Run.{World};
 ghost use Rattle.fw_debug.specs.Sessions.{has_ended, latest_start, sitting};
-ghost use Rattle.fw_debug.specs.Stuck.{sticks};
+ghost use Rattle.board_probes.specs.Stuck.{sticks};
 ghost use Rattle.fw_debug.specs.Advance.{IsStateAt, IsAdvanced, TellsOver};
 
 use crate::debuggee::Debuggee;

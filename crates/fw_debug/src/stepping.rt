@@ -4,8 +4,8 @@ ghost use Rattle.std.specs.Prelude.{◌≡◌, map};
 ghost use Rattle.fw_debug.specs.Sessions.{debug, walk, hunt};
 ghost use Rattle.fw_debug.specs.Making.{IsMade, IsMore};
 
-use crate::probe::{Probe, look_all};
 use crate::session::Session;
+use board_probes::{Probe, look_all};
 
 /// What came of one step more.
 #[derive(Clone, Copy, Drop)]

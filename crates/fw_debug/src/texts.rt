@@ -4,7 +4,7 @@ ghost use Rattle.std.specs.Prelude.{◌≡◌, ◌++◌, IfOk, OnOk};
 ghost use Rattle.std.specs.Fmt.{decimal};
 ghost use Rattle.fw_debug.specs.Told.{at_text, hit_text, ram_text, number_text, tally_text, first_text};
 
-use crate::tally::Tally;
+use board_probes::Tally;
 use std::alloc::{AllocError, Global};
 
 /// Appends a name and a number in decimal.

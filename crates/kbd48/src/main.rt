@@ -2,7 +2,7 @@
 //! top call, and ends with its status.
 #![tactic(auto)]
 
-use fw_debug::{AddressProbe, CellProbe, LineProbe, Probe, RegisterProbe};
+use board_probes::{AddressProbe, CellProbe, LineProbe, Probe, RegisterProbe};
 use io_edge::{FileShelf, StreamSink};
 use kbd48_app::{Exit, kbd48};
 use std::process::ExitCode;

@@ -10,7 +10,7 @@ use Rattle.board_run.proofs.Lines.{are_lines}
 use Rattle.board_run.specs.Putting.{HaveLookedAtSome}
 use Rattle.board_run.specs.Running.{IsOutcome, Outcome}
 use Rattle.story_run.specs.declared.ending.End.TheVariants.{Over, Stuck as BoardStuck}
-use Rattle.fw_debug.specs.Probes.{Watch}
+use Rattle.board_probes.specs.Probes.{Watch}
 use Rattle.hexfile.specs.Hex.{HexOutcome, hex_of}
 use Rattle.io_edge.proofs.Pieces.{AreLines, broken_before, lines_behind, said_then_broken, said_then_said}
 use Rattle.io_edge.specs.Said.{IsBrokenOff, IsSaid, Shown}

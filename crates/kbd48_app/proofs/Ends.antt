@@ -5,7 +5,7 @@ use Rattle.board_run.proofs.EndOf.{end_found, end_of}
 use Rattle.board_run.specs.Running.{Outcome}
 use Rattle.story_run.specs.declared.ending.End.{End}
 use Rattle.story_run.specs.declared.ending.End.TheVariants.{Over, Stuck}
-use Rattle.fw_debug.specs.Probes.{Watch}
+use Rattle.board_probes.specs.Probes.{Watch}
 use Rattle.fw_debug.specs.Sessions.{Debuggee}
 use Rattle.joint_feed.specs.Stories.{story}
 use Rattle.io_edge.specs.Said.{Shown}

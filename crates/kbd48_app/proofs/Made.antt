@@ -1,7 +1,7 @@
 -- The fetches that were made.
 use Rattle.std.proofs.Common.{◌≡◌, ℕ, suc, ◌<◌, ◌≤◌, List, [], ◌∷◌, length, Some, None, Err, inl, inr, refl, ap, subst, ◌∙◌, ◌⊎◌, arith}
 use Rattle.std.specs.declared.option.Option.{Option}
-use Rattle.fw_debug.specs.Probes.{Watch}
+use Rattle.board_probes.specs.Probes.{Watch}
 use Rattle.io_edge.specs.Said.{Shown}
 use Rattle.io_edge.specs.Shelf.{Told, Fetched, Fails, Long, Found, after_fetch, fetched}
 use Rattle.kbd48_app.specs.declared.exit.Exit.{Exit}

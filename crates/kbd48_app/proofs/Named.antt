@@ -1,7 +1,7 @@
 -- The words behind a command's own.
 use Rattle.std.proofs.Common.{◌≡◌, ℕ, ◌<◌, List, [], ◌∷◌, length, map, string_bytes, slice_index_or, String, Global, Some, ap, sym, subst, ◌∙◌, arith}
 use Rattle.std.specs.declared.option.Option.{Option}
-use Rattle.fw_debug.specs.Probes.{Watch}
+use Rattle.board_probes.specs.Probes.{Watch}
 use Rattle.io_edge.specs.Shelf.{Told}
 use Rattle.kbd48_app.specs.declared.words.BoardCommand.{BoardCommand}
 use Rattle.kbd48_app.specs.declared.words.Command.{Command}

@@ -7,8 +7,8 @@ use Rattle.fw_compile.specs.Image.{image_of}
 use Rattle.key_file.specs.Histories.{KeyHistory}
 use Rattle.layout_reader.specs.Layouts.{KeyLayout}
 use Rattle.subsystem.specs.Agreement.{IsExpected}
-use Rattle.fw_debug.specs.Looks.{looks}
-use Rattle.fw_debug.specs.Probes.{Watch}
+use Rattle.board_probes.specs.Looks.{looks}
+use Rattle.board_probes.specs.Probes.{Watch}
 use Rattle.joint_feed.specs.Stories.{story}
 use Rattle.subsystem.specs.Running.{IsRun, Outcome, outcome}
 use Rattle.subsystem.specs.declared.outcome.Run.{Run}

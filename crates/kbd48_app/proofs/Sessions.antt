@@ -7,7 +7,7 @@ use Rattle.std.specs.declared.vec.Vec.{Vec}
 use Rattle.fw_debug.specs.declared.rule.SessionFault.{SessionFault}
 use Rattle.fw_debug.specs.Faults.{IsRight, IsVerdict}
 use Rattle.fw_debug.specs.Obeyed.{IsObeyed, IsObeyedInPart}
-use Rattle.fw_debug.specs.Probes.{Watch}
+use Rattle.board_probes.specs.Probes.{Watch}
 use Rattle.fw_debug.specs.Scripts.{number_of, script_of}
 use Rattle.fw_debug.specs.Sessions.{Debuggee}
 use Rattle.kbd48_app.specs.declared.refusal.Refusal.{Refusal}

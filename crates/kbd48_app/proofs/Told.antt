@@ -2,7 +2,7 @@
 use Rattle.std.proofs.Common.{◌≡◌, ℕ, true, List, length, Some, None, IfSome, subst, sym}
 use Rattle.std.specs.declared.option.Option.{Option}
 use Rattle.key_file.specs.declared.fault.KeyFault.TheVariants.{Timing}
-use Rattle.fw_debug.specs.Probes.{Watch}
+use Rattle.board_probes.specs.Probes.{Watch}
 use Rattle.io_edge.specs.Said.{Shown}
 use Rattle.io_edge.specs.Shelf.{Told}
 use Rattle.kbd48_app.specs.declared.exit.Exit.{Exit}

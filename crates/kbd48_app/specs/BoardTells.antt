@@ -4,7 +4,7 @@ use Rattle.board_run.specs.Agreement.{TellsRun}
 use Rattle.board_run.specs.Running as board
 use Rattle.board_run.specs.Texts.{log_text as stamped_text}
 use Rattle.fw_compile.specs.Image.{image_of}
-use Rattle.fw_debug.specs.Probes.{Watch}
+use Rattle.board_probes.specs.Probes.{Watch}
 use Rattle.joint_feed.specs.Stories.{Story, story}
 use Rattle.key_file.specs.Accepted.{IsAcceptedFor}
 use Rattle.key_file.specs.Histories.{KeyHistory}

@@ -5,7 +5,7 @@ use Rattle.board_run.specs.Running.{Outcome}
 use Rattle.board_run.specs.Texts.{log_text}
 use Rattle.story_run.specs.declared.ending.End.{End}
 use Rattle.story_run.specs.declared.ending.End.TheVariants.{Over, Stuck}
-use Rattle.fw_debug.specs.Probes.{Watch}
+use Rattle.board_probes.specs.Probes.{Watch}
 use Rattle.joint_feed.specs.Stories.{Story}
 use Rattle.mcs48_core.specs.StateText.{state_text_of}
 use Rattle.wire_trace.specs.Trace.{trace_to}

@@ -1,7 +1,7 @@
 -- `run` and `expect` over the same two files.
 use Rattle.std.specs.Prelude.{◌≡◌, ◌⊎◌, ℕ, true, List, [], ◌∷◌, Some, Ok, Err, codes}
 use Rattle.std.specs.declared.option.Option.{Option}
-use Rattle.fw_debug.specs.Probes.{Watch}
+use Rattle.board_probes.specs.Probes.{Watch}
 use Rattle.io_edge.specs.Shelf.{Told}
 use Rattle.kbd48_app.specs.Answers.{Left, MayAnswer}
 use Rattle.kbd48_app.specs.Plans.{Answer}

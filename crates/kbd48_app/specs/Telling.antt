@@ -1,7 +1,7 @@
 -- `run`, `expect`, `trace` and `board`, of a layout and the text of a key file.
 use Rattle.std.specs.Prelude.{ℕ, List}
 use Rattle.std.specs.declared.option.Option.{Option}
-use Rattle.fw_debug.specs.Probes.{Watch}
+use Rattle.board_probes.specs.Probes.{Watch}
 use Rattle.io_edge.specs.Shelf.{Told}
 use Rattle.key_file.specs.KeyFile.{history_of}
 use Rattle.layout_reader.specs.Layouts.{KeyLayout}

@@ -9,7 +9,7 @@ ghost use Rattle.kbd48_app.specs.Plans.{Gives, Fetches, assembled, compiled, fil
 ghost use Rattle.kbd48_app.specs.Spoken.{IsSpoken};
 ghost use Rattle.kbd48_app.specs.Telling.{MayTell};
 ghost use Rattle.kbd48_app.specs.Words.{command_of, leaves_probes};
-ghost use Rattle.fw_debug.specs.Probes.{Watch};
+ghost use Rattle.board_probes.specs.Probes.{Watch};
 ghost use Rattle.layout_reader.specs.Documents.{layout_of_document};
 ghost use Rattle.mcs48_asm.specs.Assembly.{assembly_of};
 ghost use Rattle.mcs48_isa.specs.Listing.{listing_of};
@@ -30,8 +30,8 @@ use crate::streaming::stream;
 use crate::telling::tell;
 use crate::tracing::trace_wires;
 use crate::words::{Command, FileCommand, PairCommand, RunCommand, read_command};
+use board_probes::Probe;
 use fw_compile::compile;
-use fw_debug::Probe;
 use hexfile::write_hex;
 use io_edge::{Shelf, Sink};
 use layout_reader::Layout;

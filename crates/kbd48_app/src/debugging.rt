@@ -14,7 +14,8 @@ use crate::fetching::fetch_file;
 use crate::judging::{history_in, image_in, layout_in};
 use crate::kind::Kind;
 use crate::refusal::Refusal;
-use fw_debug::{Debuggee, Probe, SessionFault, check_script, obey_script};
+use board_probes::Probe;
+use fw_debug::{Debuggee, SessionFault, check_script, obey_script};
 use io_edge::Shelf;
 use std::alloc::Global;
 

@@ -17,7 +17,7 @@ use crate::refusal::Refusal;
 use crate::spoken::Spoken;
 use arrayvec::ArrayVec;
 use board_lines::{Edge, HostAct, HostEvent, Place};
-use fw_debug::Probe;
+use board_probes::Probe;
 use io_edge::{DropSink, Sink, say};
 use key_file::{Feed, History, ListFeed};
 use layout_reader::us84_layout;

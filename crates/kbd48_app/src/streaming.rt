@@ -20,7 +20,7 @@ use crate::end_state::put_end;
 use crate::refusal::Refusal;
 use crate::spoken::Spoken;
 use arrayvec::ArrayVec;
-use fw_debug::Probe;
+use board_probes::Probe;
 use io_edge::{Sink, SinkFault, say};
 use key_file::{Feed, FileFault, check_history};
 use layout_reader::Layout;

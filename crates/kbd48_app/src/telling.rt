@@ -9,7 +9,7 @@ ghost use Rattle.subsystem.specs.Running.{IsRun, Outcome, outcome};
 ghost use Rattle.kbd48_app.specs.declared.words.RunCommand.{RunCommand};
 ghost use Rattle.kbd48_app.specs.RunTexts.{HaveLooked, HaveLookedAtAll, IsRunText, expected_text};
 
-use fw_debug::Probe;
+use board_probes::Probe;
 use key_file::History;
 use layout_reader::Layout;
 use link_model::expect;

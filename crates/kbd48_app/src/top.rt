@@ -23,7 +23,7 @@ use crate::answering::answer;
 use crate::exit::Exit;
 use crate::refusal::Refusal;
 use crate::spoken::Spoken;
-use fw_debug::Probe;
+use board_probes::Probe;
 use io_edge::{Shelf, Sink, say};
 use std::alloc::Global;
 

@@ -1,7 +1,7 @@
 //! `trace`: the two wires in the run of a layout under a key file, said as they change.
 
 ghost use Rattle.std.specs.Prelude.{◌≡◌, ◌≤◌, List, Err, length};
-ghost use Rattle.fw_debug.specs.Probes.{Watch};
+ghost use Rattle.board_probes.specs.Probes.{Watch};
 ghost use Rattle.io_edge.specs.Said.{shown};
 ghost use Rattle.kbd48_app.specs.declared.kind.Kind.{Kind};
 ghost use Rattle.kbd48_app.specs.Kinds.{limit_of};

@@ -1,6 +1,6 @@
 //! A row of the table, and how it is run.
 
-use fw_debug::{AddressProbe, CellProbe, LineProbe, Probe, RegisterProbe};
+use board_probes::{AddressProbe, CellProbe, LineProbe, Probe, RegisterProbe};
 use io_edge::{MemShelf, MemSink};
 use kbd48_app::{Exit, kbd48};
 use std::alloc::{AllocError, Global};

@@ -1,6 +1,6 @@
 //! Probes that ride on the runs of `run` and `expect`, and are left alone by the other commands.
 
-use fw_debug::{CellProbe, Probe, Tally};
+use board_probes::{CellProbe, Probe, Tally};
 use io_edge::{MemShelf, MemSink};
 use kbd48_app::{Exit, kbd48};
 use rows_calls::{Outcome, owned, sample_layout, shelf_with};

@@ -1,8 +1,8 @@
 -- Steps were made one after another, and what the last one took is counted.
 use Rattle.std.proofs.Common.{◌≡◌, ◌≤◌, ◌<◌, ℕ, suc, ◌+◌, List, ◌++◌, length, drop, Some, ap, sym, subst, ◌∙◌, arith}
 use Rattle.std.proofs.Math.Seq.{drop-append_seam}
-use Rattle.fw_debug.specs.Looks.{looked_at, looks}
-use Rattle.fw_debug.specs.Probes.{Watch}
+use Rattle.board_probes.specs.Looks.{looked_at, looks}
+use Rattle.board_probes.specs.Probes.{Watch}
 use Rattle.host_turn.specs.declared.stamped.Stamped.{Stamped}
 use Rattle.joint_feed.proofs.Going.{edges_few as edges_taken, here, host_few as host_taken}
 use Rattle.joint_feed.specs.Ahead.{HasTaken, IsFed}

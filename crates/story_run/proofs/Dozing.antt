@@ -2,10 +2,10 @@
 use Rattle.std.proofs.Common.{◌≡◌, ◌<◌, ℕ, Bool, true, false, List, map, leb, Ok, refl, ap, sym, subst, ◌∙◌, arith}
 use Rattle.std.proofs.lemmas.Bool.Decides.{nat_tests}
 use Rattle.std.specs.declared.result.Result.{Result}
-use Rattle.fw_debug.proofs.AtRest.{all_rested}
-use Rattle.fw_debug.proofs.Over.{seen_map}
-use Rattle.fw_debug.specs.Probes.{Sight, Watch, looked, sight_of}
-use Rattle.fw_debug.specs.Resting.{all_rest}
+use Rattle.board_probes.proofs.AtRest.{all_rested}
+use Rattle.board_probes.proofs.Over.{seen_map}
+use Rattle.board_probes.specs.Probes.{Sight, Watch, looked, sight_of}
+use Rattle.board_probes.specs.Resting.{all_rest}
 use Rattle.joint_feed.proofs.Going.{here, same_state}
 use Rattle.joint_feed.specs.Stories.{Story, state_at}
 use Rattle.joint_run.specs.Joint.{Beside}

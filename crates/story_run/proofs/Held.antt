@@ -1,8 +1,8 @@
 -- A run that is stuck.
 use Rattle.std.proofs.Common.{◌≡◌, ℕ, suc, List, Some, None, Err, ap, sym, subst, ◌∙◌}
 use Rattle.std.specs.declared.option.Option.{Option}
-use Rattle.fw_debug.specs.Looks.{looks}
-use Rattle.fw_debug.specs.Probes.{Watch}
+use Rattle.board_probes.specs.Looks.{looks}
+use Rattle.board_probes.specs.Probes.{Watch}
 use Rattle.joint_feed.proofs.Going.{here, no_further, on_moved, same_state}
 use Rattle.joint_feed.specs.Course.{IsOnCourse}
 use Rattle.joint_feed.specs.Stories.{Story, state_at}

@@ -1,8 +1,8 @@
 -- One turn of a run's loop.
 use Rattle.std.proofs.Common.{◌≡◌, ◌<◌, ◌^◌, ℕ, Bool, true, false, List, ap, sym, subst, ◌∙◌, arith}
 use Rattle.std.specs.declared.result.Result.{Result}
-use Rattle.fw_debug.specs.Looks.{looks}
-use Rattle.fw_debug.specs.Probes.{Watch}
+use Rattle.board_probes.specs.Looks.{looks}
+use Rattle.board_probes.specs.Probes.{Watch}
 use Rattle.joint_feed.proofs.Going.{here, same_state}
 use Rattle.joint_feed.specs.Stories.{Story, state_at, story}
 use Rattle.joint_feed.specs.declared.course.Course.{Course}

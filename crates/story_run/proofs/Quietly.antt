@@ -5,9 +5,9 @@ use Rattle.std.proofs.lemmas.Bool.Decides.{nat_tests}
 use Rattle.std.proofs.lemmas.List.{append-nil}
 use Rattle.std.specs.declared.option.Option.{Option}
 use Rattle.board_lines.specs.declared.lines.Lines.{Lines}
-use Rattle.fw_debug.proofs.Sights.{same_sight}
-use Rattle.fw_debug.specs.Looks.{looked_at, looks}
-use Rattle.fw_debug.specs.Probes.{Sight, Watch, looked, sight_in, sight_of}
+use Rattle.board_probes.proofs.Sights.{same_sight}
+use Rattle.board_probes.specs.Looks.{looked_at, looks}
+use Rattle.board_probes.specs.Probes.{Sight, Watch, looked, sight_in, sight_of}
 use Rattle.joint_feed.proofs.Going.{here, on, step, on_again, steps_more as one_more_step, cycle_more, is_said}
 use Rattle.joint_feed.specs.Ahead.{IsFed}
 use Rattle.joint_feed.specs.Course.{IsOnCourse, IsSaid}

@@ -1,7 +1,7 @@
 -- Where no state follows the processor is stuck.
 use Rattle.std.proofs.Common.{◌≡◌, ℕ, Bool, true, false, not, ◌&&◌, List, Some, None, is_none, refl, ap, ◌∙◌}
 use Rattle.std.specs.declared.option.Option.{Option}
-use Rattle.fw_debug.specs.Stuck.{sticks}
+use Rattle.board_probes.specs.Stuck.{sticks}
 use Rattle.joint_feed.specs.Stories.{Story}
 use Rattle.joint_run.specs.Joint.{Beside, joint_board}
 use Rattle.joint_run.specs.Run.{World, after_step, joint_step, seen}

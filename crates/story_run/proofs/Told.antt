@@ -1,6 +1,6 @@
 -- What one step is to a stretch of steps.
 use Rattle.std.proofs.Common.{◌≡◌, ◌<◌, Bool, true, false, List, [], Ok, Err, refl, ap, sym, subst, arith}
-use Rattle.fw_debug.specs.Probes.{Watch, sight_of}
+use Rattle.board_probes.specs.Probes.{Watch, sight_of}
 use Rattle.joint_feed.specs.Stories.{Story}
 use Rattle.joint_feed.specs.declared.course.Course.{Course}
 use Rattle.joint_run.specs.Due.{due_step, IsJointStep}

@@ -1,8 +1,8 @@
 -- The run so far, and some steps more of which the last has something to be told.
 use Rattle.std.specs.Prelude.{◌≡◌, ◌<◌, ◌^◌, ℕ, suc, Bool, List, ◌++◌, Some, Ok, Err}
 use Rattle.std.specs.declared.result.Result.{Result}
-use Rattle.fw_debug.specs.Looks.{looks}
-use Rattle.fw_debug.specs.Probes.{Watch}
+use Rattle.board_probes.specs.Looks.{looks}
+use Rattle.board_probes.specs.Probes.{Watch}
 use Rattle.joint_feed.specs.Stories.{Story, state_at}
 use Rattle.joint_feed.specs.declared.course.Course.{Course}
 use Rattle.joint_run.specs.Joint.{Beside}

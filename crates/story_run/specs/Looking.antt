@@ -1,7 +1,7 @@
 -- Probes that ride on a run.
 use Rattle.std.specs.Prelude.{◌≡◌, ℕ, suc, List}
-use Rattle.fw_debug.specs.Looks.{looks}
-use Rattle.fw_debug.specs.Probes.{Watch}
+use Rattle.board_probes.specs.Looks.{looks}
+use Rattle.board_probes.specs.Probes.{Watch}
 use Rattle.joint_feed.specs.Stories.{Story}
 use Rattle.story_run.specs.declared.ending.Ending.{Ending}
 use Rattle.story_run.specs.Running.{GoesOnTo}

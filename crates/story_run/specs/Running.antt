@@ -2,7 +2,7 @@
 use Rattle.std.specs.Prelude.{◌≡◌, ◌≤◌, ◌<◌, ℕ, zero, suc, ◌+◌, ◌%◌, Bool, true, false, ◌&&◌, nat_le, List, [], ◌∷◌}
 use Rattle.std.specs.Prelude.{length, drop, slice_index, Some, None}
 use Rattle.std.specs.declared.option.Option.{Option}
-use Rattle.fw_debug.specs.Stuck.{sticks}
+use Rattle.board_probes.specs.Stuck.{sticks}
 use Rattle.host_turn.specs.declared.stamped.Stamped.{Stamped}
 use Rattle.joint_feed.specs.Stories.{Story, state_at, starts_tick}
 use Rattle.joint_run.specs.Joint.{Beside, log_of}

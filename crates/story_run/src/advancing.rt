@@ -9,7 +9,7 @@ ghost use Rattle.story_run.specs.Gliding.{IsGoing};
 
 use crate::ending::Halt;
 use crate::gliding::glide;
-use fw_debug::Probe;
+use board_probes::Probe;
 use joint_feed::Course;
 use key_file::Feed;
 use mcs48_core::Stuck;

@@ -5,13 +5,13 @@ ghost use Rattle.std.specs.Prelude.{◌≡◌, ◌<◌, ◌≤◌, ◌^◌, List
 ghost use Rattle.joint_run.specs.Due.{due_step, told, IsJointStep};
 ghost use Rattle.joint_run.specs.History.{IsStepOfRun};
 ghost use Rattle.joint_feed.specs.Stories.{Story};
-ghost use Rattle.fw_debug.specs.Probes.{Watch, sight_of};
-ghost use Rattle.fw_debug.specs.Resting.{all_rest};
+ghost use Rattle.board_probes.specs.Probes.{Watch, sight_of};
+ghost use Rattle.board_probes.specs.Resting.{all_rest};
 ghost use Rattle.story_run.specs.Gliding.{IsGlide, IsGoing, IsStretch, looked_behind};
 
 use crate::ending::{Ending, Halt, must_halt};
 use board_lines::Lines;
-use fw_debug::{Probe, all_rest, look_all};
+use board_probes::{Probe, all_rest, look_all};
 use joint_feed::Course;
 use joint_run::{Joint, Seen};
 use mcs48_core::Stuck;

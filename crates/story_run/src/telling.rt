@@ -1,7 +1,7 @@
 //! A run that is told.
 
 ghost use Rattle.std.specs.Prelude.{◌≡◌, ℕ, Bool, suc, map, IfOk, OnErr, OnOk};
-ghost use Rattle.fw_debug.specs.Looks.{looks};
+ghost use Rattle.board_probes.specs.Looks.{looks};
 ghost use Rattle.joint_feed.specs.Ahead.{HasTaken};
 ghost use Rattle.joint_feed.specs.Stories.{Story, story};
 ghost use Rattle.key_file.specs.Accepted.{IsAccepted};
@@ -14,7 +14,7 @@ ghost use Rattle.story_run.specs.Telling.{IsToldTo};
 
 use crate::advancing::advance;
 use crate::ending::{End, Ending, Halt, is_over};
-use fw_debug::Probe;
+use board_probes::Probe;
 use joint_feed::Course;
 use key_file::Feed;
 

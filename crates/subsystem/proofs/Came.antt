@@ -2,7 +2,7 @@
 use Rattle.std.proofs.Common.{◌≡◌, ℕ, suc, List, [], ◌++◌, ap, sym, subst, ◌∙◌}
 use Rattle.std.proofs.Common.{false}
 use Rattle.fw_logic.specs.JointRun.{KeepsTime}
-use Rattle.fw_debug.specs.Probes.{Watch}
+use Rattle.board_probes.specs.Probes.{Watch}
 use Rattle.io_edge.proofs.Pieces.{said_then_broken}
 use Rattle.io_edge.specs.Said.{IsBrokenOff, IsSaid, Shown}
 use Rattle.joint_feed.specs.Stories.{Story}

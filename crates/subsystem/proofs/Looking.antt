@@ -1,8 +1,8 @@
 -- Probes look at the states of a run, one after another.
 use Rattle.std.proofs.Common.{◌≡◌, ℕ, List, Ok, Err, OnErr, OnOk, ap, subst, sym, ◌∙◌}
 use Rattle.std.specs.declared.result.Result.{Result}
-use Rattle.fw_debug.specs.Looks.{looks}
-use Rattle.fw_debug.specs.Probes.{Watch}
+use Rattle.board_probes.specs.Looks.{looks}
+use Rattle.board_probes.specs.Probes.{Watch}
 use Rattle.joint_feed.specs.Stories.{Story}
 use Rattle.io_edge.specs.Said.{Shown}
 use Rattle.subsystem.specs.Looking.{HaveLookedAtSome}

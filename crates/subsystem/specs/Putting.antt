@@ -1,6 +1,6 @@
 -- What a sink has of a run's text where a put failed.
 use Rattle.std.specs.Prelude.{ℕ, suc, ◌-◌, List, length, map}
-use Rattle.fw_debug.specs.Probes.{Watch}
+use Rattle.board_probes.specs.Probes.{Watch}
 use Rattle.io_edge.specs.Said.{IsBrokenOff, Shown}
 use Rattle.joint_feed.specs.Stories.{Story}
 use Rattle.link_model.specs.declared.line.LogLine.{LogLine}

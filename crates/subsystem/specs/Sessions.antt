@@ -1,7 +1,7 @@
 -- Where a session over a layout's image ends.
 use Rattle.std.specs.Prelude.{◌≡◌, ◌≤◌, ◌<◌, ℕ, true, false, List}
 use Rattle.fw_compile.specs.Image.{image_of}
-use Rattle.fw_debug.specs.Probes.{Watch}
+use Rattle.board_probes.specs.Probes.{Watch}
 use Rattle.fw_debug.specs.Sessions.{Debuggee, has_ended, of_layout, walk}
 use Rattle.joint_feed.specs.Stories.{story}
 use Rattle.key_file.specs.Accepted.{IsAcceptedFor}

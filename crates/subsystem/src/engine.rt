@@ -3,7 +3,7 @@
 ghost use Rattle.std.specs.Prelude.{◌≡◌, ◌-◌, length, map, IfOk, OnErr};
 ghost use Rattle.board_lines.specs.Cadence.{KeepsCadenceTo, listed};
 ghost use Rattle.fw_compile.specs.Image.{image_of};
-ghost use Rattle.fw_debug.specs.Looks.{looks};
+ghost use Rattle.board_probes.specs.Looks.{looks};
 ghost use Rattle.io_edge.specs.Said.{IsSaid, shown};
 ghost use Rattle.joint_feed.specs.Stories.{story};
 ghost use Rattle.key_file.specs.Accepted.{IsAccepted, IsAcceptedFor};
@@ -25,8 +25,8 @@ use crate::law::{keeps_time, runs_are_expected};
 use crate::outcome::copied;
 use crate::starts::Starts;
 use crate::telling::Putting;
+use board_probes::Probe;
 use fw_compile::compile;
-use fw_debug::Probe;
 use int09::Bios;
 use io_edge::{Sink, SinkFault};
 use joint_feed::Course;

@@ -3,7 +3,7 @@
 ghost use Rattle.std.specs.Prelude.{◌≡◌, ◌<◌, ◌-◌, true, length, map, IfOk};
 ghost use Rattle.board_lines.specs.Cadence.{KeepsCadenceTo, listed};
 ghost use Rattle.fw_compile.specs.Image.{image_of};
-ghost use Rattle.fw_debug.specs.Looks.{looks};
+ghost use Rattle.board_probes.specs.Looks.{looks};
 ghost use Rattle.joint_feed.specs.Stories.{story};
 ghost use Rattle.key_file.specs.Accepted.{IsAcceptedFor};
 ghost use Rattle.link_model.specs.Expected.{expected_log};
@@ -15,8 +15,8 @@ use crate::law::{keeps_time, runs_are_expected};
 use crate::outcome::{Run, copied};
 use crate::starts::Starts;
 use crate::telling::Keeping;
+use board_probes::Probe;
 use fw_compile::compile;
-use fw_debug::Probe;
 use int09::Bios;
 use joint_feed::Course;
 use key_file::{History, ListFeed};

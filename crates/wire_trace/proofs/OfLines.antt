@@ -5,9 +5,9 @@ use Rattle.std.specs.Fmt.{decimal}
 use Rattle.std.specs.declared.option.Option.{Option}
 use Rattle.board_lines.specs.declared.lines.Lines.{Lines}
 use Rattle.hex_text.specs.Digits.{hex_byte}
-use Rattle.fw_debug.specs.declared.heard.Sample.{Sample}
-use Rattle.fw_debug.specs.declared.heard.Transfer.{Transfer}
-use Rattle.fw_debug.specs.Transfers.{Ear, completed, wires_at}
+use Rattle.board_probes.specs.declared.heard.Sample.{Sample}
+use Rattle.board_probes.specs.declared.heard.Transfer.{Transfer}
+use Rattle.board_probes.specs.Transfers.{Ear, completed, wires_at}
 use Rattle.io_edge.proofs.Pieces.{AreLines, lines_behind}
 use Rattle.joint_feed.specs.Stories.{Story, state_at}
 use Rattle.joint_run.specs.Joint.{Beside}

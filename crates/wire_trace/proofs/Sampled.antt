@@ -3,10 +3,10 @@ use Rattle.std.proofs.Common.{◌≡◌, ◌≤◌, ◌<◌, ℕ, suc, true, Som
 use Rattle.std.specs.declared.option.Option.{Option}
 use Rattle.std.proofs.lemmas.Bool.Decides.{nat_tests}
 use Rattle.board_lines.specs.declared.lines.Lines.{Lines}
-use Rattle.fw_debug.proofs.Sights.{same_sight}
-use Rattle.fw_debug.specs.Probes.{Sight}
-use Rattle.fw_debug.specs.Transfers.{Ear, heard, is_behind, sample}
-use Rattle.fw_debug.specs.declared.heard.Sample.{Sample}
+use Rattle.board_probes.proofs.Sights.{same_sight}
+use Rattle.board_probes.specs.Probes.{Sight}
+use Rattle.board_probes.specs.Transfers.{Ear, heard, is_behind, sample}
+use Rattle.board_probes.specs.declared.heard.Sample.{Sample}
 use Rattle.io_edge.specs.Said.{IsBrokenOff, IsSaid, Shown}
 use Rattle.joint_feed.proofs.Going.{here}
 use Rattle.joint_feed.specs.Course.{IsOnCourse}

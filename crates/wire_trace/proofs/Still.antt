@@ -3,8 +3,8 @@ use Rattle.std.proofs.Common.{◌≡◌, ◌≤◌, ℕ, zero, suc, ◌+◌, ◌
 use Rattle.std.proofs.lemmas.List.{append-nil}
 use Rattle.std.specs.declared.option.Option.{Option}
 use Rattle.board_lines.specs.declared.lines.Lines.{Lines}
-use Rattle.fw_debug.specs.Transfers.{Ear, heard, is_fall, wires_at, with_fall, fall_at}
-use Rattle.fw_debug.specs.declared.heard.Fall.{Fall}
+use Rattle.board_probes.specs.Transfers.{Ear, heard, is_fall, wires_at, with_fall, fall_at}
+use Rattle.board_probes.specs.declared.heard.Fall.{Fall}
 use Rattle.joint_feed.specs.Stories.{Story, state_at}
 use Rattle.joint_run.specs.Joint.{Beside}
 use Rattle.joint_run.specs.Run.{World}

@@ -1,6 +1,6 @@
 -- What a decoder has heard of the first steps of a run.
 use Rattle.std.specs.Prelude.{◌≡◌, ℕ, Some}
-use Rattle.fw_debug.specs.Transfers.{Ear, wires_at}
+use Rattle.board_probes.specs.Transfers.{Ear, wires_at}
 use Rattle.joint_feed.specs.Stories.{Story}
 use Rattle.story_run.specs.Gliding.{lines_at}
 use Rattle.wires_heard.specs.Hearing.{heard_to}

@@ -4,9 +4,9 @@ use Rattle.std.specs.Fmt.{decimal}
 use Rattle.std.specs.declared.option.Option.{Option}
 use Rattle.board_lines.specs.declared.lines.Lines.{Lines}
 use Rattle.hex_text.specs.Digits.{hex_byte}
-use Rattle.fw_debug.specs.declared.heard.Sample.{Sample}
-use Rattle.fw_debug.specs.declared.heard.Transfer.{Transfer}
-use Rattle.fw_debug.specs.Transfers.{Ear, completed, wires_at}
+use Rattle.board_probes.specs.declared.heard.Sample.{Sample}
+use Rattle.board_probes.specs.declared.heard.Transfer.{Transfer}
+use Rattle.board_probes.specs.Transfers.{Ear, completed, wires_at}
 
 -- a line with its LF
 abbrev pub line : List ℕ → List ℕ

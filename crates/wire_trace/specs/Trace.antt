@@ -4,7 +4,7 @@ use Rattle.std.specs.declared.option.Option.{Option}
 use Rattle.joint_feed.specs.Stories.{Story, state_at}
 use Rattle.joint_run.specs.Joint.{Beside}
 use Rattle.joint_run.specs.Run.{World}
-use Rattle.fw_debug.specs.Transfers.{Ear}
+use Rattle.board_probes.specs.Transfers.{Ear}
 use Rattle.wires_heard.specs.Hearing.{heard_to, sample_in}
 use Rattle.wire_trace.specs.Text.{header, sample_text}
 

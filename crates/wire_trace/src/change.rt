@@ -6,7 +6,7 @@ ghost use Rattle.wire_trace.specs.Text.{change_text, comment, differ, level_text
 
 use arrayvec::ArrayVec;
 use board_lines::Lines;
-use fw_debug::Transfer;
+use board_probes::Transfer;
 use short_text::{append, begun};
 
 /// The lines of one sample. None has more.

@@ -3,7 +3,7 @@
 //!
 //! This layer makes the run of a layout's compiled image under a history, as `subsystem` does, and looks at the wires
 //! after each step. It knows how a change of the wires is written, which it lends to whoever makes another run. What a
-//! transfer is, is told by `fw_debug`'s decoder. It knows no instruction and no rule of the keyboard, the controller or
+//! transfer is, is told by `board_probes`'s decoder. It knows no instruction and no rule of the keyboard, the controller or
 //! the host. Source: the format is that of IEEE 1364, value change dump; what is written in it is our own.
 #![tactic(auto)]
 

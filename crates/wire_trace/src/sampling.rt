@@ -1,13 +1,13 @@
 //! A sample of the wires, put into a sink.
 
 ghost use Rattle.std.specs.Prelude.{◌≡◌, true, OnErr, OnOk};
-ghost use Rattle.fw_debug.specs.Transfers.{heard, is_behind, sample};
+ghost use Rattle.board_probes.specs.Transfers.{heard, is_behind, sample};
 ghost use Rattle.io_edge.specs.Said.{IsBrokenOff, IsSaid, shown};
 ghost use Rattle.wire_trace.specs.Text.{sample_text};
 
 use crate::change::{change, differ};
 use board_lines::Lines;
-use fw_debug::LineDecoder;
+use board_probes::LineDecoder;
 use io_edge::{Sink, SinkFault, say};
 
 /// The decoder hears the wires as they are after so many cycles, which are more than at its last sample; and where they

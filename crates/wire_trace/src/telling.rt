@@ -1,14 +1,14 @@
 //! What is told of the two wires of a run: each change.
 
 ghost use Rattle.std.specs.Prelude.{◌≡◌, true};
-ghost use Rattle.fw_debug.specs.Transfers.{silence};
+ghost use Rattle.board_probes.specs.Transfers.{silence};
 ghost use Rattle.io_edge.specs.Said.{IsSaid, shown};
 ghost use Rattle.wire_trace.specs.Ending.{AreChangesBrokenAt};
 ghost use Rattle.wire_trace.specs.Telling.{HasHeard};
 ghost use Rattle.wire_trace.specs.Trace.{changes_to};
 
 use crate::sampling::put_sample;
-use fw_debug::LineDecoder;
+use board_probes::LineDecoder;
 use io_edge::{Sink, SinkFault};
 use joint_feed::Course;
 use story_run::Teller;

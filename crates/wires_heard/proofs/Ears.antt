@@ -7,10 +7,10 @@ use Rattle.std.proofs.lemmas.List.Elements.{All-append, All-drop, All-weaker, Al
 use Rattle.std.specs.declared.option.Option.{Option}
 use Rattle.bits.proofs.Every.{and-left, and-right, same_of}
 use Rattle.board_lines.specs.declared.lines.Lines.{Lines}
-use Rattle.fw_debug.specs.Transfers.{are_spaced, are_spaced_behind, completed, data_at, fall_at, is_fall}
-use Rattle.fw_debug.specs.Transfers.{transfer_by, transfer_in, wires_at, with_fall}
-use Rattle.fw_debug.specs.declared.heard.Fall.{Fall}
-use Rattle.fw_debug.specs.declared.heard.Transfer.{Transfer}
+use Rattle.board_probes.specs.Transfers.{are_spaced, are_spaced_behind, completed, data_at, fall_at, is_fall}
+use Rattle.board_probes.specs.Transfers.{transfer_by, transfer_in, wires_at, with_fall}
+use Rattle.board_probes.specs.declared.heard.Fall.{Fall}
+use Rattle.board_probes.specs.declared.heard.Transfer.{Transfer}
 use Rattle.joint_feed.specs.Stories.{Story, state_at}
 use Rattle.joint_run.specs.Joint.{Beside, joint_start}
 use Rattle.joint_run.specs.Run.{World}

@@ -8,9 +8,9 @@ use Rattle.bits.proofs.Every.{same_of}
 use Rattle.bits.specs.Bits.{bit}
 use Rattle.board_lines.specs.declared.lines.Lines.{Lines}
 use Rattle.ctl_link.specs.Link.{is_busy}
-use Rattle.fw_debug.specs.Transfers.{are_spaced, are_spaced_behind, completed, fall_at, is_fall}
-use Rattle.fw_debug.specs.Transfers.{transfer_by, transfer_in, with_fall}
-use Rattle.fw_debug.specs.declared.heard.Fall.{Fall}
+use Rattle.board_probes.specs.Transfers.{are_spaced, are_spaced_behind, completed, fall_at, is_fall}
+use Rattle.board_probes.specs.Transfers.{transfer_by, transfer_in, with_fall}
+use Rattle.board_probes.specs.declared.heard.Fall.{Fall}
 use Rattle.fw_link.proofs.Watching.{same_number}
 use Rattle.fw_link.proofs.Wired.{IsReleased}
 use Rattle.fw_link.specs.Latch.{Frame}

@@ -3,11 +3,11 @@ use Rattle.std.proofs.Common.{◌≡◌, ◌≤◌, ℕ, zero, suc, ◌+◌, ◌
 use Rattle.std.specs.Prelude.{if◌then◌else◌, nat_lt}
 use Rattle.std.specs.declared.option.Option.{Option}
 use Rattle.std.proofs.lemmas.Bool.Decides.{nat_tests}
-use Rattle.fw_debug.specs.declared.heard.Transfer.{Transfer}
-use Rattle.fw_debug.specs.declared.tally.Arms.{Arms}
-use Rattle.fw_debug.specs.Counts.{meets_if, hears_if, met_from, ear_from}
-use Rattle.fw_debug.specs.Probes.{line_kind, is_awaited, awaited_if}
-use Rattle.fw_debug.specs.Transfers.{Ear, is_behind, heard, completed}
+use Rattle.board_probes.specs.declared.heard.Transfer.{Transfer}
+use Rattle.board_probes.specs.declared.tally.Arms.{Arms}
+use Rattle.board_probes.specs.Counts.{meets_if, hears_if, met_from, ear_from}
+use Rattle.board_probes.specs.Probes.{line_kind, is_awaited, awaited_if}
+use Rattle.board_probes.specs.Transfers.{Ear, is_behind, heard, completed}
 use Rattle.joint_feed.specs.Stories.{Story, state_at}
 use Rattle.joint_run.specs.Joint.{Beside}
 use Rattle.joint_run.specs.Run.{World}

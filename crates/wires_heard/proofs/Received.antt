@@ -11,7 +11,7 @@ use Rattle.ctl_link.specs.Link.{is_busy, handed_over}
 use Rattle.ctl_link.specs.declared.link.Link.TheVariants.{Request, Busy}
 use Rattle.ctl_wire.specs.Wire.{drive}
 use Rattle.ctl_wire.specs.declared.wire.Wire.TheVariants.{Send}
-use Rattle.fw_debug.specs.Transfers.{is_hosts, is_keyboards, transfer_in}
+use Rattle.board_probes.specs.Transfers.{is_hosts, is_keyboards, transfer_in}
 use Rattle.fw_link.proofs.Taking.{in_cell}
 use Rattle.fw_link.proofs.TickLatch.{within}
 use Rattle.fw_link.proofs.Wired.{IsReleased}

@@ -19,7 +19,7 @@ use Rattle.ctl_wire.specs.Wire.{drive, edge_at, is_breakable, turned}
 use Rattle.ctl_wire.specs.declared.wire.Wire.{Wire}
 use Rattle.ctl_wire.specs.declared.wire.Wire.TheVariants.{Recv}
 use Rattle.byte_time.specs.ByteTime.{Begins}
-use Rattle.fw_debug.specs.Transfers.{is_hosts, is_keyboards, transfer_in}
+use Rattle.board_probes.specs.Transfers.{is_hosts, is_keyboards, transfer_in}
 use Rattle.fw_link.proofs.TickLatch.{within}
 use Rattle.fw_link.proofs.Wired.{IsReleased, cell_low}
 use Rattle.fw_link.proofs.Wires.{data_of_latch, sent_is_frame}

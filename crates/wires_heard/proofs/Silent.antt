@@ -6,8 +6,8 @@ use Rattle.std.specs.declared.option.Option.{Option}
 use Rattle.bits.proofs.Every.{same_of}
 use Rattle.bits.specs.Bits.{bit}
 use Rattle.ctl_link.specs.Link.{is_busy}
-use Rattle.fw_debug.specs.Transfers.{completed}
-use Rattle.fw_debug.specs.declared.heard.Transfer.{Transfer}
+use Rattle.board_probes.specs.Transfers.{completed}
+use Rattle.board_probes.specs.declared.heard.Transfer.{Transfer}
 use Rattle.fw_link.proofs.Wired.{IsReleased}
 use Rattle.fw_link.specs.Latch.{Frame}
 use Rattle.joint_feed.specs.Stories.{Story, state_at}

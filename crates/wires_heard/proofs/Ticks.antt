@@ -12,7 +12,7 @@ use Rattle.ctl_link.specs.declared.link.Link.TheVariants.{Free, Hold, Ask, Reque
 use Rattle.ctl_wire.specs.Wire.{drive}
 use Rattle.ctl_wire.specs.declared.wire.Wire.{Wire}
 use Rattle.ctl_wire.specs.declared.wire.Wire.TheVariants.{Recv, Send}
-use Rattle.fw_debug.specs.declared.heard.Transfer.{Transfer}
+use Rattle.board_probes.specs.declared.heard.Transfer.{Transfer}
 use Rattle.fw_link.proofs.Wired.{IsReleased}
 use Rattle.fw_link.specs.Latch.{Frame, NoFrame, SentFrame, CutFrame, ReceivedFrame, tick_latch}
 use Rattle.fw_logic.proofs.Blocks.{ticks_add}

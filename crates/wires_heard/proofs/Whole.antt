@@ -2,7 +2,7 @@
 use Rattle.std.proofs.Common.{◌≡◌, ◌≤◌, ℕ, ◌+◌, ◌*◌, List, Bool, true, false, arith}
 use Rattle.board_lines.specs.declared.event.HostEvent.{HostEvent}
 use Rattle.ctl_link.specs.Link.{is_busy}
-use Rattle.fw_debug.specs.Transfers.{transfer_in}
+use Rattle.board_probes.specs.Transfers.{transfer_in}
 use Rattle.fw_link.proofs.Wired.{IsReleased}
 use Rattle.fw_link.specs.Latch.{Frame, NoFrame, SentFrame, CutFrame, ReceivedFrame}
 use Rattle.joint_run.specs.Joint.{Beside, latch_of}

@@ -2,9 +2,9 @@
 use Rattle.std.specs.Prelude.{◌≡◌, ℕ, zero, suc, List, [], ◌∷◌, ◌++◌, Some, None}
 use Rattle.std.specs.declared.option.Option.{Option}
 use Rattle.fw_compile.specs.Image.{image_of}
-use Rattle.fw_debug.specs.Transfers.{Ear, heard, sample, silence, completed}
-use Rattle.fw_debug.specs.declared.heard.Sample.{Sample}
-use Rattle.fw_debug.specs.declared.heard.Transfer.{Transfer}
+use Rattle.board_probes.specs.Transfers.{Ear, heard, sample, silence, completed}
+use Rattle.board_probes.specs.declared.heard.Sample.{Sample}
+use Rattle.board_probes.specs.declared.heard.Transfer.{Transfer}
 use Rattle.joint_feed.specs.Stories.{Story, story, state_at}
 use Rattle.joint_run.specs.Joint.{Beside, latch_of}
 use Rattle.joint_run.specs.Run.{World}

@@ -1,11 +1,11 @@
 -- What a probe that listens to the wires counts: the steps in which the controller takes, or sends, a byte.
 use Rattle.std.specs.Prelude.{◌≡◌, ◌≤◌, ℕ, zero, suc, ◌-◌, Bool, false, ◌||◌, List, [], ◌∷◌, ◌++◌, if◌then◌else◌}
 use Rattle.fw_compile.specs.Image.{image_of}
-use Rattle.fw_debug.specs.declared.heard.Transfer.{Transfer}
-use Rattle.fw_debug.specs.declared.tally.Arms.{Arms}
-use Rattle.fw_debug.specs.Counts.{met_between, ear_between}
-use Rattle.fw_debug.specs.Probes.{Watch, heard_as, is_awaited}
-use Rattle.fw_debug.specs.Tallies.{armed}
+use Rattle.board_probes.specs.declared.heard.Transfer.{Transfer}
+use Rattle.board_probes.specs.declared.tally.Arms.{Arms}
+use Rattle.board_probes.specs.Counts.{met_between, ear_between}
+use Rattle.board_probes.specs.Probes.{Watch, heard_as, is_awaited}
+use Rattle.board_probes.specs.Tallies.{armed}
 use Rattle.joint_feed.specs.Stories.{Story, story}
 use Rattle.key_file.specs.Accepted.{IsAcceptedFor}
 use Rattle.key_file.specs.Histories.{KeyHistory}

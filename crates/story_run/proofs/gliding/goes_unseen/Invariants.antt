@@ -1,6 +1,6 @@
 use Rattle.std.proofs.Common.{◌≡◌, ◌^◌, ◌-◌, true, List}
-use Rattle.fw_debug.specs.Probes.{Watch}
-use Rattle.fw_debug.specs.Resting.{all_rest}
+use Rattle.board_probes.specs.Probes.{Watch}
+use Rattle.board_probes.specs.Resting.{all_rest}
 use Rattle.joint_feed.specs.Stories.{Story}
 use Rattle.story_run.specs.Gliding.{IsGoing}
 use Rattle.story_run.proofs.Dozing.{HasDozed}

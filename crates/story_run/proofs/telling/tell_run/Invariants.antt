@@ -1,5 +1,5 @@
 use Rattle.std.proofs.Common.{◌≡◌, ◌<◌, ◌^◌, ◌-◌, map}
-use Rattle.fw_debug.specs.Looks.{looks}
+use Rattle.board_probes.specs.Looks.{looks}
 use Rattle.joint_feed.specs.Ahead.{HasTaken}
 use Rattle.joint_feed.specs.Stories.{story}
 use Rattle.story_run.specs.Gliding.{IsStanding}

@@ -2,7 +2,7 @@ use Rattle.std.proofs.Common.{◌≡◌, ap, subst, sym, ◌∙◌}
 use Rattle.joint_feed.specs.Stories.{story}
 use Rattle.fw_debug.specs.Advance.{TellsOver}
 use Rattle.fw_debug.specs.Sessions.{has_ended}
-use Rattle.fw_debug.specs.Stuck.{sticks}
+use Rattle.board_probes.specs.Stuck.{sticks}
 use Rattle.fw_debug.proofs.Standing.{ended_so}
 use Rattle.fw_debug.proofs.session.Session.has_ended.Goals as goal
 

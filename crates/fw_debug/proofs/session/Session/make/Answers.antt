@@ -1,7 +1,7 @@
 use Rattle.std.proofs.Common.{◌∙◌, sym}
-use Rattle.fw_debug.specs.Probes.{looked, sight_of}
+use Rattle.board_probes.specs.Probes.{looked, sight_of}
 use Rattle.fw_debug.proofs.Making.{made}
-use Rattle.fw_debug.proofs.Over.{seen_map}
+use Rattle.board_probes.proofs.Over.{seen_map}
 use Rattle.fw_debug.proofs.session.Session.make.Goals as goal
 
 pub returns-in-None : goal.returns-in-None

@@ -1,0 +1,10 @@
+pub mod Counts
+pub mod Kept
+pub mod Looks
+pub mod LooksLaw
+pub mod Probes
+pub mod Resting
+pub mod Samples
+pub mod Stuck
+pub mod Tallies
+pub mod Transfers
