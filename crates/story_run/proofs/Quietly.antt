@@ -25,7 +25,8 @@ use Rattle.story_run.specs.declared.ending.Ending.TheVariants.{TickStart, Stamp}
 use Rattle.story_run.specs.declared.ending.Halt.{Halt}
 use Rattle.story_run.specs.Answers.{MeetsNoTick, TellsOver}
 use Rattle.story_run.specs.Gliding.{AreSameStarts, IsGoing, IsOnward, IsStepped, lines_at, lines_in, looked_behind, looked_now}
-use Rattle.story_run.specs.Running.{GoesOnTo, log_at, logged, start_stamp, starts_among}
+use Rattle.story_run.specs.Running.{GoesOnTo, log_at, logged}
+use Rattle.story_run.specs.Starts.{start_stamp, starts_among}
 use Rattle.story_run.proofs.Quiet.{none_quiet, then_quiet}
 
 -- the wires at a state that the machine stands at

@@ -20,7 +20,8 @@ use Rattle.mcs48_core.specs.declared.stepping.Stuck.{Stuck}
 use Rattle.story_run.specs.declared.ending.Ending.{Ending}
 use Rattle.story_run.specs.declared.ending.Ending.TheVariants.{TickStart, Stamp}
 use Rattle.story_run.specs.declared.ending.Halt.{Halt}
-use Rattle.story_run.specs.Running.{GoesOnTo, is_over, log_at, starts_among}
+use Rattle.story_run.specs.Running.{GoesOnTo, is_over, log_at}
+use Rattle.story_run.specs.Starts.{starts_among}
 
 -- the history of what is run
 abbrev pub history_of : Story → KeyHistory

@@ -1,3 +1,4 @@
+pub mod Starts
 pub mod Running
 pub mod Answers
 pub mod Gliding

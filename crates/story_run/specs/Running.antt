@@ -1,6 +1,6 @@
 -- A run of a program under a history, from power-on to its end.
-use Rattle.std.specs.Prelude.{◌≡◌, ◌≤◌, ◌<◌, ℕ, zero, suc, ◌+◌, ◌-◌, ◌%◌, Bool, true, false, ◌&&◌, nat_le, List, [], ◌∷◌}
-use Rattle.std.specs.Prelude.{◌++◌, length, drop, slice_index, Some, None, if◌then◌else◌}
+use Rattle.std.specs.Prelude.{◌≡◌, ◌≤◌, ◌<◌, ℕ, zero, suc, ◌+◌, ◌%◌, Bool, true, false, ◌&&◌, nat_le, List, [], ◌∷◌}
+use Rattle.std.specs.Prelude.{length, drop, slice_index, Some, None}
 use Rattle.std.specs.declared.option.Option.{Option}
 use Rattle.board_probes.specs.Stuck.{sticks}
 use Rattle.host_turn.specs.declared.stamped.Stamped.{Stamped}
@@ -13,6 +13,7 @@ use Rattle.story_run.specs.declared.ending.End.{End}
 use Rattle.story_run.specs.declared.ending.End.TheVariants.{Over, Stuck}
 use Rattle.story_run.specs.declared.ending.Ending.{Ending}
 use Rattle.story_run.specs.declared.ending.Ending.TheVariants.{TickStart, Stamp}
+pub use Rattle.story_run.specs.Starts.{start_stamp, starts_among}
 
 -- a run is over at a state: a tick starts there at or after the end stamp; or a step from there would begin at or after
 -- it
@@ -48,16 +49,6 @@ pub record IsOverBehind (e : Ending) (s : Story) (k : ℕ) : Type 0 where
   pub world : World Beside
   pub reached : state_at s k ≡ Some world
   pub over : is_over e s world ≡ true
-
--- the stamp of the tick that starts at a state, if one does
-abbrev pub start_stamp : Story → Option (World Beside) → List ℕ
-start_stamp s None = []
-start_stamp s (Some w) = if starts_tick s w then (w.cycle - 4096) ∷ [] else []
-
--- the stamps of the ticks that start at the first k states
-abbrev pub starts_among : Story → ℕ → List ℕ
-starts_among s zero = []
-starts_among s (suc k) = starts_among s k ++ start_stamp s (state_at s k)
 
 -- what was said up to the state behind the first k steps; nothing where there is no such state
 abbrev pub logged : Option (World Beside) → List Stamped

@@ -16,7 +16,7 @@ use Rattle.agreement.specs.Agreement.{Agrees}
 use Rattle.link_model.specs.Expected.{Whole, expected}
 use Rattle.link_model.specs.Machine.{Machine}
 use Rattle.subsystem.specs.Running.{IsOutcome, lines_of, Outcome}
-use Rattle.story_run.specs.Running.{start_stamp, starts_among}
+use Rattle.story_run.specs.Starts.{start_stamp, starts_among}
 use Rattle.subsystem.proofs.Lines.{one_longer}
 use Rattle.subsystem.proofs.Timekeeping.{numbered}
 

@@ -9,7 +9,7 @@ use Rattle.joint_run.specs.Joint.{Beside, log_of}
 use Rattle.joint_run.specs.Run.{World}
 use Rattle.subsystem.specs.Agreement.{AreAlike}
 use Rattle.subsystem.specs.Running.{IsOutcome, lines_of, Outcome}
-use Rattle.story_run.specs.Running.{start_stamp, starts_among}
+use Rattle.story_run.specs.Starts.{start_stamp, starts_among}
 use Rattle.subsystem.proofs.Agreed.{run_starts, run_last}
 
 -- later states leave the starts as they are

@@ -7,7 +7,7 @@ use Rattle.joint_feed.specs.Stories.{Story, starts_tick}
 use Rattle.joint_feed.specs.declared.course.Course.{Course}
 use Rattle.joint_run.specs.Joint.{joint_start}
 use Rattle.story_run.specs.declared.ending.Ending.TheVariants.{TickStart}
-use Rattle.story_run.specs.Running.{starts_among}
+use Rattle.story_run.specs.Starts.{starts_among}
 use Rattle.subsystem.specs.declared.starts.Starts.{Starts}
 use Rattle.subsystem.specs.Telling.{HasNoted}
 

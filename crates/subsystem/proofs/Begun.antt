@@ -11,9 +11,9 @@ use Rattle.joint_feed.proofs.Going.{same_state}
 use Rattle.joint_feed.specs.Stories.{Story, state_at, starts_tick}
 use Rattle.joint_run.specs.Joint.{Beside}
 use Rattle.joint_run.specs.Run.{World}
-use Rattle.story_run.specs.Running.{start_stamp, starts_among}
+use Rattle.story_run.specs.Starts.{start_stamp, starts_among}
 use Rattle.story_run.proofs.Steps.{before, step_later}
-use Rattle.subsystem.specs.Running.{GoesOnTo}
+use Rattle.subsystem.proofs.Going.{GoesOnTo}
 use Rattle.subsystem.proofs.Lines.{one_longer}
 use Rattle.subsystem.proofs.Timekeeping.{numbered}
 

@@ -1,5 +1,5 @@
 -- What a run has come to that was told.
-use Rattle.std.proofs.Common.{◌≡◌, ℕ, suc, List, ◌++◌, ap, sym, subst, ◌∙◌}
+use Rattle.std.proofs.Common.{◌≡◌, ℕ, suc, List, [], ◌++◌, ap, sym, subst, ◌∙◌}
 use Rattle.std.proofs.Common.{false}
 use Rattle.fw_logic.specs.JointRun.{KeepsTime}
 use Rattle.board_probes.specs.Probes.{Watch}
@@ -12,7 +12,8 @@ use Rattle.story_run.specs.declared.ending.End.{End}
 use Rattle.story_run.specs.declared.ending.Ending.TheVariants.{TickStart}
 use Rattle.story_run.specs.Advance.{IsEnding}
 use Rattle.story_run.specs.Looking.{BrokeOff}
-use Rattle.story_run.specs.Running.{log_at, starts_among}
+use Rattle.story_run.specs.Running.{log_at}
+use Rattle.story_run.specs.Starts.{starts_among}
 use Rattle.story_run.specs.Telling.{IsToldTo}
 use Rattle.subsystem.specs.declared.ended.Ended.{Ended}
 use Rattle.subsystem.specs.declared.starts.Starts.{Starts}
@@ -53,7 +54,8 @@ module _ (s : Story) (t : KeepsTime s.bytes s.edges s.events) (c : Course) (end 
     came_counted = counts ∙ told.told_so.0.counts ∙ ap (with_lines none_counted) lines
 
   -- into a list
-  module _ (it : Starts) (log : List LogLine) (told : IsToldTo TickStart false s (λ k. HasNoted TickStart s k it × (log ≡ told_by s k)) c.joint.steps)
+  module _ (it : Starts) (first log : List LogLine) (none : first ≡ [])
+      (told : IsToldTo TickStart false s (λ k. HasNoted TickStart s k it × (log ≡ first ++ told_by s k)) c.joint.steps)
       (run : Outcome) (kept : run.log ≡ log) (starts : run.starts ≡ it.stamps.items) (mcu : run.end ≡ c.joint.mcu) (steps : run.steps ≡ c.joint.steps)
       (cycles : run.cycles ≡ c.joint.cycle) where
     noted : run.starts ≡ starts_among s (suc c.joint.steps)
@@ -62,7 +64,7 @@ module _ (s : Story) (t : KeepsTime s.bytes s.edges s.events) (c : Course) (end 
     pub came_kept : IsOutcome s run
     came_kept =
         ends s t c end h run
-        (kept ∙ told.told_so.1 ∙ told_quiet s t told.steps c.joint.steps told.quiet ∙ told_whole s t c end h run.starts noted)
+        (kept ∙ told.told_so.1 ∙ ap (λ v. v ++ told_by s told.steps) none ∙ told_quiet s t told.steps c.joint.steps told.quiet ∙ told_whole s t c end h run.starts noted)
         noted mcu steps cycles
 
 -- or where its telling broke off

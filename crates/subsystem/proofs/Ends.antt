@@ -16,9 +16,11 @@ use Rattle.story_run.specs.declared.ending.End.{End}
 use Rattle.story_run.specs.declared.ending.End.TheVariants.{Over, Stuck}
 use Rattle.story_run.specs.declared.ending.Ending.TheVariants.{TickStart}
 use Rattle.story_run.specs.Advance.{IsEnding}
-use Rattle.story_run.specs.Running.{EndsAt, log_at, logged, start_stamp, starts_among}
+use Rattle.story_run.specs.Running.{EndsAt, log_at, logged}
+use Rattle.story_run.specs.Starts.{start_stamp, starts_among}
 use Rattle.story_run.proofs.Timekeeping.{never_stuck}
-use Rattle.subsystem.specs.Running.{IsOutcome, Outcome, is_over, lines_of}
+use Rattle.subsystem.specs.Running.{IsOutcome, Outcome, lines_of}
+use Rattle.subsystem.proofs.Going.{is_over}
 use Rattle.subsystem.specs.Progress.{line_so_far, told_by}
 use Rattle.subsystem.proofs.Lines.{lines_whole, one_longer}
 use Rattle.subsystem.proofs.Begun.{before_end}

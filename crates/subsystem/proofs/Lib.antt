@@ -6,8 +6,10 @@ pub mod Lines
 pub mod Looking
 pub mod Room
 pub mod Begun
+pub mod Going
 pub mod Came
 pub mod Told
+pub mod Tellers
 pub mod Ticks
 pub mod Timekeeping
 pub mod Whole

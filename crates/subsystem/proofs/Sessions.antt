@@ -12,8 +12,9 @@ use Rattle.fw_logic.specs.JointRun.{KeepsTime}
 use Rattle.joint_feed.specs.Stories.{Story, state_at, starts_tick}
 use Rattle.joint_run.specs.Joint.{Beside}
 use Rattle.joint_run.specs.Run.{World}
-use Rattle.story_run.specs.Running.{start_stamp, starts_among}
-use Rattle.subsystem.specs.Running.{GoesOnTo, IsOutcome, Outcome, is_over}
+use Rattle.story_run.specs.Starts.{start_stamp, starts_among}
+use Rattle.subsystem.specs.Running.{IsOutcome, Outcome}
+use Rattle.subsystem.proofs.Going.{GoesOnTo, is_over}
 use Rattle.subsystem.specs.Sessions.{EndsBehind}
 use Rattle.subsystem.proofs.Agreed.{run_last, run_starts}
 use Rattle.subsystem.proofs.Alike.{starts_stay}

@@ -14,8 +14,9 @@ use Rattle.mcs48_core.specs.Step.{Stepped, stepped}
 use Rattle.joint_run.specs.Joint.{Beside, joint_board, joint_start}
 use Rattle.joint_run.specs.Run.{World, after_step, joint_step, seen, step_on}
 use Rattle.joint_run.specs.Starts.{start_in, starts_before, IsStart, IsEnd}
-use Rattle.subsystem.specs.Running.{GoesOnTo, IsOutcome, is_over, Outcome}
-use Rattle.story_run.specs.Running.{start_stamp, starts_among}
+use Rattle.subsystem.specs.Running.{IsOutcome, Outcome}
+use Rattle.subsystem.proofs.Going.{GoesOnTo, is_over}
+use Rattle.story_run.specs.Starts.{start_stamp, starts_among}
 use Rattle.subsystem.proofs.Lines.{one_longer}
 
 module _ (s : Story) (t : KeepsTime s.bytes s.edges s.events) where

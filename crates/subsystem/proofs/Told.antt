@@ -14,7 +14,8 @@ use Rattle.joint_run.specs.Run.{World}
 use Rattle.link_model.specs.declared.line.LogLine.{LogLine}
 use Rattle.story_run.specs.declared.ending.Ending.TheVariants.{TickStart}
 use Rattle.story_run.specs.Advance.{IsBehind}
-use Rattle.story_run.specs.Running.{log_at, logged, start_stamp, starts_among, step_says}
+use Rattle.story_run.specs.Running.{log_at, logged, step_says}
+use Rattle.story_run.specs.Starts.{start_stamp, starts_among}
 use Rattle.story_run.specs.Gliding.{IsQuiet}
 use Rattle.story_run.proofs.Said.{Said}
 use Rattle.story_run.proofs.Steps.{step_said}

@@ -18,9 +18,11 @@ use Rattle.joint_run.specs.Run.{World, joint_step, step_on}
 use Rattle.link_model.specs.declared.line.LogLine.{LogLine}
 use Rattle.pc_tables.specs.Items.{text_of}
 use Rattle.subsystem.specs.Progress.{line_so_far, lines_to, told_by}
-use Rattle.story_run.specs.Running.{AreIn, logged, start_stamp, starts_among}
+use Rattle.story_run.specs.Running.{AreIn, logged}
+use Rattle.story_run.specs.Starts.{start_stamp, starts_among}
 use Rattle.subsystem.specs.Putting.{IsLogBrokenOff}
-use Rattle.subsystem.specs.Running.{GoesOnTo, IsOutcome, Outcome, is_over, lines_of}
+use Rattle.subsystem.specs.Running.{IsOutcome, Outcome, lines_of}
+use Rattle.subsystem.proofs.Going.{GoesOnTo, is_over}
 use Rattle.subsystem.specs.Texts.{line_text, log_text}
 use Rattle.subsystem.proofs.Agreed.{run_last, run_starts}
 use Rattle.subsystem.proofs.Lines.{lines_later, lines_whole, one_longer}

@@ -11,7 +11,8 @@ use Rattle.key_file.specs.Feeds.{Fed}
 use Rattle.link_model.specs.declared.line.LogLine.{LogLine}
 use Rattle.story_run.specs.declared.ending.Ending.TheVariants.{TickStart}
 use Rattle.story_run.specs.Gliding.{IsStanding}
-use Rattle.story_run.specs.Running.{log_at, starts_among}
+use Rattle.story_run.specs.Running.{log_at}
+use Rattle.story_run.specs.Starts.{starts_among}
 use Rattle.subsystem.specs.declared.starts.Starts.{Starts}
 
 -- an item with the number of starts at or before its cycle, less one

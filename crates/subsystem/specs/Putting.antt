@@ -6,7 +6,8 @@ use Rattle.joint_feed.specs.Stories.{Story}
 use Rattle.link_model.specs.declared.line.LogLine.{LogLine}
 use Rattle.story_run.specs.declared.ending.Ending.TheVariants.{TickStart}
 use Rattle.story_run.specs.Looking.{BrokeOff}
-use Rattle.story_run.specs.Running.{starts_among, step_says}
+use Rattle.story_run.specs.Running.{step_says}
+use Rattle.story_run.specs.Starts.{starts_among}
 use Rattle.story_run.specs.Telling.{IsBrokenBehind}
 use Rattle.subsystem.specs.Account.{in_tick}
 use Rattle.subsystem.specs.Progress.{told_by}

@@ -1,26 +1,14 @@
 -- A run of the whole subsystem, from power-on to the first tick start at or after the end stamp.
-use Rattle.std.specs.Prelude.{◌≡◌, ℕ, zero, suc, ◌+◌, ◌-◌, Bool, true, false, ◌&&◌, nat_le, List, [], ◌∷◌, ◌++◌, length}
-use Rattle.std.specs.Prelude.{map, Some, None, if◌then◌else◌}
-use Rattle.std.specs.declared.option.Option.{Option}
+use Rattle.std.specs.Prelude.{◌≡◌, ℕ, suc, ◌-◌, true, List, length, map, Some}
 use Rattle.board_lines.specs.Cadence.{IsLast, listed, tick_of}
 use Rattle.host_turn.specs.declared.stamped.Stamped.{Stamped}
 use Rattle.joint_feed.specs.Stories.{Story, state_at, starts_tick}
 use Rattle.joint_run.specs.Joint.{Beside, log_of}
 use Rattle.joint_run.specs.Run.{World}
-use Rattle.mcs48_core.specs.Cpu.{Cpu}
 use Rattle.link_model.specs.declared.line.LogLine.{LogLine}
-use Rattle.story_run.specs.declared.ending.Ending.TheVariants.{TickStart}
-use Rattle.story_run.specs.Running.{starts_among}
-use Rattle.story_run.specs.Running as run
+use Rattle.mcs48_core.specs.Cpu.{Cpu}
+use Rattle.story_run.specs.Starts.{starts_among}
 use Rattle.subsystem.specs.declared.outcome.Run.{Run}
-
--- the run is over at a state: a tick starts at or after the end stamp
-abbrev pub is_over : Story → World Beside → Bool
-is_over s w = run.is_over TickStart s w
-
--- it isn't at any of the first k states
-abbrev pub GoesOnTo : Story → ℕ → Type 0
-GoesOnTo s k = run.GoesOnTo TickStart s k
 
 -- an item of the log with its tick
 abbrev pub line_of : List ℕ → Stamped → LogLine

@@ -3,7 +3,7 @@ use Rattle.std.specs.Prelude.{◌≡◌, ◌≤◌, ℕ, suc, ◌+◌, ◌*◌, 
 use Rattle.joint_feed.specs.Stories.{Story}
 use Rattle.story_run.specs.declared.ending.Ending.{Ending}
 use Rattle.story_run.specs.declared.ending.Ending.TheVariants.{TickStart}
-use Rattle.story_run.specs.Running.{starts_among}
+use Rattle.story_run.specs.Starts.{starts_among}
 use Rattle.subsystem.specs.declared.starts.Starts.{Starts}
 use Rattle.subsystem.specs.declared.telling.Putting.{Putting}
 use Rattle.subsystem.specs.Counts.{none_counted, with_lines}

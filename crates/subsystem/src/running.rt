@@ -81,10 +81,10 @@ pub fn run(
     let mut feed = ListFeed::new(history);
     let mut course = Course::begin(&image, bios, &mut feed);
     let mut log = Vec::new(alloc);
-    let starts = Starts {
-        stamps: Vec::new(alloc),
+    let stamps = Vec::new(alloc);
+    let mut keeping = Keeping {
+        starts: Starts { stamps },
     };
-    let mut keeping = Keeping { starts };
     let _end = tell_run::<ListFeed, Vec<LogLine>, AllocError, Keeping, 4>(&mut course, &mut feed, Ending::TickStart, &mut keeping, &mut log, probes)?;
     Ok(outcome_of(&course, keeping.starts, log))
 }

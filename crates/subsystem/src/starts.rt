@@ -4,7 +4,7 @@ ghost use Rattle.std.specs.Prelude.{◌≡◌, ◌-◌, ◌++◌, ◌^◌, ◌<�
 ghost use Rattle.joint_feed.specs.Stories.{Story, starts_tick};
 ghost use Rattle.joint_run.specs.Joint.{Beside};
 ghost use Rattle.joint_run.specs.Run.{World};
-ghost use Rattle.story_run.specs.Running.{start_stamp};
+ghost use Rattle.story_run.specs.Starts.{start_stamp};
 
 use fw_logic::at_tick;
 use joint_run::Joint;

@@ -30,7 +30,7 @@ invariant_of-result g c =
         taken = c.begin-course.ensures.taken;
       },
       record {
-        none = c.in_ok-stamps.ensures.empty;
+        none = c.in_ok-stamps.ensures.items;
         room = subst (λ n. n / 2048 + 2 ≤ vec_capacity c.in_ok-stamps.stamps) (c.end.ensures.end ∙ sym (ap (λ k. k.end) same)) room;
       },
     )

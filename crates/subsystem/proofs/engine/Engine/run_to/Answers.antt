@@ -7,12 +7,12 @@ use Rattle.story_run.specs.Gliding.{history_of}
 use Rattle.subsystem.specs.Agreement.{IsAsExpected}
 use Rattle.subsystem.specs.Ending.{ending}
 use Rattle.subsystem.specs.Counts.{none_counted, with_lines}
-use Rattle.subsystem.specs.Putting.{HaveLookedToBreak, IsLogBrokenOff}
+use Rattle.subsystem.specs.Putting.{IsLogBrokenOff}
 use Rattle.subsystem.specs.Running.{IsOutcome}
 use Rattle.subsystem.specs.Texts.{log_text}
 use Rattle.subsystem.proofs.Beginning.{begins}
 use Rattle.subsystem.proofs.Came.{broken_whole, came, came_counted, came_said, looked_some_by}
-use Rattle.subsystem.proofs.Looking.{looked_some, looked_whole, on_err}
+use Rattle.subsystem.proofs.Looking.{looked_break, looked_some, looked_whole, on_err}
 use Rattle.subsystem.proofs.Timekeeping.{keeps_cadence}
 use Rattle.subsystem.proofs.engine.Engine.run_to.Goals as goal
 
@@ -122,4 +122,4 @@ pub returns-in_err-_end-clause-looked_to_break : goal.returns-in_err-_end-clause
 returns-in_err-_end-clause-looked_to_break g c =
     let x = shown (g.K.Sink.taken c.args.out.now) (g.K.Sink.told c.args.out.now) (g.K.Sink.faults c.args.out.now) in
     let y = shown (g.K.Sink.taken c.tell_run.new.out) (g.K.Sink.told c.tell_run.new.out) (g.K.Sink.faults c.tell_run.new.out) in
-    on_err c.from_residual.result (subst (λ (t : Story). HaveLookedToBreak t x y _ _) c.self.view_is c.in_err-_end.ensures.broken)
+    on_err c.from_residual.result (looked_break _ _ x y _ _ c.self.view_is c.in_err-_end.ensures.broken)

@@ -1,0 +1,21 @@
+use Rattle.std.proofs.Common.{◌++◌, ap, sym, ◌∙◌}
+use Rattle.subsystem.proofs.Looking.{on_ok_by}
+use Rattle.subsystem.proofs.Tellers.{few_noted, kept_on, lines_by, noted_on}
+use Rattle.subsystem.proofs.telling.KeepingTellerVecLogLineAllocError.tell.Goals as goal
+
+pub tick-requires : goal.tick-requires
+tick-requires c =
+    let t = c.requires.told in
+    record { few = few_noted t.0 t.1 t.3 c.args.course.now c.args.self.now.starts t.4 t.5.0 }
+
+pub returns-clause-told : goal.returns-clause-told
+returns-clause-told c = λ e s first k b told.
+    let it = c.args.self.now.starts in
+    let course = c.args.course.now in
+    let on = b.standing.on in
+    let lines =
+    c.in_ok-push_lines.ensures.lines
+    ∙ ap (λ v. c.args.out.now.items ++ v) (lines_by course it c.tick.result c.as_slice.result.now c.tick.ensures c.as_slice.ensures.value) in
+    on_ok_by c.note.result
+    (λ more. (noted_on e s k course it c.note.new.self b told.0 more, kept_on e s k course it first.items c.args.out.now.items c.push_lines.new.log.items b told.0 told.1 lines))
+    (c.note.ensures.noted s on.world (sym on.in_run.mcu) (sym on.in_run.cycle))

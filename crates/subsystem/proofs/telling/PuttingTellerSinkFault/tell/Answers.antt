@@ -1,0 +1,45 @@
+use Rattle.std.proofs.Common.{◌≤◌, length, ap, sym, subst, ◌∙◌}
+use Rattle.io_edge.specs.Said.{IsBrokenOff, IsSaid, shown}
+use Rattle.subsystem.specs.Counts.{with_lines}
+use Rattle.subsystem.specs.Texts.{log_text}
+use Rattle.subsystem.proofs.Looking.{on_err}
+use Rattle.subsystem.proofs.Tellers.{broken_on, few_noted, lines_by, put_on, room_put, said_on}
+use Rattle.subsystem.proofs.telling.PuttingTellerSinkFault.tell.Goals as goal
+
+pub tick-tick-requires : goal.tick-tick-requires
+tick-tick-requires g c =
+    let t = c.requires.told in
+    record { few = few_noted t.0 t.1 t.3 c.args.course.now c.args.self.now.starts t.4 t.5.0.noted }
+
+pub note_within-requires-clause-room : goal.note_within-requires-clause-room
+note_within-requires-clause-room g c =
+    let t = c.requires.told in
+    room_put t.0 t.1 t.3 c.args.course.now c.args.self.now t.4 t.5.0
+
+pub returns-in_err-put_items-clause-broken : goal.returns-in_err-put_items-clause-broken
+returns-in_err-put_items-clause-broken g c = λ e s first k b told.
+    let it = c.args.self.now in
+    let course = c.args.course.now in
+    let x = shown (g.K.Sink.taken first) (g.K.Sink.told first) (g.K.Sink.faults first) in
+    let y = shown (g.K.Sink.taken c.args.out.now) (g.K.Sink.told c.args.out.now) (g.K.Sink.faults c.args.out.now) in
+    let z = shown (g.K.Sink.taken c.put_items.new.out) (g.K.Sink.told c.put_items.new.out) (g.K.Sink.faults c.put_items.new.out) in
+    let lines = lines_by course it.starts c.tick-tick.result c.as_slice.result.now c.tick-tick.ensures c.as_slice.ensures.value in
+    on_err c.from_residual.result
+    (broken_on e s k course it x y z b told.0 told.1 (subst (λ l. IsBrokenOff y z (log_text l)) lines c.in_err-put_items.ensures.broken))
+
+pub returns-clause-told : goal.returns-clause-told
+returns-clause-told g c = λ e s first k b told.
+    let it = c.args.self.now in
+    let course = c.args.course.now in
+    let on = b.standing.on in
+    let put = c.in_ok-put_items.ensures in
+    let x = shown (g.K.Sink.taken first) (g.K.Sink.told first) (g.K.Sink.faults first) in
+    let y = shown (g.K.Sink.taken c.args.out.now) (g.K.Sink.told c.args.out.now) (g.K.Sink.faults c.args.out.now) in
+    let z = shown (g.K.Sink.taken c.put_items.new.out) (g.K.Sink.told c.put_items.new.out) (g.K.Sink.faults c.put_items.new.out) in
+    let lines = lines_by course it.starts c.tick-tick.result c.as_slice.result.now c.tick-tick.ensures c.as_slice.ensures.value in
+    let few = subst (λ v. length v ≤ 16) c.as_slice.ensures.value c.as_slice.ensures.fits in (
+      put_on e s k course it (record { starts = c.note_within.new.self; counts = c.put_items.new.counts }) b told.0
+      (c.note_within.ensures.noted s on.world (sym on.in_run.mcu) (sym on.in_run.cycle))
+      c.note_within.ensures.capacity (put.counts ∙ ap (with_lines it.counts) lines) few,
+      said_on e s k course it x y z b told.0 told.1 (subst (λ l. IsSaid y z (log_text l)) lines put.said),
+    )
