@@ -151,7 +151,14 @@ impl<F: Feed> Engine<F> {
             starts: self.starts,
             counts: Counts::none(),
         };
-        let _end = tell_run::<F, K, SinkFault, Putting, 5>(&mut course, &mut feed, Ending::TickStart, &mut putting, out, probes)?;
+        let _end = tell_run::<F, K, SinkFault, Putting, 5>(
+            &mut course,
+            &mut feed,
+            Ending::TickStart,
+            &mut putting,
+            out,
+            probes,
+        )?;
         Ok(ended_of(&course, putting))
     }
 }

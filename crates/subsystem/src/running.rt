@@ -85,6 +85,13 @@ pub fn run(
     let mut keeping = Keeping {
         starts: Starts { stamps },
     };
-    let _end = tell_run::<ListFeed, Vec<LogLine>, AllocError, Keeping, 4>(&mut course, &mut feed, Ending::TickStart, &mut keeping, &mut log, probes)?;
+    let _end = tell_run::<ListFeed, Vec<LogLine>, AllocError, Keeping, 4>(
+        &mut course,
+        &mut feed,
+        Ending::TickStart,
+        &mut keeping,
+        &mut log,
+        probes,
+    )?;
     Ok(outcome_of(&course, keeping.starts, log))
 }

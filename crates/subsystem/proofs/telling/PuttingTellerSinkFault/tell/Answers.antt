@@ -39,7 +39,7 @@ returns-clause-told g c = λ e s first k b told.
     let lines = lines_by course it.starts c.tick-tick.result c.as_slice.result.now c.tick-tick.ensures c.as_slice.ensures.value in
     let few = subst (λ v. length v ≤ 16) c.as_slice.ensures.value c.as_slice.ensures.fits in (
       put_on e s k course it (record { starts = c.note_within.new.self; counts = c.put_items.new.counts }) b told.0
-      (c.note_within.ensures.noted s on.world (sym on.in_run.mcu) (sym on.in_run.cycle))
-      c.note_within.ensures.capacity (put.counts ∙ ap (with_lines it.counts) lines) few,
+          (c.note_within.ensures.noted s on.world (sym on.in_run.mcu) (sym on.in_run.cycle))
+          c.note_within.ensures.capacity (put.counts ∙ ap (with_lines it.counts) lines) few,
       said_on e s k course it x y z b told.0 told.1 (subst (λ l. IsSaid y z (log_text l)) lines put.said),
     )
