@@ -3,7 +3,9 @@ use Rattle.std.proofs.Common.{◌≡◌, ◌<◌, ℕ, zero, suc, true, false, L
 use Rattle.std.proofs.lemmas.Bool.Decides.{nat_tests}
 use Rattle.story_run.specs.declared.ending.End.{End}
 use Rattle.story_run.specs.declared.ending.End.TheVariants.{Over, Stuck}
-use Rattle.board_run.specs.Running.{EndsAt, GoesOnTo, IsOutcome, Outcome, is_over}
+use Rattle.board_run.specs.Running.{IsOutcome, Outcome}
+use Rattle.story_run.specs.declared.ending.Ending.TheVariants.{Stamp}
+use Rattle.story_run.specs.Running.{EndsAt, GoesOnTo, is_over}
 use Rattle.host_turn.specs.declared.stamped.Stamped.{Stamped}
 use Rattle.joint_feed.proofs.Going.{same_state}
 use Rattle.joint_feed.specs.Stories.{Story, state_at}
@@ -14,7 +16,7 @@ use Rattle.story_run.proofs.Steps.{before, on_at}
 
 module _ (s : Story) where
   -- a run doesn't go on where it ends
-  ends_not_on : (k : ℕ) (w v : World Beside) (end : End) → EndsAt s k w end → is_over s w ≡ false → state_at s (suc k) ≡ Some v → ⊥
+  ends_not_on : (k : ℕ) (w v : World Beside) (end : End) → EndsAt Stamp s k w end → is_over Stamp s w ≡ false → state_at s (suc k) ≡ Some v → ⊥
   ends_not_on k w v Over h on next = absurd (cc (h, on))
   ends_not_on k w v (Stuck place) h on next = let none = h.none in absurd (cc (none, next))
 
@@ -28,12 +30,12 @@ module _ (s : Story) where
       ] refl
 
   -- no run ends before a state up to which it goes on
-  pub not_before : (a : Outcome) (m : ℕ) (v : World Beside) → IsOutcome s a → GoesOnTo s m → state_at s m ≡ Some v → a.steps < m → ⊥
+  pub not_before : (a : Outcome) (m : ℕ) (v : World Beside) → IsOutcome s a → GoesOnTo Stamp s m → state_at s m ≡ Some v → a.steps < m → ⊥
   not_before a m v p on there l =
-      let here = on_at s m a.steps on l in
+      let here = on_at s Stamp m a.steps on l in
       let same : p.world ≡ here.0 = same_state (sym p.reached ∙ here.1) in
       let after = reached_by m a.steps v there l in
-      ends_not_on a.steps p.world after.0 a.end p.ends (ap (is_over s) same ∙ here.2) after.1
+      ends_not_on a.steps p.world after.0 a.end p.ends (ap (is_over Stamp s) same ∙ here.2) after.1
 
   same_steps : (a b : Outcome) → IsOutcome s a → IsOutcome s b → a.steps ≡ b.steps
   same_steps a b p q =
@@ -45,7 +47,7 @@ module _ (s : Story) where
         ] refl
       ] refl
 
-  same_end : (k : ℕ) (w : World Beside) (d e : End) → EndsAt s k w d → EndsAt s k w e → d ≡ e
+  same_end : (k : ℕ) (w : World Beside) (d e : End) → EndsAt Stamp s k w d → EndsAt Stamp s k w e → d ≡ e
   same_end k w Over Over h g = refl
   same_end k w Over (Stuck place) h g = let on = g.before_end in absurd (cc (h, on))
   same_end k w (Stuck place) Over h g = let on = h.before_end in absurd (cc (g, on))
@@ -64,8 +66,8 @@ pub boards_alike : (s : Story) (a b : Outcome) → IsOutcome s a → IsOutcome s
 boards_alike s a b p q =
     let steps = same_steps s a b p q in
     let world : p.world ≡ q.world = same_state (sym p.reached ∙ ap (state_at s) steps ∙ q.reached) in
-    let there : EndsAt s b.steps q.world a.end =
-    subst (λ (v : World Beside). EndsAt s b.steps v a.end) world (subst (λ (k : ℕ). EndsAt s k p.world a.end) steps p.ends) in
+    let there : EndsAt Stamp s b.steps q.world a.end =
+    subst (λ (v : World Beside). EndsAt Stamp s b.steps v a.end) world (subst (λ (k : ℕ). EndsAt Stamp s k p.world a.end) steps p.ends) in
     same_parts a b
     (p.log ∙ ap (λ (w : World Beside). log_of w.board) world ∙ sym q.log)
     (same_end s b.steps q.world a.end b.end there q.ends)

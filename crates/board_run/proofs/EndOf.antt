@@ -5,8 +5,9 @@ use Rattle.std.specs.Prelude.{if◌then◌else◌}
 use Rattle.std.specs.declared.option.Option.{Option}
 use Rattle.board_lines.specs.declared.event.Edge.{Edge}
 use Rattle.board_lines.specs.declared.event.HostEvent.{HostEvent}
-use Rattle.board_run.specs.Running.{EndsAt, GoesOnTo, IsOutcome, Outcome, is_over}
-use Rattle.story_run.specs.Running.{place_of}
+use Rattle.board_run.specs.Running.{IsOutcome, Outcome}
+use Rattle.story_run.specs.declared.ending.Ending.TheVariants.{Stamp}
+use Rattle.story_run.specs.Running.{EndsAt, GoesOnTo, is_over, place_of}
 use Rattle.story_run.specs.declared.ending.End.{End}
 use Rattle.story_run.specs.declared.ending.End.TheVariants.{Over, Stuck}
 use Rattle.board_probes.specs.Stuck.{sticks}
@@ -64,7 +65,7 @@ is_no_step (Some v) h = absurd cc
 abbrev end_at : Story → Option (World Beside) → Option End → Option End
 end_at s None on = None
 end_at s (Some w) on =
-    if is_over s w then Some Over else (if sticks s.bytes w.cpu then Some (Stuck (place_of s.bytes w.cpu)) else on)
+    if is_over Stamp s w then Some Over else (if sticks s.bytes w.cpu then Some (Stuck (place_of s.bytes w.cpu)) else on)
 
 -- the end of a run from the state behind so many steps on, if it comes within so many more
 abbrev end_from : Story → ℕ → ℕ → Option End
@@ -85,14 +86,14 @@ module _ (s : Story) where
       let more = (step_later s k v.0 w v.1 h).0 in
       omega (arith, so_far, more)
 
-  few : (k : ℕ) → GoesOnTo s k → k < s.stop + 4098
+  few : (k : ℕ) → GoesOnTo Stamp s k → k < s.stop + 4098
   few zero h = omega arith
   few (suc k) h =
       let most = cycles_most k h.1 h.2 in
       let on = h.3 in
       grind (arith, nat_tests, most, on)
 
-  ends_here : (k : ℕ) (w : World Beside) (end : End) (on : Option End) → EndsAt s k w end → end_at s (Some w) on ≡ Some end
+  ends_here : (k : ℕ) (w : World Beside) (end : End) (on : Option End) → EndsAt Stamp s k w end → end_at s (Some w) on ≡ Some end
   ends_here k w Over on h =
       ap (λ b. if b then Some Over else (if sticks s.bytes w.cpu then Some (Stuck (place_of s.bytes w.cpu)) else on)) h
   ends_here k w (Stuck place) on h =
@@ -100,7 +101,7 @@ module _ (s : Story) where
       ∙ ap (λ b. if b then Some (Stuck (place_of s.bytes w.cpu)) else on) h.no_row
       ∙ ap (λ p. Some (Stuck p)) (sym h.at)
 
-  goes_on_here : (w : World Beside) (on : Option End) → is_over s w ≡ false → sticks s.bytes w.cpu ≡ false → end_at s (Some w) on ≡ on
+  goes_on_here : (w : World Beside) (on : Option End) → is_over Stamp s w ≡ false → sticks s.bytes w.cpu ≡ false → end_at s (Some w) on ≡ on
   goes_on_here w on h g =
       ap (λ b. if b then Some Over else (if sticks s.bytes w.cpu then Some (Stuck (place_of s.bytes w.cpu)) else on)) h
       ∙ ap (λ b. if b then Some (Stuck (place_of s.bytes w.cpu)) else on) g
@@ -114,7 +115,7 @@ module _ (s : Story) where
         ∙ ends_here run.steps h.world run.end (end_from s more (suc k)) h.ends
     ends_from (suc more) (suc d) k e l =
         let behind : k < run.steps = omega (arith, e) in
-        let here = on_at s run.steps k h.goes_on behind in
+        let here = on_at s Stamp run.steps k h.goes_on behind in
         let next = reached_by s run.steps k h.world h.reached behind in
         let step = joined s k here.0 next.0 here.1 next.1 in
         let free : sticks s.bytes here.0.cpu ≡ false = sym (none_step s here.0) ∙ ap is_none step in
@@ -130,14 +131,14 @@ module _ (s : Story) where
   abbrev pub Ends : End → Type 0
   Ends end = (run : Outcome) × IsOutcome s run × (run.end ≡ end)
 
-  ended_at : (k : ℕ) (w : World Beside) (end : End) → GoesOnTo s k → state_at s k ≡ Some w → EndsAt s k w end → Ends end
+  ended_at : (k : ℕ) (w : World Beside) (end : End) → GoesOnTo Stamp s k → state_at s k ≡ Some w → EndsAt Stamp s k w end → Ends end
   ended_at k w end on there ends = (
     record { log = log_of w.board; end = end; mcu = w.cpu; steps = k; cycles = w.cycle },
     record { world = w; goes_on = on; reached = there; ends = ends; processor = refl; cycles = refl; log = refl },
     refl,
   )
 
-  stuck_at : (k : ℕ) (w : World Beside) → GoesOnTo s k → state_at s k ≡ Some w → is_over s w ≡ false → sticks s.bytes w.cpu ≡ true
+  stuck_at : (k : ℕ) (w : World Beside) → GoesOnTo Stamp s k → state_at s k ≡ Some w → is_over Stamp s w ≡ false → sticks s.bytes w.cpu ≡ true
       → Ends (Stuck (place_of s.bytes w.cpu))
   stuck_at k w on there before stuck =
       let d = joint_board s.edges s.events in
@@ -152,20 +153,20 @@ module _ (s : Story) where
     as_end : (other : End) → Some other ≡ Some end → Ends other → Ends end
     as_end other is h = (h.0, h.1, h.2 ∙ same_end other end is)
 
-    on_from : (k : ℕ) (w : World Beside) (on : Option End) → GoesOnTo s k → state_at s k ≡ Some w → (GoesOnTo s (suc k) → on ≡ Some end → Ends end)
-        → (over stuck : Bool) → is_over s w ≡ over → sticks s.bytes w.cpu ≡ stuck
+    on_from : (k : ℕ) (w : World Beside) (on : Option End) → GoesOnTo Stamp s k → state_at s k ≡ Some w → (GoesOnTo Stamp s (suc k) → on ≡ Some end → Ends end)
+        → (over stuck : Bool) → is_over Stamp s w ≡ over → sticks s.bytes w.cpu ≡ stuck
         → (if over then Some Over else (if stuck then Some (Stuck (place_of s.bytes w.cpu)) else on)) ≡ Some end → Ends end
     on_from k w on goes there rest true stuck o t h = as_end Over h (ended_at k w Over goes there o)
     on_from k w on goes there rest false true o t h =
         as_end (Stuck (place_of s.bytes w.cpu)) h (stuck_at k w goes there o t)
     on_from k w on goes there rest false false o t h = rest (goes, w, there, o) h
 
-    from_state : (k : ℕ) (on : Option End) → GoesOnTo s k → (GoesOnTo s (suc k) → on ≡ Some end → Ends end)
+    from_state : (k : ℕ) (on : Option End) → GoesOnTo Stamp s k → (GoesOnTo Stamp s (suc k) → on ≡ Some end → Ends end)
         → (o : Option (World Beside)) → state_at s k ≡ o → end_at s o on ≡ Some end → Ends end
     from_state k on goes rest None there h = absurd cc
-    from_state k on goes rest (Some w) there h = on_from k w on goes there rest (is_over s w) (sticks s.bytes w.cpu) refl refl h
+    from_state k on goes rest (Some w) there h = on_from k w on goes there rest (is_over Stamp s w) (sticks s.bytes w.cpu) refl refl h
 
-    outcome_from : (more k : ℕ) → GoesOnTo s k → end_from s more k ≡ Some end → Ends end
+    outcome_from : (more k : ℕ) → GoesOnTo Stamp s k → end_from s more k ≡ Some end → Ends end
     outcome_from zero k goes h = absurd cc
     outcome_from (suc more) k goes h =
         from_state k (end_from s more (suc k)) goes (λ goes' h'. outcome_from more (suc k) goes' h') (state_at s k) refl h

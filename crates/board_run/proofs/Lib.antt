@@ -1,7 +1,10 @@
 pub mod Alike
 pub mod Lines
-pub mod Whole
+pub mod ByName
+pub mod ComesToEnd
+pub mod BrokenOff
+pub mod ToldByStamp
 pub mod Traced
 pub mod Ends
-pub mod Telling
+pub mod TellsBeginning
 pub mod EndOf

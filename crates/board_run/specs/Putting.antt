@@ -3,19 +3,18 @@ use Rattle.std.specs.Prelude.{ℕ, List}
 use Rattle.board_run.specs.Running.{IsOutcome, Outcome}
 use Rattle.board_run.specs.Texts.{log_text}
 use Rattle.board_probes.specs.Probes.{Watch}
-use Rattle.io_edge.specs.Said.{IsBrokenOff, Shown}
+use Rattle.io_edge.specs.Said.{Shown}
 use Rattle.joint_feed.specs.Stories.{Story}
 use Rattle.story_run.specs.declared.ending.Ending.TheVariants.{Stamp}
+use Rattle.story_run.specs.Broken.{IsTextBrokenOff}
 use Rattle.story_run.specs.Looking.{BrokeOff}
 use Rattle.story_run.specs.Looking as run
 use Rattle.story_run.specs.Running.{log_at, step_says}
 use Rattle.story_run.specs.Telling.{IsBrokenBehind}
 
--- the text of the run's whole log is broken off, as the run would have come to it
-pub record IsLogBrokenOff (s : Story) (before after : Shown) : Type 0 where
-  pub run : Outcome
-  pub is : IsOutcome s run
-  pub part : IsBrokenOff before after (log_text run.log)
+-- the text of the run's whole log is broken off
+abbrev pub IsLogBrokenOff : Story → Shown → Shown → Type 0
+IsLogBrokenOff s before after = IsTextBrokenOff Outcome (IsOutcome s) (λ run. log_text run.log) before after
 
 -- it is broken off in what the step behind the first k says
 abbrev pub IsLogBrokenAt : Story → Shown → Shown → ℕ → Type 0

@@ -5,16 +5,15 @@ use Rattle.board_probes.specs.Probes.{Watch}
 use Rattle.io_edge.specs.Said.{IsBrokenOff, IsSaid, Shown}
 use Rattle.joint_feed.specs.Stories.{Story}
 use Rattle.story_run.specs.declared.ending.Ending.TheVariants.{Stamp}
+use Rattle.story_run.specs.Broken.{IsTextBrokenOff}
 use Rattle.story_run.specs.Looking.{BrokeOff}
 use Rattle.wire_trace.specs.Ending.{AreChangesBrokenAt}
 use Rattle.wire_trace.specs.Text.{header}
 use Rattle.wire_trace.specs.Trace.{trace_to}
 
--- the trace of the whole run is broken off, as the run would have come to it
-pub record IsTraceBrokenOff (s : Story) (before after : Shown) : Type 0 where
-  pub run : Outcome
-  pub is : IsOutcome s run
-  pub part : IsBrokenOff before after (trace_to s run.steps)
+-- the trace of the whole run is broken off
+abbrev pub IsTraceBrokenOff : Story → Shown → Shown → Type 0
+IsTraceBrokenOff s before after = IsTextBrokenOff Outcome (IsOutcome s) (λ run. trace_to s run.steps) before after
 
 -- it is broken off behind the header, in what a step adds, and the probes have looked at the states up to the one that
 -- this step led to

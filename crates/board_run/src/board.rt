@@ -91,7 +91,14 @@ impl<F: Feed> Board<F> {
         let mut feed = self.feed;
         let mut course = self.course;
         let mut lines = ByStamp;
-        let end = tell_run::<F, K, SinkFault, ByStamp, 5>(&mut course, &mut feed, Ending::Stamp, &mut lines, out, probes)?;
+        let end = tell_run::<F, K, SinkFault, ByStamp, 7>(
+            &mut course,
+            &mut feed,
+            Ending::Stamp,
+            &mut lines,
+            out,
+            probes,
+        )?;
         Ok(Ended {
             end,
             joint: course.joint,
@@ -126,7 +133,14 @@ impl<F: Feed> Board<F> {
         let mut course = self.course;
         put_header(out)?;
         let mut changes = Changes::new();
-        let end = tell_run::<F, K, SinkFault, Changes, 6>(&mut course, &mut feed, Ending::Stamp, &mut changes, out, probes)?;
+        let end = tell_run::<F, K, SinkFault, Changes, 8>(
+            &mut course,
+            &mut feed,
+            Ending::Stamp,
+            &mut changes,
+            out,
+            probes,
+        )?;
         Ok(Ended {
             end,
             joint: course.joint,

@@ -6,3 +6,4 @@ pub mod Stretching
 pub mod Advance
 pub mod Telling
 pub mod Looking
+pub mod Broken

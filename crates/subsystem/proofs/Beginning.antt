@@ -1,10 +1,8 @@
 -- Before the first step nothing is told.
-use Rattle.std.proofs.Common.{◌≡◌, ◌≤◌, ℕ, ◌-◌, Bool, true, false, List, [], ◌∷◌, ◌++◌, refl, sym, ◌∙◌, arith}
+use Rattle.std.proofs.Common.{◌≡◌, ◌≤◌, ◌-◌, Bool, true, false, [], ◌∷◌, refl, sym, ◌∙◌, arith}
 use Rattle.std.specs.Prelude.{if◌then◌else◌}
 use Rattle.fw_logic.specs.JointRun.{KeepsTime}
-use Rattle.joint_feed.specs.Course.{IsOnCourse}
 use Rattle.joint_feed.specs.Stories.{Story, starts_tick}
-use Rattle.joint_feed.specs.declared.course.Course.{Course}
 use Rattle.joint_run.specs.Joint.{joint_start}
 use Rattle.story_run.specs.declared.ending.Ending.TheVariants.{TickStart}
 use Rattle.story_run.specs.Starts.{starts_among}

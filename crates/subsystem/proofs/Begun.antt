@@ -7,7 +7,6 @@ use Rattle.std.proofs.Math.Seq.{get_or-append_seam}
 use Rattle.std.specs.declared.option.Option.{Option}
 use Rattle.board_lines.specs.Cadence.{listed}
 use Rattle.fw_logic.specs.JointRun.{KeepsTime}
-use Rattle.joint_feed.proofs.Going.{same_state}
 use Rattle.joint_feed.specs.Stories.{Story, state_at, starts_tick}
 use Rattle.joint_run.specs.Joint.{Beside}
 use Rattle.joint_run.specs.Run.{World}

@@ -1,11 +1,11 @@
--- The counts of a run are small.
-use Rattle.std.proofs.Common.{◌≡◌, ◌≤◌, ◌<◌, ◌^◌, ℕ, zero, suc, ◌+◌, ◌*◌, ◌/◌, List, [], ◌∷◌, ◌++◌, length, map, refl, ap, sym, ◌∙◌, arith, append_assoc, length-append}
+-- The text and the counts of more lines.
+use Rattle.std.proofs.Common.{◌≡◌, ◌≤◌, ◌<◌, ℕ, ◌+◌, ◌*◌, List, [], ◌∷◌, ◌++◌, length, map, refl, ap, sym, ◌∙◌, arith, append_assoc, length-append}
 use Rattle.std.specs.Prelude.{Bool, count_by, cond}
 use Rattle.std.proofs.lemmas.List.{length-map}
-use Rattle.std.proofs.lemmas.List.Sums.{count_by-le-length, sum_by-append}
+use Rattle.std.proofs.lemmas.List.Sums.{sum_by-append}
 use Rattle.link_model.specs.declared.line.LogLine.{LogLine}
 use Rattle.subsystem.specs.declared.counts.Counts.{Counts}
-use Rattle.subsystem.specs.Counts.{is_port, is_word, is_beep, none_counted, with_lines}
+use Rattle.subsystem.specs.Counts.{is_port, is_word, is_beep, with_lines}
 use Rattle.subsystem.specs.Texts.{line_text, log_text}
 
 -- the text of more lines
@@ -28,26 +28,6 @@ with_lines-append c xs ys =
     ap (λ n. record { ports = n; words = c.words + count_by is_word xs + count_by is_word ys; beeps = c.beeps + count_by is_beep xs + count_by is_beep ys }) p
     ∙ ap (λ n. record { ports = c.ports + count_by is_port (xs ++ ys); words = n; beeps = c.beeps + count_by is_beep xs + count_by is_beep ys }) w
     ∙ ap (λ n. record { ports = c.ports + count_by is_port (xs ++ ys); words = c.words + count_by is_word (xs ++ ys); beeps = n }) e
-
--- no more than sixteen items a step are counted
-pub record AreFew (counts : Counts) : Type 0 where
-  pub ports : counts.ports < 2 ^ 40
-  pub words : counts.words < 2 ^ 40
-  pub beeps : counts.beeps < 2 ^ 40
-
-pub few_counted : (counts : Counts) (lines : List LogLine) (steps cycle : ℕ) → counts ≡ with_lines none_counted lines → length lines ≤ 16 * steps → steps ≤ cycle → cycle < 2 ^ 31 → AreFew counts
-few_counted counts lines steps cycle e short few soon =
-    let p : counts.ports ≡ 0 + count_by is_port lines = ap (λ (c : Counts). c.ports) e in
-    let w : counts.words ≡ 0 + count_by is_word lines = ap (λ (c : Counts). c.words) e in
-    let b : counts.beeps ≡ 0 + count_by is_beep lines = ap (λ (c : Counts). c.beeps) e in
-    let lp = count_by-le-length is_port lines in
-    let lw = count_by-le-length is_word lines in
-    let lb = count_by-le-length is_beep lines in
-    record {
-      ports = omega (arith, p, lp, short, few, soon);
-      words = omega (arith, w, lw, short, few, soon);
-      beeps = omega (arith, b, lb, short, few, soon);
-    }
 
 -- a step more, with its lines
 pub short_more : {X : Type 0} (before all : List LogLine) (f : X → LogLine) (items : List X) (k n : ℕ) → all ≡ before ++ map f items → length before ≤ 16 * k → length items ≤ 16 → k < n → length all ≤ 16 * n

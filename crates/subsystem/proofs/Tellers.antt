@@ -1,12 +1,11 @@
 -- What is told of one step more, by whoever tells it.
-use Rattle.std.proofs.Common.{◌≡◌, ◌≤◌, ◌<◌, ◌^◌, ℕ, suc, ◌-◌, ◌+◌, ◌/◌, Bool, true, false, List, [], ◌∷◌, ◌++◌, length, map, vec_capacity, Some, refl, append_assoc, ap, sym, subst, ◌∙◌, arith}
+use Rattle.std.proofs.Common.{◌≡◌, ◌≤◌, ◌<◌, ◌^◌, ℕ, suc, ◌-◌, Bool, true, false, List, [], ◌∷◌, ◌++◌, length, map, vec_capacity, Some, refl, append_assoc, ap, sym, subst, ◌∙◌, arith}
 use Rattle.std.specs.Prelude.{if◌then◌else◌}
 use Rattle.std.proofs.lemmas.List.{append-nil}
 use Rattle.host_turn.specs.declared.stamped.Stamped.{Stamped}
 use Rattle.io_edge.specs.Said.{IsBrokenOff, IsSaid, Shown}
 use Rattle.joint_feed.specs.Stories.{Story, starts_tick}
 use Rattle.joint_feed.specs.declared.course.Course.{Course}
-use Rattle.joint_run.specs.declared.machine.Machine.{Machine}
 use Rattle.joint_run.specs.Joint.{Beside}
 use Rattle.joint_run.specs.Run.{World}
 use Rattle.link_model.specs.declared.line.LogLine.{LogLine}
@@ -22,8 +21,7 @@ use Rattle.subsystem.specs.Telling.{HasNoted, HasPut}
 use Rattle.subsystem.specs.Texts.{log_text}
 use Rattle.subsystem.specs.declared.starts.Starts.{Starts}
 use Rattle.subsystem.specs.declared.telling.Putting.{Putting}
-use Rattle.subsystem.proofs.Room.{AreFew}
-use Rattle.subsystem.proofs.Told.{broken_now, counts_more, few_so_far, few_starts, here_now, room_now, said_more, short_now, starts_late, starts_more, told_more}
+use Rattle.subsystem.proofs.Told.{broken_now, counts_more, few_starts, room_now, said_more, short_now, starts_more, told_more}
 
 -- a state at which no tick starts adds no stamp, and one at which a tick starts its own
 pub none_noted : (s : Story) (w : World Beside) (b : Bool) (xs : List ℕ) → b ≡ starts_tick s w → b ≡ false → xs ≡ xs ++ start_stamp s (Some w)
@@ -34,18 +32,10 @@ pub one_noted : (s : Story) (w : World Beside) (b : Bool) (xs : List ℕ) (cycle
 one_noted s w b xs cycle tells on same =
     ap (λ (n : ℕ). xs ++ (n - 4096) ∷ []) (sym same) ∙ ap (λ v. xs ++ (if v then (w.cycle - 4096) ∷ [] else [])) (sym on ∙ tells)
 
--- no tick starts at the machine's state before stamp 0
-abbrev pub IsLate : Machine → Type 0
-IsLate m = (s : Story) × (w : World Beside) × (w.cpu ≡ m.mcu) × (w.cycle ≡ m.cycle) × (starts_tick s w ≡ true → 4096 ≤ w.cycle)
-
+-- there are few starts
 pub few_noted : (e : Ending) (s : Story) (k : ℕ) (c : Course) (it : Starts) → IsBehind e false s k c → HasNoted e s k it → length it.stamps.items < 2 ^ 32
 few_noted TickStart s k c it b noted = subst (λ (v : List ℕ). length v < 2 ^ 32) (sym noted.starts) (few_starts s k c b)
 few_noted Stamp s k c it b noted = absurd (cc noted.ending)
-
-pub late_now : (e : Ending) (s : Story) (k : ℕ) (c : Course) (it : Starts) → IsBehind e false s k c → HasNoted e s k it → IsLate c.joint
-late_now TickStart s k c it b noted =
-    let on = b.standing.on in (s, on.world, sym on.in_run.mcu, sym on.in_run.cycle, starts_late s k c b on.world (here_now s k c b))
-late_now Stamp s k c it b noted = absurd (cc noted.ending)
 
 -- the start at the present state is noted
 pub noted_on : (e : Ending) (s : Story) (k : ℕ) (c : Course) (it next : Starts) (b : IsBehind e false s k c) → HasNoted e s k it
@@ -76,10 +66,6 @@ kept_on TickStart s k c it first before after b noted kept is =
 kept_on Stamp s k c it first before after b noted kept is = absurd (cc noted.ending)
 
 -- or put
-pub few_put : (e : Ending) (s : Story) (k : ℕ) (c : Course) (it : Putting) → IsBehind e false s k c → HasPut e s k it → AreFew it.counts
-few_put TickStart s k c it b put = few_so_far s k c b it.counts put.counts put.short
-few_put Stamp s k c it b put = absurd (cc put.noted.ending)
-
 pub room_put : (e : Ending) (s : Story) (k : ℕ) (c : Course) (it : Putting) → IsBehind e false s k c → HasPut e s k it
     → length it.starts.stamps.items < vec_capacity it.starts.stamps
 room_put TickStart s k c it b put =

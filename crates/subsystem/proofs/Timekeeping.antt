@@ -1,6 +1,6 @@
 -- The run keeps its time: what follows for the loop and for its outcome.
-use Rattle.std.proofs.Common.{◌≡◌, ◌≤◌, ◌<◌, ℕ, zero, suc, ◌+◌, ◌-◌, true, false, ◌&&◌, List, [], ◌∷◌, ◌++◌, length, leb, Some, None, refl, ap, sym, subst, ◌∙◌, arith}
-use Rattle.std.specs.Prelude.{if◌then◌else◌, nat_le}
+use Rattle.std.proofs.Common.{◌≡◌, ◌<◌, ℕ, zero, suc, ◌+◌, ◌-◌, true, false, List, [], ◌∷◌, ◌++◌, length, leb, Some, refl, ap, sym, subst, ◌∙◌, arith}
+use Rattle.std.specs.Prelude.{if◌then◌else◌}
 use Rattle.std.proofs.lemmas.Bool.Decides.{nat_tests}
 use Rattle.std.proofs.lemmas.List.{append-nil, get_or_append_left}
 use Rattle.std.proofs.Math.Seq.{get_or-append_seam}
@@ -8,14 +8,11 @@ use Rattle.std.specs.declared.option.Option.{Option}
 use Rattle.board_lines.specs.Cadence.{IsNear, KeepsCadenceTo, listed}
 use Rattle.fw_kernel.specs.declared.labels.TheConstants.{TICK}
 use Rattle.fw_logic.specs.JointRun.{KeepsTime}
-use Rattle.joint_feed.proofs.Going.{same_state}
 use Rattle.joint_feed.specs.Stories.{Story, state_at, starts_tick}
-use Rattle.mcs48_core.specs.Step.{Stepped, stepped}
 use Rattle.joint_run.specs.Joint.{Beside, joint_board, joint_start}
-use Rattle.joint_run.specs.Run.{World, after_step, joint_step, seen, step_on}
-use Rattle.joint_run.specs.Starts.{start_in, starts_before, IsStart, IsEnd}
+use Rattle.joint_run.specs.Run.{World}
+use Rattle.joint_run.specs.Starts.{start_in, starts_before, IsStart}
 use Rattle.subsystem.specs.Running.{IsOutcome, Outcome}
-use Rattle.subsystem.proofs.Going.{GoesOnTo, is_over}
 use Rattle.story_run.specs.Starts.{start_stamp, starts_among}
 use Rattle.subsystem.proofs.Lines.{one_longer}
 

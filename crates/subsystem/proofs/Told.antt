@@ -1,13 +1,12 @@
 -- What is told behind one stretch of steps.
-use Rattle.std.proofs.Common.{◌≡◌, ◌≤◌, ◌<◌, ◌^◌, ℕ, suc, ◌+◌, ◌-◌, ◌*◌, ◌/◌, Bool, true, false, List, [], ◌∷◌, ◌++◌, length, map, drop, Some, refl, ap, sym, subst, ◌∙◌, arith}
+use Rattle.std.proofs.Common.{◌≡◌, ◌≤◌, ◌<◌, ◌^◌, ℕ, suc, ◌+◌, ◌-◌, ◌*◌, ◌/◌, false, List, ◌++◌, length, map, drop, Some, ap, sym, subst, ◌∙◌, arith}
 use Rattle.std.proofs.lemmas.List.{map-append}
 use Rattle.std.proofs.Math.Seq.{drop-append_seam}
 use Rattle.std.specs.declared.option.Option.{Option}
-use Rattle.board_lines.specs.Cadence.{listed}
 use Rattle.fw_logic.specs.JointRun.{KeepsTime}
 use Rattle.host_turn.specs.declared.stamped.Stamped.{Stamped}
 use Rattle.joint_feed.proofs.Going.{here}
-use Rattle.joint_feed.specs.Stories.{Story, state_at, starts_tick}
+use Rattle.joint_feed.specs.Stories.{Story, state_at}
 use Rattle.joint_feed.specs.declared.course.Course.{Course}
 use Rattle.joint_run.specs.Joint.{Beside, log_of}
 use Rattle.joint_run.specs.Run.{World}
@@ -28,7 +27,7 @@ use Rattle.subsystem.specs.Putting.{IsLogBrokenAt, step_lines}
 use Rattle.subsystem.specs.Texts.{log_text}
 use Rattle.subsystem.specs.declared.counts.Counts.{Counts}
 use Rattle.subsystem.proofs.Lines.{lines_now}
-use Rattle.subsystem.proofs.Room.{AreFew, few_counted, log_text-append, short_more, with_lines-append}
+use Rattle.subsystem.proofs.Room.{log_text-append, short_more, with_lines-append}
 use Rattle.subsystem.proofs.Begun.{begun_among, few_among, few_before}
 use Rattle.subsystem.proofs.Whole.{are_lines, still_told}
 
@@ -124,14 +123,6 @@ module _ (s : Story) (k : ℕ) (c : Course) (b : IsBehind TickStart false s k c)
       is ∙ ap (λ (v : List ℕ). v ++ start_stamp s (Some b.standing.on.world)) (sym starts_same ∙ ap (starts_among s) (sym b.steps))
       ∙ ap (λ (o : Option (World Beside)). starts_among s c.joint.steps ++ start_stamp s o) (sym (here s c b.standing.on))
 
-  -- which isn't before stamp 0
-  pub starts_late : (w : World Beside) → state_at s c.joint.steps ≡ Some w → starts_tick s w ≡ true → 4096 ≤ w.cycle
-  starts_late w there on = b.timely.none_early c.joint.steps w there on
-
-  -- the state that is told of
-  pub here_now : state_at s c.joint.steps ≡ Some b.standing.on.world
-  here_now = here s c b.standing.on
-
   -- a put of its lines broke off
   pub broken_now : (first now next : Shown) → IsSaid first now (log_text (told_by s k)) → IsBrokenOff now next (log_text (map (in_tick (length starts - 1)) items))
       → IsLogBrokenAt s first next b.last
@@ -161,15 +152,7 @@ module _ (s : Story) (k : ℕ) (c : Course) (b : IsBehind TickStart false s k c)
   short_now few short =
       short_more (told_by s k) (told_by s c.joint.steps) (in_tick (length starts - 1)) items k c.joint.steps told_more short few steps_later
 
-  -- the counts so far are small
-  pub few_so_far : (counts : Counts) → counts ≡ with_lines none_counted (told_by s k) → length (told_by s k) ≤ 16 * k → AreFew counts
-  few_so_far counts is short =
-      let later = steps_later in
-      let most = b.standing.on.few in
-      let near = b.near in
-      few_counted counts (told_by s k) k c.joint.cycle is short (omega (arith, later, most)) (omega (arith, near))
-
-  -- and the list of starts has room
+  -- the list of starts has room
   pub room_now : length starts < s.stop / 2048 + 2
   room_now =
       let all = few_before s b.timely c.joint.steps b.standing.goes_on in

@@ -8,17 +8,16 @@ use Rattle.std.specs.Fmt.{decimal}
 use Rattle.std.specs.declared.option.Option.{Option}
 use Rattle.board_lines.specs.Cadence.{listed}
 use Rattle.fw_logic.specs.JointRun.{KeepsTime}
-use Rattle.host_turn.specs.declared.stamped.Stamped.{Stamped}
 use Rattle.io_edge.specs.Said.{IsBrokenOff, Shown}
 use Rattle.io_edge.proofs.Pieces.{AreLines, EndsLine, broken_before, lines_behind}
 use Rattle.joint_feed.proofs.Going.{same_state}
 use Rattle.joint_feed.specs.Stories.{Story, state_at, starts_tick}
-use Rattle.joint_run.specs.Joint.{Beside, joint_board, log_of}
-use Rattle.joint_run.specs.Run.{World, joint_step, step_on}
+use Rattle.joint_run.specs.Joint.{Beside, log_of}
+use Rattle.joint_run.specs.Run.{World}
 use Rattle.link_model.specs.declared.line.LogLine.{LogLine}
 use Rattle.pc_tables.specs.Items.{text_of}
-use Rattle.subsystem.specs.Progress.{line_so_far, lines_to, told_by}
-use Rattle.story_run.specs.Running.{AreIn, logged}
+use Rattle.subsystem.specs.Progress.{line_so_far, told_by}
+use Rattle.story_run.specs.Running.{logged}
 use Rattle.story_run.specs.Starts.{start_stamp, starts_among}
 use Rattle.subsystem.specs.Putting.{IsLogBrokenOff}
 use Rattle.subsystem.specs.Running.{IsOutcome, Outcome, lines_of}

@@ -1,9 +1,9 @@
 //! The subsystem as a whole: the run of a layout's compiled image under a key history, and the log's text.
 //!
-//! This layer knows where a run begins and ends, which of its steps are tick starts, and how the log is written. It makes
-//! the one joint run, in which probes look at the state after each step. What is said is kept with its tick, or put into a
-//! sink line by line, with no list of events or of lines. That the log is the one which the model expects is a law of the
-//! layer below. It knows no instruction, no wire and no rule of the keyboard. Source: our own.
+//! This layer tells of the one joint run that `story_run` makes, in which probes look at the state after each step. It
+//! notes each tick start, and keeps what is said, with its tick, in a list, or puts it into a sink line by line, with no
+//! list of events or of lines. It knows how the log is written. That the log is the one which the model expects is a law
+//! of the layer below. It knows no instruction, no wire and no rule of the keyboard. Source: our own.
 #![tactic(auto)]
 
 mod account;

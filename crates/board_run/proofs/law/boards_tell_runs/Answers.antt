@@ -1,6 +1,6 @@
 use Rattle.fw_compile.specs.Image.{image_of}
 use Rattle.joint_feed.specs.Stories.{story}
-use Rattle.board_run.proofs.Telling.{tells}
+use Rattle.board_run.proofs.TellsBeginning.{tells}
 use Rattle.board_run.proofs.law.boards_tell_runs.Goals as goal
 
 pub returns : goal.returns

@@ -6,7 +6,7 @@ use Rattle.io_edge.specs.Said.{IsBrokenOff, IsSaid, shown}
 use Rattle.io_edge.proofs.Pieces.{broken_before, none_said, said_then_broken, said_then_said}
 use Rattle.pc_tables.specs.declared.item.Item.TheVariants.{Port}
 use Rattle.board_run.proofs.Lines.{line_ends, one_in, text_left}
-use Rattle.subsystem.proofs.Looking.{on_err}
+use Rattle.io_edge.proofs.Taken.{on_err}
 use Rattle.board_run.proofs.line.put_items.Goals as goal
 
 pub put_line-requires : goal.put_line-requires
@@ -27,7 +27,7 @@ returns-in_err-put_line-clause-broken g c =
     let line = get_or items i d in
     let before = shown (g.K.Sink.taken c.loop-stamped.out) (g.K.Sink.told c.loop-stamped.out) (g.K.Sink.faults c.loop-stamped.out) in
     let after = shown (g.K.Sink.taken c.put_line.new.out) (g.K.Sink.told c.put_line.new.out) (g.K.Sink.faults c.put_line.new.out) in
-    on_err c.from_residual.result
+    on_err c.from_residual.result _
     (c.loop-stamped.invariant.broken after
     (subst (λ t. IsBrokenOff before after t) (sym left) (broken_before before after (line_text line) (log_text others) (inr (line_ends line)) c.in_err-put_line.ensures.broken)))
 

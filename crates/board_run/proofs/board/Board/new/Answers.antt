@@ -1,5 +1,6 @@
 use Rattle.std.proofs.Common.{ap, sym, subst, ◌∙◌}
-use Rattle.board_run.specs.Running.{GoesOnTo}
+use Rattle.story_run.specs.declared.ending.Ending.TheVariants.{Stamp}
+use Rattle.story_run.specs.Running.{GoesOnTo}
 use Rattle.joint_feed.specs.Course.{IsOnCourse}
 use Rattle.joint_feed.specs.Stories.{story}
 use Rattle.key_file.specs.Accepted.{IsAccepted}
@@ -17,7 +18,7 @@ invariant_of-result g c =
       standing = record {
         on = subst (λ b. IsOnCourse (story b (g.F.Feed.told c.begin-course.new.feed).history) it) (sym image)
             (subst (λ h. IsOnCourse (story c.args.image.now.bytes h) it) (sym same) on);
-        goes_on = subst (GoesOnTo s) (sym c.begin-course.ensures.steps) tt;
+        goes_on = subst (GoesOnTo Stamp s) (sym c.begin-course.ensures.steps) tt;
       };
       steps = c.begin-course.ensures.steps;
       taken = c.begin-course.ensures.taken;

@@ -1,54 +1,104 @@
-use Rattle.std.proofs.Common.{refl, subst}
-use Rattle.io_edge.proofs.Pieces.{said_then_said}
+use Rattle.std.proofs.Common.{refl, subst, inl}
+use Rattle.io_edge.proofs.Pieces.{none_said, said_then_said}
+use Rattle.io_edge.proofs.Taken.{on_err}
 use Rattle.io_edge.specs.Said.{IsSaid, shown}
-use Rattle.joint_feed.proofs.Going.{here}
 use Rattle.joint_feed.specs.Stories.{Story, story}
 use Rattle.board_run.specs.Ending.{ending}
 use Rattle.board_run.specs.Running.{IsOutcome}
 use Rattle.board_run.specs.Tracing.{IsTraceBrokenOff}
+use Rattle.story_run.specs.declared.ending.Ending.TheVariants.{Stamp}
+use Rattle.board_run.proofs.BrokenOff.{some_looked}
+use Rattle.board_run.proofs.ByName.{looked_by, some_looked_by}
 use Rattle.board_run.proofs.Ends.{ends}
-use Rattle.board_run.proofs.Traced.{header_broken_off, trace_broken_off}
+use Rattle.board_run.proofs.Traced.{broke_behind_header, header_broken_off, trace_broken_off}
 use Rattle.board_run.proofs.board.Board.trace_to.Goals as goal
-use Rattle.subsystem.proofs.Looking.{on_err}
 use Rattle.wire_trace.proofs.OfLines.{header_is_lines}
+use Rattle.wire_trace.proofs.TraceIsSaid.{heard_none, told_all}
 use Rattle.wire_trace.specs.Text.{header}
 use Rattle.wire_trace.specs.Trace.{changes_to, trace_to}
 
 pub returns-in_err-put_header-clause-broken : goal.returns-in_err-put_header-clause-broken
 returns-in_err-put_header-clause-broken g c =
     let s = story c.self.inside.course.joint.image.bytes (g.F.Feed.told c.self.inside.feed).history in
-    let it = c.self.inside.course in
-    let ready = c.self.invariant in
     let x = shown (g.K.Sink.taken c.args.out.now) (g.K.Sink.told c.args.out.now) (g.K.Sink.faults c.args.out.now) in
     let y = shown (g.K.Sink.taken c.put_header.new.out) (g.K.Sink.told c.put_header.new.out) (g.K.Sink.faults c.put_header.new.out) in
-    on_err c.from_residual.result (subst (λ (t : Story). IsTraceBrokenOff t x y) c.self.view_is
-    (header_broken_off s it.joint.steps ready.standing.on.world x y ready.standing.goes_on (here s it ready.standing.on) c.in_err-put_header.ensures.broken))
+    on_err c.from_residual.result _ (subst (λ (t : Story). IsTraceBrokenOff t x y) c.self.view_is
+    (header_broken_off s x y c.in_err-put_header.ensures.broken))
 
 pub returns-in_err-put_header-clause-looked_so_far : goal.returns-in_err-put_header-clause-looked_so_far
 returns-in_err-put_header-clause-looked_so_far g c = record { steps = 0; goes_on = tt; looked = refl }
 
+pub returns-in_err-put_header-clause-looked_to_break : goal.returns-in_err-put_header-clause-looked_to_break
+returns-in_err-put_header-clause-looked_to_break g c =
+    on_err c.from_residual.result _ (inl (record { broken = c.in_err-put_header.ensures.broken; looked = refl }))
+
+pub tell_run-requires-clause-accepted : goal.tell_run-requires-clause-accepted
+tell_run-requires-clause-accepted g c = c.self.invariant.accepted
+
+pub tell_run-requires-clause-timely : goal.tell_run-requires-clause-timely
+tell_run-requires-clause-timely g c = tt
+
+pub tell_run-requires-clause-standing : goal.tell_run-requires-clause-standing
+tell_run-requires-clause-standing g c = c.self.invariant.standing
+
+pub tell_run-requires-clause-steps : goal.tell_run-requires-clause-steps
+tell_run-requires-clause-steps g c = c.self.invariant.steps
+
+pub tell_run-requires-clause-taken : goal.tell_run-requires-clause-taken
+tell_run-requires-clause-taken g c = c.self.invariant.taken
+
+pub tell_run-requires-clause-told : goal.tell_run-requires-clause-told
+tell_run-requires-clause-told g c =
+    let s = story c.self.inside.course.joint.image.bytes (g.F.Feed.told c.self.inside.feed).history in (
+      heard_none s c.new-changes.result.decoder c.new-changes.ensures.silent,
+      none_said (shown (g.K.Sink.taken c.put_header.new.out) (g.K.Sink.told c.put_header.new.out) (g.K.Sink.faults c.put_header.new.out)),
+    )
+
 pub returns-clause-run : goal.returns-clause-run
 returns-clause-run g c =
     let s = story c.self.inside.course.joint.image.bytes (g.F.Feed.told c.self.inside.feed).history in
-    let new = c.sample_to_end.new.course in
+    let new = c.tell_run.new.course in
     subst (λ (t : Story). IsOutcome t (ending t (record { end = c.in_ok-end.end; joint = new.joint }))) c.self.view_is
     (ends s new c.in_ok-end.end c.in_ok-end.ensures.ended)
+
+pub returns-clause-looked : goal.returns-clause-looked
+returns-clause-looked g c = looked_by _ _ c.self.view_is _ _ c.tell_run.new.course.joint.steps c.in_ok-end.ensures.looked
+
+pub returns-clause-looked_so_far : goal.returns-clause-looked_so_far
+returns-clause-looked_so_far g c =
+    some_looked_by _ _ c.self.view_is _ _ (record {
+      steps = c.tell_run.new.course.joint.steps;
+      goes_on = c.in_ok-end.ensures.ended.standing.goes_on;
+      looked = c.in_ok-end.ensures.looked;
+    })
 
 pub returns-in_err-end-clause-broken : goal.returns-in_err-end-clause-broken
 returns-in_err-end-clause-broken g c =
     let s = story c.self.inside.course.joint.image.bytes (g.F.Feed.told c.self.inside.feed).history in
     let x = shown (g.K.Sink.taken c.args.out.now) (g.K.Sink.told c.args.out.now) (g.K.Sink.faults c.args.out.now) in
     let y = shown (g.K.Sink.taken c.put_header.new.out) (g.K.Sink.told c.put_header.new.out) (g.K.Sink.faults c.put_header.new.out) in
-    let z = shown (g.K.Sink.taken c.sample_to_end.new.out) (g.K.Sink.told c.sample_to_end.new.out) (g.K.Sink.faults c.sample_to_end.new.out) in
-    on_err c.from_residual-in_err-end.result (subst (λ (t : Story). IsTraceBrokenOff t x z) c.self.view_is
-    (trace_broken_off s x y z c.in_ok-put_header.ensures.said c.in_err-end.ensures.broken))
+    let z = shown (g.K.Sink.taken c.tell_run.new.out) (g.K.Sink.told c.tell_run.new.out) (g.K.Sink.faults c.tell_run.new.out) in
+    on_err c.from_residual-in_err-end.result _ (subst (λ (t : Story). IsTraceBrokenOff t x z) c.self.view_is
+    (trace_broken_off s x y z _ _ c.in_ok-put_header.ensures.said c.in_err-end.ensures.broken))
+
+pub returns-in_err-end-clause-looked_so_far : goal.returns-in_err-end-clause-looked_so_far
+returns-in_err-end-clause-looked_so_far g c = some_looked_by _ _ c.self.view_is _ _ (some_looked _ _ _ _ c.in_err-end.ensures.broken)
+
+pub returns-in_err-end-clause-looked_to_break : goal.returns-in_err-end-clause-looked_to_break
+returns-in_err-end-clause-looked_to_break g c =
+    let x = shown (g.K.Sink.taken c.args.out.now) (g.K.Sink.told c.args.out.now) (g.K.Sink.faults c.args.out.now) in
+    let y = shown (g.K.Sink.taken c.put_header.new.out) (g.K.Sink.told c.put_header.new.out) (g.K.Sink.faults c.put_header.new.out) in
+    let z = shown (g.K.Sink.taken c.tell_run.new.out) (g.K.Sink.told c.tell_run.new.out) (g.K.Sink.faults c.tell_run.new.out) in
+    on_err c.from_residual-in_err-end.result _
+    (broke_behind_header _ _ c.self.view_is x y z _ _ c.in_ok-put_header.ensures.said c.in_err-end.ensures.broken)
 
 pub returns-clause-said : goal.returns-clause-said
 returns-clause-said g c =
     let s = story c.self.inside.course.joint.image.bytes (g.F.Feed.told c.self.inside.feed).history in
     let x = shown (g.K.Sink.taken c.args.out.now) (g.K.Sink.told c.args.out.now) (g.K.Sink.faults c.args.out.now) in
     let y = shown (g.K.Sink.taken c.put_header.new.out) (g.K.Sink.told c.put_header.new.out) (g.K.Sink.faults c.put_header.new.out) in
-    let z = shown (g.K.Sink.taken c.sample_to_end.new.out) (g.K.Sink.told c.sample_to_end.new.out) (g.K.Sink.faults c.sample_to_end.new.out) in
-    let k = c.sample_to_end.new.course.joint.steps in
+    let z = shown (g.K.Sink.taken c.tell_run.new.out) (g.K.Sink.told c.tell_run.new.out) (g.K.Sink.faults c.tell_run.new.out) in
+    let k = c.tell_run.new.course.joint.steps in
     subst (λ (t : Story). IsSaid x z (trace_to t k)) c.self.view_is
-    (said_then_said x y z header (changes_to s k) header_is_lines c.in_ok-put_header.ensures.said c.in_ok-end.ensures.said)
+    (said_then_said x y z header (changes_to s k) header_is_lines c.in_ok-put_header.ensures.said
+    (told_all Stamp s c.tell_run.new.teller.decoder y z k c.in_ok-end.ensures.told))

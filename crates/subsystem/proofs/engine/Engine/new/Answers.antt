@@ -2,7 +2,7 @@ use Rattle.std.proofs.Common.{◌≤◌, ◌+◌, ◌/◌, vec_capacity, ap, sym
 use Rattle.fw_compile.specs.Image.{image_of}
 use Rattle.fw_logic.specs.JointRun.{KeepsTime}
 use Rattle.joint_feed.specs.Course.{IsOnCourse}
-use Rattle.joint_feed.specs.Stories.{Story, story}
+use Rattle.joint_feed.specs.Stories.{story}
 use Rattle.key_file.specs.Accepted.{IsAccepted}
 use Rattle.story_run.specs.declared.ending.Ending.TheVariants.{TickStart}
 use Rattle.story_run.specs.Running.{GoesOnTo}

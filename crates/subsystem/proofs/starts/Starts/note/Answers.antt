@@ -1,4 +1,4 @@
-use Rattle.std.proofs.Common.{◌≡◌, ◌≤◌, sym, ◌∙◌, arith}
+use Rattle.std.proofs.Common.{◌≤◌, sym, ◌∙◌, arith}
 use Rattle.subsystem.proofs.Tellers.{none_noted, one_noted}
 use Rattle.subsystem.proofs.starts.Starts.note.Goals as goal
 

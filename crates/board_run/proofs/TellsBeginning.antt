@@ -6,7 +6,8 @@ use Rattle.board_lines.specs.Cadence.{listed}
 use Rattle.story_run.specs.declared.ending.End.{End}
 use Rattle.story_run.specs.declared.ending.End.TheVariants.{Over, Stuck}
 use Rattle.board_run.specs.Agreement.{TellsRun}
-use Rattle.board_run.specs.Running.{EndsAt, GoesOnTo, IsOutcome, Outcome, is_over}
+use Rattle.board_run.specs.Running.{IsOutcome, Outcome}
+use Rattle.story_run.specs.declared.ending.Ending.TheVariants.{Stamp}
 use Rattle.fw_logic.specs.JointRun.{KeepsTime}
 use Rattle.host_turn.specs.declared.stamped.Stamped.{Stamped}
 use Rattle.joint_feed.proofs.Going.{same_state}
@@ -14,18 +15,19 @@ use Rattle.joint_feed.specs.Stories.{Story, state_at}
 use Rattle.joint_run.specs.Joint.{Beside, joint_start}
 use Rattle.joint_run.specs.Run.{World}
 use Rattle.subsystem.proofs.Agreed.{run_last, run_starts}
-use Rattle.story_run.specs.Running.{AreIn, starts_among}
+use Rattle.story_run.specs.Running.{AreIn, EndsAt, GoesOnTo, is_over}
+use Rattle.story_run.specs.Starts.{starts_among}
 use Rattle.subsystem.specs.Running.{lines_of}
 use Rattle.subsystem.specs.Running as layout
 use Rattle.std.proofs.lemmas.List.{append_assoc}
-use Rattle.wire_trace.proofs.Whole.{later_changes}
+use Rattle.wire_trace.proofs.ChangesGrow.{later_changes}
 use Rattle.wire_trace.specs.Text.{header}
 use Rattle.wire_trace.specs.Trace.{changes_to}
 use Rattle.story_run.proofs.Steps.{on_at, said_between, step_later}
 
 module _ (s : Story) (t : KeepsTime s.bytes s.edges s.events) where
   -- it is never stuck
-  ends_over : (k : ℕ) (w : World Beside) (end : End) → EndsAt s k w end → end ≡ Over
+  ends_over : (k : ℕ) (w : World Beside) (end : End) → EndsAt Stamp s k w end → end ≡ Over
   ends_over k w Over h = refl
   ends_over k w (Stuck place) h =
       let on = t.goes_on (suc k) in
@@ -34,7 +36,7 @@ module _ (s : Story) (t : KeepsTime s.bytes s.edges s.events) where
       absurd (cc (none, there))
 
   -- it ends at the end stamp or a cycle later
-  soon : (k : ℕ) (v : World Beside) → GoesOnTo s k → state_at s k ≡ Some v → 4096 ≤ v.cycle → v.cycle < 4096 + s.stop + 2
+  soon : (k : ℕ) (v : World Beside) → GoesOnTo Stamp s k → state_at s k ≡ Some v → 4096 ≤ v.cycle → v.cycle < 4096 + s.stop + 2
   soon zero v on there l =
       let first : 0 ≡ v.cycle = ap (λ (u : World Beside). u.cycle) (same_state there) in
       absurd (omega (arith, first, l))
@@ -61,11 +63,11 @@ module _ (s : Story) (t : KeepsTime s.bytes s.edges s.events) where
   not_shorter board run p q =
       elim (ltb run.steps board.steps) as (λ b. ltb run.steps board.steps ≡ b → board.steps ≤ run.steps) [
         | true ↦ λ f.
-            let at = on_at s board.steps run.steps p.goes_on (grind (arith, nat_tests, f)) in
+            let at = on_at s Stamp board.steps run.steps p.goes_on (grind (arith, nat_tests, f)) in
             let same : q.world ≡ at.0 = same_state (sym q.reached ∙ at.1) in
             let reaches = run_reaches run q in
-            let over : is_over s q.world ≡ true = grind (arith, nat_tests, reaches) in
-            let open_still : is_over s q.world ≡ false = ap (is_over s) same ∙ at.2 in
+            let over : is_over Stamp s q.world ≡ true = grind (arith, nat_tests, reaches) in
+            let open_still : is_over Stamp s q.world ≡ false = ap (is_over Stamp s) same ∙ at.2 in
             absurd (cc (open_still, over))
         | false ↦ λ f. grind (arith, nat_tests, f)
       ] refl
@@ -73,7 +75,7 @@ module _ (s : Story) (t : KeepsTime s.bytes s.edges s.events) where
   pub tells : (board : Outcome) (run : layout.Outcome) → IsOutcome s board → layout.IsOutcome s run → TellsRun s board run
   tells board run p q =
       let over = ends_over board.steps p.world board.end p.ends in
-      let at_end : is_over s p.world ≡ true = subst (EndsAt s board.steps p.world) over p.ends in
+      let at_end : is_over Stamp s p.world ≡ true = subst (EndsAt Stamp s board.steps p.world) over p.ends in
       let reaches : 4096 + s.stop ≤ p.world.cycle = grind (arith, nat_tests, at_end) in
       let cycles = p.cycles in
       let steps = not_shorter board run p q in

@@ -1,0 +1,49 @@
+-- A run on the board comes to its end.
+use Rattle.std.proofs.Common.{◌≡◌, ◌≤◌, ℕ, zero, suc, ◌+◌, true, false, Some, None, refl, ap, sym, ◌∙◌, arith}
+use Rattle.std.proofs.lemmas.Bool.Decides.{nat_tests}
+use Rattle.board_run.specs.Running.{IsOutcome, Outcome}
+use Rattle.joint_feed.specs.Stories.{Story, state_at}
+use Rattle.joint_run.specs.Joint.{Beside, joint_board, log_of}
+use Rattle.joint_run.specs.Run.{World, joint_step, step_on}
+use Rattle.story_run.specs.declared.ending.End.{End}
+use Rattle.story_run.specs.declared.ending.End.TheVariants.{Over, Stuck}
+use Rattle.story_run.specs.declared.ending.Ending.TheVariants.{Stamp}
+use Rattle.story_run.specs.Running.{EndsAt, GoesOnTo, is_over, place_of}
+use Rattle.story_run.proofs.Steps.{step_later}
+use Rattle.story_run.proofs.Stuck.{stuck_where_none}
+
+module _ (s : Story) where
+  -- a run that ends behind the first k steps at least
+  abbrev pub EndsBehind : ℕ → Type 0
+  EndsBehind k = (run : Outcome) × (k ≤ run.steps) × IsOutcome s run
+
+  ends_here : (k : ℕ) (w : World Beside) (end : End) → GoesOnTo Stamp s k → state_at s k ≡ Some w → EndsAt Stamp s k w end → EndsBehind k
+  ends_here k w end on there h = (
+    record { log = log_of w.board; end = end; mcu = w.cpu; steps = k; cycles = w.cycle },
+    omega arith,
+    record { world = w; goes_on = on; reached = there; ends = h; processor = refl; cycles = refl; log = refl },
+  )
+
+  stuck_here : (k : ℕ) (w : World Beside) → GoesOnTo Stamp s k → state_at s k ≡ Some w → is_over Stamp s w ≡ false → state_at s (suc k) ≡ None → EndsBehind k
+  stuck_here k w on there before none =
+      let step : joint_step (joint_board s.edges s.events) s.bytes w ≡ None = sym (ap (step_on (joint_board s.edges s.events) s.bytes) there) ∙ none in
+      ends_here k w (Stuck (place_of s.bytes w.cpu)) on there
+      (record { before_end = before; no_row = stuck_where_none s w step; none = none; at = refl })
+
+  -- the run ends, since each step takes a cycle at least
+  pub ends_within : (most k : ℕ) (w : World Beside) → GoesOnTo Stamp s k → state_at s k ≡ Some w → 4096 + s.stop ≤ w.cycle + most → EndsBehind k
+  ends_within zero k w on there l =
+      let over : is_over Stamp s w ≡ true = grind (arith, nat_tests, l) in
+      ends_here k w Over on there over
+  ends_within (suc most) k w on there l =
+      elim (is_over Stamp s w) as (λ b. is_over Stamp s w ≡ b → EndsBehind k) [
+        | true ↦ λ over. ends_here k w Over on there over
+        | false ↦ λ before. elim (state_at s (suc k)) as (λ o. state_at s (suc k) ≡ o → EndsBehind k) [
+          | None ↦ λ none. stuck_here k w on there before none
+          | Some v ↦ λ next.
+              let later = (step_later s k w v there next).0 in
+              let rest = ends_within most (suc k) v (on, w, there, before) next (omega (arith, l, later)) in
+              let far = rest.1 in
+              (rest.0, omega (arith, far), rest.2)
+        ] refl
+      ] refl
