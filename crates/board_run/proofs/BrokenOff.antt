@@ -84,10 +84,12 @@ module _ (s : Story) where
         let b = h.broken_so in
         let at = log_told h.last h.goes_on in
         let part : IsBrokenOff before after (with_step h.last) =
-        said_then_broken before b.between after (so_far h.last) (log_text (step_says s h.last)) (are_lines (log_at s h.last)) b.said b.broken in
+        said_then_broken before b.between after (so_far h.last) (log_text (step_says s h.last)) (are_lines (log_at s h.last))
+        b.said b.broken in
         among_first at.0 at.1 before after at.2 at.3
         (subst (IsBrokenOff before after) (at.4 ∙ ap (λ (o : Option (World Beside)). log_text (logged o)) at.3) part)
 
   -- the probes have looked at some states
-  pub some_looked : (broken : ℕ → Type 0) (first probes : List Watch) → BrokeOff Stamp s broken first probes → HaveLookedAtSome s first probes
+  pub some_looked : (broken : ℕ → Type 0) (first probes : List Watch) → BrokeOff Stamp s broken first probes
+      → HaveLookedAtSome s first probes
   some_looked broken first probes h = record { steps = suc h.last; goes_on = h.goes_on; looked = h.looked }

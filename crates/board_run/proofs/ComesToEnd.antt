@@ -8,30 +8,38 @@ use Rattle.joint_run.specs.Run.{World, joint_step, step_on}
 use Rattle.story_run.specs.declared.ending.End.{End}
 use Rattle.story_run.specs.declared.ending.End.TheVariants.{Over, Stuck}
 use Rattle.story_run.specs.declared.ending.Ending.TheVariants.{Stamp}
-use Rattle.story_run.specs.Running.{EndsAt, GoesOnTo, is_over, place_of}
+use Rattle.story_run.specs.Running.{EndsAt, GoesOnTo, IsStuckAt, is_over, place_of}
 use Rattle.story_run.proofs.Steps.{step_later}
 use Rattle.story_run.proofs.Stuck.{stuck_where_none}
 
+-- what a run comes to that ends at a state
+abbrev pub outcome_at : ℕ → World Beside → End → Outcome
+outcome_at k w end = record { log = log_of w.board; end = end; mcu = w.cpu; steps = k; cycles = w.cycle }
+
 module _ (s : Story) where
+  pub comes_to : (k : ℕ) (w : World Beside) (end : End) → GoesOnTo Stamp s k → state_at s k ≡ Some w → EndsAt Stamp s k w end
+      → IsOutcome s (outcome_at k w end)
+  comes_to k w end on there h =
+      record { world = w; goes_on = on; reached = there; ends = h; processor = refl; cycles = refl; log = refl }
+
+  -- where no state follows it is stuck
+  pub is_stuck : (k : ℕ) (w : World Beside) → state_at s k ≡ Some w → is_over Stamp s w ≡ false → state_at s (suc k) ≡ None
+      → IsStuckAt Stamp s k w (place_of s.bytes w.cpu)
+  is_stuck k w there before none =
+      let step : joint_step (joint_board s.edges s.events) s.bytes w ≡ None =
+      sym (ap (step_on (joint_board s.edges s.events) s.bytes) there) ∙ none in
+      record { before_end = before; no_row = stuck_where_none s w step; none = none; at = refl }
+
   -- a run that ends behind the first k steps at least
   abbrev pub EndsBehind : ℕ → Type 0
   EndsBehind k = (run : Outcome) × (k ≤ run.steps) × IsOutcome s run
 
   ends_here : (k : ℕ) (w : World Beside) (end : End) → GoesOnTo Stamp s k → state_at s k ≡ Some w → EndsAt Stamp s k w end → EndsBehind k
-  ends_here k w end on there h = (
-    record { log = log_of w.board; end = end; mcu = w.cpu; steps = k; cycles = w.cycle },
-    omega arith,
-    record { world = w; goes_on = on; reached = there; ends = h; processor = refl; cycles = refl; log = refl },
-  )
-
-  stuck_here : (k : ℕ) (w : World Beside) → GoesOnTo Stamp s k → state_at s k ≡ Some w → is_over Stamp s w ≡ false → state_at s (suc k) ≡ None → EndsBehind k
-  stuck_here k w on there before none =
-      let step : joint_step (joint_board s.edges s.events) s.bytes w ≡ None = sym (ap (step_on (joint_board s.edges s.events) s.bytes) there) ∙ none in
-      ends_here k w (Stuck (place_of s.bytes w.cpu)) on there
-      (record { before_end = before; no_row = stuck_where_none s w step; none = none; at = refl })
+  ends_here k w end on there h = (outcome_at k w end, omega arith, comes_to k w end on there h)
 
   -- the run ends, since each step takes a cycle at least
-  pub ends_within : (most k : ℕ) (w : World Beside) → GoesOnTo Stamp s k → state_at s k ≡ Some w → 4096 + s.stop ≤ w.cycle + most → EndsBehind k
+  pub ends_within : (most k : ℕ) (w : World Beside) → GoesOnTo Stamp s k → state_at s k ≡ Some w → 4096 + s.stop ≤ w.cycle + most
+      → EndsBehind k
   ends_within zero k w on there l =
       let over : is_over Stamp s w ≡ true = grind (arith, nat_tests, l) in
       ends_here k w Over on there over
@@ -39,7 +47,7 @@ module _ (s : Story) where
       elim (is_over Stamp s w) as (λ b. is_over Stamp s w ≡ b → EndsBehind k) [
         | true ↦ λ over. ends_here k w Over on there over
         | false ↦ λ before. elim (state_at s (suc k)) as (λ o. state_at s (suc k) ≡ o → EndsBehind k) [
-          | None ↦ λ none. stuck_here k w on there before none
+          | None ↦ λ none. ends_here k w (Stuck (place_of s.bytes w.cpu)) on there (is_stuck k w there before none)
           | Some v ↦ λ next.
               let later = (step_later s k w v there next).0 in
               let rest = ends_within most (suc k) v (on, w, there, before) next (omega (arith, l, later)) in

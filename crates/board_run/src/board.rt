@@ -105,13 +105,13 @@ impl<F: Feed> Board<F> {
         })
     }
 
-    /// Makes the same run, and in place of its log puts the two wires as a value change dump, each line whole. The wires
-    /// are sampled after each step, behind the probes' look; each change has its time, and a byte whose frame is whole, so
-    /// that the decoder hears it, is a comment behind the change that completes it.
+    /// Makes the same run, and in place of its log puts the two wires as a value change dump, each line whole. The
+    /// wires are sampled after each step, behind the probes' look; each change has its time, and a byte whose frame is
+    /// whole, so that the decoder hears it, is a comment behind the change that completes it.
     ///
     /// On Ok the sink has taken the whole text, its count of faults is as it was, and the probes have looked at each
-    /// state. A failure comes only where a put failed: then the sink has a prefix of the text, and the probes have looked
-    /// at the states up to the one whose sample adds the line.
+    /// state. A failure comes only where a put failed: then the sink has a prefix of the text, and the probes have
+    /// looked at the states up to the one whose sample adds the line.
     pub fn trace_to<K: Sink>(
         self,
         out: &mut K,

@@ -169,28 +169,33 @@ fn follow_to_end(rt: &impl Abort, alone: &mut Joint, glided: &Joint, due: &Due) 
     panic!(rt; "not stuck");
 }
 
-/// Steps at once of one machine, and single steps of the other beside them.
-fn go_along(rt: &impl Abort, seed: &mut u32, alone: &mut Joint, glided: &mut Joint) {
+/// Steps at once of one machine, and single steps of the other beside them. Answers how many events they took.
+fn go_along(rt: &impl Abort, seed: &mut u32, alone: &mut Joint, glided: &mut Joint) -> u32 {
     let mut due = nothing();
     let mut seen = Seen::nothing();
-    for _ in 0..120 {
-        any_more(&mut due, seed, glided.cycle());
-        let place = draw(seed) as u16;
-        let most = if glided.cycle() < 4000 {
-            2000
-        } else {
-            draw(seed) as u64
-        };
+    let mut taken: u32 = 0;
+    for _ in 0..160 {
         let from = glided.cycle();
         assert!(rt; from < 100_000_000);
+        // up to the first stamp in few turns
+        let (place, most) = if from < 4096 {
+            (NOWHERE, 4096 - from)
+        } else {
+            any_more(&mut due, seed, from);
+            (draw(seed) as u16, draw(seed) as u64)
+        };
         if go_on(glided, &due, &mut seen, place, most).is_err() {
             follow_to_end(rt, alone, glided, &due);
-            return;
+            return taken;
         }
         assert!(rt; glided.cycle() <= from + most + 2);
         follow(rt, alone, glided, &due, &seen, place);
         take_off(&mut due, &seen);
+        taken = taken
+            .saturating_add(seen.edges as u32)
+            .saturating_add(seen.host as u32);
     }
+    taken
 }
 
 #[test]
@@ -198,12 +203,16 @@ fn steps_at_once_are_single_steps_of_any_program_under_any_events(
     rt: HostRuntime,
 ) -> Result<(), Fail> {
     let mut seed = 48;
+    let mut taken: u32 = 0;
     for _ in 0..24 {
         let image = any_program(&mut seed);
         let mut alone = Joint::power_on(&image, Bios::new(rt.alloc())?);
         let mut glided = Joint::power_on(&image, Bios::new(rt.alloc())?);
-        go_along(&rt, &mut seed, &mut alone, &mut glided);
+        let more = go_along(&rt, &mut seed, &mut alone, &mut glided);
+        taken = taken.saturating_add(more);
     }
+    // most programs come to where events are due
+    assert!(&rt; taken > 300);
     Ok(())
 }
 

@@ -1,7 +1,6 @@
 -- Quiet joint steps, made at once, are steps that probes which rest needn't look at.
-use Rattle.std.proofs.Common.{◌≡◌, ◌≤◌, ◌<◌, ◌%◌, ◌&&◌, ◌==◌, ℕ, suc, zero, ◌+◌, Bool, true, false, not, List, [], Ok, Err, refl, ap, sym, subst, ◌∙◌, arith}
+use Rattle.std.proofs.Common.{◌≡◌, ◌≤◌, ◌<◌, ◌%◌, ◌&&◌, ◌==◌, ℕ, suc, zero, ◌+◌, Bool, true, false, not, List, refl, ap, sym, subst, ◌∙◌, arith}
 use Rattle.std.specs.Prelude.{nat_le}
-use Rattle.std.specs.declared.option.Option.{Option}
 use Rattle.std.specs.declared.result.Result.{Result}
 use Rattle.std.proofs.lemmas.Bool.Decides.{nat_tests}
 use Rattle.board_lines.specs.declared.lines.Lines.{Lines}
@@ -26,7 +25,6 @@ use Rattle.story_run.specs.declared.ending.Ending.{Ending}
 use Rattle.story_run.specs.declared.ending.Ending.TheVariants.{TickStart, Stamp}
 use Rattle.story_run.specs.declared.ending.Halt.{Halt}
 use Rattle.story_run.specs.Answers.{MeetsNoTick, TellsOver}
-use Rattle.story_run.specs.Gliding.{IsGoing}
 use Rattle.story_run.specs.Stretching.{HasMade, NoneHalts}
 use Rattle.story_run.proofs.Dozing.{HasDozed, dozes_on}
 use Rattle.story_run.proofs.Over.{open_off_tick, reached_at}

@@ -1,7 +1,6 @@
 -- What steps that are made at once come to in a run.
-use Rattle.std.proofs.Common.{◌≡◌, ◌<◌, ℕ, suc, Bool, true, false, List, [], Ok, Err, None, Some, refl, ap, sym, subst, ◌∙◌, arith}
+use Rattle.std.proofs.Common.{◌≡◌, ◌<◌, suc, Bool, true, List, Ok, Err, None, Some, sym, ◌∙◌, arith}
 use Rattle.std.specs.declared.option.Option.{Option}
-use Rattle.std.specs.declared.result.Result.{Result}
 use Rattle.board_lines.specs.declared.lines.Lines.{Lines}
 use Rattle.board_probes.specs.Probes.{Watch, sight_of}
 use Rattle.board_probes.specs.Resting.{all_rest}
@@ -12,13 +11,12 @@ use Rattle.joint_run.specs.Due.{IsJointStep}
 use Rattle.joint_run.specs.Joint.{Beside}
 use Rattle.joint_run.specs.Run.{World}
 use Rattle.joint_run.specs.declared.due.Due.{Due}
-use Rattle.joint_run.specs.declared.due.Seen.{Seen}
 use Rattle.joint_run.specs.declared.machine.Machine.{Machine}
 use Rattle.mcs48_core.specs.declared.stepping.Stuck.{Stuck}
 use Rattle.story_run.specs.declared.ending.Halt.{Halt}
 use Rattle.story_run.specs.Gliding.{HasGlided, IsGoing, IsOnward, IsStepped, IsStretch, looked_behind, looked_now}
-use Rattle.story_run.specs.Stretching.{CanFollow, HasMade, HasMadeSome}
-use Rattle.story_run.proofs.Dozing.{HasDozed, dozes_on, held_up, none_dozed, wakes, wakes_onward}
+use Rattle.story_run.specs.Stretching.{HasMade, HasMadeSome}
+use Rattle.story_run.proofs.Dozing.{HasDozed, dozes_on, held_up, wakes, wakes_onward}
 use Rattle.story_run.proofs.Quietly.{levels_kept, next_cycle, stepped_now}
 use Rattle.story_run.proofs.Slept.{course_at, slept_on, HasSlept}
 use Rattle.story_run.proofs.Told.{glided_now, held_now, onward_now}

@@ -18,8 +18,8 @@ const MOST: u64 = 65_536;
 /// A place that no counter is at.
 const NOWHERE: u16 = 2048;
 
-/// The place of the program to which no quiet step may lead, and how many cycles quiet steps may take together: so none of
-/// them leads to a halt.
+/// The place of the program to which no quiet step may lead, and how many cycles quiet steps may take together: so none
+/// of them leads to a halt.
 #[inline(always)]
 fn reach(course: &Course, halt: Halt) -> (u16, u64)
     requires going { (s : Story) × IsGoing halt s course.now }
@@ -34,9 +34,9 @@ fn reach(course: &Course, halt: Halt) -> (u16, u64)
     }
 }
 
-/// Makes joint steps by the events that are handed in: where the probes rest quiet ones, none of which leads to a halt; and
-/// then one of any kind, which is told in the course. Where the processor is stuck the steps before are made. The whole of
-/// a step that probes look at is built into this place.
+/// Makes joint steps by the events that are handed in: where the probes rest quiet ones, none of which leads to a halt;
+/// and then one of any kind, which is told in the course. Where the processor is stuck the steps before are made. The
+/// whole of a step that probes look at is built into this place.
 #[inline(always)]
 pub(crate) fn make_steps<const SITE: u8>(
     course: &mut Course,

@@ -1,7 +1,8 @@
 -- What a run has come to that was told.
-use Rattle.std.proofs.Common.{◌≡◌, ℕ, suc, List, [], ◌++◌, ap, sym, subst, ◌∙◌}
+use Rattle.std.proofs.Common.{◌≡◌, ℕ, suc, List, [], ◌++◌, ap, sym, subst, ◌∙◌, refl, length, ◌-◌}
 use Rattle.std.proofs.Common.{false}
 use Rattle.fw_logic.specs.JointRun.{KeepsTime}
+use Rattle.board_probes.specs.Looks.{looks}
 use Rattle.board_probes.specs.Probes.{Watch}
 use Rattle.io_edge.proofs.Pieces.{said_then_broken}
 use Rattle.io_edge.specs.Said.{IsBrokenOff, IsSaid, Shown}
@@ -24,10 +25,13 @@ use Rattle.subsystem.specs.Looking.{HaveLookedAtSome}
 use Rattle.subsystem.specs.Progress.{told_by}
 use Rattle.subsystem.specs.Putting.{HaveLookedToBreak, IsLogBrokenOff, step_lines}
 use Rattle.subsystem.specs.Running.{IsOutcome, Outcome, lines_of}
+use Rattle.subsystem.specs.Starts.{AreStartsOf}
 use Rattle.subsystem.specs.Telling.{HasNoted, HasPut}
 use Rattle.subsystem.specs.Texts.{log_text}
+use Rattle.board_lines.specs.Cadence.{KeepsCadenceTo, listed}
 use Rattle.subsystem.proofs.Ends.{ends, told_whole}
 use Rattle.subsystem.proofs.Room.{log_text-append}
+use Rattle.subsystem.proofs.Timekeeping.{keeps_cadence}
 use Rattle.subsystem.proofs.Told.{told_quiet, told_step}
 use Rattle.subsystem.proofs.Whole.{are_lines, broken_off}
 
@@ -67,6 +71,22 @@ module _ (s : Story) (t : KeepsTime s.bytes s.edges s.events) (c : Course) (end 
         (kept ∙ told.told_so.1 ∙ ap (λ v. v ++ told_by s told.steps) none ∙ told_quiet s t told.steps c.joint.steps told.quiet ∙ told_whole s t c end h run.starts noted)
         noted mcu steps cycles
 
+  -- or its starts alone are noted
+  module _ (it : Starts) (told : IsToldTo TickStart false s (λ k. HasNoted TickStart s k it) c.joint.steps) where
+    alone : it.stamps.items ≡ starts_among s (suc c.joint.steps)
+    alone = told.told_so.starts ∙ sym told.quiet.starts
+
+    pub are_starts : (before after : List Watch) → after ≡ looks s c.joint.steps before → AreStartsOf s it.stamps.items before after
+    are_starts before after looked =
+        let run : Outcome = record {
+          log = lines_of it.stamps.items (log_at s c.joint.steps);
+          starts = it.stamps.items;
+          end = c.joint.mcu;
+          steps = c.joint.steps;
+          cycles = c.joint.cycle;
+        } in
+        record { run = run; is = ends s t c end h run refl alone refl refl refl; same = refl; looked = looked }
+
 -- or where its telling broke off
 pub looked_some_by : (s : Story) (broken : ℕ → Type 0) (before after : List Watch) → BrokeOff TickStart s broken before after → HaveLookedAtSome s before after
 looked_some_by s broken before after b = record { steps = suc b.last; goes_on = b.goes_on; looked = b.looked }
@@ -80,3 +100,12 @@ broken_whole s t x y before after b =
     broken_off s t (suc k) x y b.goes_on
     (subst (λ v. IsBrokenOff x y v) text
     (said_then_broken x part.between y (log_text (told_by s k)) (log_text (step_lines s k)) (are_lines (told_by s k)) part.said part.broken))
+
+-- the starts are those of the same run by another name, and they are near their multiples of 2,048
+pub starts_by : (s t : Story) → s ≡ t → (starts : List ℕ) (before after : List Watch) → AreStartsOf s starts before after → AreStartsOf t starts before after
+starts_by s t same starts before after are = subst (λ (v : Story). AreStartsOf v starts before after) same are
+
+pub starts_near : (s : Story) → KeepsTime s.bytes s.edges s.events → (starts : List ℕ) (before after : List Watch) → AreStartsOf s starts before after
+    → KeepsCadenceTo (listed starts) (length starts - 1)
+starts_near s t starts before after are =
+    subst (λ (v : List ℕ). KeepsCadenceTo (listed v) (length v - 1)) (sym are.same) (keeps_cadence s t are.run are.is)

@@ -27,7 +27,7 @@ use Rattle.subsystem.proofs.Begun.{before_end}
 use Rattle.subsystem.proofs.Whole.{still_told}
 
 -- the run is over at a tick start at or after the end stamp
-at_start : (b : Bool) (stop cycle : ℕ) → (b && nat_le (4096 + stop) cycle) ≡ true → (b ≡ true) × (4096 + stop ≤ cycle)
+pub at_start : (b : Bool) (stop cycle : ℕ) → (b && nat_le (4096 + stop) cycle) ≡ true → (b ≡ true) × (4096 + stop ≤ cycle)
 at_start false stop cycle h = absurd cc
 at_start true stop cycle h = (refl, grind (arith, nat_tests, h))
 

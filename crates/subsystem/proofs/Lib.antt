@@ -14,3 +14,4 @@ pub mod Ticks
 pub mod Timekeeping
 pub mod Whole
 pub mod Sessions
+pub mod Outcomes

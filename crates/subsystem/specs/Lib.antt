@@ -4,8 +4,10 @@ pub mod Looking
 pub mod Progress
 pub mod Running
 pub mod Sessions
+pub mod Outcomes
 pub mod Texts
 pub mod Counts
 pub mod Putting
 pub mod Ending
 pub mod Telling
+pub mod Starts

@@ -6,6 +6,7 @@ ghost use Rattle.key_file.specs.Accepted.{IsAcceptedFor};
 ghost use Rattle.key_file.specs.Histories.{KeyHistory};
 ghost use Rattle.layout_reader.specs.Layouts.{IsKeyLayout};
 ghost use Rattle.subsystem.specs.Agreement.{RunsAreAlike, RunsAsExpected};
+ghost use Rattle.subsystem.specs.Outcomes.{RunsComeToOutcomes};
 ghost use Rattle.subsystem.specs.Sessions.{SessionsEndWithRuns};
 
 use agreement::run_and_model_agree;
@@ -28,6 +29,14 @@ pub fn runs_are_expected()
 pub fn runs_are_alike()
     ensures alike { RunsAreAlike }
 {}
+
+/// Where the run of a layout's compiled image, under a history that is accepted for it, is over, it has come to an outcome,
+/// of as many steps. Nothing is done when it is called; the law is its contract.
+pub fn runs_come_to_outcomes()
+    ensures outcomes { RunsComeToOutcomes }
+{
+    run_and_model_agree();
+}
 
 /// A debugger's session over a layout's compiled image, under a history that is accepted for it, ends exactly where the run
 /// of `run` does: it makes each of the run's steps, and none behind them. Nothing is done when it is called; the law is its

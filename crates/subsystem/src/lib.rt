@@ -17,12 +17,14 @@ mod putting;
 mod running;
 mod starts;
 mod telling;
+mod ticking;
 
 pub use counts::Counts;
 pub use ended::Ended;
 pub use engine::Engine;
-pub use law::{runs_are_alike, runs_are_expected, sessions_end_with_runs};
+pub use law::{runs_are_alike, runs_are_expected, runs_come_to_outcomes, sessions_end_with_runs};
 pub use link_model::LogLine;
 pub use outcome::Run;
 pub use printing::print_log;
 pub use running::run;
+pub use ticking::tick_starts;

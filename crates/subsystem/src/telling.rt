@@ -1,4 +1,4 @@
-//! What is told of a run: each item of its log with its tick. The tick starts are kept.
+//! What is told of a run: its tick starts, and each item of its log with its tick.
 
 ghost use Rattle.std.specs.Prelude.{◌≡◌, ◌++◌, false};
 ghost use Rattle.io_edge.specs.Said.{IsSaid, shown};
@@ -16,6 +16,20 @@ use joint_feed::Course;
 use link_model::LogLine;
 use std::alloc::AllocError;
 use story_run::Teller;
+
+impl Teller<(), AllocError> for Starts {
+    ghost WIRES = { false };
+
+    ghost has_told = { λ e s first k it out. HasNoted e s k it };
+
+    ghost is_broken = { λ e s first k out. Unit {0} };
+
+    const WIRES: bool = false;
+
+    fn tell(&mut self, _out: &mut (), course: &Course) -> Result<(), AllocError> {
+        self.note(&course.joint)
+    }
+}
 
 /// Keeps the lines in a list.
 #[derive(Drop)]

@@ -1,5 +1,5 @@
 -- A sample of the machine is one of the state that its last step led to, and is heard as behind the step before.
-use Rattle.std.proofs.Common.{◌≡◌, ◌≤◌, ◌<◌, ℕ, zero, suc, Bool, true, Some, None, Ok, Err, OnErr, OnOk, refl, ap, sym, subst, ◌∙◌, arith}
+use Rattle.std.proofs.Common.{◌≡◌, ◌≤◌, ◌<◌, ℕ, zero, suc, true, Some, None, Ok, Err, OnErr, OnOk, refl, ap, sym, subst, ◌∙◌, arith}
 use Rattle.std.specs.declared.option.Option.{Option}
 use Rattle.std.specs.declared.result.Result.{Result}
 use Rattle.std.proofs.lemmas.Bool.Decides.{nat_tests}
@@ -18,7 +18,7 @@ use Rattle.joint_run.specs.Run.{World}
 use Rattle.io_edge.proofs.Pieces.{said_then_said}
 use Rattle.story_run.specs.declared.ending.Ending.{Ending}
 use Rattle.story_run.specs.Advance.{IsBehind}
-use Rattle.story_run.specs.Gliding.{lines_at, lines_in}
+use Rattle.story_run.specs.Gliding.{lines_in}
 use Rattle.wire_trace.proofs.OfLines.{changes_are_lines}
 use Rattle.wire_trace.proofs.StillAddsNothing.{HearAlike, alike_heard, alike_text, still_to}
 use Rattle.wire_trace.specs.Ending.{AreChangesBrokenAt}

@@ -1,11 +1,10 @@
 -- What a sink has behind the header and what was told of a run.
-use Rattle.std.proofs.Common.{◌≡◌, ◌≤◌, ℕ, suc, true, List, ◌++◌, Some, refl, ap, sym, subst, ◌∙◌, arith}
+use Rattle.std.proofs.Common.{◌≡◌, ◌≤◌, ℕ, suc, true, List, ◌++◌, Some, refl, ap, sym, subst, ◌∙◌}
 use Rattle.std.proofs.lemmas.List.{append_assoc}
-use Rattle.board_lines.specs.declared.lines.Lines.{Lines}
 use Rattle.board_probes.specs.Transfers.{Ear, silence, wires_at}
 use Rattle.fw_logic.specs.JointRun.{KeepsTime}
 use Rattle.io_edge.specs.Said.{IsBrokenOff, IsSaid, Shown}
-use Rattle.io_edge.proofs.Pieces.{broken_before, lines_behind, none_said, said_then_broken, said_then_said}
+use Rattle.io_edge.proofs.Pieces.{broken_before, lines_behind, said_then_broken, said_then_said}
 use Rattle.joint_feed.proofs.Going.{here}
 use Rattle.joint_feed.specs.Stories.{Story, state_at}
 use Rattle.joint_feed.specs.declared.course.Course.{Course}
@@ -17,7 +16,7 @@ use Rattle.story_run.specs.declared.ending.Ending.{Ending}
 use Rattle.story_run.specs.declared.ending.Ending.TheVariants.{TickStart}
 use Rattle.story_run.specs.Advance.{IsEnding}
 use Rattle.story_run.specs.Looking.{BrokeOff}
-use Rattle.story_run.specs.Running.{EndsAt, GoesOnTo, IsOverBehind, is_over}
+use Rattle.story_run.specs.Running.{EndsAt, is_over}
 use Rattle.story_run.specs.Telling.{IsToldTo}
 use Rattle.board_probes.specs.Probes.{Watch}
 use Rattle.joint_run.specs.Joint.{Beside}

@@ -30,7 +30,8 @@ pub returns-then-not-is_passed_over-clause-stretch : goal.returns-then-not-is_pa
 returns-then-not-is_passed_over-clause-stretch g c = λ s is before at_rest.
     let inv = c.steps.invariant in
     stretch_onward c.args.halt s c.args.course.now c.steps.course c.goes_quietly.new.course before (inv.dozed s is before at_rest)
-    c.args.clk c.args.rest inv.level at_rest c.args.lines c.in-Ok-true.field-0 c.in-Ok-true.ensures.made is c.requires.levels c.in-Ok-true.field-0-test
+    c.args.clk c.args.rest inv.level at_rest c.args.lines c.in-Ok-true.field-0 c.in-Ok-true.ensures.made is c.requires.levels
+    c.in-Ok-true.field-0-test
 
 pub returns-then-not-is_passed_over-clause-later : goal.returns-then-not-is_passed_over-clause-later
 returns-then-not-is_passed_over-clause-later g c = λ same.
@@ -59,7 +60,8 @@ steps-preserved g c =
     record {
       dozed = λ s is before at_rest.
           stretch_dozed c.args.halt s c.args.course.now c.steps.course c.goes_quietly.new.course before (inv.dozed s is before at_rest)
-          c.args.clk c.args.rest inv.level at_rest c.args.lines c.in-Ok-true.field-0 c.in-Ok-true.ensures.made is c.requires.levels c.in-Ok-true.field-0-test
+          c.args.clk c.args.rest inv.level at_rest c.args.lines c.in-Ok-true.field-0 c.in-Ok-true.ensures.made is c.requires.levels
+          c.in-Ok-true.field-0-test
           (at_rest (c.is_passed_over.ensures.rest passed)) now;
       level = now;
     }

@@ -1,4 +1,4 @@
-use Rattle.std.proofs.Common.{◌≡◌, refl, sym, ◌∙◌, arith}
+use Rattle.std.proofs.Common.{refl, arith}
 use Rattle.story_run.proofs.Timekeeping.{none_halts, soon}
 use Rattle.story_run.proofs.stretching.make_steps.Goals as goal
 

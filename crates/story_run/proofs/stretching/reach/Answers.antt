@@ -1,11 +1,13 @@
-use Rattle.std.proofs.Common.{◌≡◌, ◌+◌, ◌-◌, refl, subst, sym, arith}
+use Rattle.std.proofs.Common.{◌+◌, ◌-◌, refl, subst, sym, arith}
 use Rattle.fw_kernel.specs.declared.labels.TheConstants.{TICK}
 use Rattle.story_run.specs.Stretching.{NoneHalts}
 use Rattle.story_run.proofs.Timekeeping.{before_stamp, soon}
 use Rattle.story_run.proofs.stretching.reach.Goals as goal
 
 pub returns-in-TickStart-clause-none : goal.returns-in-TickStart-clause-none
-returns-in-TickStart-clause-none c = subst (λ e. NoneHalts e c.args.halt.stop TICK (c.args.course.now.joint.cycle + 65536)) (sym c.in-TickStart.is) refl
+returns-in-TickStart-clause-none c =
+    let from = c.args.course.now.joint.cycle in
+    subst (λ e. NoneHalts e c.args.halt.stop TICK (from + 65536)) (sym c.in-TickStart.is) refl
 
 pub returns-in-TickStart-clause-near : goal.returns-in-TickStart-clause-near
 returns-in-TickStart-clause-near c =
@@ -16,7 +18,9 @@ pub returns-in-Stamp-clause-none : goal.returns-in-Stamp-clause-none
 returns-in-Stamp-clause-none c =
     let before = before_stamp c.args.halt c.requires.going.0 c.args.course.now c.requires.going.1 c.in-Stamp.is in
     let cycle = c.cycle-cycle.ensures.cycle in
-    subst (λ e. NoneHalts e c.args.halt.stop 2048 (c.args.course.now.joint.cycle + (4095 + c.args.halt.stop - c.cycle-cycle.result))) (sym c.in-Stamp.is) (omega (arith, before, cycle))
+    let stop = c.args.halt.stop in
+    let to = c.args.course.now.joint.cycle + (4095 + stop - c.cycle-cycle.result) in
+    subst (λ e. NoneHalts e stop 2048 to) (sym c.in-Stamp.is) (omega (arith, before, cycle))
 
 pub returns-in-Stamp-clause-near : goal.returns-in-Stamp-clause-near
 returns-in-Stamp-clause-near c =

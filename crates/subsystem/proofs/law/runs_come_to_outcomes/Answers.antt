@@ -1,0 +1,13 @@
+use Rattle.std.proofs.Common.{refl}
+use Rattle.fw_compile.specs.Image.{image_of}
+use Rattle.joint_feed.specs.Stories.{story}
+use Rattle.subsystem.proofs.Outcomes.{is_outcome_there, outcome_there}
+use Rattle.subsystem.proofs.law.runs_come_to_outcomes.Goals as goal
+
+pub returns : goal.returns
+returns c = record {
+  outcomes = λ layout history steps sound accepted over.
+      let s = story (image_of layout) history in
+      let time = (c.run_and_model_agree.ensures.agreement layout history sound accepted).0 in
+      (outcome_there s time steps over, is_outcome_there s time steps over, refl);
+}

@@ -1,0 +1,55 @@
+//! The tick starts of the run, without its log.
+
+ghost use Rattle.std.specs.Prelude.{◌≡◌, ◌-◌, length, map, IfOk};
+ghost use Rattle.board_lines.specs.Cadence.{KeepsCadenceTo, listed};
+ghost use Rattle.fw_compile.specs.Image.{image_of};
+ghost use Rattle.joint_feed.specs.Stories.{story};
+ghost use Rattle.key_file.specs.Accepted.{IsAcceptedFor};
+ghost use Rattle.subsystem.specs.Looking.{HaveLookedAtSome};
+ghost use Rattle.subsystem.specs.Starts.{AreStartsOf};
+
+use crate::law::keeps_time;
+use crate::starts::Starts;
+use board_probes::Probe;
+use fw_compile::compile;
+use int09::Bios;
+use joint_feed::Course;
+use key_file::{History, ListFeed};
+use layout_reader::Layout;
+use std::alloc::{AllocError, Global};
+use story_run::{Ending, tell_run};
+
+/// The stamps of the tick starts in the run that `run` makes, whose log isn't kept. After each step each probe looks at the
+/// state that it led to. Each start is at its multiple of 2,048 or at most five cycles past it. Only memory may be wanting:
+/// then the probes have looked at the states of some first steps.
+pub fn tick_starts(
+    alloc: Global,
+    layout: &Layout,
+    history: &History,
+    probes: &mut Vec<Box<dyn Probe>>,
+) -> Result<Vec<u64>, AllocError>
+    requires { IsAcceptedFor layout.now history.now }
+    ensures starts { let s = story (image_of layout.now) history.now in
+        IfOk result (λ starts. AreStartsOf s starts.items (map (λ b. watch b) probes.old.items) (map (λ b. watch b) probes.new.items)) }
+    ensures cadence { IfOk result (λ starts. KeepsCadenceTo (listed starts.items) (length starts.items - 1)) }
+    ensures looked_so_far { let s = story (image_of layout.now) history.now in
+        HaveLookedAtSome s (map (λ b. watch b) probes.old.items) (map (λ b. watch b) probes.new.items) }
+{
+    let image = compile(layout);
+    keeps_time(layout);
+    let _ = history.end();
+    let bios = Bios::new(alloc)?;
+    let mut feed = ListFeed::new(history);
+    let mut course = Course::begin(&image, bios, &mut feed);
+    let stamps = Vec::new(alloc);
+    let mut starts = Starts { stamps };
+    let _end = tell_run::<ListFeed, (), AllocError, Starts, 6>(
+        &mut course,
+        &mut feed,
+        Ending::TickStart,
+        &mut starts,
+        &mut (),
+        probes,
+    )?;
+    Ok(starts.stamps)
+}
