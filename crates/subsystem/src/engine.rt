@@ -151,7 +151,7 @@ impl<F: Feed> Engine<F> {
             starts: self.starts,
             counts: Counts::none(),
         };
-        let _end = tell_run::<F, K, SinkFault, Putting, 5>(
+        let _end = tell_run::<F, K, SinkFault, Putting, 9>(
             &mut course,
             &mut feed,
             Ending::TickStart,

@@ -43,7 +43,7 @@ pub fn tick_starts(
     let mut course = Course::begin(&image, bios, &mut feed);
     let stamps = Vec::new(alloc);
     let mut starts = Starts { stamps };
-    let _end = tell_run::<ListFeed, (), AllocError, Starts, 6>(
+    let _end = tell_run::<ListFeed, (), AllocError, Starts, 10>(
         &mut course,
         &mut feed,
         Ending::TickStart,

@@ -88,7 +88,7 @@ fn put_trace<F: Feed, K: Sink>(
     let mut changes = Changes::new();
     let mut probes = Vec::new(alloc);
     put_header(out)?;
-    let _end = tell_run::<F, K, SinkFault, Changes, 6>(
+    let _end = tell_run::<F, K, SinkFault, Changes, 11>(
         course,
         feed,
         Ending::TickStart,
