@@ -3,8 +3,12 @@ pub mod AtNumber
 pub mod Counted
 pub mod Fields
 pub mod Lasting
+pub mod Leading
 pub mod Making
 pub mod Obeyed
+pub mod Passing
 pub mod Printed
+pub mod Quiet
 pub mod Right
 pub mod Standing
+pub mod Strode

@@ -1,25 +1,23 @@
 -- A session's state: whether its run has ended there, and its next step.
-use Rattle.std.proofs.Common.{◌≡◌, ℕ, suc, ◌+◌, Bool, true, false, not, ◌&&◌, ◌||◌, List, Some, None, Ok, Err, is_none, is_ok, refl, ap, sym, subst, ◌∙◌}
+use Rattle.std.proofs.Common.{◌≡◌, ◌<◌, ℕ, suc, ◌+◌, Bool, true, false, not, ◌&&◌, ◌||◌, List, Some, None, is_none, refl, ap, sym, subst, ◌∙◌, arith}
 use Rattle.std.specs.Prelude.{if◌then◌else◌, nat_le}
+use Rattle.std.proofs.lemmas.Bool.Decides.{nat_tests}
 use Rattle.std.specs.declared.option.Option.{Option}
-use Rattle.std.specs.declared.result.Result.{Result}
 use Rattle.mcs48_isa.specs.declared.operation.Decoded.{Decoded}
 use Rattle.mcs48_core.specs.Cpu.{Cpu}
 use Rattle.mcs48_core.specs.declared.levels.Pins.{Pins}
-use Rattle.mcs48_core.specs.declared.stepping.Stuck.{Stuck}
 use Rattle.mcs48_core.specs.Step.{Stepped, stepped, executed, row_at, takes_external, takes_timer, entered}
 use Rattle.board_lines.specs.declared.event.Edge.{Edge}
 use Rattle.board_lines.specs.declared.event.HostEvent.{HostEvent}
 use Rattle.joint_run.specs.Joint.{Beside, joint_board, joint_pins, joint_start}
-use Rattle.joint_run.specs.declared.machine.Machine.{Machine}
 use Rattle.joint_run.specs.Run.{Board, World, after_step, joint_step, run_at, seen, step_on}
 use Rattle.fw_logic.specs.JointRun.{TellsTick}
 use Rattle.joint_feed.specs.declared.course.Course.{Course}
-use Rattle.joint_feed.specs.Course.{IsOnCourse, IsStepOn}
-use Rattle.joint_feed.specs.Stories.{Story, state_at, starts_tick}
-use Rattle.fw_debug.specs.Sessions.{Debuggee, sitting, session_is_over, next_from, next_state, has_ended}
+use Rattle.joint_feed.specs.Course.{IsOnCourse}
+use Rattle.joint_feed.specs.Stories.{state_at, starts_tick}
+use Rattle.fw_debug.specs.Sessions.{Debuggee, Sitting, sitting, session_is_over, next_from, next_state, has_ended}
 use Rattle.board_probes.specs.Stuck.{sticks}
-use Rattle.fw_debug.specs.Advance.{IsStateAt, IsAdvanced}
+use Rattle.fw_debug.specs.Advance.{IsStateAt, TellsOver}
 use Rattle.board_probes.proofs.Sights.{same_sight}
 
 none_after : (d : Board) (w : World d.State) (o : Option Stepped) → is_none (after_step d w o) ≡ is_none o
@@ -58,14 +56,14 @@ none_step edges events bytes w =
     none_after d w (stepped bytes (seen d w) w.cpu) ∙ none_stepped bytes (seen d w) w.cpu (int_high edges events w)
 
 -- the next state from one that is there
-next_there : (s : Debuggee) (k : ℕ) (w : World Beside) (over : Bool) → state_at s.story k ≡ Some w → over ≡ session_is_over s w → next_state s k ≡ (if over then None else state_at s.story (suc k))
+pub next_there : (s : Debuggee) (k : ℕ) (w : World Beside) (over : Bool) → state_at s.story k ≡ Some w → over ≡ session_is_over s w → next_state s k ≡ (if over then None else state_at s.story (suc k))
 next_there s k w over e o = ap (next_from s k) e ∙ ap (λ b. if b then None else state_at s.story (suc k)) (sym o)
 
 module _ (s : Debuggee) (c : Course) (h : IsOnCourse s.story c) where
   pub here : state_at s.story c.joint.steps ≡ Some h.world
   here = subst (λ (bytes : List ℕ). run_at (joint_board s.story.edges s.story.events) bytes joint_start c.joint.steps ≡ Some h.world) h.image h.in_run.run
 
-  same : (w : World Beside) → state_at s.story c.joint.steps ≡ Some w → h.world ≡ w
+  pub same : (w : World Beside) → state_at s.story c.joint.steps ≡ Some w → h.world ≡ w
   same w e = let f : Some h.world ≡ Some w = sym here ∙ e in cc f
 
   -- what is answered of the machine is so of the state
@@ -100,21 +98,31 @@ module _ (s : Debuggee) (c : Course) (h : IsOnCourse s.story c) where
     sight = same_sight c.joint h.world h.in_run.mcu h.in_run.outside h.in_run.cycle;
   }
 
--- the same as an answer of the session, whose image is the one that is run
-pub stays : (s : Story) (old new : Course) (r : Result (Unit {0}) Stuck) → IsOnCourse s old → IsStepOn s old r new → IsOnCourse s new
-stays s old new (Ok done) h step = step.0
-stays s old new (Err stuck) h step = step.0
+-- a run that isn't over at its present state is before its latest end
+or_not : (a b : Bool) → false ≡ (a || b) → b ≡ false
+or_not true b h = absurd (cc h)
+or_not false b h = sym h
 
-pub advanced : (s : Debuggee) (old new : Course) (r : Result (Unit {0}) Stuck) (past : Bool) → IsOnCourse s.story old → IsStepOn s.story old r new
-    → ((w : World Beside) → state_at s.story old.joint.steps ≡ Some w → past ≡ session_is_over s w) → past ≡ false
-    → IsAdvanced (sitting s old.joint.steps) (is_ok r) (sitting s new.joint.steps)
-advanced s old new (Ok done) past h step over f =
-    let k : new.joint.steps ≡ suc old.joint.steps = step.1 in
-    let there : state_at s.story (suc old.joint.steps) ≡ Some step.0.world = subst (λ (n : ℕ). state_at s.story n ≡ Some step.0.world) k (here s new step.0) in
-    let w : World Beside = h.world in
-    let next = next_there s old.joint.steps w past (here s old h) (over w (here s old h)) ∙ ap (λ b. if b then None else state_at s.story (suc old.joint.steps)) f in
-    (ap (sitting s) k, step.0.world, there, next ∙ there)
-advanced s old new (Err stuck) past h step over f =
-    let w : World Beside = h.world in
-    let next = next_there s old.joint.steps w past (here s old h) (over w (here s old h)) ∙ ap (λ b. if b then None else state_at s.story (suc old.joint.steps)) f in
-    (ap (λ (j : Machine). sitting s j.steps) step.1, next ∙ step.3)
+before_end : (s : Debuggee) (w : World Beside) → false ≡ session_is_over s w → w.cycle < s.story.stop + s.latest
+before_end s w h =
+    let off = or_not _ (nat_le (s.story.stop + s.latest) w.cycle) h in
+    grind (arith, nat_tests, off)
+
+pub room_there : (s : Debuggee) (c : Course) → IsOnCourse s.story c → TellsOver (sitting s c.joint.steps) false → c.joint.cycle < s.story.stop + s.latest
+room_there s c h open_now =
+    let a = before_end s h.world (open_now h.world (here s c h)) in
+    let e = h.in_run.cycle in
+    omega (arith, a, e)
+
+pub cycle_there : (s : Debuggee) (c : Course) (h : IsOnCourse s.story c) (w : World Beside) → state_at s.story c.joint.steps ≡ Some w → w.cycle ≡ c.joint.cycle
+cycle_there s c h w there = sym (h.in_run.cycle ∙ ap (λ (v : World Beside). v.cycle) (same s c h w there))
+
+over_by : (s : Debuggee) (k : ℕ) (o : Option (World Beside)) → state_at s.story k ≡ o → ((w : World Beside) → state_at s.story k ≡ Some w → true ≡ session_is_over s w)
+    → next_from s k o ≡ None
+over_by s k None e t = refl
+over_by s k (Some w) e t = ap (λ b. if b then None else state_at s.story (suc k)) (sym (t w e))
+
+-- where it is over there is no next state
+pub over_now : (s : Sitting) (past : Bool) → TellsOver s past → past ≡ true → next_state s.debuggee s.steps ≡ None
+over_now s past tells on =
+    over_by s.debuggee s.steps (state_at s.debuggee.story s.steps) refl (λ w there. sym on ∙ tells w there)

@@ -7,4 +7,5 @@ pub mod Making
 pub mod Obeyed
 pub mod Scripts
 pub mod Sessions
+pub mod Striding
 pub mod Told

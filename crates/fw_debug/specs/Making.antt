@@ -1,29 +1,44 @@
--- A step of a session, with the looks of its probes.
-use Rattle.std.specs.Prelude.{◌≡◌, Bool, true, false, List, Some, None}
+-- Some steps of a session at once, with the looks of its probes.
+use Rattle.std.specs.Prelude.{◌≡◌, ◌≤◌, ◌<◌, ℕ, ◌+◌, ◌-◌, true, List, map, Some, None}
+use Rattle.std.specs.declared.option.Option.{Option}
 use Rattle.joint_run.specs.Joint.{Beside}
 use Rattle.joint_run.specs.Run.{World}
+use Rattle.joint_feed.specs.Stories.{state_at}
+use Rattle.board_probes.specs.Probes.{Watch, first_met, looked, sight_in}
+use Rattle.board_probes.specs.Resting.{all_rest}
 use Rattle.fw_debug.specs.declared.stepping.Made.{Made}
-use Rattle.fw_debug.specs.declared.stepping.Made.TheVariants.{Ended, Missed, Hit}
-use Rattle.board_probes.specs.Probes.{Watch, first_met, sight_in}
-use Rattle.fw_debug.specs.Sessions.{Sitting, debug, next_state, stepped_to}
+use Rattle.fw_debug.specs.Sessions.{Debug, Debuggee, Hunted, Sitting, debug, hunt, next_state, walk}
 
--- a step was made to this state
-pub record IsMadeTo (old : Sitting) (before : List Watch) (new : Sitting) (after : List Watch) : Type 0 where
-  pub world : World Beside
-  pub next : next_state old.debuggee old.steps ≡ Some world
+-- a hunt behind steps of which the last hit this probe first; if it hit none, the hunt goes on
+abbrev pub hunt_behind : Debuggee → ℕ → Debug → Option ℕ → Hunted
+hunt_behind s more d None = hunt s more d
+hunt_behind s more d (Some probe) = record { debug = d; hit = Some probe }
+
+-- so many steps lead from one time of a session to another, and the last of them hit this probe first, and those
+-- before it none: whoever makes more steps comes from the first time to where he comes from the second
+pub record LeadsTo (s : Debuggee) (count : ℕ) (old new : Debug) (hit : Option ℕ) : Type 0 where
+  pub walked : (more : ℕ) → walk s (count + more) old ≡ walk s more new
+  pub hunted : (more : ℕ) → hunt s (count + more) old ≡ hunt_behind s more new hit
+
+-- probes rest at the state behind so many steps
+abbrev pub RestAt : Debuggee → ℕ → List Watch → Type 0
+RestAt s k probes = (w : World Beside) → state_at s.story k ≡ Some w → all_rest (sight_in w).lines.clk probes ≡ true
+
+-- at most so many steps were made, and none only where the run has ended; one look at the state that the last of them
+-- led to leaves these probes as a look at each
+pub record IsAdvanced (left : ℕ) (old : Sitting) (before : List Watch) (new : Sitting) : Type 0 where
   pub debuggee : new.debuggee ≡ old.debuggee
-  pub stepped : debug new after ≡ stepped_to world (debug old before)
+  pub later : old.steps ≤ new.steps
+  pub within : new.steps ≤ old.steps + left
+  pub ended : new.steps ≡ old.steps → next_state new.debuggee new.steps ≡ None
+  pub led : old.steps < new.steps → (w : World Beside) → state_at old.debuggee.story new.steps ≡ Some w
+      → LeadsTo old.debuggee (new.steps - old.steps) (debug old before)
+      (debug new (map (looked new.steps (sight_in w)) before)) (first_met 0 (sight_in w) before)
 
--- what came of one step more
-abbrev pub IsMade : Sitting → List Watch → Made → Sitting → List Watch → Type 0
-IsMade old before Ended new after =
-    (next_state old.debuggee old.steps ≡ None) × (new ≡ old) × (after ≡ before)
-IsMade old before Missed new after =
-    (m : IsMadeTo old before new after) × (first_met 0 (sight_in m.world) before ≡ None)
-IsMade old before (Hit probe) new after =
-    (m : IsMadeTo old before new after) × (first_met 0 (sight_in m.world) before ≡ Some probe)
-
--- what came of one step more, where nobody asks what it hit: whether it was made
-abbrev pub IsMore : Sitting → List Watch → Bool → Sitting → List Watch → Type 0
-IsMore old before false new after = (next_state old.debuggee old.steps ≡ None) × (new ≡ old) × (after ≡ before)
-IsMore old before true new after = IsMadeTo old before new after
+-- at most so many steps were made, and none only where the run has ended; and where they lead to
+pub record IsMade (left : ℕ) (old : Sitting) (before : List Watch) (made : Made) (new : Sitting) (after : List Watch)
+    : Type 0 where
+  pub debuggee : new.debuggee ≡ old.debuggee
+  pub within : made.steps ≤ left
+  pub ended : made.steps ≡ 0 → next_state new.debuggee new.steps ≡ None
+  pub led : LeadsTo old.debuggee made.steps (debug old before) (debug new after) made.hit

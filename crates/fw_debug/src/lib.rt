@@ -15,6 +15,7 @@ mod script;
 mod scripted;
 mod session;
 mod stepping;
+mod striding;
 #[cfg(test)]
 mod tests;
 mod texts;

@@ -1,15 +1,18 @@
 //! A session: the run of a program under a history, made step by step.
 
-ghost use Rattle.std.specs.Prelude.{◌≡◌, ◌≤◌, ◌<◌, ◌+◌, ◌^◌, ◌&&◌, ◌||◌, nat_le, false, Some, IfOk};
+ghost use Rattle.std.specs.Prelude.{◌≡◌, ◌≤◌, ◌<◌, ◌+◌, ◌^◌, ◌&&◌, ◌||◌, List, nat_le, false, true, Some, IfOk};
 ghost use Rattle.joint_feed.specs.Course.{IsOnCourse};
 ghost use Rattle.joint_feed.specs.Stories.{state_at};
 ghost use Rattle.joint_run.specs.Joint.{Beside};
 ghost use Rattle.joint_run.specs.Run.{World};
 ghost use Rattle.fw_debug.specs.Sessions.{has_ended, latest_start, sitting};
 ghost use Rattle.board_probes.specs.Stuck.{sticks};
-ghost use Rattle.fw_debug.specs.Advance.{IsStateAt, IsAdvanced, TellsOver};
+ghost use Rattle.board_probes.specs.Probes.{Watch};
+ghost use Rattle.fw_debug.specs.Advance.{IsStateAt, TellsOver};
+ghost use Rattle.fw_debug.specs.Making.{IsAdvanced, RestAt};
 
 use crate::debuggee::Debuggee;
+use crate::striding::stride;
 use fw_logic::at_tick;
 use int09::Bios;
 use joint_feed::Course;
@@ -48,8 +51,7 @@ impl Model for Session {
 fn is_end(starts: bool, cycle: u64, stop: u64, latest: u64) -> bool
     requires stop { stop ≤ 240000000 }
     requires latest { latest ≤ latest_start }
-    ensures over { result ≡ ((starts && nat_le (4096 + stop) cycle) || nat_le (stop + latest) cycle) }
-    ensures near { result ≡ false → cycle < stop + latest }
+    ensures { result ≡ ((starts && nat_le (4096 + stop) cycle) || nat_le (stop + latest) cycle) }
 {
     starts && cycle >= 4096 + stop || cycle >= stop + latest
 }
@@ -96,9 +98,7 @@ impl Session {
 
     /// Whether the run is over before its next step, which is at a cycle that isn't far otherwise.
     fn is_past(&self) -> bool
-        ensures over { TellsOver self.now result }
-        ensures near { (w : World Beside) → state_at self.now.debuggee.story self.now.steps ≡ Some w
-            → result ≡ false → w.cycle < 2 ^ 62 }
+        ensures { TellsOver self.now result }
     {
         let starts = at_tick(&self.course.joint);
         let cycle = self.course.joint.cycle();
@@ -112,13 +112,34 @@ impl Session {
         self.is_past() || sticks(&self.image, self.course.joint.mcu())
     }
 
-    /// Makes a step, if the run goes on. Answers whether it did.
-    pub(crate) fn advance(&mut self) -> bool
-        ensures { IsAdvanced self.old result self.new }
+    /// How many cycles quiet steps may take together, so that with one step more they are at most `left`, and each begins
+    /// before the run's end; none where probes don't rest. The run isn't over.
+    fn quiet_room(&self, left: u64, rest: bool) -> u64
+        requires open { TellsOver self.now false }
+        requires some { 0 < left }
+        ensures room { (w : World Beside) → state_at self.now.debuggee.story self.now.steps ≡ Some w
+            → w.cycle + result < self.now.debuggee.story.stop + self.now.debuggee.latest }
+        ensures near { (w : World Beside) → state_at self.now.debuggee.story self.now.steps ≡ Some w → w.cycle + result < 2 ^ 62 }
+        ensures few { result < left }
+        ensures alone { rest ≡ false → result ≡ 0 }
+    {
+        let last = self.history.end() + self.latest - 1;
+        if !rest {
+            return 0;
+        }
+        (last - self.course.joint.cycle()).min(left - 1)
+    }
+
+    /// Makes steps, if the run goes on, at most `left`: one; or, where probes rest, quiet ones before it as well.
+    pub(crate) fn advance(&mut self, left: u64, rest: bool)
+        requires some { 0 < left }
+        ensures { (before : List Watch) → (rest ≡ true → RestAt self.old.debuggee self.old.steps before)
+            → IsAdvanced left self.old before self.new }
     {
         if self.is_past() {
-            return false;
+            return;
         }
-        self.course.step(&self.history).is_ok()
+        let most = self.quiet_room(left, rest);
+        let _ = stride(&mut self.course, &self.history, most);
     }
 }

@@ -1,48 +1,42 @@
 //! Steps of a session, after each of which the probes look.
 
-ghost use Rattle.std.specs.Prelude.{◌≡◌, map};
+ghost use Rattle.std.specs.Prelude.{◌≡◌, ◌<◌, map};
 ghost use Rattle.fw_debug.specs.Sessions.{debug, walk, hunt};
-ghost use Rattle.fw_debug.specs.Making.{IsMade, IsMore};
+ghost use Rattle.fw_debug.specs.Making.{IsMade};
 
 use crate::session::Session;
-use board_probes::{Probe, look_all};
+use board_probes::{Probe, all_rest, look_all};
 
-/// What came of one step more.
+/// What came of some steps more: how many were made, none where the run has ended; and of the probes that the last of them
+/// hit the first, counted from 0.
 #[derive(Clone, Copy, Drop)]
-pub(crate) enum Made {
-    /// The run has ended, and no step was made.
-    Ended,
-    /// A step was made, and no probe was hit.
-    Missed,
-    /// A step was made, and of the probes that it hit this is the first, counted from 0.
-    Hit(usize),
+pub(crate) struct Made {
+    pub(crate) steps: u64,
+    pub(crate) hit: Option<usize>,
 }
 
 impl Session {
-    /// Makes a step, if the run goes on; then each probe looks.
-    pub(crate) fn make(&mut self, probes: &mut Vec<Box<dyn Probe>>) -> Made
+    /// Makes steps, if the run goes on, at most `left`, of which only the last can hit a probe; then each probe looks. While
+    /// all of them rest that comes to the same as a look behind each step.
+    pub(crate) fn make(&mut self, left: u64, probes: &mut Vec<Box<dyn Probe>>) -> Made
+        requires some { 0 < left }
         ensures { let before = map (λ b. watch b) probes.old.items in
-            IsMade self.old before result self.new (map (λ b. watch b) probes.new.items) }
+            IsMade left self.old before result self.new (map (λ b. watch b) probes.new.items) }
     {
-        if !self.advance() {
-            return Made::Ended;
-        }
+        let first = self.steps();
+        let rest = all_rest(probes, self.joint().lines().clk);
+        self.advance(left, rest);
         let steps = self.steps();
-        match look_all(probes, steps, self.joint()) {
-            None => Made::Missed,
-            Some(probe) => Made::Hit(probe),
+        if steps == first {
+            return Made {
+                steps: 0,
+                hit: None,
+            };
         }
-    }
-
-    /// The same, whatever is hit. Answers whether a step was made.
-    fn goes_on(&mut self, probes: &mut Vec<Box<dyn Probe>>) -> bool
-        ensures { let before = map (λ b. watch b) probes.old.items in
-            IsMore self.old before result self.new (map (λ b. watch b) probes.new.items) }
-    {
-        match self.make(probes) {
-            Made::Ended => false,
-            Made::Missed => true,
-            Made::Hit(_) => true,
+        let hit = look_all(probes, steps, self.joint());
+        Made {
+            steps: steps - first,
+            hit,
         }
     }
 
@@ -52,10 +46,13 @@ impl Session {
         ensures walked { let before = debug self.old (map (λ b. watch b) probes.old.items) in
             debug self.new (map (λ b. watch b) probes.new.items) ≡ walk self.old.debuggee count before }
     {
-        for _i in 0..count {
-            if !self.goes_on(probes) {
+        let mut left = u64::from(count);
+        'steps: while left > 0 {
+            let made = self.make(left, probes);
+            if made.steps == 0 {
                 return;
             }
+            left -= made.steps;
         }
     }
 
@@ -67,12 +64,16 @@ impl Session {
         ensures hit { let before = debug self.old (map (λ b. watch b) probes.old.items) in
             (hunt self.old.debuggee count before).hit ≡ result }
     {
-        for _i in 0..count {
-            match self.make(probes) {
-                Made::Ended => return None,
-                Made::Missed => {}
-                Made::Hit(probe) => return Some(probe),
+        let mut left = u64::from(count);
+        'steps: while left > 0 {
+            let made = self.make(left, probes);
+            if made.steps == 0 {
+                return made.hit;
             }
+            if made.hit.is_some() {
+                return made.hit;
+            }
+            left -= made.steps;
         }
         None
     }

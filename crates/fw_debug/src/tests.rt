@@ -71,6 +71,28 @@ fn a_hunt_stops_where_a_probe_hits(rt: HostRuntime) -> Result<(), Fail> {
 }
 
 #[test]
+fn steps_at_once_lead_where_single_steps_lead(rt: HostRuntime) -> Result<(), Fail> {
+    let alloc = rt.alloc();
+    let mut probes: Vec<Box<dyn Probe>> = Vec::new(alloc);
+    probes.push(Box::new(alloc, AddressProbe::new())?)?;
+    let at_once = printed(
+        &rt,
+        alloc,
+        &["step 91923", "show", "step 1", "show"],
+        &mut probes,
+    )?;
+    let singly = printed(
+        &rt,
+        alloc,
+        &["arm 0 FFF 00", "step 91923", "show", "step 1", "show"],
+        &mut probes,
+    )?;
+    assert!(rt; singly.as_slice().starts_with(b"armed 0\nat 91923\n"));
+    assert!(rt; singly.as_slice().ends_with(at_once.as_slice()));
+    Ok(())
+}
+
+#[test]
 fn a_session_of_any_program_ends_at_the_end_stamp(rt: HostRuntime) -> Result<(), Fail> {
     let alloc = rt.alloc();
     let layout = us84_layout(alloc)?;

@@ -1,29 +1,55 @@
-use Rattle.std.proofs.Common.{ℕ, List, subst, sym}
-use Rattle.joint_feed.specs.Course.{IsStepOn}
-use Rattle.joint_feed.specs.Stories.{story}
-use Rattle.fw_debug.specs.Advance.{IsAdvanced, TellsOver}
-use Rattle.fw_debug.specs.Sessions.{Debuggee, sitting}
-use Rattle.fw_debug.proofs.Standing.{advanced, stays}
+use Rattle.std.proofs.Common.{◌≡◌, ◌<◌, ◌+◌, ◌^◌, ℕ, List, Some, sym, subst, ◌∙◌, arith}
+use Rattle.joint_feed.specs.Stories.{story, state_at}
+use Rattle.joint_run.specs.Joint.{Beside}
+use Rattle.joint_run.specs.Run.{World}
+use Rattle.fw_debug.specs.Advance.{TellsOver}
+use Rattle.fw_debug.specs.Making.{IsAdvanced, RestAt}
+use Rattle.fw_debug.specs.Sessions.{Debuggee, Sitting, sitting}
+use Rattle.fw_debug.specs.Striding.{HasStrode}
+use Rattle.fw_debug.proofs.Making.{advanced, over_advanced, stays}
+use Rattle.fw_debug.proofs.Standing.{here, over_now}
 use Rattle.fw_debug.proofs.session.Session.advance.Goals as goal
+
+pub returns-then-is_past : goal.returns-then-is_past
+returns-then-is_past c = λ before at_rest.
+    over_advanced c.args.left c.args.self.now before (over_now c.args.self.now c.is_past.result c.is_past.ensures c.if-is_past.true)
+
+pub stride-requires-clause-near : goal.stride-requires-clause-near
+stride-requires-clause-near c =
+    let it : Debuggee = record { story = story c.self.inside.image.bytes c.self.inside.history; latest = c.self.inside.latest } in
+    let on = c.self.invariant.0 in
+    let near =
+    subst (λ (t : Sitting). (w : World Beside) → state_at t.debuggee.story t.steps ≡ Some w → w.cycle + c.quiet_room-most.result < 2 ^ 62) (sym c.self.view_is)
+    c.quiet_room-most.ensures.near on.world (here it c.self.inside.course on) in
+    let now = on.in_run.cycle in
+    omega (arith, near, now)
 
 pub invariant_of-self : goal.invariant_of-self
 invariant_of-self c =
     let h = c.self.inside.history in
-    let s = story c.self.inside.image.bytes h in
-    let step : IsStepOn s c.self.inside.course c.step.result c.step.new.self =
-    subst (λ (bytes : List ℕ). IsStepOn (story bytes h) c.self.inside.course c.step.result c.step.new.self) c.self.invariant.0.image c.step.ensures.on in
-    (stays s c.self.inside.course c.step.new.self c.step.result c.self.invariant.0 step, c.self.invariant.1)
+    let old = c.self.inside.course in
+    let most = c.quiet_room-most.result in
+    let strode : HasStrode (story c.self.inside.image.bytes h) most old c.stride.result c.stride.new.course =
+    subst (λ (bytes : List ℕ). HasStrode (story bytes h) most old c.stride.result c.stride.new.course) c.self.invariant.0.image c.stride.ensures.strode in
+    (stays (story c.self.inside.image.bytes h) (record old { joint = strode.last }) c.stride.new.course c.stride.result strode.step, c.self.invariant.1)
 
 pub returns : goal.returns
-returns c =
+returns c = λ before at_rest.
     let h = c.self.inside.history in
-    let s = story c.self.inside.image.bytes h in
-    let it : Debuggee = record { story = s; latest = c.self.inside.latest } in
+    let it : Debuggee = record { story = story c.self.inside.image.bytes h; latest = c.self.inside.latest } in
     let old = c.self.inside.course in
-    let new = c.step.new.self in
-    let step : IsStepOn s old c.step.result new =
-    subst (λ (bytes : List ℕ). IsStepOn (story bytes h) old c.step.result new) c.self.invariant.0.image c.step.ensures.on in
-    let over : TellsOver (sitting it old.joint.steps) c.is_past.result = subst (λ t. TellsOver t c.is_past.result) (sym c.self.view_is) c.is_past.ensures.over in
-    subst (λ t. IsAdvanced t c.is_ok.result (sitting it new.joint.steps)) c.self.view_is
-    (subst (λ b. IsAdvanced (sitting it old.joint.steps) b (sitting it new.joint.steps)) (sym c.is_ok.ensures.value)
-    (advanced it old new c.step.result c.is_past.result c.self.invariant.0 step over c.if-is_past.false))
+    let new = c.stride.new.course in
+    let most = c.quiet_room-most.result in
+    let on = c.self.invariant.0 in
+    let a = c.stride.ensures.accepted in
+    let strode : HasStrode it.story most old c.stride.result new =
+    subst (λ (bytes : List ℕ). HasStrode (story bytes h) most old c.stride.result new) c.self.invariant.0.image c.stride.ensures.strode in
+    let over : TellsOver (sitting it old.joint.steps) c.is_past.result = subst (λ (t : Sitting). TellsOver t c.is_past.result) (sym c.self.view_is) c.is_past.ensures in
+    let room =
+    subst (λ (t : Sitting). (w : World Beside) → state_at t.debuggee.story t.steps ≡ Some w → w.cycle + most < t.debuggee.story.stop + t.debuggee.latest) (sym c.self.view_is)
+    c.quiet_room-most.ensures.room on.world (here it old on) in
+    let now = on.in_run.cycle in
+    subst (λ (t : Sitting). IsAdvanced c.args.left t before (sitting it new.joint.steps)) c.self.view_is
+    (advanced it c.args.left most c.args.rest old new c.stride.result on a.thin a.edges_in_order (λ w there. sym (over w there) ∙ c.if-is_past.false)
+    (omega (arith, room, now)) c.quiet_room-most.ensures.few c.quiet_room-most.ensures.alone strode before
+    (λ resting. subst (λ (t : Sitting). RestAt t.debuggee t.steps before) (sym c.self.view_is) (at_rest resting)))

@@ -10,5 +10,5 @@ pub returns-else-is_past : goal.returns-else-is_past
 returns-else-is_past c =
     subst (λ t. c.sticks.result ≡ has_ended t.debuggee t.steps) c.self.view_is
     (ended_so (record { story = story c.self.inside.image.bytes c.self.inside.history; latest = c.self.inside.latest }) c.self.inside.course c.self.invariant.0 c.is_past.result c.sticks.result
-    (subst (λ t. TellsOver t c.is_past.result) (sym c.self.view_is) c.is_past.ensures.over) c.if-is_past.false
+    (subst (λ t. TellsOver t c.is_past.result) (sym c.self.view_is) c.is_past.ensures) c.if-is_past.false
     (c.sticks.ensures ∙ ap (sticks c.self.inside.image.bytes) c.mcu.ensures.processor))

@@ -1,26 +1,40 @@
-use Rattle.std.proofs.Common.{◌∙◌, ap}
+use Rattle.std.proofs.Common.{ap, sym}
 use Rattle.fw_debug.specs.Sessions.{Hunted}
-use Rattle.fw_debug.proofs.Making.{hunt_end, hunt_hit, hunt_next}
+use Rattle.fw_debug.proofs.Leading.{hunt_end, hunt_on, none_of, some_of}
+use Rattle.fw_debug.proofs.Making.{led_so}
 use Rattle.fw_debug.proofs.session.Session.hunt.Goals as goal
 
-pub returns-in-Ended-clause-hunted : goal.returns-in-Ended-clause-hunted
-returns-in-Ended-clause-hunted g c = ap (λ (h : Hunted). h.debug)
-    (hunt_end c.args.self.now.debuggee c.args.count c.loop-i._i c.loop-i.self c.make.new.self _ _ _ c.loop-i.invariant.debuggee c.in-Ended.ensures c.loop-i.invariant.so_far)
+pub returns-then-made-eq0-clause-hunted : goal.returns-then-made-eq0-clause-hunted
+returns-then-made-eq0-clause-hunted g c =
+    let m = led_so _ c.args.self.now.debuggee _ _ _ _ c.make-made.new.self c.steps.invariant.debuggee c.make-made.ensures in
+    ap (λ (h : Hunted). h.debug)
+    (sym (hunt_end c.args.self.now.debuggee c.steps.left c.make-made.result.steps _ _ _ m.within m.led _ c.steps.invariant.so_far (λ none. m.ended c.if-made-eq0.true)))
 
-pub returns-in-Ended-clause-hit : goal.returns-in-Ended-clause-hit
-returns-in-Ended-clause-hit g c = ap (λ (h : Hunted). h.hit)
-    (hunt_end c.args.self.now.debuggee c.args.count c.loop-i._i c.loop-i.self c.make.new.self _ _ _ c.loop-i.invariant.debuggee c.in-Ended.ensures c.loop-i.invariant.so_far)
+pub returns-then-made-eq0-clause-hit : goal.returns-then-made-eq0-clause-hit
+returns-then-made-eq0-clause-hit g c =
+    let m = led_so _ c.args.self.now.debuggee _ _ _ _ c.make-made.new.self c.steps.invariant.debuggee c.make-made.ensures in
+    ap (λ (h : Hunted). h.hit)
+    (sym (hunt_end c.args.self.now.debuggee c.steps.left c.make-made.result.steps _ _ _ m.within m.led _ c.steps.invariant.so_far (λ none. m.ended c.if-made-eq0.true)))
 
-pub returns-in-Hit-clause-hunted : goal.returns-in-Hit-clause-hunted
-returns-in-Hit-clause-hunted g c = ap (λ (h : Hunted). h.debug)
-    (hunt_hit c.args.self.now.debuggee c.args.count c.loop-i._i c.loop-i.self c.make.new.self _ _ _ c.loop-i.invariant.debuggee c.loop-i-test.true c.in-Hit.ensures.0 c.loop-i.invariant.so_far c.in-Hit.probe c.in-Hit.ensures.1)
+pub returns-then-is_some-clause-hunted : goal.returns-then-is_some-clause-hunted
+returns-then-is_some-clause-hunted g c =
+    let m = led_so _ c.args.self.now.debuggee _ _ _ _ c.make-made.new.self c.steps.invariant.debuggee c.make-made.ensures in
+    ap (λ (h : Hunted). h.debug)
+    (sym (hunt_end c.args.self.now.debuggee c.steps.left c.make-made.result.steps _ _ _ m.within m.led _ c.steps.invariant.so_far
+    (some_of c.make-made.result.hit _ c.is_some.ensures c.if-is_some.true)))
 
-pub returns-in-Hit-clause-hit : goal.returns-in-Hit-clause-hit
-returns-in-Hit-clause-hit g c = ap (λ (h : Hunted). h.hit)
-    (hunt_hit c.args.self.now.debuggee c.args.count c.loop-i._i c.loop-i.self c.make.new.self _ _ _ c.loop-i.invariant.debuggee c.loop-i-test.true c.in-Hit.ensures.0 c.loop-i.invariant.so_far c.in-Hit.probe c.in-Hit.ensures.1)
+pub returns-then-is_some-clause-hit : goal.returns-then-is_some-clause-hit
+returns-then-is_some-clause-hit g c =
+    let m = led_so _ c.args.self.now.debuggee _ _ _ _ c.make-made.new.self c.steps.invariant.debuggee c.make-made.ensures in
+    ap (λ (h : Hunted). h.hit)
+    (sym (hunt_end c.args.self.now.debuggee c.steps.left c.make-made.result.steps _ _ _ m.within m.led _ c.steps.invariant.so_far
+    (some_of c.make-made.result.hit _ c.is_some.ensures c.if-is_some.true)))
 
-pub loop-i-preserved : goal.loop-i-preserved
-loop-i-preserved g c = record {
-  debuggee = c.in-Missed.ensures.0.debuggee ∙ c.loop-i.invariant.debuggee;
-  so_far = hunt_next c.args.self.now.debuggee c.args.count c.loop-i._i c.loop-i.self c.make.new.self _ _ _ c.loop-i.invariant.debuggee c.loop-i-test.true c.in-Missed.ensures.0 c.loop-i.invariant.so_far c.in-Missed.ensures.1;
-}
+pub steps-preserved : goal.steps-preserved
+steps-preserved g c =
+    let m = led_so _ c.args.self.now.debuggee _ _ _ _ c.make-made.new.self c.steps.invariant.debuggee c.make-made.ensures in
+    record {
+      debuggee = m.debuggee;
+      so_far = hunt_on c.args.self.now.debuggee c.steps.left c.make-made.result.steps _ _ _ m.within m.led _ c.steps.invariant.so_far
+          (none_of c.make-made.result.hit _ c.is_some.ensures c.if-is_some.false);
+    }

@@ -1,13 +1,16 @@
-use Rattle.std.proofs.Common.{◌∙◌}
-use Rattle.fw_debug.proofs.Making.{walk_end, walk_next}
+use Rattle.fw_debug.proofs.Leading.{walk_end, walk_on}
+use Rattle.fw_debug.proofs.Making.{led_so}
 use Rattle.fw_debug.proofs.session.Session.walk.Goals as goal
 
-pub returns-then-not-goes_on-clause-walked : goal.returns-then-not-goes_on-clause-walked
-returns-then-not-goes_on-clause-walked g c =
-    walk_end c.args.self.now.debuggee c.args.count c.loop-i._i c.loop-i.self c.goes_on.new.self _ _ _ c.loop-i.invariant.debuggee c.if-not-goes_on.ensures c.loop-i.invariant.so_far
+pub returns-then-made-eq0-clause-walked : goal.returns-then-made-eq0-clause-walked
+returns-then-made-eq0-clause-walked g c =
+    let m = led_so _ c.args.self.now.debuggee _ _ _ _ c.make-made.new.self c.steps.invariant.debuggee c.make-made.ensures in
+    walk_end c.args.self.now.debuggee c.steps.left c.make-made.result.steps _ _ _ m.within m.led _ c.steps.invariant.so_far (m.ended c.if-made-eq0.true)
 
-pub loop-i-preserved : goal.loop-i-preserved
-loop-i-preserved g c = record {
-  debuggee = c.if-not-goes_on.ensures.debuggee ∙ c.loop-i.invariant.debuggee;
-  so_far = walk_next c.args.self.now.debuggee c.args.count c.loop-i._i c.loop-i.self c.goes_on.new.self _ _ _ c.loop-i.invariant.debuggee c.loop-i-test.true c.if-not-goes_on.ensures c.loop-i.invariant.so_far;
-}
+pub steps-preserved : goal.steps-preserved
+steps-preserved g c =
+    let m = led_so _ c.args.self.now.debuggee _ _ _ _ c.make-made.new.self c.steps.invariant.debuggee c.make-made.ensures in
+    record {
+      debuggee = m.debuggee;
+      so_far = walk_on c.args.self.now.debuggee c.steps.left c.make-made.result.steps _ _ _ m.within m.led _ c.steps.invariant.so_far;
+    }
