@@ -28,7 +28,7 @@ static void empty_handle(void) {
     uint64_t number = 7;
     uint16_t word = 7;
     uint8_t byte = 7;
-    bool up = true;
+    bool up = true, data = false;
     kbd48_place place = {7, 7};
     CHECK(kbd48_close(&k) == KBD48_NOT_OPEN);
     CHECK(kbd48_key(&k, 0, true) == KBD48_NOT_OPEN);
@@ -40,6 +40,7 @@ static void empty_handle(void) {
     CHECK(kbd48_take(&k, &word) == KBD48_NOT_OPEN && word == 7);
     CHECK(kbd48_interrupt(&k, &up) == KBD48_NOT_OPEN && up);
     CHECK(kbd48_lights(&k, &byte) == KBD48_NOT_OPEN && byte == 7);
+    CHECK(kbd48_wires(&k, &up, &data) == KBD48_NOT_OPEN && up && !data);
     number = 7;
     CHECK(kbd48_cycle(&k, &number) == KBD48_NOT_OPEN && number == 7);
 }
@@ -62,7 +63,7 @@ static int32_t a_session(void) {
     uint64_t passed, cycle;
     uint16_t word;
     uint8_t byte;
-    bool up;
+    bool up, data;
     int32_t status = kbd48_open_layout(layout, layout_length, &k, &fault);
     if (status != KBD48_DONE) {
         CHECK(status == KBD48_NO_MEMORY && !k.at);
@@ -77,6 +78,14 @@ static int32_t a_session(void) {
     CHECK(kbd48_status(&k, &byte) == KBD48_DONE && (byte & 1));
     CHECK(kbd48_read60(&k, &byte) == KBD48_DONE && byte == 0xaa);
     CHECK(kbd48_interrupt(&k, &up) == KBD48_DONE && !up);
+    CHECK(kbd48_wires(&k, &up, &data) == KBD48_DONE && !up && data); /* it held the clock while the byte waited */
+    CHECK(kbd48_run(&k, 128, false, &passed, &place) == KBD48_DONE);
+    CHECK(kbd48_wires(&k, &up, &data) == KBD48_DONE && up && data);
+    CHECK(kbd48_write(&k, 0x64, 0xad) == KBD48_DONE); /* the controller disables the keyboard: it holds the clock */
+    CHECK(kbd48_run(&k, 64, false, &passed, &place) == KBD48_DONE);
+    CHECK(kbd48_wires(&k, &up, &data) == KBD48_DONE && !up && data);
+    CHECK(kbd48_write(&k, 0x64, 0xae) == KBD48_DONE);
+    CHECK(kbd48_run(&k, 64, false, &passed, &place) == KBD48_DONE);
     CHECK(kbd48_key(&k, 96, true) == KBD48_NO_SUCH_PLACE && kbd48_write(&k, 0x61, 0) == KBD48_NO_SUCH_PORT);
     for (int i = 0; i < 4; i++) CHECK(kbd48_key(&k, (uint8_t)i, true) == KBD48_DONE);
     CHECK(kbd48_key(&k, 4, true) == KBD48_FULL);

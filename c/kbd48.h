@@ -117,6 +117,10 @@ int32_t kbd48_interrupt(kbd48 *handle, bool *up);
 /* The lights: 01 Scroll Lock, 02 Num Lock, 04 Caps Lock. */
 int32_t kbd48_lights(kbd48 *handle, uint8_t *lights);
 
+/* The levels of the two wires after the last cycle, true for high. Each is low where the keyboard or the controller
+   pulls it. A watched run doesn't stop for them: run a cycle at a time to see each change. */
+int32_t kbd48_wires(kbd48 *handle, bool *clock, bool *data);
+
 /* How many cycles have passed since power-on. A stamp of a key file counts from cycle 4,096. */
 int32_t kbd48_cycle(kbd48 *handle, uint64_t *cycle);
 

@@ -1,5 +1,5 @@
 -- What is told behind one stretch of steps, each item with its stamp.
-use Rattle.std.proofs.Common.{◌≡◌, ◌^◌, ℕ, ◌+◌, false, List, ◌++◌, length, drop, Ok, Err, OnOk, OnErr, ap, sym, subst, ◌∙◌, arith}
+use Rattle.std.proofs.Common.{◌≡◌, ◌^◌, ℕ, false, List, ◌++◌, length, drop, Ok, Err, OnOk, OnErr, ap, sym, subst, ◌∙◌, arith}
 use Rattle.std.specs.declared.result.Result.{Result}
 use Rattle.std.proofs.Math.Seq.{drop-append_seam}
 use Rattle.board_run.specs.Putting.{IsLogBrokenAt}

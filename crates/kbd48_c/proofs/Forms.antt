@@ -31,7 +31,7 @@ use Rattle.std.proofs.alloc.Global.TheLaws as heap_laws
 use Rattle.std.specs.contracts.impls.GlobalAllocator.TheImpl.{ghosts}
 use Rattle.std.proofs.GlobalToken.{dealloc_token-Testable}
 use Rattle.std_alloc.proofs.BoxSteps.Form as box
-use Rattle.live_board.specs.declared.keyboard.Keyboard.{Keyboard}
+use Rattle.live_board.specs.declared.parts.Parts.{Parts as Keyboard}
 use Rattle.live_board.specs.contracts.keyboard.Keyboard as keyboard
 use Rattle.live_board.proofs.keyboard.Keyboard.TheLaws as keyboard_laws
 use Rattle.kbd48_c.specs.contracts.pointer.BoxPointer as pointer

@@ -2,7 +2,7 @@
 use Rattle.std.proofs.Common.{◌≡◌, sym, subst, SFits, to_z, of_z, w32}
 use Rattle.std.specs.Prelude.{ℤ, Option, Some}
 use Rattle.std.proofs.lemmas.Int.{to_z-of_z}
-use Rattle.live_board.specs.declared.keyboard.Keyboard.{Keyboard}
+use Rattle.live_board.specs.declared.parts.Parts.{Parts as Keyboard}
 use Rattle.kbd48_c.specs.Exports.{Through}
 
 pub through_call : (does : Keyboard → ℤ → Keyboard → Type 0) (old new : Option Keyboard) (status : ℤ) (k taken after : Keyboard)

@@ -3,12 +3,14 @@ use Rattle.std.specs.Prelude.{◌≡◌, ◌≢◌, ◌<◌, ◌≤◌, ◌+◌,
 use Rattle.std.specs.declared.result.Result.{Result}
 use Rattle.board_lines.specs.declared.event.HostAct.{HostAct}
 use Rattle.board_lines.specs.declared.event.HostAct.TheVariants.{Take, Write60, Write64}
+use Rattle.joint_run.specs.Joint.{latch_of}
+use Rattle.pc_wires.specs.Wires.{wires}
 use Rattle.live_board.specs.Answers.{Told}
 use Rattle.live_board.specs.Calls.{IsActed, IsKeyed, Tells}
 use Rattle.live_board.specs.Pasts.{Past, acted}
 use Rattle.live_board.specs.Running.{HasRun}
 use Rattle.live_board.specs.Standing.{Stands}
-use Rattle.live_board.specs.declared.keyboard.Keyboard.{Keyboard}
+use Rattle.live_board.specs.declared.parts.Parts.{Parts as Keyboard}
 use Rattle.live_board.specs.declared.ran.RunEnd.{RunEnd}
 use Rattle.live_board.specs.declared.refused.Refused.{Refused}
 use Rattle.kbd48_c.specs.Spots.{spot_after}
@@ -96,3 +98,10 @@ HasGone cycles watched passed before spot k status after =
 abbrev pub HasShownLights : ℕ → Keyboard → ℤ → Keyboard → Type 0
 HasShownLights lights k status after =
     IsLeft done k status after × ((p : Past) → (s : Stands p k) → lights ≡ s.world.board.shown)
+
+-- the wires are those of the state in which the keyboard is, as it and the PC pull them
+abbrev pub HasShownWires : Bool → Bool → Keyboard → ℤ → Keyboard → Type 0
+HasShownWires clock dat k status after =
+    IsLeft done k status after
+    × ((p : Past) → (s : Stands p k)
+    → record { clk = clock; dat = dat } ≡ wires (latch_of s.world.cpu.p2) s.world.board.pc)

@@ -6,7 +6,7 @@ use Rattle.std.specs.Box.Ownership.{box_owns}
 use Rattle.std.specs.Global.{Box}
 use Rattle.std.specs.declared.alloc.Global.{Global}
 use Rattle.std.specs.contracts.impls.GlobalAllocator.TheImpl.{ghosts}
-use Rattle.live_board.specs.declared.keyboard.Keyboard.{Keyboard}
+use Rattle.live_board.specs.declared.parts.Parts.{Parts as Keyboard}
 use Rattle.live_board.specs.contracts.keyboard.Keyboard.{the_row}
 use Rattle.kbd48_c.specs.declared.pointer.BoxPointer.{BoxPointer}
 

@@ -1,7 +1,7 @@
 //! What C holds: a pointer to a keyboard, or none.
 
 ghost use Rattle.std.specs.Prelude.{◌≡◌, Option, None, Some};
-ghost use Rattle.live_board.specs.declared.keyboard.Keyboard.{Keyboard};
+ghost use Rattle.live_board.specs.declared.parts.Parts.{Parts as Keyboard};
 ghost use Rattle.kbd48_c.specs.Held.{boxed, held_of};
 
 use crate::pointer::BoxPointer;

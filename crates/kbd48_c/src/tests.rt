@@ -8,7 +8,7 @@ use crate::status::{
     BAD_TEXT, DONE, EARLY, FULL, NO_SUCH_PLACE, NO_SUCH_PORT, NO_WORD, NOT_OPEN, ROSE, STUCK,
     TOO_LONG,
 };
-use crate::views::{kbd48_close, kbd48_cycle, kbd48_interrupt, kbd48_lights};
+use crate::views::{kbd48_close, kbd48_cycle, kbd48_interrupt, kbd48_lights, kbd48_wires};
 use fw_kernel::KERNEL;
 use hexfile::write_hex;
 use mcs48_isa::Image;
@@ -36,6 +36,8 @@ fn an_empty_handle_says_so_and_does_nothing(rt: HostRuntime) {
     assert!(rt; kbd48_take(alloc, &mut handle, &mut word) == NOT_OPEN && word == 7);
     assert!(rt; kbd48_interrupt(alloc, &mut handle, &mut up) == NOT_OPEN && up);
     assert!(rt; kbd48_lights(alloc, &mut handle, &mut byte) == NOT_OPEN && byte == 7);
+    let (mut clock, mut dat) = (true, false);
+    assert!(rt; kbd48_wires(alloc, &mut handle, &mut clock, &mut dat) == NOT_OPEN && clock && !dat);
     assert!(rt; kbd48_cycle(alloc, &mut handle, &mut number) == NOT_OPEN && number == 0);
     assert!(rt; kbd48_close(alloc, &mut handle) == NOT_OPEN);
 }
@@ -64,6 +66,15 @@ fn a_host_hears_the_self_test_and_sets_the_lights(rt: HostRuntime) -> Result<(),
     assert!(rt; kbd48_status(alloc, &mut handle, &mut byte) == DONE && byte == 0x15);
     assert!(rt; kbd48_read60(alloc, &mut handle, &mut byte) == DONE && byte == 0xaa);
     assert!(rt; kbd48_write(alloc, &mut handle, 0x61, 0) == NO_SUCH_PORT);
+    let (mut clock, mut dat) = (false, false);
+    assert!(rt; kbd48_wires(alloc, &mut handle, &mut clock, &mut dat) == DONE && !clock && dat);
+    assert!(rt; kbd48_run(alloc, &mut handle, 128, false, &mut passed, &mut spot) == DONE);
+    assert!(rt; kbd48_wires(alloc, &mut handle, &mut clock, &mut dat) == DONE && clock && dat);
+    assert!(rt; kbd48_write(alloc, &mut handle, 0x64, 0xad) == DONE);
+    assert!(rt; kbd48_run(alloc, &mut handle, 64, false, &mut passed, &mut spot) == DONE);
+    assert!(rt; kbd48_wires(alloc, &mut handle, &mut clock, &mut dat) == DONE && !clock && dat);
+    assert!(rt; kbd48_write(alloc, &mut handle, 0x64, 0xae) == DONE);
+    assert!(rt; kbd48_run(alloc, &mut handle, 64, false, &mut passed, &mut spot) == DONE);
     assert!(rt; kbd48_write(alloc, &mut handle, 0x60, 0xed) == DONE);
     assert!(rt; kbd48_run(alloc, &mut handle, SECOND, true, &mut passed, &mut spot) == ROSE);
     assert!(rt; kbd48_read60(alloc, &mut handle, &mut byte) == DONE && byte == 0xfa);

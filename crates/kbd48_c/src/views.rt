@@ -2,7 +2,7 @@
 
 ghost use Rattle.std.specs.Prelude.{◌≡◌, None};
 ghost use Rattle.live_board.specs.Answers.{raises};
-ghost use Rattle.kbd48_c.specs.Exports.{HasShownLights, Through, held_status, shown_of};
+ghost use Rattle.kbd48_c.specs.Exports.{HasShownLights, HasShownWires, Through, held_status, shown_of};
 ghost use Rattle.kbd48_c.specs.Statuses.{done};
 
 use crate::handle::Handle;
@@ -35,6 +35,29 @@ pub extern "C" fn kbd48_lights(alloc: Global, handle: &mut Handle, lights: &mut 
     match handle.take(alloc) {
         Some(keyboard) => {
             *lights = keyboard.lights();
+            *handle = Handle::holding(keyboard);
+            DONE
+        }
+        None => NOT_OPEN,
+    }
+}
+
+/// The levels of the two wires after the last cycle: true is high.
+#[unsafe(no_mangle)]
+pub extern "C" fn kbd48_wires(
+    alloc: Global,
+    handle: &mut Handle,
+    clock: &mut bool,
+    dat: &mut bool,
+) -> i32
+    ensures wires { Through (HasShownWires clock.new dat.new) handle.old.keyboard result handle.new.keyboard }
+    ensures none { handle.old.keyboard ≡ None → (clock.new ≡ clock.old) × (dat.new ≡ dat.old) }
+{
+    match handle.take(alloc) {
+        Some(keyboard) => {
+            let line = keyboard.wires();
+            *clock = line.clk;
+            *dat = line.dat;
             *handle = Handle::holding(keyboard);
             DONE
         }

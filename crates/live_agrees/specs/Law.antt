@@ -16,7 +16,7 @@ use Rattle.live_board.specs.Answers.{Told}
 use Rattle.live_board.specs.Calls.{Tells}
 use Rattle.live_board.specs.Pasts.{Past, state_of}
 use Rattle.live_board.specs.Standing.{Stands}
-use Rattle.live_board.specs.declared.keyboard.Keyboard.{Keyboard}
+use Rattle.live_board.specs.declared.parts.Parts.{Parts as Keyboard}
 
 -- the keys and host events of a past, as a history with this end stamp
 abbrev pub history_of : Past → ℕ → KeyHistory

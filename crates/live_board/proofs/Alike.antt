@@ -18,14 +18,13 @@ use Rattle.host_turn.specs.Host.{Turn, acted_where, bios_turn, waits}
 use Rattle.host_turn.specs.Run.{lights_said, stamped}
 use Rattle.host_turn.specs.declared.desk.Desk.{Desk}
 use Rattle.joint_run.proofs.Passing.{cycle_is}
-use Rattle.joint_run.specs.Cycle.{Passed, looked_outside, outside_cycle, outside_wires}
+use Rattle.joint_run.specs.Cycle.{Passed, looked_outside, outside_wires}
 use Rattle.joint_run.specs.Due.{beside, outside_of}
 use Rattle.joint_run.specs.Joint.{Beside, joint_board, joint_cycle, joint_pins, keys_at, lights_of, pins_by}
 use Rattle.joint_run.specs.Run.{World, after_cycles, after_step}
 use Rattle.joint_run.specs.declared.outside.Outside.{Outside}
 use Rattle.joint_feed.proofs.Going.{same_state}
 use Rattle.mcs48_core.specs.Step.{Stepped}
-use Rattle.mcs48_core.specs.declared.levels.Pins.{Pins}
 
 -- a cycle whose event turn is known
 abbrev cycle_by : ℕ → Desk Wire → Turn → Bool → Cycled Wire

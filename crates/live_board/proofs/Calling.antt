@@ -1,5 +1,5 @@
 -- What the calls add stands at the end of the past.
-use Rattle.std.proofs.Common.{◌≡◌, ◌≤◌, ◌<◌, ℕ, zero, suc, ◌+◌, ◌-◌, Bool, true, false, List, [], ◌∷◌, ◌++◌, length, take, drop, Some, None, Ok, Err, refl, ap, sym, subst, ◌∙◌, arith, length-append}
+use Rattle.std.proofs.Common.{◌≡◌, ◌≤◌, ◌<◌, ℕ, suc, ◌+◌, ◌-◌, false, List, [], ◌∷◌, ◌++◌, take, drop, Some, None, Ok, Err, refl, ap, sym, subst, ◌∙◌, arith, length-append}
 use Rattle.std.specs.List.{All}
 use Rattle.std.proofs.lemmas.List.{append-nil, drop-append-le, take-append-le}
 use Rattle.std.proofs.lemmas.List.Elements.{All-append, All-cons, All-head, All-nil, All-tail}
@@ -24,12 +24,12 @@ use Rattle.std.specs.declared.result.Result.{Result}
 use Rattle.mcs48_core.specs.declared.stepping.Stuck.{Stuck}
 use Rattle.live_board.proofs.Acting.{HasDone, has_done}
 use Rattle.live_board.proofs.Growing.{grows}
-use Rattle.live_board.proofs.Stepping.{cycle_more, edges_left, edges_there, handed, here, image_same, later_edges, later_events, on, step, steps_more, world_later}
+use Rattle.live_board.proofs.Stepping.{edges_left, edges_there, handed, here, image_same, later_edges, later_events, on, steps_more, world_later}
 use Rattle.live_board.specs.Acts.{IsAnswered}
 use Rattle.live_board.specs.Calls.{IsActed, Says, place_of}
 use Rattle.live_board.specs.Pasts.{Past, acted, pressed, state_of, story_of}
-use Rattle.live_board.specs.Standing.{AreReached, Stands}
-use Rattle.live_board.specs.declared.keyboard.Keyboard.{Keyboard}
+use Rattle.live_board.specs.Standing.{Stands}
+use Rattle.live_board.specs.declared.parts.Parts.{Parts as Keyboard}
 use Rattle.live_board.specs.declared.refused.Refused.{Refused}
 
 -- the machine is in the run of the past with one event of the host more, whose stamp is now

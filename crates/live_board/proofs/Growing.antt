@@ -1,15 +1,15 @@
 -- A run goes on where its story grows at its end.
-use Rattle.std.proofs.Common.{◌≡◌, ◌≤◌, ◌<◌, ℕ, zero, suc, ◌+◌, List, [], ◌∷◌, ◌++◌, Some, refl, ap, sym, ◌∙◌, arith}
+use Rattle.std.proofs.Common.{◌≡◌, ◌≤◌, ℕ, zero, suc, ◌+◌, List, Some, ap, ◌∙◌, arith}
 use Rattle.std.specs.List.{All}
 use Rattle.board_lines.specs.declared.event.Edge.{Edge}
 use Rattle.board_lines.specs.declared.event.HostEvent.{HostEvent}
 use Rattle.live_board.proofs.Timed.{before, joined, step_later}
 use Rattle.joint_feed.specs.Stories.{Story, state_at}
 use Rattle.joint_run.specs.Joint.{Beside, joint_board}
-use Rattle.joint_run.specs.Run.{World, after_step, joint_step, seen, step_on}
+use Rattle.joint_run.specs.Run.{World, after_step, seen, step_on}
 use Rattle.mcs48_core.specs.Step.{stepped}
 use Rattle.live_board.proofs.Alike.{pins_alike, step_alike}
-use Rattle.live_board.specs.Growing.{AreAhead, GrowsAtEnd, grown}
+use Rattle.live_board.specs.Growing.{GrowsAtEnd, grown}
 
 still_ahead : (soon late : ℕ) (edges : List Edge) → soon ≤ late → All (λ e. late ≤ e.stamp + 4096) edges → All (λ e. soon ≤ e.stamp + 4096) edges
 still_ahead soon late edges l h = λ i d m. let k = h i d m in omega (arith, k, l)

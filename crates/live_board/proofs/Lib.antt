@@ -5,3 +5,4 @@ pub mod Acting
 pub mod Stepping
 pub mod Calling
 pub mod Watching
+pub mod Gliding

@@ -1,35 +1,26 @@
 -- One joint step goes on with the run of the past.
-use Rattle.std.proofs.Common.{◌≡◌, ◌≤◌, ◌<◌, ℕ, suc, ◌+◌, ◌-◌, List, [], ◌∷◌, ◌++◌, length, take, drop, Some, None, Ok, Err, refl, ap, sym, subst, ◌∙◌, arith, length-append}
+use Rattle.std.proofs.Common.{◌≡◌, ◌≤◌, ℕ, suc, ◌+◌, ◌-◌, List, [], length, take, drop, Some, None, Ok, Err, refl, ap, sym, subst, ◌∙◌, arith}
 use Rattle.std.specs.List.{All}
-use Rattle.std.proofs.lemmas.List.{append-nil, drop_all, length-drop, take_all}
+use Rattle.std.proofs.lemmas.List.{drop_all, length-drop, take_all}
 use Rattle.std.proofs.lemmas.List.Elements.{All-nil}
-use Rattle.std.proofs.Math.Seq.{drop-append_seam}
 use Rattle.board_lines.specs.Edges.{AreInOrder}
 use Rattle.board_lines.specs.declared.event.Edge.{Edge}
-use Rattle.board_lines.specs.declared.event.HostAct.{HostAct}
 use Rattle.board_lines.specs.declared.event.HostEvent.{HostEvent}
-use Rattle.host_turn.specs.Host.{waits}
-use Rattle.host_turn.specs.declared.stamped.Stamped.{Stamped}
-use Rattle.joint_run.specs.Due.{due_step, made_first, powered_on, told, IsJointStep}
-use Rattle.joint_run.specs.History.{GoesOn, IsDueOf, IsFirstOfRun, IsInRun, IsStepOfRun}
-use Rattle.joint_run.specs.Joint.{Beside, joint_board, joint_start, log_of}
+use Rattle.joint_run.specs.Due.{due_step, made_first, powered_on, IsJointStep}
+use Rattle.joint_run.specs.History.{GoesOn, IsFirstOfRun, IsInRun, IsStepOfRun}
+use Rattle.joint_run.specs.Joint.{Beside, joint_board, joint_start}
 use Rattle.joint_run.specs.Run.{World, run_at}
 use Rattle.joint_run.specs.declared.due.Due.{Due}
 use Rattle.joint_run.specs.declared.due.Seen.{Seen}
 use Rattle.joint_run.specs.declared.machine.Machine.{Machine}
 use Rattle.joint_feed.proofs.Counts.{done_few, made_few}
 use Rattle.joint_feed.proofs.Feeding.{drop_more}
-use Rattle.joint_feed.proofs.Going.{IsMade, made as step_made, same_state}
+use Rattle.joint_feed.proofs.Going.{IsMade, made as step_made}
 use Rattle.joint_feed.specs.Stories.{state_at}
 use Rattle.mcs48_core.specs.declared.stepping.Stuck.{Stuck}
-use Rattle.live_board.proofs.Acting.{HasDone, has_done}
-use Rattle.live_board.proofs.Growing.{grows}
-use Rattle.live_board.specs.Acts.{IsAnswered}
-use Rattle.live_board.specs.Calls.{Says}
-use Rattle.live_board.specs.Growing.{AreAhead}
-use Rattle.live_board.specs.Pasts.{Past, acted, gone_on, state_of, story_of, untouched}
-use Rattle.live_board.specs.Standing.{AreReached, Stands}
-use Rattle.live_board.specs.declared.keyboard.Keyboard.{Keyboard}
+use Rattle.live_board.specs.Pasts.{Past, gone_on, state_of, story_of, untouched}
+use Rattle.live_board.specs.Standing.{Stands}
+use Rattle.live_board.specs.declared.parts.Parts.{Parts as Keyboard}
 
 -- at power-on
 pub at_first : (bytes : List ℕ) (k : Keyboard) → k.joint ≡ powered_on bytes → IsFirstOfRun k.joint → k.due.edges.items ≡ [] → k.due.host.items ≡ [] → Stands (untouched bytes 0) k

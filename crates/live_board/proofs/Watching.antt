@@ -1,7 +1,6 @@
 -- Going on, step by step, with the interrupt line watched.
-use Rattle.std.proofs.Common.{◌≡◌, ◌≤◌, ◌<◌, ℕ, suc, ◌+◌, Bool, true, false, not, ◌&&◌, Some, None, refl, ap, sym, subst, ◌∙◌, ◌⊎◌, inl, inr, ltb, arith}
+use Rattle.std.proofs.Common.{◌≡◌, ◌≤◌, ◌<◌, ℕ, suc, ◌+◌, Bool, true, false, not, ◌&&◌, Some, refl, ap, sym, subst, ◌∙◌, ◌⊎◌, inl, inr, ltb, arith}
 use Rattle.std.proofs.lemmas.Bool.Decides.{nat_tests}
-use Rattle.joint_run.specs.Due.{outside_of}
 use Rattle.joint_run.specs.Joint.{Beside}
 use Rattle.joint_run.specs.Run.{World}
 use Rattle.joint_feed.proofs.Going.{same_state}
@@ -14,7 +13,7 @@ use Rattle.live_board.specs.Answers.{line_in, raises}
 use Rattle.live_board.specs.Pasts.{Past, gone_on, state_of, story_of}
 use Rattle.live_board.specs.Running.{AreBefore, IsCalm, rises}
 use Rattle.live_board.specs.Standing.{Stands}
-use Rattle.live_board.specs.declared.keyboard.Keyboard.{Keyboard}
+use Rattle.live_board.specs.declared.parts.Parts.{Parts as Keyboard}
 
 -- the line as the machine has it is that of the state
 pub line_here : (p : Past) (k : Keyboard) (s : Stands p k) → raises k.joint.outside.desk.port.core ≡ line_in (state_of p)

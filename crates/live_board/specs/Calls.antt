@@ -1,5 +1,5 @@
 -- What a call adds to the past, and when it is refused.
-use Rattle.std.specs.Prelude.{◌≡◌, ◌≤◌, ◌<◌, ◌^◌, ◌-◌, ◌%◌, ℕ, Bool, true, false, List, [], ◌∷◌, ◌++◌, length}
+use Rattle.std.specs.Prelude.{◌≡◌, ◌≤◌, ◌<◌, ◌^◌, ◌-◌, ◌%◌, ℕ, Bool, true, false, List, ◌++◌, length}
 use Rattle.std.specs.Prelude.{slice_index, Some, None, Ok, Err}
 use Rattle.std.specs.declared.option.Option.{Option}
 use Rattle.std.specs.declared.result.Result.{Result}
@@ -13,7 +13,7 @@ use Rattle.mcs48_core.specs.declared.stepping.Stuck.{Stuck}
 use Rattle.live_board.specs.Answers.{Told, first_in}
 use Rattle.live_board.specs.Pasts.{Past, acted, pressed, state_of}
 use Rattle.live_board.specs.Standing.{Stands}
-use Rattle.live_board.specs.declared.keyboard.Keyboard.{Keyboard}
+use Rattle.live_board.specs.declared.parts.Parts.{Parts as Keyboard}
 use Rattle.live_board.specs.declared.refused.Refused.{Refused}
 use Rattle.live_board.specs.declared.refused.Refused.TheVariants as R
 
@@ -27,12 +27,13 @@ pub record MayAct (act : HostAct) (k : Keyboard) : Type 0 where
 abbrev pub place_of : Machine → Stuck
 place_of m = record { pc = m.mcu.pc; byte = slice_index m.image.bytes (m.mcu.pc % 2048) }
 
--- why the host's call makes no step: it comes before stamp 0; the count of cycles is at its end; a write finds the input
--- buffer full; or the processor is stuck, so that no state follows
+-- why the host's call makes no step, the first cause that stands: it comes before stamp 0; the count of cycles is at its
+-- end; a write finds the input buffer full; or the processor is stuck, so that no state follows
 abbrev pub IsRefused : HostAct → Keyboard → Refused → Type 0
 IsRefused act k R.Early = k.joint.cycle < 4096
 IsRefused act k R.Over = 2 ^ 62 ≤ k.joint.cycle
-IsRefused act k R.Full = waits act k.joint.outside.desk.port.core ≡ true
+IsRefused act k R.Full =
+    (4096 ≤ k.joint.cycle) × (k.joint.cycle < 2 ^ 62) × (waits act k.joint.outside.desk.port.core ≡ true)
 IsRefused act k (R.Stuck place) =
     MayAct act k × (place ≡ place_of k.joint)
     × ((p : Past) → Stands p k → state_of (acted p (k.joint.cycle - 4096) act) ≡ None)
@@ -59,11 +60,11 @@ Tells f p q x = (items : List Stamped) × Says p q items × (first_in f items �
 abbrev pub pressed_now : Past → Keyboard → ℕ → Bool → Past
 pressed_now p k place down = pressed p (record { stamp = k.joint.cycle - 4096; place = place; down = down })
 
--- a key's call is refused before stamp 0, and where four edges wait
+-- a key's call is refused before stamp 0, and from then on where four edges wait
 abbrev pub IsKeyRefused : Keyboard → Refused → Type 0
 IsKeyRefused k R.Early = k.joint.cycle < 4096
 IsKeyRefused k R.Over = ⊥
-IsKeyRefused k R.Full = length k.due.edges.items ≡ 4
+IsKeyRefused k R.Full = (4096 ≤ k.joint.cycle) × (length k.due.edges.items ≡ 4)
 IsKeyRefused k (R.Stuck place) = ⊥
 
 abbrev pub IsKeyed : ℕ → Bool → Keyboard → Result (Unit {0}) Refused → Keyboard → Type 0

@@ -9,7 +9,7 @@ use Rattle.live_board.specs.Answers.{line_in}
 use Rattle.live_board.specs.Calls.{IsActed, place_of}
 use Rattle.live_board.specs.Pasts.{Past, gone_on, state_of, story_of, untouched}
 use Rattle.live_board.specs.Standing.{Stands}
-use Rattle.live_board.specs.declared.keyboard.Keyboard.{Keyboard}
+use Rattle.live_board.specs.declared.parts.Parts.{Parts as Keyboard}
 use Rattle.live_board.specs.declared.ran.RunEnd.{RunEnd}
 use Rattle.live_board.specs.declared.ran.RunEnd.TheVariants.{Passed, Rose, Over, Stuck}
 use Rattle.live_board.specs.declared.refused.Refused.{Refused}

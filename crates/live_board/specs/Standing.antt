@@ -8,7 +8,7 @@ use Rattle.joint_run.specs.History.{IsInRun}
 use Rattle.joint_run.specs.Joint.{Beside}
 use Rattle.joint_run.specs.Run.{World}
 use Rattle.live_board.specs.Pasts.{Past}
-use Rattle.live_board.specs.declared.keyboard.Keyboard.{Keyboard}
+use Rattle.live_board.specs.declared.parts.Parts.{Parts as Keyboard}
 
 -- each stamp is reached at this cycle
 pub record AreReached (cycle : ℕ) (edges : List Edge) (events : List HostEvent) : Type 0 where

@@ -6,9 +6,12 @@
 //! (`specs/Standing`). It knows no layout and no model. Source: our own.
 #![tactic(auto)]
 
+mod adding;
 mod answers;
+mod going;
 mod keyboard;
 mod law;
+mod parts;
 mod ran;
 mod refused;
 

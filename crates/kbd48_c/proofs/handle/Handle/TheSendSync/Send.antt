@@ -13,7 +13,7 @@ use Rattle.std_alloc.proofs.SendSync.{lies, quiet}
 use Rattle.std.specs.declared.alloc.Global.{Global}
 use Rattle.std.specs.contracts.alloc.Global as heap
 use Rattle.std.proofs.Crossing.{frees}
-use Rattle.live_board.specs.declared.keyboard.Keyboard.{Keyboard}
+use Rattle.live_board.specs.declared.parts.Parts.{Parts as Keyboard}
 use Rattle.live_board.specs.contracts.keyboard.Keyboard as keyboard
 use Rattle.live_board.proofs.keyboard.Keyboard.TheSendSync.{the_send}
 use Rattle.kbd48_c.specs.Held.{held_at}

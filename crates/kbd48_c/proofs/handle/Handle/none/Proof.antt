@@ -22,7 +22,7 @@ use Rattle.core.specs.declared.option.Option.{Option}
 use Rattle.core.specs.declared.option.Option.TheVariants.{None}
 use Rattle.core.proofs.cell.Inside.{one}
 use Rattle.std.proofs.raw_atomic.Walks.{proved_at, leaves}
-use Rattle.live_board.specs.declared.keyboard.Keyboard.{Keyboard}
+use Rattle.live_board.specs.declared.parts.Parts.{Parts as Keyboard}
 use Rattle.kbd48_c.proofs.Forms.{both, Z, LZ, null_good, handle_in}
 use Rattle.kbd48_c.specs.contracts.handle.Handle.none.{ended, clauses}
 use Rattle.kbd48_c.specs.contracts.handle.Handle.none.Key.{name as #self}

@@ -1,7 +1,7 @@
 use Rattle.std.proofs.Common.{arith}
 use Rattle.joint_feed.proofs.Counts.{made_few}
 use Rattle.joint_feed.proofs.Going.{made}
-use Rattle.live_board.proofs.keyboard.Keyboard.step.Goals as goal
+use Rattle.live_board.proofs.parts.Parts.step.Goals as goal
 
 pub drop_made-requires : goal.drop_made-requires
 drop_made-requires c =

@@ -3,7 +3,7 @@ use Rattle.live_board.proofs.Watching.{GoesOnSo}
 use Rattle.live_board.specs.Answers.{raises}
 use Rattle.live_board.specs.Pasts.{Past}
 use Rattle.live_board.specs.Standing.{Stands}
-use Rattle.live_board.proofs.keyboard.Keyboard.go_on.Given as goal
+use Rattle.live_board.proofs.parts.Parts.go_on.Given as goal
 
 abbrev pub invariant-steps : goal.invariant-steps
 invariant-steps l = record {

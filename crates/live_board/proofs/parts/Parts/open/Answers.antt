@@ -1,25 +1,24 @@
-use Rattle.std.proofs.Common.{◌∙◌}
 use Rattle.live_board.proofs.Calling.{stands_after}
 use Rattle.live_board.specs.Pasts.{gone_on, untouched}
-use Rattle.live_board.proofs.keyboard.Keyboard.open.Goals as goal
+use Rattle.live_board.proofs.parts.Parts.open.Goals as goal
 
 pub returns-clause-opened : goal.returns-clause-opened
 returns-clause-opened c =
-    let first = c.in_ok-keyboard.ensures in
+    let first = c.in_ok-parts.ensures in
     record {
-      first = c.in_ok-keyboard.keyboard;
+      first = c.in_ok-parts.parts;
       at_first = first.0;
       first_cycle = first.2;
       middle = c.run.new.self;
       end = c.run.result.end;
       ran = c.run.ensures.run (untouched c.args.image.now.bytes 0) first.0;
-      answer = c.bios.result;
-      masked = c.bios.ensures.acted;
+      answer = c.act.result;
+      masked = c.act.ensures.acted;
     }
 
 pub returns-clause-stands : goal.returns-clause-stands
 returns-clause-stands c =
-    let first = c.in_ok-keyboard.ensures in
+    let first = c.in_ok-parts.ensures in
     let p = untouched c.args.image.now.bytes 0 in
     let ran = c.run.ensures.run p first.0 in
-    stands_after (gone_on p c.run.new.self.joint.steps) _ c.run.new.self c.bios.new.self c.bios.result ran.stands c.bios.ensures.acted
+    stands_after (gone_on p c.run.new.self.joint.steps) _ c.run.new.self c.act.new.self c.act.result ran.stands c.act.ensures.acted

@@ -1,10 +1,9 @@
-use Rattle.std.proofs.Common.{◌≡◌, ◌≤◌, ◌<◌, ◌^◌, ◌-◌, [], ◌∷◌, List, false, refl, ap, sym, ◌∙◌, arith}
-use Rattle.board_lines.specs.declared.event.HostEvent.{HostEvent}
+use Rattle.std.proofs.Common.{◌≡◌, ◌≤◌, ◌<◌, ◌^◌, ◌-◌, [], ◌∷◌, false, refl, ap, sym, ◌∙◌, arith}
 use Rattle.host_turn.specs.Host.{waits}
 use Rattle.joint_run.specs.Due.{due_step}
 use Rattle.joint_run.specs.declared.due.Due.{Due}
 use Rattle.live_board.proofs.Calling.{acted_on, acted_stuck, answered_here, says_on, stands_still, stuck_at}
-use Rattle.live_board.proofs.keyboard.Keyboard.act.Goals as goal
+use Rattle.live_board.proofs.parts.Parts.act.Goals as goal
 
 pub returns-in-Ok-clause-acted : goal.returns-in-Ok-clause-acted
 returns-in-Ok-clause-acted c =

@@ -1,7 +1,7 @@
-use Rattle.std.proofs.Common.{◌≤◌, ◌<◌, ◌-◌, [], ◌∷◌, ◌++◌, length, refl, ap, ◌∙◌, arith}
+use Rattle.std.proofs.Common.{◌≤◌, ◌-◌, [], ◌∷◌, ◌++◌, refl, ap, ◌∙◌, arith}
 use Rattle.board_lines.specs.declared.event.Edge.{Edge}
 use Rattle.live_board.proofs.Calling.{keyed_on}
-use Rattle.live_board.proofs.keyboard.Keyboard.key.Goals as goal
+use Rattle.live_board.proofs.parts.Parts.key.Goals as goal
 
 pub returns : goal.returns
 returns c =

@@ -1,6 +1,6 @@
 use Rattle.std.proofs.Common.{ap}
 use Rattle.live_board.proofs.Stepping.{at_first}
-use Rattle.live_board.proofs.keyboard.Keyboard.power_on.Goals as goal
+use Rattle.live_board.proofs.parts.Parts.power_on.Goals as goal
 
 pub returns : goal.returns
 returns c =

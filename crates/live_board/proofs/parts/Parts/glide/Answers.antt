@@ -1,0 +1,13 @@
+use Rattle.std.proofs.Common.{arith}
+use Rattle.joint_feed.proofs.Counts.{made_few}
+use Rattle.joint_feed.proofs.Going.{made}
+use Rattle.live_board.proofs.parts.Parts.glide.Goals as goal
+
+pub drop_made-requires : goal.drop_made-requires
+drop_made-requires c =
+    let k = c.args.self.now in
+    let g = c.in_ok-go_on.ensures.gone in
+    let m = made k.due g.last c.go_on.new.seen c.go_on.new.joint g.step in
+    let some = m.seen_so.edges in
+    let few = made_few g.last.cycle k.due.edges.items in
+    omega (arith, some, few)

@@ -1,0 +1,104 @@
+use Rattle.std.proofs.Common.{sym, ◌∙◌, arith}
+use Rattle.live_board.proofs.Gliding.{cycles_on, goes_all, has_risen, has_stuck, stuck_later}
+use Rattle.live_board.proofs.Watching.{flat_of, goes_first, rose_of}
+use Rattle.live_board.proofs.parts.Parts.go_on.Goals as goal
+
+pub steps-init : goal.steps-init
+steps-init c = record {
+  start = c.cycle-start.ensures.cycle;
+  later = omega arith;
+  line = c.interrupt-up.ensures.line;
+  so_far = λ p s. goes_first p c.args.self.now c.args.cycles c.args.watched s;
+}
+
+pub steps-preserved : goal.steps-preserved
+steps-preserved c =
+    let inv = c.steps.invariant in
+    let old = c.args.self.now in
+    let k = c.steps.self in
+    let new = c.glide.new.self in
+    let e = c.in-Ok.ensures in
+    let more = cycles_on k new c.room.result e.gone e.some in
+    let later = inv.later in
+    let start = inv.start in
+    let now = c.cycle.ensures.cycle in
+    let within = c.room.ensures.within in
+    record {
+      start = inv.start;
+      later = omega (arith, later, more);
+      line = c.interrupt-now.ensures.line;
+      so_far = λ p s.
+          goes_all k new c.room.result e.gone p old c.args.cycles c.args.watched (inv.so_far p s) (omega (arith, within, now, start, later)) e.edges e.host
+          (flat_of c.args.watched c.steps.up c.interrupt-now.result c.has_risen.result _ _ c.has_risen.ensures c.if-has_risen.false inv.line c.interrupt-now.ensures.line);
+    }
+
+pub steps-smaller : goal.steps-smaller
+steps-smaller c =
+    let e = c.in-Ok.ensures in
+    let more = cycles_on c.steps.self c.glide.new.self c.room.result e.gone e.some in
+    let near = c.if-cycle-ge-LAST.false in
+    let at = c.cycle-cycle.ensures.cycle in
+    omega (arith, more, near, at)
+
+pub returns-then-cycle-ge-LAST-clause-run : goal.returns-then-cycle-ge-LAST-clause-run
+returns-then-cycle-ge-LAST-clause-run c =
+    let inv = c.steps.invariant in
+    let later = inv.later in
+    let start = inv.start in
+    let now = c.cycle.ensures.cycle in
+    let test = c.steps-test.true in
+    let over = c.if-cycle-ge-LAST.true in
+    let at = c.cycle-cycle.ensures.cycle in
+    λ p s.
+    let so = inv.so_far p s in
+    record { stands = so.stands; before = so.before; ends = (omega (arith, over, at), omega (arith, test, now, start, later), so.calm) }
+
+pub returns-in-Err-clause-later : goal.returns-in-Err-clause-later
+returns-in-Err-clause-later c =
+    let later = c.steps.invariant.later in
+    let more = stuck_later c.steps.self c.glide.new.self c.room.result c.in-Err.stuck c.in-Err.ensures.gone in
+    omega (arith, later, more)
+
+pub returns-in-Err-clause-run : goal.returns-in-Err-clause-run
+returns-in-Err-clause-run c =
+    let inv = c.steps.invariant in
+    let e = c.in-Err.ensures in
+    let later = inv.later in
+    let start = inv.start in
+    let now = c.cycle.ensures.cycle in
+    let within = c.room.ensures.within in
+    λ p s.
+    has_stuck c.steps.self c.glide.new.self c.room.result c.in-Err.stuck e.gone e.unchanged p c.args.self.now c.args.cycles c.args.watched (inv.so_far p s)
+    (omega (arith, within, now, start, later))
+
+pub returns-then-has_risen-clause-later : goal.returns-then-has_risen-clause-later
+returns-then-has_risen-clause-later c =
+    let e = c.in-Ok.ensures in
+    let later = c.steps.invariant.later in
+    let more = cycles_on c.steps.self c.glide.new.self c.room.result e.gone e.some in
+    omega (arith, later, more)
+
+pub returns-then-has_risen-clause-run : goal.returns-then-has_risen-clause-run
+returns-then-has_risen-clause-run c =
+    let inv = c.steps.invariant in
+    let e = c.in-Ok.ensures in
+    let later = inv.later in
+    let start = inv.start in
+    let now = c.cycle.ensures.cycle in
+    let within = c.room.ensures.within in
+    let rose = rose_of c.args.watched c.steps.up c.interrupt-now.result c.has_risen.result c.has_risen.ensures c.if-has_risen.true in
+    λ p s.
+    has_risen c.steps.self c.glide.new.self c.room.result e.gone p c.args.self.now c.args.cycles c.args.watched (inv.so_far p s)
+    (omega (arith, within, now, start, later)) e.edges e.host
+    (rose.0, sym inv.line ∙ rose.1, sym c.interrupt-now.ensures.line ∙ rose.2)
+
+pub returns-clause-run : goal.returns-clause-run
+returns-clause-run c =
+    let inv = c.steps.invariant in
+    let later = inv.later in
+    let start = inv.start in
+    let now = c.cycle.ensures.cycle in
+    let test = c.steps-test.false in
+    λ p s.
+    let so = inv.so_far p s in
+    record { stands = so.stands; before = so.before; ends = (omega (arith, test, now, start, later), so.calm) }

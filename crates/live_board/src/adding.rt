@@ -1,0 +1,84 @@
+//! What a call adds at once: an event of the host, or an edge of a key.
+
+ghost use Rattle.std.specs.Prelude.{◌≡◌, ◌-◌, ◌∷◌, [], OnOk};
+ghost use Rattle.host_turn.specs.Host.{waits};
+ghost use Rattle.live_board.specs.Acts.{IsAnswered};
+ghost use Rattle.live_board.specs.Calls.{IsActed, IsKeyed, Says};
+ghost use Rattle.live_board.specs.Pasts.{Past, acted};
+ghost use Rattle.live_board.specs.Standing.{Stands};
+
+use crate::parts::{LAST, Parts, STAMP_0};
+use crate::refused::Refused;
+use arrayvec::ArrayVec;
+use board_lines::{Edge, HostAct, HostEvent, Place};
+
+/// How many edges can wait for a step.
+const EDGES: usize = 4;
+
+/// One event of the host as a list.
+fn one_event(event: HostEvent) -> ArrayVec<HostEvent, 2>
+    ensures { result.items ≡ event ∷ [] }
+{
+    let mut list = ArrayVec::new();
+    list.push(event);
+    list
+}
+
+impl Parts {
+    /// Whether what the host does has to wait: a write, while the controller's input buffer is full.
+    fn waits(&self, act: HostAct) -> bool
+        ensures { result ≡ waits act self.now.joint.outside.desk.port.core }
+    {
+        match act {
+            HostAct::Write60(_) | HostAct::Write64(_) => self.joint.controller().input_full(),
+            _ => false,
+        }
+    }
+
+    /// The host acts in one joint step, which begins now.
+    pub(crate) fn act(&mut self, act: HostAct) -> Result<(), Refused>
+        ensures acted { IsActed act self.old result self.new }
+        ensures said { OnOk result ((p : Past) → Stands p self.old
+            → Says p (acted p (self.old.joint.cycle - 4096) act) self.new.seen.items.items) }
+        ensures answered { OnOk result (IsAnswered act self.new.seen.items.items) }
+    {
+        let cycle = self.joint.cycle();
+        if cycle < STAMP_0 {
+            return Err(Refused::Early);
+        }
+        if cycle >= LAST {
+            return Err(Refused::Over);
+        }
+        if self.waits(act) {
+            return Err(Refused::Full);
+        }
+        let stamp = cycle - STAMP_0;
+        self.due.host = one_event(HostEvent { stamp, act });
+        match self.step() {
+            Ok(()) => {
+                self.due.host = ArrayVec::new();
+                Ok(())
+            }
+            Err(stuck) => {
+                self.due.host = ArrayVec::new();
+                Err(Refused::Stuck(stuck))
+            }
+        }
+    }
+
+    /// The key at a place goes down or up. It is made before the next step; no step is made yet.
+    pub(crate) fn key(&mut self, place: Place, down: bool) -> Result<(), Refused>
+        ensures keyed { IsKeyed place down self.old result self.new }
+    {
+        let cycle = self.joint.cycle();
+        if cycle < STAMP_0 {
+            return Err(Refused::Early);
+        }
+        if self.due.edges.len() >= EDGES {
+            return Err(Refused::Full);
+        }
+        let stamp = cycle - STAMP_0;
+        self.due.edges.push(Edge { stamp, place, down });
+        Ok(())
+    }
+}

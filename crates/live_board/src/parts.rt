@@ -1,0 +1,110 @@
+//! The keyboard's parts, and their joint step.
+
+ghost use Rattle.std.specs.Prelude.{◌≡◌, ◌≤◌, ◌<◌, ◌^◌, ◌∷◌, [], drop, length, IfOk, OnErr, OnOk};
+ghost use Rattle.joint_run.specs.Due.{due_step, told, IsJointStep};
+ghost use Rattle.joint_run.specs.History.{IsStepOfRun};
+ghost use Rattle.live_board.specs.Answers.{line_in, raises};
+ghost use Rattle.live_board.specs.Pasts.{Past, state_of, untouched};
+ghost use Rattle.live_board.specs.Running.{IsOpened};
+ghost use Rattle.live_board.specs.Standing.{Stands};
+
+use arrayvec::ArrayVec;
+use board_lines::{Edge, HostAct};
+use int09::Bios;
+use joint_run::{Due, Joint, Seen};
+use mcs48_core::Stuck;
+use mcs48_isa::Image;
+use std::alloc::{AllocError, Global};
+
+/// The cycle that is stamp 0.
+pub(crate) const STAMP_0: u64 = 4096;
+
+/// From this cycle on no step is made.
+pub(crate) const LAST: u64 = 1 << 62;
+
+/// The joint machine, the events that its next step is handed, and what its last step did.
+#[derive(Drop)]
+pub struct Parts {
+    pub joint: Joint,
+    pub due: Due,
+    pub seen: Seen,
+}
+
+/// These edges as a list of their own.
+fn edge_list(edges: &[Edge]) -> ArrayVec<Edge, 4>
+    requires { length edges.now ≤ 4 }
+    ensures { result.items ≡ edges.now }
+{
+    let mut list = ArrayVec::new();
+    let _ = list.try_extend_from_slice(edges);
+    list
+}
+
+impl Parts {
+    /// At power-on, with this program. Takes all memory that it takes, the buffer of INT 09h.
+    fn power_on(alloc: Global, image: &Image) -> Result<Parts, AllocError>
+        ensures { IfOk result (λ k. Stands (untouched image.now.bytes 0) k × (k.joint.steps ≡ 0) × (k.joint.cycle ≡ 0)) }
+    {
+        let bios = Bios::new(alloc)?;
+        Ok(Parts {
+            joint: Joint::power_on(image, bios),
+            due: Due {
+                edges: ArrayVec::new(),
+                host: ArrayVec::new(),
+            },
+            seen: Seen::nothing(),
+        })
+    }
+
+    /// At power-on, run to stamp 0, with INT 09h masked there. A program that sticks before stays where it is.
+    pub(crate) fn open(alloc: Global, image: &Image) -> Result<Parts, AllocError>
+        ensures opened { IfOk result (IsOpened image.now.bytes) }
+        ensures stands { IfOk result (λ k. (p : Past) × (p.bytes ≡ image.now.bytes) × (p.edges ≡ []) × Stands p k) }
+    {
+        let mut parts = Parts::power_on(alloc, image)?;
+        let _ = parts.run(STAMP_0, false);
+        let _ = parts.act(HostAct::Mask);
+        Ok(parts)
+    }
+
+    /// The edges that were made wait no longer.
+    pub(crate) fn drop_made(&mut self)
+        requires { self.old.seen.edges ≤ length self.old.due.edges.items }
+        ensures edges { self.new.due.edges.items ≡ drop self.old.seen.edges self.old.due.edges.items }
+        ensures host { self.new.due.host ≡ self.old.due.host }
+        ensures joint { self.new.joint ≡ self.old.joint }
+        ensures seen { self.new.seen ≡ self.old.seen }
+    {
+        if self.seen.edges > 0 {
+            let left = edge_list(&self.due.edges.as_slice()[self.seen.edges as usize..]);
+            self.due.edges = left;
+        }
+    }
+
+    /// One joint step, by the events that wait, told in `seen`. Where the processor is stuck all but `seen` is as it was.
+    #[inline(always)]
+    pub(crate) fn step(&mut self) -> Result<(), Stuck>
+        requires near { self.old.joint.cycle < 2 ^ 62 }
+        ensures step { IsJointStep self.old.due self.old.joint (due_step self.old.due self.old.joint)
+            (told result self.new.seen) self.new.joint }
+        ensures run { IsStepOfRun self.old.due self.old.joint (told result self.new.seen) self.new.joint }
+        ensures some { OnOk result (0 < self.new.seen.cycles) }
+        ensures few { OnOk result (self.new.seen.cycles < 3) }
+        ensures edges { OnOk result (self.new.due.edges.items ≡ drop self.new.seen.edges self.old.due.edges.items) }
+        ensures host { self.new.due.host ≡ self.old.due.host }
+        ensures unchanged { OnErr result ((self.new.joint ≡ self.old.joint) × (self.new.due ≡ self.old.due)) }
+    {
+        self.joint.step_into(&self.due, &mut self.seen)?;
+        self.drop_made();
+        Ok(())
+    }
+
+    /// Whether the interrupt line is up: the controller's output buffer is full, and its interrupt is enabled.
+    pub(crate) fn interrupt(&self) -> bool
+        ensures line { result ≡ raises self.now.joint.outside.desk.port.core }
+        ensures state { (p : Past) → Stands p self.now → result ≡ line_in (state_of p) }
+    {
+        let controller = self.joint.controller();
+        controller.output_full() && controller.interrupt_enabled()
+    }
+}
