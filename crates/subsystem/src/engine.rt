@@ -14,7 +14,6 @@ ghost use Rattle.subsystem.specs.Counts.{none_counted, with_lines};
 ghost use Rattle.subsystem.specs.Ending.{ending};
 ghost use Rattle.story_run.specs.Gliding.{history_of};
 ghost use Rattle.subsystem.specs.Looking.{HaveLookedAtSome};
-ghost use Rattle.subsystem.specs.Progress.{IsReady};
 ghost use Rattle.subsystem.specs.Putting.{HaveLookedToBreak, IsLogBrokenOff};
 ghost use Rattle.subsystem.specs.Running.{IsOutcome};
 ghost use Rattle.subsystem.specs.Texts.{log_text};
@@ -103,15 +102,6 @@ impl<F: Feed> Engine<F> {
             course,
             starts: Starts { stamps },
         })
-    }
-
-    /// The parts of the run, for a caller that tells something else of it: the feed, and the joint machine before the first
-    /// step.
-    pub fn into_parts(self) -> (F, Course)
-        ensures ready { IsReady (F.told result.0) result.1 }
-        ensures run { story result.1.joint.image.bytes (F.told result.0).history ≡ self }
-    {
-        (self.feed, self.course)
     }
 
     /// Makes the joint run from power-on to the first tick start at or after the end stamp, before the step that begins
