@@ -20,13 +20,13 @@ use Rattle.kbd48_app.specs.declared.words.Command.TheVariants.{Board}
 use Rattle.kbd48_app.specs.Kinds.{limit_of}
 use Rattle.kbd48_app.specs.Plans.{Plan, Boards, program_plan}
 use Rattle.kbd48_app.specs.Reached.{Reads}
-use Rattle.kbd48_app.proofs.Caused.{IsCaused}
-use Rattle.kbd48_app.proofs.Ends.{board_exit, leads}
-use Rattle.kbd48_app.proofs.Faults.{Fault, HasFault, exit_at}
+use Rattle.kbd48_app.proofs.ExitAndCause.{IsCaused}
+use Rattle.kbd48_app.proofs.PlansEnd.{board_exit, leads}
+use Rattle.kbd48_app.proofs.FirstFaultHasExit.{Fault, HasFault, exit_at}
 use Rattle.kbd48_app.proofs.ProgramExits.{program_caused}
-use Rattle.kbd48_app.proofs.Programs.{fault_led_by_program, image_found, leads_all, read_behind}
+use Rattle.kbd48_app.proofs.ProgramPlans.{fault_led_by_program, image_found, leads_all, read_behind}
 use Rattle.kbd48_app.proofs.RunExits.{ReadsBoth}
-use Rattle.kbd48_app.proofs.Runs.{HistoryOutcome, IsReadThird, IsScriptLed, first_found, history_exit, second_found}
+use Rattle.kbd48_app.proofs.RunPlans.{HistoryOutcome, IsReadThird, IsScriptLed, first_found, history_exit, second_found}
 
 -- no file is read behind the key file
 none_third : (wanted : BoardCommand) (image : List ℕ) → IsReadThird (λ layout. Boards wanted image)
@@ -49,7 +49,8 @@ module _ (n : ℕ) (wanted : BoardCommand) (first second last : List ℕ) (shelf
       → leads n (program_plan (Boards wanted) first second last) shelf ≡ board_exit (end_of (story image history))
   board_leads bytes image document text layout history found is then has at reads =
       leads_all (Boards wanted) first second last shelf image (bytes, found, is) n document text layout then has at
-      ∙ ap (λ (o : HistoryOutcome). history_exit n (λ of. Boards wanted image) layout (after_fetch (after_fetch (after_fetch shelf))) o) reads
+      ∙ ap (λ (o : HistoryOutcome). history_exit n (λ of. Boards wanted image) layout (after_fetch (after_fetch (after_fetch shelf))) o)
+      reads
 
   -- a run that is stuck
   pub board_stuck : (bytes image document text : List ℕ) (layout : KeyLayout) (history : KeyHistory) (run : Outcome) (place : Place)
@@ -62,8 +63,10 @@ module _ (n : ℕ) (wanted : BoardCommand) (first second last : List ℕ) (shelf
       let found = image_found (Boards wanted) first second last shelf n (none_third wanted) (no_script n wanted) bytes hex in
       let doc' = read_behind (Boards wanted) first second last shelf image (bytes, found, is) kinds.Layout document (λ e. cc) doc in
       let keys' = read_behind (Boards wanted) first second last shelf image (bytes, found, is) kinds.Keys text (λ e. cc) keys in
-      let then = first_found n (λ of. Boards wanted image) (none_third wanted image) (no_script n wanted image) second last (after_fetch shelf) document doc' in
-      let at = second_found n (λ of. Boards wanted image) (none_third wanted image) (no_script n wanted image) second last (after_fetch shelf) text keys' in
+      let then = first_found n (λ of. Boards wanted image) (none_third wanted image) (no_script n wanted image)
+      second last (after_fetch shelf) document doc' in
+      let at = second_found n (λ of. Boards wanted image) (none_third wanted image) (no_script n wanted image)
+      second last (after_fetch shelf) text keys' in
       board_leads bytes image document text layout history found is then has at reads
       ∙ ap board_exit (end_found (story image history) run made) ∙ ap (λ (e : End). board_exit (Some e)) stuck
 

@@ -11,10 +11,10 @@ use Rattle.kbd48_app.specs.CertTexts.{cert_said}
 use Rattle.kbd48_app.specs.Plans.{Plan, Certifies, cert_next, pair_plan, with_image}
 use Rattle.kbd48_app.specs.Reached.{Reads}
 use Rattle.kbd48_app.specs.Says.{exit_said}
-use Rattle.kbd48_app.proofs.Caused.{IsCaused, caused_as}
-use Rattle.kbd48_app.proofs.Certs.{cert_exits}
-use Rattle.kbd48_app.proofs.Ends.{leads}
-use Rattle.kbd48_app.proofs.Within.{IsWithin, fetch_caused, whole}
+use Rattle.kbd48_app.proofs.ExitAndCause.{IsCaused, caused_as}
+use Rattle.kbd48_app.proofs.CertPlans.{cert_exits}
+use Rattle.kbd48_app.proofs.PlansEnd.{leads}
+use Rattle.kbd48_app.proofs.PlansWithinPlans.{IsWithin, fetch_caused, whole}
 
 module _ (n : ℕ) (command : Option Command) (plan : Plan) (shelf : Told) where
   -- a certificate for an image

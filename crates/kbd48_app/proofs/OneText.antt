@@ -17,7 +17,7 @@ use Rattle.kbd48_app.specs.declared.words.RunCommand.{RunCommand}
 use Rattle.kbd48_app.specs.Answers.{MayAnswerOf, MayAnswerRun, MayEnd, OnFetched, Left}
 use Rattle.kbd48_app.specs.Kinds.{limit_of}
 use Rattle.kbd48_app.specs.Plans.{Plan, Fetches, Runs, keys_next, keys_refusal, pair_plan, with_history, with_layout}
-use Rattle.kbd48_app.proofs.Runs.{HistoryOutcome, LayoutOutcome, plan_from}
+use Rattle.kbd48_app.proofs.RunPlans.{HistoryOutcome, LayoutOutcome, plan_from}
 
 -- a text is no refusal
 pub no_refusal : (text : List ℕ) (refusal : Refusal) → Ok text ≡ Err refusal → ⊥
@@ -35,7 +35,8 @@ PrintsOne p q = (shelf : Told) (a b : List ℕ) (after later : Option Told) (pro
 
 -- what was found, of two fetches that come to the same
 found_one : (a b : List ℕ) (f g : List ℕ → Type 0) (fails fails' long long' : Type 0) → (fails → ⊥) → (long → ⊥)
-    → ((bytes : List ℕ) → f bytes → g bytes → a ≡ b) → (outcome : Fetched) → OnFetched fails long f outcome → OnFetched fails' long' g outcome → a ≡ b
+    → ((bytes : List ℕ) → f bytes → g bytes → a ≡ b)
+    → (outcome : Fetched) → OnFetched fails long f outcome → OnFetched fails' long' g outcome → a ≡ b
 found_one a b f g fails fails' long long' unfetched cut h Fails e k = absurd (unfetched e)
 found_one a b f g fails fails' long long' unfetched cut h Long e k = absurd (cut e)
 found_one a b f g fails fails' long long' unfetched cut h (Found bytes) e k = h bytes e k
@@ -64,18 +65,25 @@ fetch_one kind name next other h shelf a b after later probes left others e k =
     (subst (λ (o : Fetched). OnFetched ((Ok a ≡ Err Read) × end) ((Ok a ≡ Err (TooLong kind)) × end) f o) e.1 e.2)
     (subst (λ (o : Fetched). OnFetched ((Ok b ≡ Err Read) × end') ((Ok b ≡ Err (TooLong kind)) × end') g o) k.1 k.2)
 
-module _ (c d : RunCommand) (h : (layout : KeyLayout) (history : KeyHistory) (a b : List ℕ) (probes : List Watch) (left others : Left) → MayAnswerRun c layout history (Ok a) probes left → MayAnswerRun d layout history (Ok b) probes others → a ≡ b) where
+module _ (c d : RunCommand)
+    (h : (layout : KeyLayout) (history : KeyHistory) (a b : List ℕ) (probes : List Watch) (left others : Left)
+    → MayAnswerRun c layout history (Ok a) probes left → MayAnswerRun d layout history (Ok b) probes others → a ≡ b) where
   -- behind the key file
-  history_one : (layout : KeyLayout) (outcome : HistoryOutcome) → PrintsOne (with_history (Runs c layout) outcome) (with_history (Runs d layout) outcome)
+  history_one : (layout : KeyLayout) (outcome : HistoryOutcome)
+      → PrintsOne (with_history (Runs c layout) outcome) (with_history (Runs d layout) outcome)
   history_one layout (Ok history) shelf a b after later probes left others e k = h layout history a b probes left others e.0 k.0
   history_one layout (Err fault) shelf a b after later probes left others e k = no_text a b a (keys_refusal fault) e.0
 
   -- behind the layout
-  layout_one : (keys : List ℕ) (outcome : LayoutOutcome) → PrintsOne (with_layout (keys_next (Runs c) keys) outcome) (with_layout (keys_next (Runs d) keys) outcome)
+  layout_one : (keys : List ℕ) (outcome : LayoutOutcome)
+      → PrintsOne (with_layout (keys_next (Runs c) keys) outcome) (with_layout (keys_next (Runs d) keys) outcome)
   layout_one keys (Ok layout) shelf a b after later probes left others e k =
-      fetch_one kinds.Keys keys (λ text. with_history (Runs c layout) (history_of layout text)) (λ text. with_history (Runs d layout) (history_of layout text))
+      fetch_one kinds.Keys keys (λ text. with_history (Runs c layout) (history_of layout text))
+      (λ text. with_history (Runs d layout) (history_of layout text))
       (λ text. history_one layout (history_of layout text)) shelf a b after later probes left others e k
   layout_one keys (Err fault) shelf a b after later probes left others e k = no_text a b a (Layout fault.entry fault.number) e.0
 
   pub pairs_one : (layout keys : List ℕ) → PrintsOne (pair_plan (OverRun c) layout keys) (pair_plan (OverRun d) layout keys)
-  pairs_one layout keys = fetch_one kinds.Layout layout (plan_from (Runs c) keys) (plan_from (Runs d) keys) (λ bytes. layout_one keys (layout_of_document bytes))
+  pairs_one layout keys =
+      fetch_one kinds.Layout layout (plan_from (Runs c) keys) (plan_from (Runs d) keys)
+      (λ bytes. layout_one keys (layout_of_document bytes))

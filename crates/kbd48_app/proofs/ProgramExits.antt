@@ -9,11 +9,11 @@ use Rattle.kbd48_app.specs.declared.kind.Kind.TheVariants as kinds
 use Rattle.kbd48_app.specs.declared.words.Command.{Command}
 use Rattle.kbd48_app.specs.Plans.{Plan, probe_next, probe_plan, program_next, program_plan, with_image}
 use Rattle.kbd48_app.specs.Reached.{Reads}
-use Rattle.kbd48_app.proofs.Caused.{IsCaused}
-use Rattle.kbd48_app.proofs.Ends.{leads}
-use Rattle.kbd48_app.proofs.Programs.{Behind, program_from}
+use Rattle.kbd48_app.proofs.ExitAndCause.{IsCaused}
+use Rattle.kbd48_app.proofs.PlansEnd.{leads}
+use Rattle.kbd48_app.proofs.ProgramPlans.{Behind, program_from}
 use Rattle.kbd48_app.proofs.RunExits.{IsCausedThird, history_exits, script_exits}
-use Rattle.kbd48_app.proofs.Within.{IsWithin, fetch_caused, whole}
+use Rattle.kbd48_app.proofs.PlansWithinPlans.{IsWithin, fetch_caused, whole}
 
 -- behind an image that is read, a layout and a history
 abbrev pub IsCausedFourth : ℕ → Option Command → Plan → Told → Behind → Type 0
@@ -23,7 +23,8 @@ IsCausedFourth n command plan shelf next =
 
 -- behind an image
 image_exit : (n : ℕ) (command : Option Command) (plan : Plan) (shelf : Told) (next : Behind) (second third bytes : List ℕ)
-    (after : Told) → IsCausedFourth n command plan shelf next → (outcome : HexOutcome) → hex_of bytes ≡ outcome → Reads kinds.Hex bytes plan shelf
+    (after : Told)
+    → IsCausedFourth n command plan shelf next → (outcome : HexOutcome) → hex_of bytes ≡ outcome → Reads kinds.Hex bytes plan shelf
     → IsWithin (with_image (program_next next second third) outcome) after plan shelf
     → IsCaused n command plan shelf (leads n (with_image (program_next next second third) outcome) after)
 image_exit n command plan shelf next second third bytes after causes (Ok image) is read within =

@@ -18,11 +18,11 @@ use Rattle.kbd48_app.specs.Debugging.{script_fault}
 use Rattle.kbd48_app.specs.Plans.{Plan, Debugs, Runs, debug_next, debug_plan, history_plan, keys_next, pair_plan}
 use Rattle.kbd48_app.specs.Plans.{script_next, with_history, with_layout}
 use Rattle.kbd48_app.specs.Reached.{Reads}
-use Rattle.kbd48_app.proofs.Caused.{IsCaused}
-use Rattle.kbd48_app.proofs.Ends.{leads, exit_by}
-use Rattle.kbd48_app.proofs.Reaching.{lacks}
-use Rattle.kbd48_app.proofs.Runs.{Following, HistoryOutcome, LayoutOutcome, plan_from}
-use Rattle.kbd48_app.proofs.Within.{IsWithin, fetch_caused, whole}
+use Rattle.kbd48_app.proofs.ExitAndCause.{IsCaused}
+use Rattle.kbd48_app.proofs.PlansEnd.{leads, exit_by}
+use Rattle.kbd48_app.proofs.FetchesReach.{lacks}
+use Rattle.kbd48_app.proofs.RunPlans.{Following, HistoryOutcome, LayoutOutcome, plan_from}
+use Rattle.kbd48_app.proofs.PlansWithinPlans.{IsWithin, fetch_caused, whole}
 
 module _ (n : ℕ) (command : Option Command) (plan : Plan) (shelf : Told) where
   -- a layout and a key file for it are read, and have no fault

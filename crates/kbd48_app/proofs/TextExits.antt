@@ -10,10 +10,10 @@ use Rattle.kbd48_app.specs.declared.words.Command.{Command}
 use Rattle.kbd48_app.specs.declared.words.PairCommand.TheVariants.{Spell}
 use Rattle.kbd48_app.specs.Plans.{Plan, Spells, pair_plan, text_next, with_layout}
 use Rattle.kbd48_app.specs.Reached.{Reads}
-use Rattle.kbd48_app.proofs.Caused.{IsCaused}
-use Rattle.kbd48_app.proofs.Ends.{exit_by, leads}
-use Rattle.kbd48_app.proofs.Runs.{LayoutOutcome}
-use Rattle.kbd48_app.proofs.Within.{IsWithin, fetch_caused, whole}
+use Rattle.kbd48_app.proofs.ExitAndCause.{IsCaused}
+use Rattle.kbd48_app.proofs.PlansEnd.{exit_by, leads}
+use Rattle.kbd48_app.proofs.RunPlans.{LayoutOutcome}
+use Rattle.kbd48_app.proofs.PlansWithinPlans.{IsWithin, fetch_caused, whole}
 
 module _ (n : ℕ) (command : Option Command) (plan : Plan) (shelf : Told) where
   -- a text for a layout

@@ -1,6 +1,6 @@
 -- How a plan ends over a shelf: with which answer, after which fetches, and how it leaves the probes that are handed
 -- in.
-use Rattle.std.specs.Prelude.{◌≡◌, ◌⊎◌, ℕ, ◌≤◌, Bool, List, [], length, None, Some, Ok, Err, IfOk}
+use Rattle.std.specs.Prelude.{◌≡◌, ◌⊎◌, ℕ, ◌≤◌, List, [], length, None, Some, Ok, Err, IfOk}
 use Rattle.std.specs.Option.{option_map}
 use Rattle.std.specs.declared.alloc.Global.{Global}
 use Rattle.std.specs.declared.option.Option.{Option}
@@ -29,6 +29,7 @@ use Rattle.kbd48_app.specs.Plans.{Answer, Plan, plan_of}
 use Rattle.kbd48_app.specs.Plans.{Gives, Certifies, Spells, Runs, Boards, Samples, Debugs, Fetches}
 use Rattle.kbd48_app.specs.RunTexts.{AreLeft, AreLeftWanting, HaveLookedAtAll, IsRunText}
 use Rattle.kbd48_app.specs.Sampling.{IsSampleText, sample_story}
+use Rattle.kbd48_app.specs.Taking.{Taking}
 use Rattle.kbd48_app.specs.TextPlans.{IsPlanText}
 use Rattle.kbd48_app.specs.Words.{command_of}
 
@@ -51,11 +52,11 @@ MayAnswerOf said answer = (answer ≡ Err Memory) ⊎ (answer ≡ said)
 abbrev pub MayAnswerCert : List ℕ → List ℕ → Answer → Type 0
 MayAnswerCert image text answer = MayAnswerOf (cert_said image text) answer × IfOk answer (IsCertText image text)
 
--- what a call leaves behind: the probes, whether the sink has taken all that it had to say, and what it said before its
--- answer, which is the log of a run on the board, or its trace, and else nothing
+-- what a call leaves behind: the probes, how much the sink has taken of all that it had to say, and what it said before
+-- its answer, which is the log of a run on the board, or its trace, and else nothing
 pub record Left : Type 0 where
   pub probes : List Watch
-  pub whole : Bool
+  pub taking : Taking
   pub log : List ℕ
 
 -- what may be answered of a text for a layout: its plan, or the number of its first byte without a key, from 1
@@ -70,13 +71,13 @@ abbrev pub MayAnswerRun : RunCommand → KeyLayout → KeyHistory → Answer →
 MayAnswerRun command layout history answer probes left =
     ((answer ≡ Err Memory) × AreLeftWanting command layout history probes left.probes)
     ⊎ ((text : List ℕ) × (run : Outcome) × IsRunText command layout history text run × (answer ≡ Ok text)
-    × AreLeft command layout history run.steps left.whole probes left.probes)
+    × AreLeft command layout history run left.taking probes left.probes)
 
 -- the run of a program on the board is told: its log, or its trace, is said before the answer
 abbrev pub IsBoardTold : BoardCommand → Story → Answer → List Watch → Left → Type 0
 IsBoardTold wanted s answer probes left =
     (run : board.Outcome) × board.IsOutcome s run × (left.log ≡ board_log wanted s run)
-    × (answer ≡ board_said wanted run run.end) × AreLeftOnBoard s run.steps left.whole probes left.probes
+    × (answer ≡ board_said wanted run run.end) × AreLeftOnBoard wanted s run left.taking probes left.probes
 
 -- what may be answered of such a run under a history; no memory is wanting once it has begun
 abbrev pub MayAnswerBoard : BoardCommand → List ℕ → KeyHistory → Answer → List Watch → Left → Type 0

@@ -5,6 +5,7 @@ pub mod Refusals
 pub mod Stepping
 pub mod Feeding
 pub mod TranslationLaw
+pub mod Taking
 pub mod RunTexts
 pub mod Sampling
 pub mod Debugging

@@ -1,10 +1,11 @@
 -- `run` and `expect` over the same two files.
-use Rattle.std.specs.Prelude.{◌≡◌, ◌⊎◌, ℕ, true, List, [], ◌∷◌, Some, Ok, Err, codes}
+use Rattle.std.specs.Prelude.{◌≡◌, ◌⊎◌, ℕ, List, [], ◌∷◌, Some, Ok, Err, codes}
 use Rattle.std.specs.declared.option.Option.{Option}
 use Rattle.board_probes.specs.Probes.{Watch}
 use Rattle.io_edge.specs.Shelf.{Told}
 use Rattle.kbd48_app.specs.Answers.{Left, MayAnswer}
 use Rattle.kbd48_app.specs.Plans.{Answer}
+use Rattle.kbd48_app.specs.Taking.{Whole}
 use Rattle.kbd48_app.specs.declared.refusal.Refusal.TheVariants.{Memory}
 
 -- `run` LAYOUT KEYS, and `expect` LAYOUT KEYS
@@ -16,7 +17,7 @@ expect_words layout keys = codes "expect" ∷ layout ∷ keys ∷ []
 
 -- all that a call had to say was taken, nothing was said before its answer, and it leaves the probes so
 abbrev pub leaving : List Watch → Left
-leaving probes = record { probes = probes; whole = true; log = [] }
+leaving probes = record { probes = probes; taking = Whole; log = [] }
 
 -- what one of them may answer, over any shelf and with any probes, the other may; an answer with a text leaves the
 -- probes alike. Where memory is wanting, `run` leaves them as they were, and `expect` after the first steps of its run.

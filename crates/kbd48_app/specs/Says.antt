@@ -1,8 +1,8 @@
 -- What an answer prints, and how it ends the call.
-use Rattle.std.specs.Prelude.{◌≡◌, ◌⊎◌, ℕ, Bool, true, false, List, ◌++◌, Ok, Err}
+use Rattle.std.specs.Prelude.{◌≡◌, ◌⊎◌, ℕ, List, ◌++◌, Ok, Err}
 use Rattle.io_edge.specs.Said.{IsBrokenOff, IsSaid, Shown}
 use Rattle.kbd48_app.specs.declared.exit.Exit.{Exit}
-use Rattle.kbd48_app.specs.declared.exit.Exit.TheVariants.{Done, Words, Input, Timing, Read, Write, Memory, Stuck}
+use Rattle.kbd48_app.specs.declared.exit.Exit.TheVariants.{Done, Write}
 use Rattle.kbd48_app.specs.Plans.{Answer}
 use Rattle.kbd48_app.specs.Refusals.{exit_of, line_of}
 
@@ -21,14 +21,3 @@ abbrev pub Says : List ℕ → Answer → Shown → Shown → Exit → Type 0
 Says log answer before after exit =
     ((exit ≡ exit_said answer) × IsSaid before after (log ++ text_said answer))
     ⊎ ((exit ≡ Write) × IsBrokenOff before after (log ++ text_said answer))
-
--- all of it was said where the call doesn't end with Write
-abbrev pub is_whole : Exit → Bool
-is_whole Done = true
-is_whole Words = true
-is_whole Input = true
-is_whole Timing = true
-is_whole Read = true
-is_whole Write = false
-is_whole Memory = true
-is_whole Stuck = true

@@ -1,12 +1,13 @@
 //! From the words and the files to the answer: a text, or the refusal that stands in its place.
 
-ghost use Rattle.std.specs.Prelude.{◌≡◌, ◌⊎◌, ◌≤◌, [], Bool, List, map, string_bytes, length, true, Ok, Err, Some};
+ghost use Rattle.std.specs.Prelude.{◌≡◌, ◌⊎◌, ◌≤◌, [], List, map, string_bytes, length, true, Ok, Err, Some};
 ghost use Rattle.io_edge.specs.Faults.{Rose};
 ghost use Rattle.io_edge.specs.Said.{shown};
 ghost use Rattle.kbd48_app.specs.Answers.{answer_of, MayAnswer, MayAnswerOf, MayEnd};
 ghost use Rattle.kbd48_app.specs.Kinds.{limit_of, kind_of};
 ghost use Rattle.kbd48_app.specs.Plans.{Gives, Fetches, assembled, compiled, file_said, pair_plan};
 ghost use Rattle.kbd48_app.specs.Spoken.{IsSpoken};
+ghost use Rattle.kbd48_app.specs.Taking.{Taking};
 ghost use Rattle.kbd48_app.specs.Telling.{MayTell};
 ghost use Rattle.kbd48_app.specs.Words.{command_of, leaves_probes};
 ghost use Rattle.board_probes.specs.Probes.{Watch};
@@ -86,9 +87,9 @@ fn over_file<F: Shelf>(
     name: &str,
     shelf: &mut F,
 ) -> Result<Vec<u8>, Refusal>
-    ensures ends { (probes : List Watch) (whole : Bool) →
+    ensures ends { (probes : List Watch) (taking : Taking) →
         MayEnd (Fetches (kind_of command) name.now (λ bytes. Gives (file_said command bytes)))
-        (F.told shelf.old) (answer_of result) (F.told shelf.new) probes (record { probes = probes; whole = whole; log = [] }) }
+        (F.told shelf.old) (answer_of result) (F.told shelf.new) probes (record { probes = probes; taking = taking; log = [] }) }
     ensures read { result ≡ Err Refusal.Read → Rose (F.faults shelf.old) (F.faults shelf.new) }
     ensures steady { (result ≡ Err Refusal.Read) ⊎ (F.faults shelf.new ≡ F.faults shelf.old) }
 {
@@ -103,8 +104,8 @@ fn over_cert<F: Shelf>(
     certificate: &str,
     shelf: &mut F,
 ) -> Result<Vec<u8>, Refusal>
-    ensures ends { (probes : List Watch) (whole : Bool) → MayEnd (pair_plan PairCommand.Certify image.now certificate.now)
-        (F.told shelf.old) (answer_of result) (F.told shelf.new) probes (record { probes = probes; whole = whole; log = [] }) }
+    ensures ends { (probes : List Watch) (taking : Taking) → MayEnd (pair_plan PairCommand.Certify image.now certificate.now)
+        (F.told shelf.old) (answer_of result) (F.told shelf.new) probes (record { probes = probes; taking = taking; log = [] }) }
     ensures read { result ≡ Err Refusal.Read → Rose (F.faults shelf.old) (F.faults shelf.new) }
     ensures steady { (result ≡ Err Refusal.Read) ⊎ (F.faults shelf.new ≡ F.faults shelf.old) }
 {
@@ -121,8 +122,8 @@ fn over_text<F: Shelf>(
     text: &str,
     shelf: &mut F,
 ) -> Result<Vec<u8>, Refusal>
-    ensures ends { (probes : List Watch) (whole : Bool) → MayEnd (pair_plan PairCommand.Spell layout.now text.now)
-        (F.told shelf.old) (answer_of result) (F.told shelf.new) probes (record { probes = probes; whole = whole; log = [] }) }
+    ensures ends { (probes : List Watch) (taking : Taking) → MayEnd (pair_plan PairCommand.Spell layout.now text.now)
+        (F.told shelf.old) (answer_of result) (F.told shelf.new) probes (record { probes = probes; taking = taking; log = [] }) }
     ensures read { result ≡ Err Refusal.Read → Rose (F.faults shelf.old) (F.faults shelf.new) }
     ensures steady { (result ≡ Err Refusal.Read) ⊎ (F.faults shelf.new ≡ F.faults shelf.old) }
 {
@@ -142,8 +143,8 @@ fn expected(
     requires within { length text.now ≤ limit_of Kind.Keys }
     ensures says { let before = map (λ b. watch b) probes.old.items in
         let after = map (λ b. watch b) probes.new.items in
-        (whole : Bool) → MayTell RunCommand.Expect layout.now text.now (answer_of result) before
-        (record { probes = after; whole = whole; log = [] }) }
+        (taking : Taking) → MayTell RunCommand.Expect layout.now text.now (answer_of result) before
+        (record { probes = after; taking = taking; log = [] }) }
     ensures unread { result ≡ Err Refusal.Read → ⊥ }
 {
     let history = history_in(alloc, text, layout)?;
@@ -165,8 +166,8 @@ fn told<K: Sink>(
     requires within { length text.now ≤ limit_of Kind.Keys }
     ensures says { let before = map (λ b. watch b) probes.old.items in
         let after = map (λ b. watch b) probes.new.items in
-        IsSpoken (λ answer whole log. MayTell command layout.now text.now answer before
-        (record { probes = after; whole = whole; log = log }))
+        IsSpoken (λ answer taking log. MayTell command layout.now text.now answer before
+        (record { probes = after; taking = taking; log = log }))
         result (shown (K.taken out.old) (K.told out.old) (K.faults out.old))
         (shown (K.taken out.new) (K.told out.new) (K.faults out.new)) }
     ensures untouched { leaves_probes (Some (Command.OverPair (PairCommand.OverRun command))) ≡ true
@@ -193,8 +194,8 @@ fn over_run<F: Shelf, K: Sink>(
 ) -> Result<Spoken, Refusal>
     ensures ends { let before = map (λ b. watch b) probes.old.items in
         let after = map (λ b. watch b) probes.new.items in
-        IsSpoken (λ answer whole log. MayEnd (pair_plan (PairCommand.OverRun command) layout.now keys.now) (F.told shelf.old)
-        answer (F.told shelf.new) before (record { probes = after; whole = whole; log = log }))
+        IsSpoken (λ answer taking log. MayEnd (pair_plan (PairCommand.OverRun command) layout.now keys.now) (F.told shelf.old)
+        answer (F.told shelf.new) before (record { probes = after; taking = taking; log = log }))
         result (shown (K.taken out.old) (K.told out.old) (K.faults out.old))
         (shown (K.taken out.new) (K.told out.new) (K.faults out.new)) }
     ensures untouched { leaves_probes (Some (Command.OverPair (PairCommand.OverRun command))) ≡ true
@@ -220,8 +221,8 @@ fn over_pair<F: Shelf, K: Sink>(
 ) -> Result<Spoken, Refusal>
     ensures ends { let before = map (λ b. watch b) probes.old.items in
         let after = map (λ b. watch b) probes.new.items in
-        IsSpoken (λ answer whole log. MayEnd (pair_plan command first.now second.now) (F.told shelf.old)
-        answer (F.told shelf.new) before (record { probes = after; whole = whole; log = log }))
+        IsSpoken (λ answer taking log. MayEnd (pair_plan command first.now second.now) (F.told shelf.old)
+        answer (F.told shelf.new) before (record { probes = after; taking = taking; log = log }))
         result (shown (K.taken out.old) (K.told out.old) (K.faults out.old))
         (shown (K.taken out.new) (K.told out.new) (K.faults out.new)) }
     ensures untouched { leaves_probes (Some (Command.OverPair command)) ≡ true
@@ -248,8 +249,8 @@ pub fn answer<F: Shelf, K: Sink>(
 ) -> Result<Spoken, Refusal>
     ensures ends { let before = map (λ b. watch b) probes.old.items in
         let after = map (λ b. watch b) probes.new.items in
-        IsSpoken (λ answer whole log. MayAnswer (map string_bytes words.now) (F.told shelf.old)
-        answer (F.told shelf.new) before (record { probes = after; whole = whole; log = log }))
+        IsSpoken (λ answer taking log. MayAnswer (map string_bytes words.now) (F.told shelf.old)
+        answer (F.told shelf.new) before (record { probes = after; taking = taking; log = log }))
         result (shown (K.taken out.old) (K.told out.old) (K.faults out.old))
         (shown (K.taken out.new) (K.told out.new) (K.faults out.new)) }
     ensures untouched { leaves_probes (command_of (map string_bytes words.now)) ≡ true

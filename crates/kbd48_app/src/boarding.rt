@@ -14,16 +14,15 @@ ghost use Rattle.kbd48_app.specs.Telling.{MayTellBoard};
 
 use crate::end_state::put_end;
 use crate::fetching::fetch_file;
-use crate::judging::{image_in, layout_in};
+use crate::judging::{events_in, image_in, layout_in};
 use crate::kind::Kind;
 use crate::refusal::Refusal;
 use crate::spoken::Spoken;
-use crate::streaming::refusal_of;
 use crate::words::BoardCommand;
 use board_probes::Probe;
 use board_run::{Board, End};
 use io_edge::{Shelf, Sink};
-use key_file::{Feed, check_history};
+use key_file::Feed;
 use layout_reader::Layout;
 use mcs48_isa::Image;
 use std::alloc::Global;
@@ -39,8 +38,8 @@ fn put_log<F: Feed, K: Sink>(
     requires accepted { IsAccepted (history_of board) }
     ensures says { let before = map (λ b. watch b) probes.old.items in
         let after = map (λ b. watch b) probes.new.items in
-        IsSpoken (λ answer whole log. IsBoardTold (BoardCommand.Log steps) board answer before
-        (record { probes = after; whole = whole; log = log }))
+        IsSpoken (λ answer taking log. IsBoardTold (BoardCommand.Log steps) board answer before
+        (record { probes = after; taking = taking; log = log }))
         (Ok result) (shown (K.taken out.old) (K.told out.old) (K.faults out.old))
         (shown (K.taken out.new) (K.told out.new) (K.faults out.new)) }
 {
@@ -68,8 +67,8 @@ fn put_trace<F: Feed, K: Sink>(
     requires accepted { IsAccepted (history_of board) }
     ensures says { let before = map (λ b. watch b) probes.old.items in
         let after = map (λ b. watch b) probes.new.items in
-        IsSpoken (λ answer whole log. IsBoardTold BoardCommand.Trace board answer before
-        (record { probes = after; whole = whole; log = log }))
+        IsSpoken (λ answer taking log. IsBoardTold BoardCommand.Trace board answer before
+        (record { probes = after; taking = taking; log = log }))
         (Ok result) (shown (K.taken out.old) (K.told out.old) (K.faults out.old))
         (shown (K.taken out.new) (K.told out.new) (K.faults out.new)) }
 {
@@ -92,8 +91,8 @@ fn put_board<F: Feed, K: Sink>(
     requires accepted { IsAccepted (history_of board) }
     ensures says { let before = map (λ b. watch b) probes.old.items in
         let after = map (λ b. watch b) probes.new.items in
-        IsSpoken (λ answer whole log. IsBoardTold wanted board answer before
-        (record { probes = after; whole = whole; log = log }))
+        IsSpoken (λ answer taking log. IsBoardTold wanted board answer before
+        (record { probes = after; taking = taking; log = log }))
         (Ok result) (shown (K.taken out.old) (K.told out.old) (K.faults out.old))
         (shown (K.taken out.new) (K.told out.new) (K.faults out.new)) }
 {
@@ -117,18 +116,16 @@ fn run_board<K: Sink>(
     requires within { length text.now ≤ limit_of Kind.Keys }
     ensures says { let before = map (λ b. watch b) probes.old.items in
         let after = map (λ b. watch b) probes.new.items in
-        IsSpoken (λ answer whole log. MayTellBoard wanted image.now.bytes layout.now text.now answer before
-        (record { probes = after; whole = whole; log = log }))
+        IsSpoken (λ answer taking log. MayTellBoard wanted image.now.bytes layout.now text.now answer before
+        (record { probes = after; taking = taking; log = log }))
         result (shown (K.taken out.old) (K.told out.old) (K.faults out.old))
         (shown (K.taken out.new) (K.told out.new) (K.faults out.new)) }
     ensures unread { result ≡ Err Refusal.Read → ⊥ }
 {
-    match check_history(text, layout) {
-        Err(fault) => Err(refusal_of(fault)),
-        Ok(feed) => match Board::new(alloc, image, feed) {
-            Err(_) => Err(Refusal::Memory),
-            Ok(board) => Ok(put_board(board, wanted, out, probes)),
-        },
+    let feed = events_in(text, layout)?;
+    match Board::new(alloc, image, feed) {
+        Err(_) => Err(Refusal::Memory),
+        Ok(board) => Ok(put_board(board, wanted, out, probes)),
     }
 }
 
@@ -146,8 +143,8 @@ pub fn over_board<F: Shelf, K: Sink>(
 ) -> Result<Spoken, Refusal>
     ensures ends { let before = map (λ b. watch b) probes.old.items in
         let after = map (λ b. watch b) probes.new.items in
-        IsSpoken (λ answer whole log. MayEnd (program_plan (Boards wanted) image.now layout.now keys.now) (F.told shelf.old)
-        answer (F.told shelf.new) before (record { probes = after; whole = whole; log = log }))
+        IsSpoken (λ answer taking log. MayEnd (program_plan (Boards wanted) image.now layout.now keys.now) (F.told shelf.old)
+        answer (F.told shelf.new) before (record { probes = after; taking = taking; log = log }))
         result (shown (K.taken out.old) (K.told out.old) (K.faults out.old))
         (shown (K.taken out.new) (K.told out.new) (K.faults out.new)) }
     ensures read { result ≡ Err Refusal.Read → Rose (F.faults shelf.old) (F.faults shelf.new) }

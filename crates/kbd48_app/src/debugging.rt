@@ -1,7 +1,7 @@
 //! `debug` and `probe`: what the lines of a script say in a session over the run of a layout, or of any program, under a
 //! key history.
 
-ghost use Rattle.std.specs.Prelude.{◌≡◌, ◌⊎◌, [], Bool, Err, length, map, MatchResult};
+ghost use Rattle.std.specs.Prelude.{◌≡◌, ◌⊎◌, [], Err, length, map, MatchResult};
 ghost use Rattle.fw_debug.specs.Faults.{IsRight, IsVerdict};
 ghost use Rattle.fw_debug.specs.Obeyed.{IsObeyed, IsObeyedInPart};
 ghost use Rattle.fw_debug.specs.Scripts.{script_of};
@@ -9,6 +9,7 @@ ghost use Rattle.io_edge.specs.Faults.{Rose};
 ghost use Rattle.kbd48_app.specs.Answers.{MayAnswerDebug, MayEnd, answer_of};
 ghost use Rattle.kbd48_app.specs.Debugging.{script_refusal};
 ghost use Rattle.kbd48_app.specs.Plans.{debug_plan, probe_plan, script_next};
+ghost use Rattle.kbd48_app.specs.Taking.{Taking};
 
 use crate::fetching::fetch_file;
 use crate::judging::{history_in, image_in, layout_in};
@@ -58,9 +59,9 @@ fn debug(
     probes: &mut Vec<Box<dyn Probe>>,
 ) -> Result<Vec<u8>, Refusal>
     requires judged { IsVerdict (script_of (length probes.old.items) script.now) verdict }
-    ensures says { let before = map (λ b. watch b) probes.old.items in (whole : Bool) →
+    ensures says { let before = map (λ b. watch b) probes.old.items in (taking : Taking) →
         MayAnswerDebug debuggee script.now (answer_of result) before
-        (record { probes = map (λ b. watch b) probes.new.items; whole = whole; log = [] }) }
+        (record { probes = map (λ b. watch b) probes.new.items; taking = taking; log = [] }) }
     ensures unread { result ≡ Err Refusal.Read → ⊥ }
 {
     match verdict {
@@ -77,9 +78,9 @@ fn over_script<F: Shelf>(
     shelf: &mut F,
     probes: &mut Vec<Box<dyn Probe>>,
 ) -> Result<Vec<u8>, Refusal>
-    ensures ends { (whole : Bool) → MayEnd (script_next script.now debuggee) (F.told shelf.old)
+    ensures ends { (taking : Taking) → MayEnd (script_next script.now debuggee) (F.told shelf.old)
         (answer_of result) (F.told shelf.new) (map (λ b. watch b) probes.old.items)
-        (record { probes = map (λ b. watch b) probes.new.items; whole = whole; log = [] }) }
+        (record { probes = map (λ b. watch b) probes.new.items; taking = taking; log = [] }) }
     ensures read { result ≡ Err Refusal.Read → Rose (F.faults shelf.old) (F.faults shelf.new) }
     ensures steady { (result ≡ Err Refusal.Read) ⊎ (F.faults shelf.new ≡ F.faults shelf.old) }
 {
@@ -98,9 +99,9 @@ pub fn over_debug<F: Shelf>(
     shelf: &mut F,
     probes: &mut Vec<Box<dyn Probe>>,
 ) -> Result<Vec<u8>, Refusal>
-    ensures ends { (whole : Bool) → MayEnd (debug_plan layout.now keys.now script.now) (F.told shelf.old)
+    ensures ends { (taking : Taking) → MayEnd (debug_plan layout.now keys.now script.now) (F.told shelf.old)
         (answer_of result) (F.told shelf.new) (map (λ b. watch b) probes.old.items)
-        (record { probes = map (λ b. watch b) probes.new.items; whole = whole; log = [] }) }
+        (record { probes = map (λ b. watch b) probes.new.items; taking = taking; log = [] }) }
     ensures read { result ≡ Err Refusal.Read → Rose (F.faults shelf.old) (F.faults shelf.new) }
     ensures steady { (result ≡ Err Refusal.Read) ⊎ (F.faults shelf.new ≡ F.faults shelf.old) }
 {
@@ -123,9 +124,9 @@ pub fn over_probe<F: Shelf>(
     shelf: &mut F,
     probes: &mut Vec<Box<dyn Probe>>,
 ) -> Result<Vec<u8>, Refusal>
-    ensures ends { (whole : Bool) → MayEnd (probe_plan image.now layout.now keys.now script.now) (F.told shelf.old)
+    ensures ends { (taking : Taking) → MayEnd (probe_plan image.now layout.now keys.now script.now) (F.told shelf.old)
         (answer_of result) (F.told shelf.new) (map (λ b. watch b) probes.old.items)
-        (record { probes = map (λ b. watch b) probes.new.items; whole = whole; log = [] }) }
+        (record { probes = map (λ b. watch b) probes.new.items; taking = taking; log = [] }) }
     ensures read { result ≡ Err Refusal.Read → Rose (F.faults shelf.old) (F.faults shelf.new) }
     ensures steady { (result ≡ Err Refusal.Read) ⊎ (F.faults shelf.new ≡ F.faults shelf.old) }
 {

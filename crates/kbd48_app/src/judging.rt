@@ -4,7 +4,7 @@ ghost use Rattle.std.specs.Prelude.{◌≡◌, ◌⊎◌, ◌≤◌, length, Ok,
 ghost use Rattle.hexfile.specs.Hex.{hex_of};
 ghost use Rattle.hexfile.specs.declared.fault.HexFault.{HexFault};
 ghost use Rattle.key_file.specs.Accepted.{IsAcceptedFor};
-ghost use Rattle.key_file.specs.KeyFile.{history_of};
+ghost use Rattle.key_file.specs.KeyFile.{history_of, key_fault};
 ghost use Rattle.key_file.specs.declared.fault.KeyFault.{KeyFault as KeysFault};
 ghost use Rattle.layout_reader.specs.Documents.{layout_of_document};
 ghost use Rattle.layout_reader.specs.Faults.{Refusal as LayoutRefusal};
@@ -14,7 +14,7 @@ ghost use Rattle.kbd48_app.specs.Plans.{keys_refusal};
 
 use crate::refusal::Refusal;
 use hexfile::read_hex;
-use key_file::{History, KeyFault, read_history};
+use key_file::{ByteFeed, FileFault, History, KeyFault, check_history, read_history};
 use layout_reader::{Layout, LayoutFault, read_layout};
 use mcs48_isa::Image;
 use std::alloc::Global;
@@ -42,6 +42,36 @@ pub fn layout_in(alloc: Global, document: &[u8]) -> Result<Layout, Refusal>
         Ok(layout) => Ok(layout),
         Err(LayoutFault::Entry { entry, number }) => Err(Refusal::Layout { entry, number }),
         Err(LayoutFault::Memory) => Err(Refusal::Memory),
+    }
+}
+
+/// The refusal of a key file, by its first fault.
+fn refusal_of(fault: FileFault) -> Refusal
+    ensures { result ≡ keys_refusal (key_fault fault) }
+{
+    match fault {
+        FileFault::Input { line, number } => Refusal::Keys { line, number },
+        FileFault::Timing { line, number, a, b } => Refusal::Timing {
+            line,
+            number,
+            first: a,
+            second: b,
+        },
+    }
+}
+
+/// The events of a key file for a layout, none of which is taken yet.
+pub fn events_in<'a>(text: &'a [u8], layout: &'a Layout) -> Result<ByteFeed<'a>, Refusal>
+    requires within { length text.now ≤ limit_of Kind.Keys }
+    ensures history { MatchResult result (λ feed. history_of layout.now text.now ≡ Ok feed.history)
+        (λ refusal. (fault : KeysFault) × (history_of layout.now text.now ≡ Err fault) × (refusal ≡ keys_refusal fault)) }
+    ensures accepted { IfOk result (λ feed. IsAcceptedFor layout.now feed.history) }
+    ensures no_edge { IfOk result (λ feed. feed.edges ≡ 0) }
+    ensures no_host { IfOk result (λ feed. feed.host ≡ 0) }
+{
+    match check_history(text, layout) {
+        Ok(feed) => Ok(feed),
+        Err(fault) => Err(refusal_of(fault)),
     }
 }
 

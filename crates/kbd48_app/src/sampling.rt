@@ -149,7 +149,7 @@ pub fn sample<K: Sink>(
     requires few { count ≤ 10000 }
     ensures says { let before = map (λ b. watch b) probes.old.items in
         let after = map (λ b. watch b) probes.new.items in
-        IsSpoken (λ answer whole log. MayAnswerSample count answer before after × (log ≡ []))
+        IsSpoken (λ answer taking log. MayAnswerSample count answer before after × (log ≡ []))
         result (shown (K.taken out.old) (K.told out.old) (K.faults out.old))
         (shown (K.taken out.new) (K.told out.new) (K.faults out.new)) }
     ensures unread { result ≡ Err Refusal.Read → ⊥ }

@@ -4,25 +4,23 @@
 ghost use Rattle.std.specs.Prelude.{◌≡◌, ◌≤◌, [], if◌then◌else◌, Err, length, map, OnErr, OnOk};
 ghost use Rattle.io_edge.specs.Said.{IsBrokenOff, IsSaid, shown};
 ghost use Rattle.story_run.specs.Gliding.{history_of};
-ghost use Rattle.subsystem.specs.Looking.{HaveLookedAtSome};
 ghost use Rattle.subsystem.specs.Running.{IsOutcome, Outcome};
 ghost use Rattle.key_file.specs.Accepted.{IsAccepted};
-ghost use Rattle.key_file.specs.KeyFile.{key_fault};
 ghost use Rattle.kbd48_app.specs.declared.kind.Kind.{Kind};
 ghost use Rattle.kbd48_app.specs.Kinds.{limit_of};
-ghost use Rattle.kbd48_app.specs.Plans.{keys_refusal};
 ghost use Rattle.kbd48_app.specs.declared.words.RunCommand.{RunCommand};
-ghost use Rattle.kbd48_app.specs.RunTexts.{HaveLookedAtAll, run_text, start_line, start_lines};
+ghost use Rattle.kbd48_app.specs.RunTexts.{HaveLookedAtAll, HaveLookedToCut, run_text, start_line, start_lines};
 ghost use Rattle.kbd48_app.specs.Spoken.{IsSpoken};
 ghost use Rattle.kbd48_app.specs.Telling.{MayTell};
 
 use crate::end_state::put_end;
+use crate::judging::events_in;
 use crate::refusal::Refusal;
 use crate::spoken::Spoken;
 use arrayvec::ArrayVec;
 use board_probes::Probe;
 use io_edge::{Sink, SinkFault, say};
-use key_file::{Feed, FileFault, check_history};
+use key_file::Feed;
 use layout_reader::Layout;
 use short_text::{append, begun};
 use std::alloc::Global;
@@ -82,30 +80,15 @@ fn put_run<F: Feed, K: Sink>(
         × IsSaid (shown (K.taken out.old) (K.told out.old) (K.faults out.old))
         (shown (K.taken out.new) (K.told out.new) (K.faults out.new)) (run_text ticks steps run)
         × HaveLookedAtAll engine run.steps (map (λ b. watch b) probes.old.items) (map (λ b. watch b) probes.new.items)) }
-    ensures broken { OnErr result ((run : Outcome) × IsOutcome engine run
-        × IsBrokenOff (shown (K.taken out.old) (K.told out.old) (K.faults out.old))
-        (shown (K.taken out.new) (K.told out.new) (K.faults out.new)) (run_text ticks steps run)) }
-    ensures looked_so_far { HaveLookedAtSome engine (map (λ b. watch b) probes.old.items)
-        (map (λ b. watch b) probes.new.items) }
+    ensures broken { let first = shown (K.taken out.old) (K.told out.old) (K.faults out.old) in
+        let last = shown (K.taken out.new) (K.told out.new) (K.faults out.new) in
+        OnErr result ((run : Outcome) × IsOutcome engine run × IsBrokenOff first last (run_text ticks steps run)
+        × HaveLookedToCut ticks steps engine run first last (map (λ b. watch b) probes.old.items)
+        (map (λ b. watch b) probes.new.items)) }
 {
     let ended = engine.run_to(out, probes)?;
     put_ticks(out, ended.starts(), ticks)?;
     put_end(out, ended.end(), ended.steps(), ended.cycles(), steps)
-}
-
-/// The refusal of a key file, by its first fault.
-pub(crate) fn refusal_of(fault: FileFault) -> Refusal
-    ensures { result ≡ keys_refusal (key_fault fault) }
-{
-    match fault {
-        FileFault::Input { line, number } => Refusal::Keys { line, number },
-        FileFault::Timing { line, number, a, b } => Refusal::Timing {
-            line,
-            number,
-            first: a,
-            second: b,
-        },
-    }
 }
 
 /// `run`, of a layout and the text of a key file. The text is judged in one pass, all memory is taken, and then each line
@@ -122,18 +105,16 @@ pub fn stream<K: Sink>(
     requires within { length text.now ≤ limit_of Kind.Keys }
     ensures says { let before = map (λ b. watch b) probes.old.items in
         let after = map (λ b. watch b) probes.new.items in
-        IsSpoken (λ answer whole log. MayTell (RunCommand.Log ticks steps) layout.now text.now answer before
-        (record { probes = after; whole = whole; log = log }))
+        IsSpoken (λ answer taking log. MayTell (RunCommand.Log ticks steps) layout.now text.now answer before
+        (record { probes = after; taking = taking; log = log }))
         result (shown (K.taken out.old) (K.told out.old) (K.faults out.old))
         (shown (K.taken out.new) (K.told out.new) (K.faults out.new)) }
     ensures unread { result ≡ Err Refusal.Read → ⊥ }
 {
     runs_are_expected();
-    match check_history(text, layout) {
-        Err(fault) => Err(refusal_of(fault)),
-        Ok(feed) => match Engine::new(alloc, layout, feed) {
-            Err(_) => Err(Refusal::Memory),
-            Ok(engine) => Ok(Spoken::Said(put_run(engine, ticks, steps, out, probes))),
-        },
+    let feed = events_in(text, layout)?;
+    match Engine::new(alloc, layout, feed) {
+        Err(_) => Err(Refusal::Memory),
+        Ok(engine) => Ok(Spoken::Said(put_run(engine, ticks, steps, out, probes))),
     }
 }

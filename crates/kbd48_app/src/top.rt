@@ -15,8 +15,9 @@ ghost use Rattle.kbd48_app.specs.Complete.{IsFaultless, IsLeft};
 ghost use Rattle.kbd48_app.specs.Plans.{Answer};
 ghost use Rattle.kbd48_app.specs.Reached.{IsTooLong, IsUnserved, fetches_of, Makes, may_lack};
 ghost use Rattle.kbd48_app.specs.Refusals.{exit_of, line_of};
-ghost use Rattle.kbd48_app.specs.Says.{Says, is_whole};
+ghost use Rattle.kbd48_app.specs.Says.{Says};
 ghost use Rattle.kbd48_app.specs.Spoken.{Concludes, Prints};
+ghost use Rattle.kbd48_app.specs.Taking.{taking_of};
 ghost use Rattle.kbd48_app.specs.Words.{leaves_probes, takes_memory_first};
 
 use crate::answering::answer;
@@ -71,8 +72,9 @@ fn conclude<K: Sink>(out: &mut K, answer: &Result<Spoken, Refusal>) -> Exit
 /// which never comes for words outside the forms, and in `run`, `trace`, `board` and `sample` only before the run's
 /// first step.
 ///
-/// `run`, `expect`, `board` and `sample` leave each probe as one look at each state of their run does. `debug` and
-/// `probe` obey a script with them. Nothing else is done with them.
+/// `run`, `expect`, `board` and `sample` leave each probe as one look at each state of their run does, and `run` and
+/// `board`, where a put of a line that a step said failed, as one at each state up to that step's. `debug` and `probe`
+/// obey a script with them. Nothing else is done with them.
 pub fn kbd48<F: Shelf, K: Sink>(
     alloc: Global,
     words: &[String],
@@ -82,14 +84,16 @@ pub fn kbd48<F: Shelf, K: Sink>(
 ) -> Exit
     // What is printed, and how the probes are left: the text of an answer that the words, the shelf and the probes may
     // give, put line by line, behind a log in `board` alone; where all of it is taken, a run's probes are as after a
-    // look at each of its states.
+    // look at each of its states; where a put of a line of `run` or `board` failed, as after a look at the states up to
+    // the one that the step which said this line led to.
     ensures says { let before = map (λ b. watch b) probes.old.items in
         let after = map (λ b. watch b) probes.new.items in
+        let first = shown (K.taken out.old) (K.told out.old) (K.faults out.old) in
+        let last = shown (K.taken out.new) (K.told out.new) (K.faults out.new) in
         (log : List ℕ) × (answer : Answer)
         × MayAnswer (texts words.now) (F.told shelf.old) answer (F.told shelf.new) before
-        (record { probes = after; whole = is_whole result; log = log })
-        × Says log answer (shown (K.taken out.old) (K.told out.old) (K.faults out.old))
-        (shown (K.taken out.new) (K.told out.new) (K.faults out.new)) result }
+        (record { probes = after; taking = taking_of result first last; log = log })
+        × Says log answer first last result }
     // The probes: words without a run leave them as they are.
     ensures untouched { leaves_probes (asked words.now) ≡ true
         → map (λ b. watch b) probes.new.items ≡ map (λ b. watch b) probes.old.items }

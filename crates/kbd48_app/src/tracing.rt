@@ -9,11 +9,11 @@ ghost use Rattle.kbd48_app.specs.declared.words.RunCommand.{RunCommand};
 ghost use Rattle.kbd48_app.specs.Spoken.{IsSpoken};
 ghost use Rattle.kbd48_app.specs.Telling.{MayTell};
 
+use crate::judging::events_in;
 use crate::refusal::Refusal;
 use crate::spoken::Spoken;
-use crate::streaming::refusal_of;
+use agreement::run_and_model_agree;
 use io_edge::{Sink, SinkFault};
-use key_file::check_history;
 use layout_reader::Layout;
 use std::alloc::Global;
 use subsystem::runs_are_expected;
@@ -29,19 +29,18 @@ pub fn trace_wires<K: Sink>(
 ) -> Result<Spoken, Refusal>
     requires within { length text.now ≤ limit_of Kind.Keys }
     ensures says { (probes : List Watch) →
-        IsSpoken (λ answer whole log. MayTell RunCommand.Trace layout.now text.now answer probes
-        (record { probes = probes; whole = whole; log = log }))
+        IsSpoken (λ answer taking log. MayTell RunCommand.Trace layout.now text.now answer probes
+        (record { probes = probes; taking = taking; log = log }))
         result (shown (K.taken out.old) (K.told out.old) (K.faults out.old))
         (shown (K.taken out.new) (K.told out.new) (K.faults out.new)) }
     ensures unread { result ≡ Err Refusal.Read → ⊥ }
 {
     runs_are_expected();
-    match check_history(text, layout) {
-        Err(fault) => Err(refusal_of(fault)),
-        Ok(feed) => match trace(alloc, layout, feed, out) {
-            Err(TraceFault::Memory) => Err(Refusal::Memory),
-            Err(TraceFault::Write) => Ok(Spoken::Said(Err(SinkFault::Failed))),
-            Ok(()) => Ok(Spoken::Said(Ok(()))),
-        },
+    run_and_model_agree();
+    let feed = events_in(text, layout)?;
+    match trace(alloc, layout, feed, out) {
+        Err(TraceFault::Memory) => Err(Refusal::Memory),
+        Err(TraceFault::Write) => Ok(Spoken::Said(Err(SinkFault::Failed))),
+        Ok(()) => Ok(Spoken::Said(Ok(()))),
     }
 }

@@ -120,7 +120,7 @@ fn is_short_number(word: &[u8]) -> bool
 }
 
 /// The value of a COUNT, at most 1,000,000.
-#[tactic(auto, using(crate::proofs::Numbers::no_count))]
+#[tactic(auto, using(crate::proofs::CountsParse::no_count))]
 fn count(word: &str) -> Option<u32>
     ensures { result ≡ count_of word.now }
 {

@@ -2,7 +2,7 @@ use Rattle.std.proofs.Common.{Ok, map, subst, sym}
 use Rattle.io_edge.specs.Said.{shown}
 use Rattle.kbd48_app.specs.declared.words.BoardCommand.{BoardCommand}
 use Rattle.kbd48_app.specs.Spoken.{IsSpoken}
-use Rattle.kbd48_app.proofs.Boarded.{MayBoard}
+use Rattle.kbd48_app.proofs.BoardsAreSaid.{MayBoard}
 use Rattle.kbd48_app.proofs.boarding.put_board.Goals as goal
 
 pub returns-in-Log : goal.returns-in-Log

@@ -3,8 +3,8 @@ use Rattle.std.specs.Prelude.{OnErr, OnOk}
 use Rattle.board_run.specs.Ending.{ending}
 use Rattle.io_edge.specs.Said.{IsBrokenOff, IsSaid, shown}
 use Rattle.kbd48_app.specs.declared.words.BoardCommand.TheVariants.{Log}
-use Rattle.kbd48_app.proofs.Boarded.{cut, over_behind, stuck_behind}
-use Rattle.kbd48_app.proofs.Starts.{same_state}
+use Rattle.kbd48_app.proofs.BoardsAreSaid.{cut, over_behind, stuck_behind}
+use Rattle.kbd48_app.proofs.StartsAreLines.{same_state}
 use Rattle.kbd48_app.proofs.boarding.put_log.Goals as goal
 
 pub returns-in-Err : goal.returns-in-Err
@@ -12,14 +12,14 @@ returns-in-Err g c =
     let x = shown (g.K.Sink.taken c.args.out.now) (g.K.Sink.told c.args.out.now) (g.K.Sink.faults c.args.out.now) in
     let z = shown (g.K.Sink.taken c.run_to.new.out) (g.K.Sink.told c.run_to.new.out) (g.K.Sink.faults c.run_to.new.out) in
     let part = c.in-Err.ensures.broken in
-    record { says = cut (Log c.args.steps) c.args.board _ _ c.run_to.ensures.looked_so_far part.run part.is c.in-Err.fault x z part.part }
+    record { says = cut (Log c.args.steps) c.args.board _ _ part.run part.is c.in-Err.fault x z c.in-Err.ensures.looked_to_break part.part }
 
 pub returns : goal.returns
 returns g c =
     let x = shown (g.K.Sink.taken c.args.out.now) (g.K.Sink.told c.args.out.now) (g.K.Sink.faults c.args.out.now) in
     let y = shown (g.K.Sink.taken c.run_to.new.out) (g.K.Sink.told c.run_to.new.out) (g.K.Sink.faults c.run_to.new.out) in
     record {
-      says = stuck_behind (Log c.args.steps) c.args.board _ _ c.run_to.ensures.looked_so_far (ending c.args.board c.in-Ok.ended) c.in-Ok.ensures.run c.in-Ok.ensures.looked
+      says = stuck_behind (Log c.args.steps) c.args.board _ _ (ending c.args.board c.in-Ok.ended) c.in-Ok.ensures.run c.in-Ok.ensures.looked
           c.in-Stuck.stuck x y (sym c.end.ensures.end ∙ c.in-Stuck.is) c.in-Ok.ensures.said;
     }
 
@@ -29,9 +29,10 @@ returns-in-Over g c =
     let y = shown (g.K.Sink.taken c.run_to.new.out) (g.K.Sink.told c.run_to.new.out) (g.K.Sink.faults c.run_to.new.out) in
     let z = shown (g.K.Sink.taken c.put_end.new.out) (g.K.Sink.told c.put_end.new.out) (g.K.Sink.faults c.put_end.new.out) in
     let run = ending c.args.board c.in-Ok.ended in
-    let same = same_state c.args.steps c.mcu.result.now run.mcu c.steps.result run.steps c.cycles.result run.cycles c.mcu.ensures.processor c.steps.ensures.steps c.cycles.ensures.cycles in
+    let same = same_state c.args.steps c.mcu.result.now run.mcu c.steps.result run.steps c.cycles.result run.cycles
+    c.mcu.ensures.processor c.steps.ensures.steps c.cycles.ensures.cycles in
     record {
-      says = over_behind (Log c.args.steps) c.args.board _ _ c.run_to.ensures.looked_so_far run c.in-Ok.ensures.run c.in-Ok.ensures.looked c.put_end.result
+      says = over_behind (Log c.args.steps) c.args.board _ _ run c.in-Ok.ensures.run c.in-Ok.ensures.looked c.put_end.result
           x y z (sym c.end.ensures.end ∙ c.in-Over.is) c.in-Ok.ensures.said
           (subst (λ t. OnOk c.put_end.result (IsSaid y z t)) same c.put_end.ensures.said)
           (subst (λ t. OnErr c.put_end.result (IsBrokenOff y z t)) same c.put_end.ensures.broken);

@@ -10,7 +10,8 @@ returns-clause-said g c =
     let z = shown (g.K.Sink.taken c.say.new.out) (g.K.Sink.told c.say.new.out) (g.K.Sink.faults c.say.new.out) in
     let wanted : c.args.wanted ≡ true = cc c.if-not-wanted.false in
     subst (λ t. OnOk c.say.result (IsSaid x z t))
-    (c.deref.ensures.0 ∙ c.end_lines.ensures ∙ ap (λ b. if b then state_text_of c.args.end.now c.args.steps c.args.cycles else []) (sym wanted)) c.say.ensures.said
+    (c.deref.ensures.0 ∙ c.end_lines.ensures
+    ∙ ap (λ b. if b then state_text_of c.args.end.now c.args.steps c.args.cycles else []) (sym wanted)) c.say.ensures.said
 
 pub returns-clause-broken : goal.returns-clause-broken
 returns-clause-broken g c =
@@ -18,4 +19,5 @@ returns-clause-broken g c =
     let z = shown (g.K.Sink.taken c.say.new.out) (g.K.Sink.told c.say.new.out) (g.K.Sink.faults c.say.new.out) in
     let wanted : c.args.wanted ≡ true = cc c.if-not-wanted.false in
     subst (λ t. OnErr c.say.result (IsBrokenOff x z t))
-    (c.deref.ensures.0 ∙ c.end_lines.ensures ∙ ap (λ b. if b then state_text_of c.args.end.now c.args.steps c.args.cycles else []) (sym wanted)) c.say.ensures.broken
+    (c.deref.ensures.0 ∙ c.end_lines.ensures
+    ∙ ap (λ b. if b then state_text_of c.args.end.now c.args.steps c.args.cycles else []) (sym wanted)) c.say.ensures.broken

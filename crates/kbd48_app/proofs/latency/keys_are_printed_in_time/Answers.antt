@@ -1,4 +1,4 @@
-use Rattle.kbd48_app.proofs.InTime.{printed}
+use Rattle.kbd48_app.proofs.LinesStandInText.{printed}
 use Rattle.kbd48_app.proofs.latency.keys_are_printed_in_time.Goals as goal
 
 pub returns : goal.returns

@@ -1,4 +1,4 @@
-use Rattle.kbd48_app.proofs.Tells as law
+use Rattle.kbd48_app.proofs.BoardTellsRun as law
 use Rattle.kbd48_app.proofs.law.board_tells_run.Goals as goal
 
 pub returns : goal.returns

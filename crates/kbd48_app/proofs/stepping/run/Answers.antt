@@ -1,4 +1,4 @@
-use Rattle.kbd48_app.proofs.Steps.{stopped_after}
+use Rattle.kbd48_app.proofs.StepsGoOn.{stopped_after}
 use Rattle.kbd48_app.proofs.stepping.run.Goals as goal
 
 pub returns-in-Err : goal.returns-in-Err

@@ -7,7 +7,8 @@ use Rattle.kbd48_app.specs.Stepping.{Progress, Stands}
 use Rattle.kbd48_app.proofs.stepping.step.Goals as goal
 
 -- the text of the state at which the run stands
-shown_after : (progress : Progress) (count steps cycles : ℕ) (cpu : Cpu) (answer : Answer) → progress ≡ Stands cpu cycles → steps ≡ count → MayAnswerOf (Ok (state_text_of cpu steps cycles)) answer → MayAnswerOf (run_said count progress) answer
+shown_after : (progress : Progress) (count steps cycles : ℕ) (cpu : Cpu) (answer : Answer) → progress ≡ Stands cpu cycles
+    → steps ≡ count → MayAnswerOf (Ok (state_text_of cpu steps cycles)) answer → MayAnswerOf (run_said count progress) answer
 shown_after progress count steps cycles cpu answer stands same may =
     subst (λ (p : Progress). MayAnswerOf (run_said count p) answer) (sym stands)
     (subst (λ (k : ℕ). MayAnswerOf (Ok (state_text_of cpu k cycles)) answer) same may)

@@ -2,7 +2,7 @@ use Rattle.std.proofs.Common.{refl, subst, ◌∙◌, arith}
 use Rattle.io_edge.specs.Said.{IsBrokenOff, IsSaid, shown}
 use Rattle.subsystem.proofs.Looking.{on_err}
 use Rattle.kbd48_app.specs.RunTexts.{start_lines}
-use Rattle.kbd48_app.proofs.Starts.{cut_off, one_more}
+use Rattle.kbd48_app.proofs.StartsAreLines.{cut_off, one_more}
 use Rattle.kbd48_app.proofs.streaming.put_starts.Goals as goal
 
 pub returns-in_err-say-clause-broken : goal.returns-in_err-say-clause-broken

@@ -1,7 +1,7 @@
 use Rattle.std.proofs.Common.{drop}
 use Rattle.io_edge.specs.Said.{shown}
 use Rattle.kbd48_app.specs.RunTexts.{start_lines}
-use Rattle.kbd48_app.proofs.Starts.{IsSaidTo}
+use Rattle.kbd48_app.proofs.StartsAreLines.{IsSaidTo}
 use Rattle.kbd48_app.proofs.streaming.put_starts.Given as goal
 
 abbrev pub invariant-loop-number : goal.invariant-loop-number

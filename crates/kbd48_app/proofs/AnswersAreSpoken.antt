@@ -1,0 +1,192 @@
+-- What a command comes to, said or still to be said.
+use Rattle.std.proofs.Common.{◌≡◌, ◌<◌, ℕ, List, [], length, map, string_bytes, slice_index_or}
+use Rattle.std.proofs.Common.{String, Global, Some, Ok, Err, refl, sym, subst}
+use Rattle.std.specs.Option.{option_map}
+use Rattle.std.specs.declared.option.Option.{Option}
+use Rattle.std.specs.declared.result.Result.{Result}
+use Rattle.std.specs.declared.vec.Vec.{Vec}
+use Rattle.board_probes.specs.Probes.{Watch}
+use Rattle.io_edge.specs.Said.{Shown}
+use Rattle.io_edge.specs.Shelf.{Told, after_fetch}
+use Rattle.key_file.specs.KeyFile.{history_of}
+use Rattle.layout_reader.specs.Documents.{layout_of_document}
+use Rattle.layout_reader.specs.Layouts.{KeyLayout}
+use Rattle.kbd48_app.specs.declared.kind.Kind.TheVariants as kinds
+use Rattle.kbd48_app.specs.declared.refusal.Refusal.{Refusal}
+use Rattle.kbd48_app.specs.declared.refusal.Refusal.TheVariants as refusals
+use Rattle.kbd48_app.specs.declared.spoken.Spoken.{Spoken}
+use Rattle.kbd48_app.specs.declared.spoken.Spoken.TheVariants.{Text, Said, Stuck}
+use Rattle.kbd48_app.specs.declared.words.Command.{Command}
+use Rattle.kbd48_app.specs.declared.words.Command.TheVariants.{OverFile, OverPair, Debug, Probe, Sample}
+use Rattle.kbd48_app.specs.declared.words.FileCommand.{FileCommand}
+use Rattle.kbd48_app.specs.declared.words.PairCommand.{PairCommand}
+use Rattle.kbd48_app.specs.declared.words.PairCommand.TheVariants.{OverRun}
+use Rattle.kbd48_app.specs.declared.words.RunCommand.{RunCommand}
+use Rattle.kbd48_app.specs.Answers.{Left, MayAnswer, MayAnswerSample, MayEnd, MayEndAs, answer_of}
+use Rattle.kbd48_app.specs.Fetching.{MayGive}
+use Rattle.kbd48_app.specs.Kinds.{kind_of}
+use Rattle.kbd48_app.specs.Plans.{Answer, Gives, Fetches, Runs, debug_plan, file_said, keys_next}
+use Rattle.kbd48_app.specs.Plans.{pair_plan, probe_plan, with_history, with_layout}
+use Rattle.kbd48_app.specs.Spoken.{IsSpoken, May, still_to_say}
+use Rattle.kbd48_app.specs.Taking.{Taking, Whole, CutOff}
+use Rattle.kbd48_app.specs.Telling.{MayTell}
+use Rattle.kbd48_app.specs.Words.{command_of}
+use Rattle.kbd48_app.proofs.FilesAreFound.{found_so}
+use Rattle.kbd48_app.proofs.WordsAreNames.{ends_over_debug, ends_over_file, ends_over_pair, ends_over_probe}
+use Rattle.kbd48_app.proofs.RunPlans.{LayoutOutcome, plan_from}
+use Rattle.kbd48_app.proofs.RunsAreSaid.{left_behind, left_so}
+
+-- what one thing may say, another may
+pub spoken_on : (P Q : May) → ((answer : Answer) (taking : Taking) (log : List ℕ) → P answer taking log → Q answer taking log)
+    → (result : Result Spoken Refusal) (x y : Shown) → IsSpoken P result x y → IsSpoken Q result x y
+spoken_on P Q on (Err refusal) x y h = (λ taking. on (Err refusal) taking [] (h.0 taking), h.1)
+spoken_on P Q on (Ok (Text said)) x y h = (λ taking. on (Ok said.items) taking [] (h.0 taking), h.1)
+spoken_on P Q on (Ok (Said (Ok done))) x y h = (h.0, h.1, on (Ok h.0) Whole h.1 h.2, h.3)
+spoken_on P Q on (Ok (Said (Err fault))) x y h = (h.0, h.1, on h.0 (CutOff x y) h.1 h.2, h.3)
+spoken_on P Q on (Ok (Stuck place)) x y h =
+    let answer : Answer = Err (refusals.Stuck place) in
+    (h.0, on answer Whole h.0 h.1, λ later broken. on answer (CutOff x later) h.0 (h.2 later broken), h.3)
+
+-- nothing of it is said yet
+unsaid : (may : May) (said : Result (Vec ℕ Global) Refusal) (x : Shown)
+    → ((taking : Taking) → may (answer_of said) taking []) → IsSpoken may (still_to_say said) x x
+unsaid may (Ok text) x h = (h, refl)
+unsaid may (Err refusal) x h = (h, refl)
+
+unsaid_so : (may : May) (said : Result (Vec ℕ Global) Refusal) (result : Result Spoken Refusal) (x : Shown) → result ≡ still_to_say said
+    → ((taking : Taking) → may (answer_of said) taking []) → IsSpoken may result x x
+unsaid_so may said result x is h = subst (λ (r : Result Spoken Refusal). IsSpoken may r x x) (sym is) (unsaid may said x h)
+
+-- `run` and `expect`, of a layout and a key file's text
+pub told_by : (c d : RunCommand) (layout : KeyLayout) (text : List ℕ) (probes left : List Watch)
+    (result : Result Spoken Refusal) (x y : Shown) → c ≡ d
+    → IsSpoken (λ answer taking log. MayTell d layout text answer probes (left_behind left taking log)) result x y
+    → IsSpoken (λ answer taking log. MayTell c layout text answer probes (left_behind left taking log)) result x y
+told_by c d layout text probes left result x y is h =
+    subst (λ (k : RunCommand). IsSpoken (λ answer taking log. MayTell k layout text answer probes (left_behind left taking log)) result x y)
+    (sym is) h
+
+pub told_unsaid : (c d : RunCommand) (layout : KeyLayout) (text : List ℕ) (probes left : List Watch)
+    (said : Result (Vec ℕ Global) Refusal) (result : Result Spoken Refusal) (x : Shown) → c ≡ d
+    → result ≡ still_to_say said → ((taking : Taking) → MayTell d layout text (answer_of said) probes (left_so left taking))
+    → IsSpoken (λ answer taking log. MayTell c layout text answer probes (left_behind left taking log)) result x x
+told_unsaid c d layout text probes left said result x is so h =
+    told_by c d layout text probes left result x x is
+    (unsaid_so (λ answer taking log. MayTell d layout text answer probes (left_behind left taking log)) said result x so h)
+
+-- behind both files
+module _ (command : RunCommand) (first second : List ℕ) (shelf on last : Option Told)
+    (file keys : Vec ℕ Global) (layout : KeyLayout) (text : List ℕ)
+    (gives : MayGive kinds.Layout first shelf (Ok file)) (fetched : on ≡ option_map after_fetch shelf)
+    (is : layout_of_document file.items ≡ Ok layout)
+    (given : MayGive kinds.Keys second on (Ok keys)) (then : last ≡ option_map after_fetch on) (same : text ≡ keys.items) where
+  ran_over : (answer : Answer) (probes : List Watch) (left : Left) → MayTell command layout text answer probes left
+      → MayEnd (pair_plan (OverRun command) first second) shelf answer last probes left
+  ran_over answer probes left tells =
+      found_so kinds.Layout first (plan_from (Runs command) second) shelf on last answer probes left file gives fetched
+      (subst (λ (o : LayoutOutcome). MayEnd (with_layout (keys_next (Runs command) second) o) on answer last probes left) (sym is)
+      (found_so kinds.Keys second (λ t. with_history (Runs command layout) (history_of layout t)) on last last answer probes left keys given
+      then
+      (subst (λ (t : List ℕ). MayEnd (with_history (Runs command layout) (history_of layout t)) last answer last probes left)
+      same (tells last))))
+
+  pub ran_spoken : (probes left : List Watch) (result : Result Spoken Refusal) (x y : Shown)
+      → IsSpoken (λ answer taking log. MayTell command layout text answer probes (left_behind left taking log)) result x y
+      → IsSpoken (λ answer taking log.
+      MayEnd (pair_plan (OverRun command) first second) shelf answer last probes (left_behind left taking log)) result x y
+  ran_spoken probes left result x y h =
+      spoken_on (λ answer taking log. MayTell command layout text answer probes (left_behind left taking log))
+      (λ answer taking log. MayEnd (pair_plan (OverRun command) first second) shelf answer last probes (left_behind left taking log))
+      (λ answer taking log k. ran_over answer probes (left_behind left taking log) k) result x y h
+
+-- a command over two files, by what it is
+pub pair_by : (c d : PairCommand) (first second : List ℕ) (shelf after : Option Told) (probes left : List Watch)
+    (result : Result Spoken Refusal) (x y : Shown) → c ≡ d
+    → IsSpoken (λ answer taking log. MayEnd (pair_plan d first second) shelf answer after probes (left_behind left taking log)) result x y
+    → IsSpoken (λ answer taking log. MayEnd (pair_plan c first second) shelf answer after probes (left_behind left taking log)) result x y
+pair_by c d first second shelf after probes left result x y is h =
+    subst (λ (k : PairCommand).
+    IsSpoken (λ answer taking log. MayEnd (pair_plan k first second) shelf answer after probes (left_behind left taking log))
+    result x y) (sym is) h
+
+-- one that leaves the probes alone, and says nothing itself
+pub pair_unsaid : (c d : PairCommand) (first second : List ℕ) (shelf after : Option Told) (probes : List Watch)
+    (said : Result (Vec ℕ Global) Refusal) (result : Result Spoken Refusal)
+    (x : Shown) → c ≡ d → result ≡ still_to_say said
+    → ((all : List Watch) (taking : Taking) → MayEnd (pair_plan d first second) shelf (answer_of said) after all (left_so all taking))
+    → IsSpoken (λ answer taking log. MayEnd (pair_plan c first second) shelf answer after probes (left_behind probes taking log)) result x x
+pair_unsaid c d first second shelf after probes said result x is so h =
+    pair_by c d first second shelf after probes probes result x x is
+    (unsaid_so (λ answer taking log. MayEnd (pair_plan d first second) shelf answer after probes (left_behind probes taking log))
+    said result x so (h probes))
+
+-- the same of the words
+module _ (words : List (String Global)) (shelf after : Option Told) where
+  abbrev pub MaySay : List Watch → List Watch → May
+  MaySay probes left answer taking log = MayAnswer (map string_bytes words) shelf answer after probes (left_behind left taking log)
+
+  pub file_spoken : (command : FileCommand) (word : String Global) (name : List ℕ) (probes : List Watch)
+      (said : Result (Vec ℕ Global) Refusal) (result : Result Spoken Refusal) (x : Shown)
+      → command_of (map string_bytes words) ≡ Some (OverFile command)
+      → 1 < length words → word ≡ slice_index_or words 1 word → name ≡ string_bytes word
+      → result ≡ still_to_say said
+      → ((all : List Watch) (taking : Taking)
+      → MayEnd (Fetches (kind_of command) name (λ bytes. Gives (file_said command bytes))) shelf
+      (answer_of said) after all (left_so all taking))
+      → IsSpoken (MaySay probes probes) result x x
+  file_spoken command word name probes said result x is more at same so h =
+      unsaid_so (MaySay probes probes) said result x so
+      (λ taking. ends_over_file words command word name shelf after (answer_of said) probes
+      (left_so probes taking) is more at same (h probes taking))
+
+  pub pair_spoken : (command : PairCommand) (word word' : String Global) (name name' : List ℕ)
+      (probes left : List Watch) (result : Result Spoken Refusal) (x y : Shown)
+      → command_of (map string_bytes words) ≡ Some (OverPair command)
+      → 2 < length words → word ≡ slice_index_or words 1 word → word' ≡ slice_index_or words 2 word'
+      → name ≡ string_bytes word → name' ≡ string_bytes word'
+      → IsSpoken (λ answer taking log. MayEnd (pair_plan command name name') shelf answer after probes (left_behind left taking log))
+      result x y
+      → IsSpoken (MaySay probes left) result x y
+  pair_spoken command word word' name name' probes left result x y is more at at' same same' h =
+      spoken_on (λ answer taking log. MayEnd (pair_plan command name name') shelf answer after probes (left_behind left taking log))
+      (MaySay probes left)
+      (λ answer taking log k.
+      ends_over_pair words command word word' name name' shelf after answer probes (left_behind left taking log)
+      is more at at' same same' k) result x y h
+
+  pub debug_spoken : (word word' word'' : String Global) (name name' name'' : List ℕ) (probes left : List Watch)
+      (said : Result (Vec ℕ Global) Refusal) (result : Result Spoken Refusal)
+      (x : Shown) → command_of (map string_bytes words) ≡ Some Debug
+      → 3 < length words → word ≡ slice_index_or words 1 word → word' ≡ slice_index_or words 2 word'
+      → word'' ≡ slice_index_or words 3 word''
+      → name ≡ string_bytes word → name' ≡ string_bytes word' → name'' ≡ string_bytes word'' → result ≡ still_to_say said
+      → ((taking : Taking) → MayEnd (debug_plan name name' name'') shelf (answer_of said) after probes (left_so left taking))
+      → IsSpoken (MaySay probes left) result x x
+  debug_spoken word word' word'' name name' name'' probes left said result x is more at at' at'' same same' same'' so h =
+      unsaid_so (MaySay probes left) said result x so
+      (λ taking. ends_over_debug words word word' word'' name name' name'' shelf after (answer_of said) probes
+      (left_so left taking) is more at at' at'' same same' same'' (h taking))
+
+  pub probe_spoken : (a b c d : String Global) (image layout keys script : List ℕ) (probes left : List Watch)
+      (said : Result (Vec ℕ Global) Refusal) (result : Result Spoken Refusal)
+      (x : Shown) → command_of (map string_bytes words) ≡ Some Probe → 4 < length words
+      → a ≡ slice_index_or words 1 a → b ≡ slice_index_or words 2 b → c ≡ slice_index_or words 3 c → d ≡ slice_index_or words 4 d
+      → image ≡ string_bytes a → layout ≡ string_bytes b → keys ≡ string_bytes c → script ≡ string_bytes d → result ≡ still_to_say said
+      → ((taking : Taking) → MayEnd (probe_plan image layout keys script) shelf (answer_of said) after probes (left_so left taking))
+      → IsSpoken (MaySay probes left) result x x
+  probe_spoken a b c d image layout keys script probes left said result x is more at_a at_b at_c at_d same_a same_b same_c same_d so h =
+      unsaid_so (MaySay probes left) said result x so
+      (λ taking. ends_over_probe words a b c d image layout keys script shelf after (answer_of said) probes (left_so left taking)
+      is more at_a at_b at_c at_d same_a same_b same_c same_d (h taking))
+
+-- `sample` fetches nothing
+pub sample_spoken : (words : List (String Global)) (shelf : Option Told) (count n : ℕ) (probes left : List Watch)
+    (result : Result Spoken Refusal) (x y : Shown)
+    → command_of (map string_bytes words) ≡ Some (Sample count)
+    → n ≡ count → IsSpoken (λ answer taking log. MayAnswerSample n answer probes left × (log ≡ [])) result x y
+    → IsSpoken (MaySay words shelf shelf probes left) result x y
+sample_spoken words shelf count n probes left result x y is same h =
+    spoken_on (λ answer taking log. MayAnswerSample n answer probes left × (log ≡ [])) (MaySay words shelf shelf probes left)
+    (λ answer taking log k.
+    subst (λ (c : Option Command). MayEndAs c (map string_bytes words) shelf answer shelf probes (left_behind left taking log)) (sym is)
+    (subst (λ (m : ℕ). MayAnswerSample m answer probes left) same k.0, refl, k.1)) result x y h

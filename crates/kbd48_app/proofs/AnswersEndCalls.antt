@@ -1,0 +1,216 @@
+-- What is said of an answer that was come to, and how it ends the call.
+use Rattle.std.proofs.Common.{◌≡◌, ◌<◌, ℕ, List, [], ◌++◌, Ok, Err, inl, inr, refl, ap, sym, subst, ◌∙◌, ◌⊎◌, arith}
+use Rattle.std.specs.declared.option.Option.{Option}
+use Rattle.std.specs.declared.result.Result.{Result}
+use Rattle.board_probes.specs.Probes.{Watch}
+use Rattle.io_edge.proofs.Pieces.{AreLines, said_then_broken, said_then_said}
+use Rattle.io_edge.specs.Faults.{Rose}
+use Rattle.io_edge.specs.Said.{IsBrokenOff, IsSaid, Shown}
+use Rattle.io_edge.specs.Shelf.{Told}
+use Rattle.mcs48_core.specs.declared.stepping.Stuck.{Stuck as Place}
+use Rattle.kbd48_app.specs.declared.exit.Exit.{Exit}
+use Rattle.kbd48_app.specs.declared.exit.Exit.TheVariants as exits
+use Rattle.kbd48_app.specs.declared.refusal.Refusal.{Refusal}
+use Rattle.kbd48_app.specs.declared.refusal.Refusal.TheVariants as refusals
+use Rattle.kbd48_app.specs.declared.spoken.Spoken.{Spoken}
+use Rattle.kbd48_app.specs.declared.spoken.Spoken.TheVariants.{Text, Said, Stuck}
+use Rattle.kbd48_app.specs.Answers.{MayAnswer}
+use Rattle.kbd48_app.specs.Plans.{Answer}
+use Rattle.kbd48_app.specs.Refusals.{exit_of, line_of}
+use Rattle.kbd48_app.specs.Says.{Says, exit_said, text_said}
+use Rattle.kbd48_app.specs.Spoken.{Concludes, IsSpoken, IsStuckBehind, May, Prints}
+use Rattle.kbd48_app.specs.Taking.{Taking, Whole, CutOff, taking_of}
+use Rattle.kbd48_app.proofs.LogsAreLines.{lines_before}
+
+-- no refusal ends with Write
+refused_never : (refusal : Refusal) → exit_of refusal ≡ exits.Write → ⊥
+refused_never refusals.Words h = cc
+refused_never refusals.Read h = cc
+refused_never (refusals.TooLong kind) h = cc
+refused_never (refusals.Hex fault) h = cc
+refused_never (refusals.Asm line number) h = cc
+refused_never (refusals.Layout entry number) h = cc
+refused_never (refusals.Keys line number) h = cc
+refused_never (refusals.Cert line number) h = cc
+refused_never (refusals.Script line number) h = cc
+refused_never (refusals.Text at) h = cc
+refused_never (refusals.Timing line number first second) h = cc
+refused_never (refusals.Stuck stuck) h = cc
+refused_never refusals.Memory h = cc
+
+pub never_write : (answer : Answer) → exit_said answer ≡ exits.Write → ⊥
+never_write (Ok text) h = cc
+never_write (Err refusal) h = refused_never refusal h
+
+-- Read and Memory are the exits of one refusal each
+read_alone : (refusal : Refusal) → exit_of refusal ≡ exits.Read → refusal ≡ refusals.Read
+read_alone refusals.Words h = absurd cc
+read_alone refusals.Read h = refl
+read_alone (refusals.TooLong kind) h = absurd cc
+read_alone (refusals.Hex fault) h = absurd cc
+read_alone (refusals.Asm line number) h = absurd cc
+read_alone (refusals.Layout entry number) h = absurd cc
+read_alone (refusals.Keys line number) h = absurd cc
+read_alone (refusals.Cert line number) h = absurd cc
+read_alone (refusals.Script line number) h = absurd cc
+read_alone (refusals.Text at) h = absurd cc
+read_alone (refusals.Timing line number first second) h = absurd cc
+read_alone (refusals.Stuck stuck) h = absurd cc
+read_alone refusals.Memory h = absurd cc
+
+memory_alone : (refusal : Refusal) → exit_of refusal ≡ exits.Memory → refusal ≡ refusals.Memory
+memory_alone refusals.Words h = absurd cc
+memory_alone refusals.Read h = absurd cc
+memory_alone (refusals.TooLong kind) h = absurd cc
+memory_alone (refusals.Hex fault) h = absurd cc
+memory_alone (refusals.Asm line number) h = absurd cc
+memory_alone (refusals.Layout entry number) h = absurd cc
+memory_alone (refusals.Keys line number) h = absurd cc
+memory_alone (refusals.Cert line number) h = absurd cc
+memory_alone (refusals.Script line number) h = absurd cc
+memory_alone (refusals.Text at) h = absurd cc
+memory_alone (refusals.Timing line number first second) h = absurd cc
+memory_alone (refusals.Stuck stuck) h = absurd cc
+memory_alone refusals.Memory h = refl
+
+pub memory_said : (answer : Answer) → exit_said answer ≡ exits.Memory → answer ≡ Err refusals.Memory
+memory_said (Ok text) h = absurd cc
+memory_said (Err refusal) h = ap (λ (r : Refusal). Err r) (memory_alone refusal h)
+
+-- where the shelf failed
+pub read_of : (result : Result Spoken Refusal) (y z : Shown) (exit : Exit)
+    → Concludes result y z exit → exit ≡ exits.Read → result ≡ Err refusals.Read
+read_of (Ok (Text text)) y z exit h is =
+    elim h [
+      | inl same ↦ let e : exits.Done ≡ exits.Read = sym same.0 ∙ is in absurd cc
+      | inr part ↦ let e : exits.Write ≡ exits.Read = sym part.0 ∙ is in absurd cc
+    ]
+read_of (Ok (Said (Ok done))) y z exit h is = let e : exits.Done ≡ exits.Read = sym h.0 ∙ is in absurd cc
+read_of (Ok (Said (Err fault))) y z exit h is = let e : exits.Write ≡ exits.Read = sym h.0 ∙ is in absurd cc
+read_of (Ok (Stuck place)) y z exit h is =
+    elim h [
+      | inl same ↦ let e : exits.Stuck ≡ exits.Read = sym same.0 ∙ is in absurd cc
+      | inr part ↦ let e : exits.Write ≡ exits.Read = sym part.0 ∙ is in absurd cc
+    ]
+read_of (Err refusal) y z exit h is =
+    elim h [
+      | inl same ↦ ap (λ (r : Refusal). Err r) (read_alone refusal (sym same.0 ∙ is))
+      | inr part ↦ let e : exits.Write ≡ exits.Read = sym part.0 ∙ is in absurd cc
+    ]
+
+pub read_ends : (result : Result Spoken Refusal) (y z : Shown) (exit : Exit)
+    → Concludes result y z exit → result ≡ Err refusals.Read → (exit ≡ exits.Read) ⊎ (exit ≡ exits.Write)
+read_ends (Ok said) y z exit h is = absurd cc
+read_ends (Err refusal) y z exit h is =
+    let so : refusal ≡ refusals.Read = cc is in
+    elim h [ inl same ↦ inl (same.0 ∙ ap exit_of so) | inr part ↦ inr part.0 ]
+
+-- what is said before an answer is of whole lines
+abbrev AreLinesBefore : May → Type 0
+AreLinesBefore may = (answer : Answer) (taking : Taking) (log : List ℕ) → may answer taking log → AreLines log
+
+-- a call that ends so has said this answer behind a log
+abbrev Ended : May → Shown → Shown → Exit → Type 0
+Ended may x z exit = (log : List ℕ) × (answer : Answer) × may answer (taking_of exit x z) log × Says log answer x z exit
+
+-- all of it was taken, or it is broken off
+taken_all : (may : May) (answer : Answer) (log : List ℕ) (x z : Shown) (exit whole : Exit) → taking_of whole x z ≡ Whole
+    → exit ≡ whole → may answer Whole log → may answer (taking_of exit x z) log
+taken_all may answer log x z exit whole all is h =
+    subst (λ (t : Taking). may answer t log) (sym (ap (λ e. taking_of e x z) is ∙ all)) h
+
+cut_off : (may : May) (answer : Answer) (log : List ℕ) (x z : Shown) (exit : Exit) → exit ≡ exits.Write
+    → may answer (CutOff x z) log → may answer (taking_of exit x z) log
+cut_off may answer log x z exit is h = subst (λ (t : Taking). may answer t log) (sym (ap (λ e. taking_of e x z) is)) h
+
+-- of a run that is stuck its line is said now
+stuck_concluded : (may : May) → AreLinesBefore may → (place : Place) (x y z : Shown) (exit : Exit)
+    → IsStuckBehind may (Err (refusals.Stuck place)) x y
+    → Prints (line_of (refusals.Stuck place)) exits.Stuck y z exit → Ended may x z exit
+stuck_concluded may lines place x y z exit h (inl same) =
+    let stuck : Answer = Err (refusals.Stuck place) in (
+      h.0,
+      stuck,
+      taken_all may stuck h.0 x z exit exits.Stuck refl same.0 h.1,
+      inl (same.0, said_then_said x y z h.0 (text_said stuck) (lines stuck Whole h.0 h.1) h.3 same.1),
+    )
+stuck_concluded may lines place x y z exit h (inr part) =
+    let stuck : Answer = Err (refusals.Stuck place) in (
+      h.0,
+      stuck,
+      cut_off may stuck h.0 x z exit part.0 (h.2 z part.1),
+      inr (part.0, said_then_broken x y z h.0 (text_said stuck) (lines stuck Whole h.0 h.1) h.3 part.1),
+    )
+
+-- what was said before, and what is said now
+pub concluded : (may : May) → AreLinesBefore may → (result : Result Spoken Refusal) (x y z : Shown) (exit : Exit)
+    → IsSpoken may result x y → Concludes result y z exit → Ended may x z exit
+concluded may lines (Err refusal) x y z exit h k = (
+  [],
+  Err refusal,
+  h.0 (taking_of exit x z),
+  elim k [
+    | inl same ↦ inl (same.0, subst (λ (v : Shown). IsSaid v z (line_of refusal)) h.1 same.1)
+    | inr part ↦ inr (part.0, subst (λ (v : Shown). IsBrokenOff v z (line_of refusal)) h.1 part.1)
+  ],
+)
+concluded may lines (Ok (Text text)) x y z exit h k = (
+  [],
+  Ok text.items,
+  h.0 (taking_of exit x z),
+  elim k [
+    | inl same ↦ inl (same.0, subst (λ (v : Shown). IsSaid v z text.items) h.1 same.1)
+    | inr part ↦ inr (part.0, subst (λ (v : Shown). IsBrokenOff v z text.items) h.1 part.1)
+  ],
+)
+concluded may lines (Ok (Said (Ok done))) x y z exit h k = (
+  h.1,
+  Ok h.0,
+  taken_all may (Ok h.0) h.1 x z exit exits.Done refl k.0 h.2,
+  inl (k.0, subst (λ (v : Shown). IsSaid x v (h.1 ++ h.0)) (sym k.1) h.3),
+)
+concluded may lines (Ok (Said (Err fault))) x y z exit h k = (
+  h.1,
+  h.0,
+  cut_off may h.0 h.1 x z exit k.0 (subst (λ (v : Shown). may h.0 (CutOff x v) h.1) (sym k.1) h.2),
+  inr (k.0, subst (λ (v : Shown). IsBrokenOff x v (h.1 ++ text_said h.0)) (sym k.1) h.3),
+)
+concluded may lines (Ok (Stuck place)) x y z exit h k = stuck_concluded may lines place x y z exit h k
+
+-- the same of words
+abbrev pub MaySo : List (List ℕ) → Option Told → Option Told → List Watch → List Watch → May
+MaySo words shelf after probes left answer taking log =
+    MayAnswer words shelf answer after probes (record { probes = left; taking = taking; log = log })
+
+-- a call has ended so, having said this before its answer
+abbrev pub EndedBehind : List ℕ → List (List ℕ) → Option Told → Option Told → List Watch → List Watch → Shown → Shown → Exit → Type 0
+EndedBehind log words shelf after probes left x z exit =
+    (answer : Answer)
+    × MayAnswer words shelf answer after probes (record { probes = left; taking = taking_of exit x z; log = log })
+    × Says log answer x z exit
+
+abbrev pub HasEnded : List (List ℕ) → Option Told → Option Told → List Watch → List Watch → Shown → Shown → Exit → Type 0
+HasEnded words shelf after probes left x z exit = (log : List ℕ) × EndedBehind log words shelf after probes left x z exit
+
+pub has_ended : (words : List (List ℕ)) (shelf after : Option Told) (probes left : List Watch)
+    (result : Result Spoken Refusal) (x y z : Shown) (exit : Exit)
+    → IsSpoken (MaySo words shelf after probes left) result x y
+    → Concludes result y z exit → HasEnded words shelf after probes left x z exit
+has_ended words shelf after probes left result x y z exit h k =
+    let ended = concluded (MaySo words shelf after probes left)
+    (λ answer taking log may. lines_before words shelf answer after probes (record { probes = left; taking = taking; log = log }) may)
+    result x y z exit h k in
+    (ended.0, (ended.1, ended.2, ended.3))
+
+-- Write comes only where a put failed, and wherever one did
+pub wrote : (log : List ℕ) (answer : Answer) (x z : Shown) (exit : Exit)
+    → Says log answer x z exit → exit ≡ exits.Write → Rose x.faults z.faults
+wrote log answer x z exit h is = elim h [ inl whole ↦ absurd (never_write answer (sym whole.0 ∙ is)) | inr part ↦ part.1.failed ]
+
+pub put_failed : (log : List ℕ) (answer : Answer) (x z : Shown) (exit : Exit)
+    → Says log answer x z exit → x.faults < z.faults → exit ≡ exits.Write
+put_failed log answer x z exit h more =
+    elim h [
+      | inl whole ↦ let same = whole.1.steady in absurd (omega (arith, same, more))
+      | inr part ↦ part.0
+    ]

@@ -1,0 +1,94 @@
+-- Behind files that were found.
+use Rattle.std.proofs.Common.{◌≡◌, ℕ, List, [], Global, Ok, Err, inl, inr, refl, ap, subst, sym, ◌∙◌}
+use Rattle.std.specs.Option.{option_map}
+use Rattle.std.specs.declared.option.Option.{Option}
+use Rattle.std.specs.declared.vec.Vec.{Vec}
+use Rattle.board_probes.specs.Probes.{Watch}
+use Rattle.fw_debug.specs.Sessions.{Debuggee}
+use Rattle.hexfile.specs.Hex.{HexOutcome, hex_of}
+use Rattle.io_edge.specs.Shelf.{Told, Fetched, Fails, Long, Found, after_fetch}
+use Rattle.key_file.specs.Histories.{KeyHistory}
+use Rattle.key_file.specs.KeyFile.{history_of}
+use Rattle.layout_reader.specs.Documents.{layout_of_document}
+use Rattle.layout_reader.specs.Layouts.{KeyLayout}
+use Rattle.kbd48_app.specs.declared.kind.Kind.{Kind}
+use Rattle.kbd48_app.specs.declared.kind.Kind.TheVariants as kinds
+use Rattle.kbd48_app.specs.declared.refusal.Refusal.{Refusal}
+use Rattle.kbd48_app.specs.Answers.{MayAnswerDebug, MayEnd, MayFetch, Left}
+use Rattle.kbd48_app.specs.Fetching.{IsGiven, MayGive}
+use Rattle.kbd48_app.specs.Kinds.{limit_of}
+use Rattle.kbd48_app.specs.Plans.{Answer, Plan, Debugs, Fetches, history_plan, keys_next, program_next}
+use Rattle.kbd48_app.specs.Plans.{program_plan, script_next, with_history, with_image, with_layout}
+use Rattle.kbd48_app.proofs.ProgramPlans.{Behind, program_from}
+use Rattle.kbd48_app.proofs.RunPlans.{Following, HistoryOutcome, LayoutOutcome, plan_from}
+
+found_by : (kind : Kind) (name : List ℕ) (next : List ℕ → Plan) (shelf on after : Option Told) (answer : Answer) (probes : List Watch)
+    (left : Left) (file : Vec ℕ Global) (outcome : Fetched) → MayFetch shelf name (limit_of kind) outcome → IsGiven kind outcome (Ok file)
+    → on ≡ option_map after_fetch shelf
+    → MayEnd (next file.items) on answer after probes left → MayEnd (Fetches kind name next) shelf answer after probes left
+found_by kind name next shelf on after answer probes left file Fails may given fetched h = absurd given
+found_by kind name next shelf on after answer probes left file Long may given fetched h = absurd given
+found_by kind name next shelf on after answer probes left file (Found bytes) may given fetched h = (
+  Found bytes,
+  may,
+  inr (subst (λ (b : List ℕ). MayEnd (next b) (option_map after_fetch shelf) answer after probes left) given
+      (subst (λ (o : Option Told). MayEnd (next file.items) o answer after probes left) fetched h)),
+)
+
+-- behind one file
+pub found_so : (kind : Kind) (name : List ℕ) (next : List ℕ → Plan) (shelf on after : Option Told) (answer : Answer) (probes : List Watch)
+    (left : Left) (file : Vec ℕ Global) → MayGive kind name shelf (Ok file) → on ≡ option_map after_fetch shelf
+    → MayEnd (next file.items) on answer after probes left → MayEnd (Fetches kind name next) shelf answer after probes left
+found_so kind name next shelf on after answer probes left file gives fetched h =
+    found_by kind name next shelf on after answer probes left file gives.0 gives.1 gives.2 fetched h
+
+unfound_by : (kind : Kind) (name : List ℕ) (next : List ℕ → Plan) (shelf on : Option Told) (answer : Answer) (probes : List Watch)
+    (left : Left) (refusal : Refusal) (outcome : Fetched) → MayFetch shelf name (limit_of kind) outcome → IsGiven kind outcome (Err refusal)
+    → on ≡ option_map after_fetch shelf
+    → answer ≡ Err refusal → left.probes ≡ probes → left.log ≡ [] → MayEnd (Fetches kind name next) shelf answer on probes left
+unfound_by kind name next shelf on answer probes left refusal Fails may given fetched same kept alone =
+    (Fails, may, (same ∙ ap (λ (r : Refusal). Err r) given, (fetched, kept, alone)))
+unfound_by kind name next shelf on answer probes left refusal Long may given fetched same kept alone =
+    (Long, may, (same ∙ ap (λ (r : Refusal). Err r) given, (fetched, kept, alone)))
+unfound_by kind name next shelf on answer probes left refusal (Found bytes) may given fetched same kept alone =
+    (Found bytes, may, inl (same ∙ ap (λ (r : Refusal). Err r) given, (fetched, kept, alone)))
+
+-- one that wasn't fetched ends it
+pub unfound : (kind : Kind) (name : List ℕ) (next : List ℕ → Plan) (shelf on : Option Told) (answer : Answer) (probes : List Watch)
+    (left : Left) (refusal : Refusal) → MayGive kind name shelf (Err refusal) → on ≡ option_map after_fetch shelf
+    → answer ≡ Err refusal → left.probes ≡ probes → left.log ≡ [] → MayEnd (Fetches kind name next) shelf answer on probes left
+unfound kind name next shelf on answer probes left refusal gives fetched same kept alone =
+    unfound_by kind name next shelf on answer probes left refusal gives.0 gives.1 gives.2 fetched same kept alone
+
+-- behind a layout and a key file without a fault
+pub both_found : (first second : List ℕ) (next : Following) (shelf on on' after : Option Told) (answer : Answer) (probes : List Watch)
+    (left : Left) (file text : Vec ℕ Global) (layout : KeyLayout) (history : KeyHistory) → MayGive kinds.Layout first shelf (Ok file)
+    → on ≡ option_map after_fetch shelf → layout_of_document file.items ≡ Ok layout → MayGive kinds.Keys second on (Ok text)
+    → on' ≡ option_map after_fetch on → history_of layout text.items ≡ Ok history
+    → MayEnd (next layout history) on' answer after probes left → MayEnd (history_plan next first second) shelf answer after probes left
+both_found first second next shelf on on' after answer probes left file text layout history gives fetched is gives' fetched' has h =
+    found_so kinds.Layout first (plan_from next second) shelf on after answer probes left file gives fetched
+    (subst (λ (o : LayoutOutcome). MayEnd (with_layout (keys_next next second) o) on answer after probes left) (sym is)
+    (found_so kinds.Keys second (λ t. with_history (next layout) (history_of layout t)) on on' after answer probes left text gives' fetched'
+    (subst (λ (o : HistoryOutcome). MayEnd (with_history (next layout) o) on' answer after probes left) (sym has) h)))
+
+-- behind an image without a fault
+pub image_found : (first second third : List ℕ) (next : Behind) (shelf on after : Option Told) (answer : Answer) (probes : List Watch)
+    (left : Left) (file : Vec ℕ Global) (image : List ℕ) → MayGive kinds.Hex first shelf (Ok file) → on ≡ option_map after_fetch shelf
+    → hex_of file.items ≡ Ok image → MayEnd (program_next next second third image) on answer after probes left
+    → MayEnd (program_plan next first second third) shelf answer after probes left
+image_found first second third next shelf on after answer probes left file image gives fetched is h =
+    found_so kinds.Hex first (program_from next second third) shelf on after answer probes left file gives fetched
+    (subst (λ (o : HexOutcome). MayEnd (with_image (program_next next second third) o) on answer after probes left) (sym is) h)
+
+-- a script behind what is debugged, by what that is
+pub script_of : (s t : Debuggee) (name : List ℕ) (shelf after : Option Told) (answer : Answer) (probes : List Watch) (left : Left)
+    → s ≡ t → MayEnd (script_next name s) shelf answer after probes left → MayEnd (script_next name t) shelf answer after probes left
+script_of s t name shelf after answer probes left is h =
+    subst (λ (d : Debuggee). MayEnd (script_next name d) shelf answer after probes left) is h
+
+-- a script is obeyed, and no file is fetched behind it
+pub debugged : (s : Debuggee) (text script : List ℕ) (answer : Answer) (probes : List Watch) (left : Left) (shelf : Option Told)
+    → text ≡ script → left.log ≡ [] → MayAnswerDebug s text answer probes left → MayEnd (Debugs s script) shelf answer shelf probes left
+debugged s text script answer probes left shelf is alone h =
+    (subst (λ (t : List ℕ). MayAnswerDebug s t answer probes left) is h, refl, alone)

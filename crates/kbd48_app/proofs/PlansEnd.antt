@@ -1,0 +1,144 @@
+-- How a plan ends over a shelf that tells its files.
+use Rattle.std.proofs.Common.{◌≡◌, ℕ, Bool, true, false, List, [], length, Some, None, Err, inl, inr, refl, ap, subst, sym, ◌∙◌, ◌⊎◌}
+use Rattle.std.specs.declared.option.Option.{Option}
+use Rattle.board_run.proofs.EndOf.{end_found, end_of}
+use Rattle.board_run.specs.Running.{Outcome}
+use Rattle.story_run.specs.declared.ending.End.{End}
+use Rattle.story_run.specs.declared.ending.End.TheVariants.{Over, Stuck}
+use Rattle.board_probes.specs.Probes.{Watch}
+use Rattle.fw_debug.specs.Sessions.{Debuggee}
+use Rattle.joint_feed.specs.Stories.{story}
+use Rattle.io_edge.specs.Said.{Shown}
+use Rattle.layout_reader.specs.Layouts.{KeyLayout}
+use Rattle.typed_log.specs.Typing.{first_without}
+use Rattle.io_edge.specs.Shelf.{Told, Fetched, Fails, Long, Found, after_fetch, fetched}
+use Rattle.kbd48_app.specs.declared.exit.Exit.{Exit}
+use Rattle.kbd48_app.specs.declared.exit.Exit.TheVariants as exits
+use Rattle.kbd48_app.specs.declared.kind.Kind.{Kind}
+use Rattle.kbd48_app.specs.declared.refusal.Refusal.TheVariants.{Read, TooLong, Memory}
+use Rattle.kbd48_app.specs.declared.words.BoardCommand.{BoardCommand}
+use Rattle.kbd48_app.specs.declared.words.Command.{Command}
+use Rattle.kbd48_app.specs.Answers.{OnFetched, MayAnswerOf, MayAnswerSession, MayEnd, MayEndAs, MayAnswer, Left, MayAnswerText}
+use Rattle.kbd48_app.specs.BoardTexts.{board_said}
+use Rattle.kbd48_app.specs.CertTexts.{cert_said}
+use Rattle.kbd48_app.specs.Debugging.{script_fault}
+use Rattle.kbd48_app.specs.Kinds.{limit_of}
+use Rattle.kbd48_app.specs.Plans.{Answer, Plan, Gives, Certifies, Runs, Boards, Samples, Debugs, Fetches, plan, plan_of, Spells}
+use Rattle.kbd48_app.specs.Reached.{on_fetched, may_lack}
+use Rattle.kbd48_app.specs.Says.{Says, exit_said}
+use Rattle.kbd48_app.specs.Words.{command_of}
+
+-- the exit of a script or a text, by its first fault
+abbrev pub exit_by : Option (ℕ × ℕ) → Exit
+exit_by None = exits.Done
+exit_by (Some fault) = exits.Input
+
+-- the exit of a run on the board, by its end
+abbrev pub board_exit : Option End → Exit
+board_exit (Some Over) = exits.Done
+board_exit (Some (Stuck place)) = exits.Stuck
+board_exit None = exits.Done
+
+board_led : (wanted : BoardCommand) (run : Outcome) (end : End) → exit_said (board_said wanted run end) ≡ board_exit (Some end)
+board_led wanted run Over = refl
+board_led wanted run (Stuck place) = refl
+
+-- the exit where memory isn't wanting, and there are so many probes
+abbrev pub leads : ℕ → Plan → Told → Exit
+leads n (Gives said) shelf = exit_said said
+leads n (Certifies image text) shelf = exit_said (cert_said image text)
+leads n (Spells layout text) shelf = exit_by (first_without layout text)
+leads n (Runs command layout history) shelf = exits.Done
+leads n (Boards wanted image history) shelf = board_exit (end_of (story image history))
+leads n (Samples count) shelf = exits.Done
+leads n (Debugs s script) shelf = exit_by (script_fault n script)
+leads n (Fetches kind name next) shelf =
+    on_fetched exits.Read exits.Input (λ bytes. leads n (next bytes) (after_fetch shelf)) (fetched shelf name (limit_of kind))
+
+-- an answer's exit is the one that a plan leads to, or memory was wanting
+abbrev pub IsLed : Exit → Bool → Answer → Type 0
+IsLed exit lack answer = (exit_said answer ≡ exit) ⊎ ((answer ≡ Err Memory) × (lack ≡ true))
+
+after_fetched : (kind : Kind) (on : List ℕ → Type 0) (exit : List ℕ → Exit) (end : Type 0) (answer : Answer)
+    → ((bytes : List ℕ) → on bytes → IsLed (exit bytes) true answer) → (outcome : Fetched)
+    → OnFetched ((answer ≡ Err Read) × end) ((answer ≡ Err (TooLong kind)) × end) (λ bytes. ((answer ≡ Err Memory) × end) ⊎ on bytes)
+    outcome → IsLed (on_fetched exits.Read exits.Input exit outcome) (on_fetched false false (λ bytes. true) outcome) answer
+after_fetched kind on exit end answer goes Fails h = inl (ap exit_said h.0)
+after_fetched kind on exit end answer goes Long h = inl (ap exit_said h.0)
+after_fetched kind on exit end answer goes (Found bytes) h = elim h [ inl memory ↦ inr (memory.0, refl) | inr more ↦ goes bytes more ]
+
+weaker : (exit : Exit) (lack : Bool) (answer : Answer) → IsLed exit lack answer → IsLed exit true answer
+weaker exit lack answer h = elim h [ inl same ↦ inl same | inr memory ↦ inr (memory.0, refl) ]
+
+session_led : (first : Option (ℕ × ℕ)) (s : Debuggee) (script : List ℕ) (answer : Answer) (probes : List Watch) (left : Left)
+    → MayAnswerSession first s script answer probes left → IsLed (exit_by first) true answer
+session_led None s script answer probes left h = elim h [ inl memory ↦ inr (memory.0, refl) | inr said ↦ inl (ap exit_said said.2) ]
+session_led (Some fault) s script answer probes left h = inl (ap exit_said h.0)
+
+said_led : (said answer : Answer) → MayAnswerOf said answer → IsLed (exit_said said) true answer
+said_led said answer h = elim h [ inl memory ↦ inr (memory, refl) | inr same ↦ inl (ap exit_said same) ]
+
+text_led : (layout : KeyLayout) (text : List ℕ) (answer : Answer)
+    → MayAnswerText layout text answer → IsLed (exit_by (first_without layout text)) true answer
+text_led layout text answer h =
+    elim h [
+      | inl memory ↦ inr (memory, refl)
+      | inr more ↦ elim more [
+        | inl fault ↦ inl (ap exit_said fault.2 ∙ sym (ap exit_by fault.1))
+        | inr plan ↦ inl (ap exit_said plan.2 ∙ sym (ap exit_by plan.1.keys))
+      ]
+    ]
+
+pub ends_so : (p : Plan) (shelf : Told) (answer : Answer) (after : Option Told) (probes : List Watch) (left : Left)
+    → MayEnd p (Some shelf) answer after probes left → IsLed (leads (length probes) p shelf) (may_lack p shelf) answer
+ends_so (Gives said) shelf answer after probes left h = said_led said answer h.0
+ends_so (Certifies image text) shelf answer after probes left h = said_led (cert_said image text) answer h.0.0
+ends_so (Spells layout text) shelf answer after probes left h = text_led layout text answer h.0
+ends_so (Runs command layout history) shelf answer after probes left h =
+    elim h.0 [ inl memory ↦ inr (memory.0, refl) | inr said ↦ inl (ap exit_said said.3) ]
+ends_so (Boards wanted image history) shelf answer after probes left h =
+    elim h.0 [
+      | inl memory ↦ inr (memory.0, refl)
+      | inr told ↦
+          let led = ap board_exit (end_found (story image history) told.0 told.1) in
+          inl (ap exit_said told.3 ∙ board_led wanted told.0 told.0.end ∙ sym led)
+    ]
+ends_so (Samples count) shelf answer after probes left h =
+    elim h.0 [ inl memory ↦ inr (memory.0, refl) | inr said ↦ inl (ap exit_said said.3) ]
+ends_so (Debugs s script) shelf answer after probes left h =
+    session_led (script_fault (length probes) script) s script answer probes left h.0
+ends_so (Fetches kind name next) shelf answer after probes left h =
+    let on : List ℕ → Type 0 = λ bytes. MayEnd (next bytes) (Some (after_fetch shelf)) answer after probes left in
+    let exit : List ℕ → Exit = λ bytes. leads (length probes) (next bytes) (after_fetch shelf) in
+    let end : Type 0 = (after ≡ Some (after_fetch shelf)) × (left.probes ≡ probes) × (left.log ≡ []) in
+    after_fetched kind on exit end answer
+    (λ bytes more.
+    weaker (exit bytes) (may_lack (next bytes) (after_fetch shelf)) answer
+    (ends_so (next bytes) (after_fetch shelf) answer after probes left more))
+    (fetched shelf name (limit_of kind))
+    (subst (λ (o : Fetched).
+    OnFetched ((answer ≡ Err Read) × end) ((answer ≡ Err (TooLong kind)) × end) (λ bytes. ((answer ≡ Err Memory) × end) ⊎ on bytes) o)
+    h.1 h.2)
+
+ends_as : (command : Option Command) (words : List (List ℕ)) (shelf : Told) (answer : Answer) (after : Option Told) (probes : List Watch)
+    (left : Left) → MayEndAs command words (Some shelf) answer after probes left
+    → IsLed (leads (length probes) (plan_of command words) shelf) (may_lack (plan_of command words) shelf) answer
+ends_as None words shelf answer after probes left h = inl (ap exit_said h.0)
+ends_as (Some command) words shelf answer after probes left h = ends_so (plan_of (Some command) words) shelf answer after probes left h
+
+-- the exit is the one that the plan leads to, or memory was wanting, or the sink failed
+abbrev pub IsExit : Exit → Bool → Exit → Type 0
+IsExit led lack exit = (exit ≡ led) ⊎ ((exit ≡ exits.Memory) × (lack ≡ true)) ⊎ (exit ≡ exits.Write)
+
+pub exits_so : (words : List (List ℕ)) (shelf : Told) (taken taken' : Shown) (exit : Exit) (after : Option Told) (probes : List Watch)
+    (left : Left) → (answer : Answer) × MayAnswer words (Some shelf) answer after probes left × Says left.log answer taken taken' exit
+    → IsExit (leads (length probes) (plan words) shelf) (may_lack (plan words) shelf) exit
+exits_so words shelf taken taken' exit after probes left h =
+    elim h.2 [
+      | inl whole ↦
+          elim (ends_as (command_of words) words shelf h.0 after probes left h.1) [
+            | inl same ↦ inl (whole.0 ∙ same)
+            | inr memory ↦ inr (inl (whole.0 ∙ ap exit_said memory.0, memory.1))
+          ]
+      | inr part ↦ inr (inr part.0)
+    ]
