@@ -3,7 +3,7 @@ use Rattle.std.proofs.Common.{◌≡◌, ◌<◌, ◌≤◌, ℕ, suc, ◌+◌, 
 use Rattle.std.proofs.Common.{drop, get_or, refl, ap, sym, subst, ◌∙◌, inl, inr, arith}
 use Rattle.std.specs.Prelude.{codes, decimal, if◌then◌else◌, Ok, Err, OnErr, OnOk}
 use Rattle.std.specs.declared.result.Result.{Result}
-use Rattle.std.proofs.lemmas.List.{append-nil, append_assoc, drop_more, drop_all}
+use Rattle.std.proofs.lemmas.List.{append-nil, append_assoc, drop_more}
 use Rattle.io_edge.specs.Said.{IsBrokenOff, IsSaid, Shown}
 use Rattle.io_edge.proofs.Pieces.{AreLines, EndsLine, broken_before, ends_behind, lines_behind, none_said, said_then_broken, said_then_said}
 use Rattle.mcs48_core.specs.Cpu.{Cpu}
