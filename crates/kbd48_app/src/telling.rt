@@ -5,7 +5,7 @@ ghost use Rattle.board_lines.specs.Cadence.{KeepsCadenceTo, listed};
 ghost use Rattle.fw_compile.specs.Image.{image_of};
 ghost use Rattle.key_file.specs.Accepted.{IsAcceptedFor};
 ghost use Rattle.joint_feed.specs.Stories.{story};
-ghost use Rattle.subsystem.specs.Running.{IsRun, Outcome, outcome};
+ghost use Rattle.subsystem.specs.Running.{IsOutcome, Outcome};
 ghost use Rattle.kbd48_app.specs.declared.words.RunCommand.{RunCommand};
 ghost use Rattle.kbd48_app.specs.RunTexts.{HaveLooked, HaveLookedAtAll, IsRunText, expected_text};
 
@@ -14,21 +14,22 @@ use key_file::History;
 use layout_reader::Layout;
 use link_model::expect;
 use std::alloc::{AllocError, Global};
-use subsystem::{Run, print_log, run};
+use subsystem::{print_log, runs_are_expected, tick_starts};
 
 /// The model's log at the tick starts of the run of a layout's compiled image under a history.
 fn expected_text(
     alloc: Global,
     layout: &Layout,
     history: &History,
-    run: &Run,
+    starts: &[u64],
 ) -> Result<Vec<u8>, AllocError>
     requires accepted { IsAcceptedFor layout.now history.now }
-    requires runs { IsRun (story (image_of layout.now) history.now) run.now }
-    requires cadence { KeepsCadenceTo (listed run.now.starts.items) (length run.now.starts.items - 1) }
-    ensures { IfOk result (λ text. text.items ≡ expected_text layout.now history.now (outcome run.now)) }
+    requires runs { (run : Outcome) × IsOutcome (story (image_of layout.now) history.now) run × (starts.now ≡ run.starts) }
+    requires cadence { KeepsCadenceTo (listed starts.now) (length starts.now - 1) }
+    ensures { (run : Outcome) → starts.now ≡ run.starts
+        → IfOk result (λ text. text.items ≡ expected_text layout.now history.now run) }
 {
-    let log = expect(alloc, layout, history, &run.starts)?;
+    let log = expect(alloc, layout, history, starts)?;
     print_log(alloc, &log)
 }
 
@@ -46,6 +47,7 @@ pub fn tell(
     ensures looked { HaveLooked layout.now history.now
         (map (λ b. watch b) probes.old.items) (map (λ b. watch b) probes.new.items) }
 {
-    let run = run(alloc, layout, history, probes)?;
-    expected_text(alloc, layout, history, &run)
+    runs_are_expected();
+    let starts = tick_starts(alloc, layout, history, probes)?;
+    expected_text(alloc, layout, history, &starts)
 }

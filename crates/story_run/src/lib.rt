@@ -1,8 +1,9 @@
 //! The run of a program under a history, from power-on to its end: one loop for whoever tells of it.
 //!
 //! This layer knows where a run ends, makes its steps one after another as long as nothing of them has to be told, lets
-//! probes look at each state, and leaves what is told to whoever tells it. It knows no line of a log and no sink. Of the
-//! firmware it knows where a tick starts, by `fw_logic`. Source: our own.
+//! probes look at each state, and leaves what is told to whoever tells it. Its code knows no line of a log and no sink; its
+//! definitions say what it is that a text which is told breaks off. Of the firmware it knows where a tick starts, by
+//! `fw_logic`. Source: our own.
 #![tactic(auto)]
 
 mod advancing;

@@ -5,6 +5,7 @@ ghost use Rattle.board_lines.specs.Cadence.{KeepsCadenceTo, listed};
 ghost use Rattle.fw_compile.specs.Image.{image_of};
 ghost use Rattle.joint_feed.specs.Stories.{story};
 ghost use Rattle.key_file.specs.Accepted.{IsAcceptedFor};
+ghost use Rattle.layout_reader.specs.Layouts.{IsKeyLayout};
 ghost use Rattle.subsystem.specs.Looking.{HaveLookedAtSome};
 ghost use Rattle.subsystem.specs.Starts.{AreStartsOf};
 
@@ -29,6 +30,7 @@ pub fn tick_starts(
     probes: &mut Vec<Box<dyn Probe>>,
 ) -> Result<Vec<u64>, AllocError>
     requires { IsAcceptedFor layout.now history.now }
+    ensures layout { IsKeyLayout layout.now }
     ensures starts { let s = story (image_of layout.now) history.now in
         IfOk result (λ starts. AreStartsOf s starts.items (map (λ b. watch b) probes.old.items) (map (λ b. watch b) probes.new.items)) }
     ensures cadence { IfOk result (λ starts. KeepsCadenceTo (listed starts.items) (length starts.items - 1)) }

@@ -1,12 +1,12 @@
+use Rattle.std.proofs.Common.{◌∙◌}
 use Rattle.kbd48_app.proofs.RunPrintsExpected.{printed}
 use Rattle.kbd48_app.proofs.telling.tell.Goals as goal
 
 pub returns-clause-text : goal.returns-clause-text
 returns-clause-text g c =
-    printed c.args.layout.now c.args.history.now c.in_ok-run.run' c.expected_text.result _ _ c.in_ok-run.ensures.run
-    (record {
-      log = c.in_ok-run.ensures.agrees;
-      cadence = c.in_ok-run.ensures.cadence;
-      quiet = c.in_ok-run.ensures.quiet;
-      few = c.in_ok-run.ensures.few;
-    }) c.in_ok-run.ensures.looked c.expected_text.ensures
+    let layout = c.args.layout.now in
+    let history = c.args.history.now in
+    let are = c.in_ok-starts.ensures.starts in
+    printed layout history _ c.expected_text.result _ _ are
+    (c.runs_are_expected.ensures.expected layout history are.run c.in_ok-starts.ensures.layout c.requires.accepted are.is)
+    (c.expected_text.ensures are.run (c.deref.ensures.value ∙ are.same))

@@ -55,6 +55,7 @@ returns g c =
     let alone = are_starts s timely c.tell_run.new.course c.in_ok-_end._end r.ended it r.told _ _ r.looked in
     let same = starts_by _ _ to it.stamps.items _ _ alone in
     record {
+      layout = c.keeps_time.ensures.layout;
       starts = same;
       cadence = starts_near made time it.stamps.items _ _ same;
       looked_so_far = looked_some _ _ _ _ to (record { steps = c.tell_run.new.course.joint.steps; goes_on = r.ended.standing.goes_on; looked = r.looked });
