@@ -8,8 +8,7 @@ use Rattle.key_file.specs.Histories.{KeyHistory}
 use Rattle.layout_reader.specs.Layouts.{KeyLayout, IsKeyLayout}
 use Rattle.link_model.specs.Expected.{expected_log}
 use Rattle.quiet_log.specs.Quiet.{IsQuiet, quiet_log}
-use Rattle.subsystem.specs.declared.outcome.Run.{Run}
-use Rattle.subsystem.specs.Running.{Outcome, outcome, IsOutcome}
+use Rattle.subsystem.specs.Running.{Outcome, IsOutcome}
 
 -- a run's log is the one that the model expects where its ticks start when the run's do, and these starts keep the
 -- cadence; for a quiet history it is a function of layout and history alone. It has fewer than 800,000 items
@@ -18,10 +17,6 @@ pub record IsAsExpected (layout : KeyLayout) (history : KeyHistory) (run : Outco
   pub cadence : KeepsCadenceTo (listed run.starts) (length run.starts - 1)
   pub quiet : IsQuiet history → run.log ≡ quiet_log layout history
   pub few : length run.log < 800000
-
--- a run whose log is kept as a list is as expected
-abbrev pub IsExpected : KeyLayout → KeyHistory → Run → Type 0
-IsExpected layout history run = IsAsExpected layout history (outcome run)
 
 -- so it is with each run of a layout's compiled image under a history that is accepted for it
 abbrev pub RunsAsExpected : Type 0
