@@ -2,6 +2,7 @@
 use Rattle.std.proofs.Common.{◌≡◌, ◌≤◌, ◌<◌, ℕ, ◌+◌, ◌*◌, ◌/◌, ◌%◌, List, All, Bool, true, false, length, drop}
 use Rattle.std.proofs.Common.{refl, ap, sym, ◌∙◌, subst, arith}
 use Rattle.mcs48_core.specs.Cpu.{Cpu}
+use Rattle.fw_kernel.specs.declared.cells.TheConstants.{LIGHTS}
 use Rattle.fw_kernel.specs.Places.{HasKernel}
 use Rattle.fw_kernel.specs.declared.labels.TheConstants.{TICK}
 use Rattle.fw_keys.proofs.Block.{Safe}
@@ -79,8 +80,8 @@ module _ (d : Board) (bytes : List ℕ) (hk : HasKernel bytes) (alike : IsSilent
   -- the lights stand above the wires' bits
   pub released : IsReleased v
   released =
-      let lamps : f 77 ≡ 16 * (f 77 / 16 % 8) = s.inv.lamps in
-      lights_leave (f 77) (omega (arith, lamps)) (omega (arith, lamps))
+      let lamps : f LIGHTS ≡ 16 * (f LIGHTS / 16 % 8) = s.inv.lamps in
+      lights_leave (f LIGHTS) (omega (arith, lamps)) (omega (arith, lamps))
 
   -- the latch of the tick, with a frame; and the board so many cycles past its start
   abbrev latch : Frame → ℕ → ℕ

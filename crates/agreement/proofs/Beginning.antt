@@ -39,7 +39,7 @@ use Rattle.pc_wires.specs.Wires.{pc_at_start}
 use Rattle.wires_agree.proofs.Between.{between}
 use Rattle.wires_agree.proofs.Pending.{flips_stay}
 use Rattle.wires_agree.proofs.Start.{waits_for_stamp_0}
-use Rattle.wires_agree.proofs.Whole.{cycles_more}
+use Rattle.wires_agree.proofs.CellByCell.{cycles_more}
 use Rattle.wires_agree.specs.Cycles.{board_cycles}
 use Rattle.wires_agree.specs.Flips.{IsFlip}
 use Rattle.wires_agree.specs.Without.{seen_in_bytes}

@@ -34,7 +34,7 @@ use Rattle.host_turn.specs.Run.{Side}
 use Rattle.joint_run.specs.Joint.{Beside, latch_of, lights_of}
 use Rattle.joint_run.specs.Run.{Board, World}
 use Rattle.joint_run.specs.Starts.{Tick}
-use Rattle.kbd_model.proofs.Whole.{IsWhole}
+use Rattle.kbd_model.proofs.CodesAreWhole.{IsWhole}
 use Rattle.kbd_model.specs.Keyboard.{Keyboard, offer, is_held}
 use Rattle.kbd_model.specs.declared.meeting.Meeting.TheVariants as kbd
 use Rattle.layout_reader.specs.Layouts.{KeyLayout}

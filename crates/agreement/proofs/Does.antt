@@ -40,7 +40,7 @@ module _ (d : Board) (bytes : List ℕ) (hk : HasKernel bytes) (alike : IsSilent
           repeating = h.repeating;
           latch = h.latch;
         };
-        codes = subst (λ (k : Keyboard). Rattle.kbd_model.proofs.Whole.IsWhole k.queue) (sym h.keyboard) kept.codes;
+        codes = subst (λ (k : Keyboard). Rattle.kbd_model.proofs.CodesAreWhole.IsWhole k.queue) (sym h.keyboard) kept.codes;
         board = h.board;
         column = column;
       }

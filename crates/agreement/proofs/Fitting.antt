@@ -4,6 +4,7 @@ use Rattle.std.proofs.Common.{◌≡◌, ◌≤◌, ◌<◌, ℕ, suc, ◌+◌, 
 use Rattle.std.proofs.Common.{refl, ap, sym, ◌∙◌, subst, arith}
 use Rattle.mcs48_core.specs.Cpu.{Cpu}
 use Rattle.mcs48_core.specs.Status.{digit}
+use Rattle.fw_kernel.specs.declared.cells.TheConstants.{LIGHTS}
 use Rattle.fw_kernel.specs.Places.{HasKernel}
 use Rattle.fw_kernel.specs.declared.labels.TheConstants.{TESTED, SEND, GOT, SENT, SCAN, COMMAND}
 use Rattle.fw_keys.proofs.Blocks.{bytes_of}
@@ -50,9 +51,9 @@ pub record Behind (d : Board) (v start : ℕ) (frame : ℕ → ℕ) (n : ℕ) (e
 module _ (d : Board) (bytes : List ℕ) (hk : HasKernel bytes) (alike : IsSilentAlike bytes) (small : All IsByte bytes)
     (low : (p1 p2 c : ℕ) (s : d.State) → (d.pins p1 p2 c s).bus < 256) (held : List Bool)
     (y : ℕ) (m : Cpu) (board : d.State) (f : ℕ → ℕ) (ring : List ℕ) (start : ℕ) (here : y ≡ start + 3)
-    (released : IsReleased (255 - f 77)) where
+    (released : IsReleased (255 - f LIGHTS)) where
   abbrev v : ℕ
-  v = 255 - f 77
+  v = 255 - f LIGHTS
 
   abbrev lights : Cpu
   lights = lights_on d bytes hk alike small low held y m board f ring

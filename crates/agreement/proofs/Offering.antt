@@ -5,6 +5,7 @@ use Rattle.std.specs.declared.option.Option.{Option}
 use Rattle.std.proofs.lemmas.List.Elements.{All-get_or}
 use Rattle.board_lines.specs.declared.event.Edge.{Edge}
 use Rattle.board_lines.specs.declared.event.HostEvent.{HostEvent}
+use Rattle.fw_kernel.specs.declared.cells.TheConstants.{LIGHTS}
 use Rattle.fw_keys.proofs.Blocks.{ring-get}
 use Rattle.fw_keys.specs.Frameless.{IsStarted, cells_in, shown_by}
 use Rattle.fw_keys.specs.State.{made}
@@ -72,7 +73,7 @@ module _ (m : Cpu) (s : IsStarted m) where
 
 module _ (edges : List Edge) (events : List HostEvent) (w : World Beside) (s : IsStarted w.cpu) where
   abbrev lamps : ℕ
-  lamps = slice_index w.cpu.ram 77
+  lamps = slice_index w.cpu.ram LIGHTS
 
   -- the latch from the lights on
   pub lit_released : IsReleased (lit_latch edges events w)

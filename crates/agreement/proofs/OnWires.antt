@@ -16,7 +16,7 @@ use Rattle.joint_run.specs.Joint.{Beside, joint_board, latch_of, lights_of}
 use Rattle.joint_run.specs.Run.{Board, World, after_cycles}
 use Rattle.kbd_model.specs.declared.meeting.Meeting.{Meeting}
 use Rattle.pc_wires.specs.Wires.{Pc}
-use Rattle.wires_agree.proofs.Whole.{cycles_more}
+use Rattle.wires_agree.proofs.CellByCell.{cycles_more}
 use Rattle.wires_agree.specs.Cycles.{board_cycles}
 use Rattle.wires_agree.specs.Ticks.{at_meeting}
 use Rattle.agreement.proofs.Happened.{at_lights, at_look, Happened, AtWires}

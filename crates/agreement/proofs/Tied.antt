@@ -3,6 +3,7 @@ use Rattle.std.proofs.Common.{◌≡◌, ◌≤◌, ◌<◌, ℕ, suc, ◌+◌, 
 use Rattle.std.proofs.Common.{slice_index, if◌then◌else◌, All, List, length, refl, ap, sym, ◌∙◌, subst, arith}
 use Rattle.std.proofs.lemmas.Bool.Decides.{nat_tests}
 use Rattle.fw_compile.specs.Image.{image_of}
+use Rattle.fw_kernel.specs.declared.cells.TheConstants.{LIGHTS}
 use Rattle.fw_kernel.specs.declared.labels.TheConstants.{TICK}
 use Rattle.fw_keys.specs.Frameless.{edges_now}
 use Rattle.fw_link.proofs.Over.{IsOver, itself, under}
@@ -221,7 +222,7 @@ module _ (layout : KeyLayout) (history : KeyHistory) (fine : IsKeyLayout layout)
           lit = lit;
           behind = (released.byte, released.clock, released.data_wire);
           lamps = (
-            slice_index w.cpu.ram 77 / 16 % 8,
+            slice_index w.cpu.ram LIGHTS / 16 % 8,
             omega arith,
             ap (λ v. 255 - v) tie.started.inv.lamps,
           );

@@ -1,5 +1,6 @@
 -- A look at a clock that keeps its level is made good for by a later look, where the probe rests.
-use Rattle.std.proofs.Common.{cond, ◌≡◌, ◌<◌, ℕ, Bool, true, false, not, ◌&&◌, ◌==◌, nat_lt, List, [], ◌∷◌, map, Some, None, is_none, refl, ap, sym, ◌∙◌, arith}
+use Rattle.std.proofs.Common.{cond, ◌≡◌, ◌<◌, ℕ, Bool, true, false, not, ◌&&◌, ◌==◌, nat_lt, List, []}
+use Rattle.std.proofs.Common.{◌∷◌, map, Some, None, is_none, refl, ap, sym, ◌∙◌, arith}
 use Rattle.std.proofs.lemmas.Bool.{and_parts}
 use Rattle.std.specs.declared.option.Option.{Option}
 use Rattle.board_probes.specs.declared.heard.Fall.{Fall}
@@ -24,7 +25,8 @@ level_is false true e = absurd (cc e)
 level_is false false e = refl
 
 -- a sample with the same clock as the last one is no fall, and behind it the next one is a fall as it were without it
-heard_less : (level : Bool) (s t : Sample) (ear : Ear) → (wires_at ear.last).clk ≡ level → s.lines.clk ≡ level → heard t (heard s ear) ≡ heard t ear
+heard_less : (level : Bool) (s t : Sample) (ear : Ear)
+    → (wires_at ear.last).clk ≡ level → s.lines.clk ≡ level → heard t (heard s ear) ≡ heard t ear
 heard_less level s t ear was is =
     let no : is_fall (wires_at ear.last) s.lines ≡ false =
     ap (λ (b : Bool). b && not s.lines.clk) was ∙ ap (λ (b : Bool). level && not b) is ∙ never_both level in
@@ -77,10 +79,12 @@ unmet kind (Some arms) ear s e = absurd (cc e)
 unnoted : (n : ℕ) (s : Sight) (w : Watch) → is_none w.counted.arms ≡ true
     → looked n s w ≡ record { kind = w.kind; counted = w.counted; ear = listening w.kind s w.ear }
 unnoted n s w e =
-    ap (λ (b : Bool). record { kind = w.kind; counted = noted n b w.counted; ear = listening w.kind s w.ear }) (unmet w.kind w.counted.arms w.ear s e)
+    ap (λ (b : Bool). record { kind = w.kind; counted = noted n b w.counted; ear = listening w.kind s w.ear })
+    (unmet w.kind w.counted.arms w.ear s e)
 
 -- so a probe that rests needn't look at a clock of this level, if it looks at a later state
-pub rested : (level : Bool) (m n : ℕ) (s t : Sight) (w : Watch) → s.cycle < t.cycle → s.lines.clk ≡ level → rests level w ≡ true → looked n t (looked m s w) ≡ looked n t w
+pub rested : (level : Bool) (m n : ℕ) (s t : Sight) (w : Watch)
+    → s.cycle < t.cycle → s.lines.clk ≡ level → rests level w ≡ true → looked n t (looked m s w) ≡ looked n t w
 rested level m n s t w later now at_rest =
     let parts = and_parts (cond (w.kind == line_kind) (has_level level (wires_at w.ear.last).clk) true) (is_none w.counted.arms) at_rest in
     ap (looked n t) (unnoted m s w parts.1)
@@ -90,7 +94,8 @@ rested level m n s t w later now at_rest =
     ∙ sym (unnoted n t w parts.1)
 
 -- each of them
-pub all_rested : (level : Bool) (m n : ℕ) (s t : Sight) (ws : List Watch) → s.cycle < t.cycle → s.lines.clk ≡ level → all_rest level ws ≡ true
+pub all_rested : (level : Bool) (m n : ℕ) (s t : Sight) (ws : List Watch)
+    → s.cycle < t.cycle → s.lines.clk ≡ level → all_rest level ws ≡ true
     → map (looked n t) (map (looked m s) ws) ≡ map (looked n t) ws
 all_rested level m n s t [] later now at_rest = refl
 all_rested level m n s t (w ∷ ws) later now at_rest =

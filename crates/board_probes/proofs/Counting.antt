@@ -1,5 +1,6 @@
 -- What a probe counts through several steps is what it counts through the first and then through the others.
-use Rattle.std.proofs.Common.{cond, ◌≡◌, ◌≤◌, ℕ, zero, suc, ◌+◌, ◌-◌, ◌^◌, Bool, true, false, List, [], ◌∷◌, ◌++◌, length, length-append, map, Some, None, refl, ap, sym, ◌∙◌, arith}
+use Rattle.std.proofs.Common.{cond, ◌≡◌, ◌≤◌, ℕ, zero, suc, ◌+◌, ◌-◌, ◌^◌, Bool, true, false, List, [], ◌∷◌, ◌++◌}
+use Rattle.std.proofs.Common.{length, length-append, map, Some, None, refl, ap, sym, ◌∙◌, arith}
 use Rattle.std.specs.Prelude.{if◌then◌else◌, min, slice_get}
 use Rattle.std.specs.declared.option.Option.{Option}
 use Rattle.std.proofs.lemmas.List.{append_assoc}
@@ -7,7 +8,8 @@ use Rattle.joint_run.specs.Joint.{Beside}
 use Rattle.joint_run.specs.Run.{World}
 use Rattle.joint_feed.specs.Stories.{Story, state_at}
 use Rattle.board_probes.specs.declared.tally.Arms.{Arms}
-use Rattle.board_probes.specs.Counts.{meets_if, hears_if, met_from, ear_from, met_between, ear_between, grown, or_later, with_met, counted_between}
+use Rattle.board_probes.specs.Counts.{meets_if, hears_if, met_from, ear_from, met_between}
+use Rattle.board_probes.specs.Counts.{ear_between, grown, or_later, with_met, counted_between}
 use Rattle.board_probes.specs.LooksLaw.{CountsFromNone}
 use Rattle.board_probes.specs.Probes.{Watch, listening, looked, meets, sight_in}
 use Rattle.board_probes.specs.Tallies.{noted, or_step, one_more}
@@ -18,7 +20,8 @@ abbrev pub as_counted : Watch → ℕ → Option ℕ → Ear → Watch
 as_counted w count first ear = record { kind = w.kind; counted = record { arms = w.counted.arms; count = count; first = first }; ear = ear }
 
 pub same_counts : (w : Watch) (m n : ℕ) (f g : Option ℕ) (a b : Ear) → m ≡ n → f ≡ g → a ≡ b → as_counted w m f a ≡ as_counted w n g b
-same_counts w m n f g a b d e h = ap (λ (k : ℕ). as_counted w k f a) d ∙ ap (λ (o : Option ℕ). as_counted w n o a) e ∙ ap (as_counted w n g) h
+same_counts w m n f g a b d e h =
+    ap (λ (k : ℕ). as_counted w k f a) d ∙ ap (λ (o : Option ℕ). as_counted w n o a) e ∙ ap (as_counted w n g) h
 
 grown_twice : (top count m n : ℕ) → min (min (count + suc m) top + suc n) top ≡ min (count + suc (m + suc n)) top
 grown_twice top count m n = omega arith
@@ -27,7 +30,8 @@ pub grown_by : (count m n : ℕ) → grown count (m + n) ≡ grown (grown count 
 grown_by count zero zero = refl
 grown_by count zero (suc n) = let e : 0 + suc n ≡ suc n = omega arith in ap (grown count) e
 grown_by count (suc m) zero = let e : suc m + 0 ≡ suc m = omega arith in ap (grown count) e
-grown_by count (suc m) (suc n) = let e : suc m + suc n ≡ suc (m + suc n) = omega arith in ap (grown count) e ∙ sym (grown_twice (2 ^ 64 - 1) count m n)
+grown_by count (suc m) (suc n) =
+    let e : suc m + suc n ≡ suc (m + suc n) = omega arith in ap (grown count) e ∙ sym (grown_twice (2 ^ 64 - 1) count m n)
 
 later_none : (f : Option ℕ) → or_later f None ≡ f
 later_none None = refl
@@ -65,7 +69,8 @@ module _ (s : Story) (kind : ℕ) (arms : Option Arms) where
 
   -- the steps up to one on the way, and those behind it
   met_both : (step m n : ℕ) (ear : Ear)
-      → met_from s kind arms step (m + n) ear ≡ met_from s kind arms step m ear ++ met_from s kind arms (step + m) n (ear_from s kind step m ear)
+      → met_from s kind arms step (m + n) ear
+      ≡ met_from s kind arms step m ear ++ met_from s kind arms (step + m) n (ear_from s kind step m ear)
   met_both step zero n ear =
       let d : 0 + n ≡ n = omega arith in
       let e : step ≡ step + 0 = omega arith in
@@ -77,10 +82,12 @@ module _ (s : Story) (kind : ℕ) (arms : Option Arms) where
       let here : List ℕ = if meets_if kind arms ear (state_at s step) then step ∷ [] else [] in
       ap (λ (k : ℕ). met_from s kind arms step k ear) d
       ∙ ap (λ (v : List ℕ). here ++ v) (met_both (step + 1) m n next)
-      ∙ sym (append_assoc here (met_from s kind arms (step + 1) m next) (met_from s kind arms (step + 1 + m) n (ear_from s kind (step + 1) m next)))
+      ∙ sym (append_assoc here (met_from s kind arms (step + 1) m next)
+      (met_from s kind arms (step + 1 + m) n (ear_from s kind (step + 1) m next)))
       ∙ ap (λ (k : ℕ). (here ++ met_from s kind arms (step + 1) m next) ++ met_from s kind arms k n (ear_from s kind (step + 1) m next)) e
 
-pub counted_both : (s : Story) (k m n : ℕ) → k ≤ m → m ≤ n → (w : Watch) → counted_between s k n w ≡ counted_between s m n (counted_between s k m w)
+pub counted_both : (s : Story) (k m n : ℕ)
+    → k ≤ m → m ≤ n → (w : Watch) → counted_between s k n w ≡ counted_between s m n (counted_between s k m w)
 counted_both s k m n a b w =
     let kind = w.kind in
     let arms = w.counted.arms in
@@ -112,7 +119,8 @@ first_step : (f : Option ℕ) (step : ℕ) → or_later f (Some step) ≡ or_ste
 first_step None step = refl
 first_step (Some x) step = refl
 
-noted_by : (step : ℕ) (b : Bool) (ear : Ear) (w : Watch) → with_met (cond b (step ∷ []) [] ++ []) ear w ≡ record { kind = w.kind; counted = noted step b w.counted; ear = ear }
+noted_by : (step : ℕ) (b : Bool) (ear : Ear) (w : Watch)
+    → with_met (cond b (step ∷ []) [] ++ []) ear w ≡ record { kind = w.kind; counted = noted step b w.counted; ear = ear }
 noted_by step true ear w = ap (λ (f : Option ℕ). as_counted w (one_more w.counted.count) f ear) (first_step w.counted.first step)
 noted_by step false ear w = with_none w ear
 

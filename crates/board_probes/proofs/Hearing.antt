@@ -1,5 +1,6 @@
 -- What is kept of samples is enough to tell each transfer.
-use Rattle.std.proofs.Common.{cond, ◌≡◌, ℕ, ◌+◌, ◌-◌, Bool, true, false, List, [], ◌∷◌, ◌++◌, length, drop, Some, None, refl, ap, sym, ◌∙◌, arith, length-append, length-drop}
+use Rattle.std.proofs.Common.{cond, ◌≡◌, ℕ, ◌+◌, ◌-◌, Bool, true, false, List, [], ◌∷◌, ◌++◌, length, drop}
+use Rattle.std.proofs.Common.{Some, None, refl, ap, sym, ◌∙◌, arith, length-append, length-drop}
 use Rattle.std.specs.Prelude.{if◌then◌else◌}
 use Rattle.std.specs.declared.option.Option.{Option}
 use Rattle.std.proofs.lemmas.List.{append-nil, append_assoc, drop-append-le}
@@ -58,4 +59,5 @@ by_fall false fs all s e = refl
 pub completes_by_falls : CompletesByFalls
 completes_by_falls samples s =
     ap (completed s) (keeps_eleven_falls samples)
-    ∙ by_fall (is_fall (wires_at (last_of None samples)) s.lines) (falls_among samples) (falls_among (samples ++ s ∷ [])) s (falls_both samples (s ∷ []) None)
+    ∙ by_fall (is_fall (wires_at (last_of None samples)) s.lines) (falls_among samples)
+    (falls_among (samples ++ s ∷ [])) s (falls_both samples (s ∷ []) None)

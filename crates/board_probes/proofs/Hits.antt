@@ -1,5 +1,6 @@
 -- The first probe that is met by what is seen, one probe after another.
-use Rattle.std.proofs.Common.{◌≡◌, ℕ, suc, zero, ◌<◌, ◌+◌, Bool, true, false, length, map, List, [], ◌∷◌, take, drop, get_or, ◌++◌, Some, None, arith, ◌∙◌, ap, sym, refl}
+use Rattle.std.proofs.Common.{◌≡◌, ℕ, suc, zero, ◌<◌, ◌+◌, Bool, true, false, length, map, List, [], ◌∷◌}
+use Rattle.std.proofs.Common.{take, drop, get_or, ◌++◌, Some, None, arith, ◌∙◌, ap, sym, refl}
 use Rattle.std.specs.Prelude.{if◌then◌else◌}
 use Rattle.std.specs.declared.option.Option.{Option}
 use Rattle.std.proofs.lemmas.List.{length-map}
@@ -22,13 +23,16 @@ met_more m n (suc i) (w ∷ ws) d l =
     elim (meets m w) as (λ b. or_met (if b then Some n else first_met (suc n) m (take i ws)) (meets m (get_or ws i d)) (n + suc i)
     ≡ (if b then Some n else first_met (suc n) m (take (suc i) ws))) [
       | true ↦ refl
-      | false ↦ ap (λ (k : ℕ). or_met (first_met (suc n) m (take i ws)) (meets m (get_or ws i d)) k) e ∙ met_more m (suc n) i ws d (omega (arith, l))
+      | false ↦ ap (λ (k : ℕ). or_met (first_met (suc n) m (take i ws)) (meets m (get_or ws i d)) k) e
+          ∙ met_more m (suc n) i ws d (omega (arith, l))
     ]
 
 -- the probe that is looked at next, as it is seen, is the next one of those before the loop
-pub hit_more : {X : Type 0} (see : X → Watch) (m : Sight) (f : Watch → Watch) (old now : List X) (i : ℕ) (x : X) (met : Bool) (hit : Option ℕ)
+pub hit_more : {X : Type 0} (see : X → Watch) (m : Sight) (f : Watch → Watch) (old now : List X)
+    (i : ℕ) (x : X) (met : Bool) (hit : Option ℕ)
     → i < length now → length now ≡ length old → map see now ≡ map f (take i (map see old)) ++ drop i (map see old) → x ≡ get_or now i x
-    → met ≡ meets m (see (get_or now i x)) → hit ≡ first_met 0 m (take i (map see old)) → or_met hit met i ≡ first_met 0 m (take (i + 1) (map see old))
+    → met ≡ meets m (see (get_or now i x))
+    → hit ≡ first_met 0 m (take i (map see old)) → or_met hit met i ≡ first_met 0 m (take (i + 1) (map see old))
 hit_more see m f old now i x met hit l n inv is looks before =
     let here : see x ≡ get_or (map see old) i (see x) =
     read_map see now i x l is ∙ ap (λ v. get_or v i (see x)) inv ∙ read_seam f (map see old) i (see x) in

@@ -1,5 +1,6 @@
 -- The transfer that eleven falls are, by the bits of a frame.
-use Rattle.std.proofs.Common.{cond, ◌≡◌, ℕ, zero, suc, Bool, true, false, not, ◌&&◌, ◌==◌, List, [], ◌∷◌, length, get_or, Some, None, refl, ap, sym, ◌∙◌, arith}
+use Rattle.std.proofs.Common.{cond, ◌≡◌, ℕ, zero, suc, Bool, true, false, not, ◌&&◌, ◌==◌, List, []}
+use Rattle.std.proofs.Common.{◌∷◌, length, get_or, Some, None, refl, ap, sym, ◌∙◌, arith}
 use Rattle.std.specs.declared.option.Option.{Option}
 use Rattle.board_lines.specs.Bits.{is_odd, value}
 use Rattle.board_lines.specs.Frame.{byte_of, is_right}
@@ -72,5 +73,6 @@ pub hosts : (fs : List Fall) (b : ℕ) → length fs ≡ 11 → are_spaced fs �
     → byte_of (false ∷ levels fs 0 10) ≡ Some b → transfer_by fs ≡ Some (record { from_host = true; byte = b })
 hosts fs b long spaced none low is =
     eleven fs long spaced
-    ∙ hosts_bits (level fs 0) (level fs 1) (level fs 2) (level fs 3) (level fs 4) (level fs 5) (level fs 6) (level fs 7) (level fs 8) (level fs 9) (level fs 10) b low
+    ∙ hosts_bits (level fs 0) (level fs 1) (level fs 2) (level fs 3) (level fs 4) (level fs 5) (level fs 6)
+    (level fs 7) (level fs 8) (level fs 9) (level fs 10) b low
     (wrong (levels fs 0 11) none) is

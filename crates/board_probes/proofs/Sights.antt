@@ -12,7 +12,8 @@ use Rattle.board_probes.specs.Probes.{Sight, sight_in, sight_of}
 abbrev sight : Cpu → ℕ → Outside → Sight
 sight cpu cycle o = record { cpu = cpu; cycle = cycle; lines = outside_wires cpu.p2 o }
 
-pub same_sight : (m : Machine) (w : World Beside) → m.mcu ≡ w.cpu → m.outside ≡ outside_of w.board → m.cycle ≡ w.cycle → sight_of m ≡ sight_in w
+pub same_sight : (m : Machine) (w : World Beside)
+    → m.mcu ≡ w.cpu → m.outside ≡ outside_of w.board → m.cycle ≡ w.cycle → sight_of m ≡ sight_in w
 same_sight m w cpu outside cycle =
     ap (λ (c : Cpu). sight c m.cycle m.outside) cpu ∙ ap (λ (o : Outside). sight w.cpu m.cycle o) outside
     ∙ ap (λ (n : ℕ). sight w.cpu n (outside_of w.board)) cycle

@@ -16,7 +16,8 @@ use Rattle.story_run.proofs.Steps.{before, on_at}
 
 module _ (s : Story) where
   -- a run doesn't go on where it ends
-  ends_not_on : (k : ℕ) (w v : World Beside) (end : End) → EndsAt Stamp s k w end → is_over Stamp s w ≡ false → state_at s (suc k) ≡ Some v → ⊥
+  ends_not_on : (k : ℕ) (w v : World Beside) (end : End)
+      → EndsAt Stamp s k w end → is_over Stamp s w ≡ false → state_at s (suc k) ≡ Some v → ⊥
   ends_not_on k w v Over h on next = absurd (cc (h, on))
   ends_not_on k w v (Stuck place) h on next = let none = h.none in absurd (cc (none, next))
 

@@ -99,7 +99,8 @@ module _ (s : Story) where
     as_end other is h = (h.0, h.1, h.2 ∙ same_end other end is)
 
     on_from : (k : ℕ) (w : World Beside) (on : Option End) → GoesOnTo Stamp s k → state_at s k ≡ Some w
-        → (GoesOnTo Stamp s (suc k) → on ≡ Some end → Ends end) → (over : Bool) (next : Option (World Beside)) → is_over Stamp s w ≡ over → state_at s (suc k) ≡ next
+        → (GoesOnTo Stamp s (suc k) → on ≡ Some end → Ends end)
+        → (over : Bool) (next : Option (World Beside)) → is_over Stamp s w ≡ over → state_at s (suc k) ≡ next
         → (if over then Some Over else (if is_none next then Some (Stuck (place_of s.bytes w.cpu)) else on)) ≡ Some end → Ends end
     on_from k w on goes there rest true next o t h = as_end Over h (ended_at k w Over goes there o)
     on_from k w on goes there rest false None o t h =

@@ -1,5 +1,6 @@
 -- The text of items that are said one after another.
-use Rattle.std.proofs.Common.{◌≡◌, ◌≤◌, ◌<◌, ℕ, zero, suc, ◌+◌, ◌-◌, true, false, List, [], ◌∷◌, ◌++◌, length, drop, get_or, drop-cons, refl, ap, sym, ◌∙◌, arith, inl, inr}
+use Rattle.std.proofs.Common.{◌≡◌, ◌≤◌, ◌<◌, ℕ, zero, suc, ◌+◌, ◌-◌, true, false, List, [], ◌∷◌, ◌++◌}
+use Rattle.std.proofs.Common.{length, drop, get_or, drop-cons, refl, ap, sym, ◌∙◌, arith, inl, inr}
 use Rattle.std.specs.Prelude.{if◌then◌else◌, nat_lt}
 use Rattle.std.specs.Fmt.{decimal}
 use Rattle.std.proofs.lemmas.List.{append_assoc}
@@ -34,7 +35,8 @@ text_left items i d within =
     ap log_text (drop-cons items i d within ∙ ap (λ k. get_or items i d ∷ drop k items) e)
 
 -- an item among those of some cycles
-pub one_in : (from to : ℕ) (items : List Stamped) (i : ℕ) (d : Stamped) → AreIn from to items → i < length items → (get_or items i d).cycle < to
+pub one_in : (from to : ℕ) (items : List Stamped) (i : ℕ) (d : Stamped)
+    → AreIn from to items → i < length items → (get_or items i d).cycle < to
 one_in from to [] i d h l = absurd (omega (arith, l))
 one_in from to (s ∷ items) zero d h l = h.0.1
 one_in from to (s ∷ items) (suc i) d h l = one_in from to items i d h.1 (omega (arith, l))

@@ -1,5 +1,6 @@
 -- A run on the board tells the beginning of a layout's run.
-use Rattle.std.proofs.Common.{◌≡◌, ◌≤◌, ◌<◌, ℕ, zero, suc, ◌+◌, ◌-◌, true, false, List, [], ◌++◌, length, ltb, Some, refl, ap, sym, subst, ◌∙◌, arith}
+use Rattle.std.proofs.Common.{◌≡◌, ◌≤◌, ◌<◌, ℕ, zero, suc, ◌+◌, ◌-◌, true, false, List, [], ◌++◌}
+use Rattle.std.proofs.Common.{length, ltb, Some, refl, ap, sym, subst, ◌∙◌, arith}
 use Rattle.std.proofs.lemmas.Bool.Decides.{nat_tests}
 use Rattle.std.proofs.Math.Seq.{get_or-append_seam}
 use Rattle.board_lines.specs.Cadence.{listed}
@@ -8,11 +9,11 @@ use Rattle.story_run.specs.declared.ending.End.TheVariants.{Over, Stuck}
 use Rattle.board_run.specs.Agreement.{TellsRun}
 use Rattle.board_run.specs.Running.{IsOutcome, Outcome}
 use Rattle.story_run.specs.declared.ending.Ending.TheVariants.{Stamp}
-use Rattle.fw_logic.specs.JointRun.{KeepsTime}
+use Rattle.fw_logic.specs.JointRun.{KeepsTimeFrom}
 use Rattle.host_turn.specs.declared.stamped.Stamped.{Stamped}
 use Rattle.joint_feed.proofs.Going.{same_state}
 use Rattle.joint_feed.specs.Stories.{Story, state_at}
-use Rattle.joint_run.specs.Joint.{Beside, joint_start}
+use Rattle.joint_run.specs.Joint.{Beside, joint_start_of}
 use Rattle.joint_run.specs.Run.{World}
 use Rattle.subsystem.proofs.Agreed.{run_last, run_starts}
 use Rattle.story_run.specs.Running.{AreIn, EndsAt, GoesOnTo, is_over}
@@ -25,7 +26,7 @@ use Rattle.wire_trace.specs.Text.{header}
 use Rattle.wire_trace.specs.Trace.{changes_to}
 use Rattle.story_run.proofs.Steps.{on_at, said_between, step_later}
 
-module _ (s : Story) (t : KeepsTime s.bytes s.edges s.events) where
+module _ (s : Story) (t : KeepsTimeFrom (joint_start_of s.held) s.bytes s.edges s.events) where
   -- it is never stuck
   ends_over : (k : ℕ) (w : World Beside) (end : End) → EndsAt Stamp s k w end → end ≡ Over
   ends_over k w Over h = refl
@@ -53,7 +54,8 @@ module _ (s : Story) (t : KeepsTime s.bytes s.edges s.events) where
       let long = run_last s run q in
       let last_index : length run.starts - 1 ≡ length xs = omega (arith, long) in
       let last : listed run.starts (length run.starts - 1) ≡ q.world.cycle - 4096 =
-      ap (listed run.starts) last_index ∙ ap (λ (v : List ℕ). listed v (length xs)) (run_starts s run q) ∙ get_or-append_seam xs (q.world.cycle - 4096) [] 0 in
+      ap (listed run.starts) last_index ∙ ap (λ (v : List ℕ). listed v (length xs)) (run_starts s run q)
+      ∙ get_or-append_seam xs (q.world.cycle - 4096) [] 0 in
       let early = t.none_early run.steps q.world q.reached q.at in
       let reaches = q.last.reaches in
       omega (arith, last, early, reaches)
@@ -82,7 +84,7 @@ module _ (s : Story) (t : KeepsTime s.bytes s.edges s.events) where
       let up : run.steps - board.steps + board.steps ≡ run.steps = omega (arith, steps) in
       let more = (said_between s board.steps (run.steps - board.steps) p.world q.world p.reached (ap (state_at s) up ∙ q.reached)).1 in
       let all : board.steps + 0 ≡ board.steps = omega arith in
-      let first = (said_between s 0 board.steps joint_start p.world refl (ap (state_at s) all ∙ p.reached)).1 in
+      let first = (said_between s 0 board.steps (joint_start_of s.held) p.world refl (ap (state_at s) all ∙ p.reached)).1 in
       let later = later_changes s board.steps run.steps steps in
       let near : p.world.cycle < 4096 + s.stop + 2 = soon board.steps p.world p.goes_on p.reached (omega (arith, reaches)) in
       record {

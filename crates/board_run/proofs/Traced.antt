@@ -7,7 +7,7 @@ use Rattle.board_probes.specs.Probes.{Watch}
 use Rattle.io_edge.proofs.Pieces.{broken_before}
 use Rattle.io_edge.specs.Said.{IsBrokenOff, IsSaid, Shown}
 use Rattle.joint_feed.specs.Stories.{Story, state_at}
-use Rattle.joint_run.specs.Joint.{Beside, joint_start}
+use Rattle.joint_run.specs.Joint.{Beside, joint_start_of}
 use Rattle.joint_run.specs.Run.{World}
 use Rattle.story_run.specs.declared.ending.Ending.TheVariants.{Stamp}
 use Rattle.story_run.specs.Looking.{BrokeOff}
@@ -33,7 +33,7 @@ module _ (s : Story) where
   -- one that fails in what stands before the first sample breaks off the whole trace
   pub header_broken_off : (before after : Shown) → IsBrokenOff before after header → IsTraceBrokenOff s before after
   header_broken_off before after h =
-      let end = ends_within s (4096 + s.stop) 0 joint_start tt refl (omega arith) in
+      let end = ends_within s (4096 + s.stop) 0 (joint_start_of s.held) tt refl (omega arith) in
       let run = end.0 in
       record { run = run; is = end.2; part = broken_before before after header (changes_to s run.steps) header_is_lines h }
 

@@ -7,8 +7,8 @@ ghost use Rattle.board_run.specs.Running.{IsOutcome};
 ghost use Rattle.board_run.specs.Texts.{log_text};
 ghost use Rattle.board_run.specs.Tracing.{HaveTracedToBreak, IsTraceBrokenOff};
 ghost use Rattle.board_probes.specs.Looks.{looks};
-ghost use Rattle.io_edge.specs.Said.{IsSaid, shown};
-ghost use Rattle.joint_feed.specs.Stories.{story};
+ghost use Rattle.io_edge.specs.Said.{IsSaid};
+ghost use Rattle.joint_feed.specs.Filled.{filled_story};
 ghost use Rattle.key_file.specs.Accepted.{IsAccepted};
 ghost use Rattle.key_file.specs.Feeds.{Fed};
 ghost use Rattle.story_run.specs.Gliding.{history_of};
@@ -37,29 +37,30 @@ pub struct Board<F: Feed> {
 
 impl<F: Feed> Model for Board<F> {
     ghost use Rattle.board_run.specs.Advance.{IsReady};
-    ghost use Rattle.joint_feed.specs.Stories.{Story, story};
+    ghost use Rattle.joint_feed.specs.Filled.{run_of};
+    ghost use Rattle.joint_feed.specs.Stories.{Story};
 
     ghost Value = { Story };
 
-    ghost view = { λ b. story b.course.joint.image.bytes (F.told b.feed).history };
+    ghost view = { λ b. run_of b.course (F.told b.feed).history };
 
     ghost invariant = { λ b. IsReady (F.told b.feed) b.course };
 }
 
 impl<F: Feed> Board<F> {
-    /// The run of a program on the board, as it is, under the history of a feed of which nothing was taken and which
-    /// is accepted. Takes all memory that the run takes, the buffer of INT 09h. Where memory is wanting the feed is
-    /// given up.
-    pub fn new(alloc: Global, image: &Image, feed: F) -> Result<Board<F>, AllocError>
+    /// The run of a program on the board, as it is, in a part whose data memory, A and T hold this byte at power-on, under
+    /// the history of a feed of which nothing was taken and which is accepted. Takes all memory that the run takes, the
+    /// buffer of INT 09h. Where memory is wanting the feed is given up.
+    pub fn new(alloc: Global, image: &Image, fill: u8, feed: F) -> Result<Board<F>, AllocError>
         requires no_edge { (F.told feed).edges ≡ 0 }
         requires no_host { (F.told feed).host ≡ 0 }
         requires accepted { IsAccepted (F.told feed).history }
-        ensures board { IfOk result (λ board. board ≡ story image.now.bytes (F.told feed).history) }
+        ensures board { IfOk result (λ board. board ≡ filled_story fill image.now.bytes (F.told feed).history) }
         ensures accepted { IfOk result (λ board. IsAccepted (history_of board)) }
     {
         let bios = Bios::new(alloc)?;
         let mut feed = feed;
-        let course = Course::begin(image, bios, &mut feed);
+        let course = Course::begin_filled(image, bios, fill, &mut feed);
         Ok(Board { feed, course })
     }
 
@@ -78,22 +79,23 @@ impl<F: Feed> Board<F> {
     ) -> Result<Ended, SinkFault>
         requires accepted { IsAccepted (history_of self) }
         ensures run { IfOk result (λ ended. IsOutcome self (ending self ended)) }
-        ensures said { IfOk result (λ ended. IsSaid (shown (K.taken out.old) (K.told out.old) (K.faults out.old))
-            (shown (K.taken out.new) (K.told out.new) (K.faults out.new)) (log_text (ending self ended).log)) }
-        ensures broken { OnErr result (IsLogBrokenOff self (shown (K.taken out.old) (K.told out.old) (K.faults out.old))
-            (shown (K.taken out.new) (K.told out.new) (K.faults out.new))) }
+        ensures said { IfOk result (λ ended. IsSaid (K.shown out.old)
+            (K.shown out.new) (log_text (ending self ended).log)) }
+        ensures broken { OnErr result (IsLogBrokenOff self (K.shown out.old) (K.shown out.new)) }
         ensures looked { let before = map (λ b. watch b) probes.old.items in
             IfOk result (λ ended. map (λ b. watch b) probes.new.items ≡ looks self ended.joint.steps before) }
         ensures looked_so_far { HaveLookedAtSome self (map (λ b. watch b) probes.old.items) (map (λ b. watch b) probes.new.items) }
-        ensures looked_to_break { OnErr result (HaveLookedToBreak self (shown (K.taken out.old) (K.told out.old) (K.faults out.old))
-            (shown (K.taken out.new) (K.told out.new) (K.faults out.new)) (map (λ b. watch b) probes.old.items) (map (λ b. watch b) probes.new.items)) }
+        ensures looked_to_break { OnErr result (HaveLookedToBreak self (K.shown out.old)
+            (K.shown out.new) (map (λ b. watch b) probes.old.items) (map (λ b. watch b) probes.new.items)) }
     {
         let mut feed = self.feed;
         let mut course = self.course;
+        let fill = course.fill;
         let mut lines = ByStamp;
         let end = tell_run::<F, K, SinkFault, ByStamp, 7>(
             &mut course,
             &mut feed,
+            fill,
             Ending::Stamp,
             &mut lines,
             out,
@@ -119,23 +121,24 @@ impl<F: Feed> Board<F> {
     ) -> Result<Ended, SinkFault>
         requires accepted { IsAccepted (history_of self) }
         ensures run { IfOk result (λ ended. IsOutcome self (ending self ended)) }
-        ensures said { IfOk result (λ ended. IsSaid (shown (K.taken out.old) (K.told out.old) (K.faults out.old))
-            (shown (K.taken out.new) (K.told out.new) (K.faults out.new)) (trace_to self ended.joint.steps)) }
-        ensures broken { OnErr result (IsTraceBrokenOff self (shown (K.taken out.old) (K.told out.old) (K.faults out.old))
-            (shown (K.taken out.new) (K.told out.new) (K.faults out.new))) }
+        ensures said { IfOk result (λ ended. IsSaid (K.shown out.old)
+            (K.shown out.new) (trace_to self ended.joint.steps)) }
+        ensures broken { OnErr result (IsTraceBrokenOff self (K.shown out.old) (K.shown out.new)) }
         ensures looked { let before = map (λ b. watch b) probes.old.items in
             IfOk result (λ ended. map (λ b. watch b) probes.new.items ≡ looks self ended.joint.steps before) }
         ensures looked_so_far { HaveLookedAtSome self (map (λ b. watch b) probes.old.items) (map (λ b. watch b) probes.new.items) }
-        ensures looked_to_break { OnErr result (HaveTracedToBreak self (shown (K.taken out.old) (K.told out.old) (K.faults out.old))
-            (shown (K.taken out.new) (K.told out.new) (K.faults out.new)) (map (λ b. watch b) probes.old.items) (map (λ b. watch b) probes.new.items)) }
+        ensures looked_to_break { OnErr result (HaveTracedToBreak self (K.shown out.old)
+            (K.shown out.new) (map (λ b. watch b) probes.old.items) (map (λ b. watch b) probes.new.items)) }
     {
         let mut feed = self.feed;
         let mut course = self.course;
+        let fill = course.fill;
         put_header(out)?;
         let mut changes = Changes::new();
         let end = tell_run::<F, K, SinkFault, Changes, 8>(
             &mut course,
             &mut feed,
+            fill,
             Ending::Stamp,
             &mut changes,
             out,

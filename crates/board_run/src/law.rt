@@ -4,8 +4,8 @@ ghost use Rattle.board_run.specs.Agreement.{BoardsAreAlike, BoardsTellRuns};
 
 use agreement::run_and_model_agree;
 
-/// A program, edges of keys, events of the host and an end stamp have one run on the board: two runs of them are the
-/// same. Nothing is done when it is called; the law is its contract.
+/// A program, edges of keys, events of the host, an end stamp and what the part held at power-on have one run on the
+/// board: two runs of them are the same. Nothing is done when it is called; the law is its contract.
 pub fn boards_are_alike()
     ensures alike { BoardsAreAlike }
 {}

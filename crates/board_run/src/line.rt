@@ -2,7 +2,7 @@
 
 ghost use Rattle.std.specs.Prelude.{◌≡◌, ◌<◌, ◌^◌, OnErr, OnOk};
 ghost use Rattle.board_run.specs.Texts.{line_text, log_text};
-ghost use Rattle.io_edge.specs.Said.{IsBrokenOff, IsSaid, shown};
+ghost use Rattle.io_edge.specs.Said.{IsBrokenOff, IsSaid};
 ghost use Rattle.story_run.specs.Running.{AreIn};
 
 use arrayvec::ArrayVec;
@@ -33,10 +33,8 @@ fn stamped_line(stamped: Stamped) -> ArrayVec<u8, 40>
 /// Puts the line of an item whole, and what wasn't taken of it again.
 fn put_line<K: Sink>(out: &mut K, stamped: Stamped) -> Result<(), SinkFault>
     requires near { stamped.cycle < 2 ^ 32 }
-    ensures said { OnOk result (IsSaid (shown (K.taken out.old) (K.told out.old) (K.faults out.old))
-        (shown (K.taken out.new) (K.told out.new) (K.faults out.new)) (line_text stamped)) }
-    ensures broken { OnErr result (IsBrokenOff (shown (K.taken out.old) (K.told out.old) (K.faults out.old))
-        (shown (K.taken out.new) (K.told out.new) (K.faults out.new)) (line_text stamped)) }
+    ensures said { OnOk result (IsSaid (K.shown out.old) (K.shown out.new) (line_text stamped)) }
+    ensures broken { OnErr result (IsBrokenOff (K.shown out.old) (K.shown out.new) (line_text stamped)) }
 {
     let text = stamped_line(stamped);
     say(out, text.as_slice())
@@ -45,10 +43,8 @@ fn put_line<K: Sink>(out: &mut K, stamped: Stamped) -> Result<(), SinkFault>
 /// Puts the lines of items, one after another.
 pub fn put_items<K: Sink>(out: &mut K, items: &[Stamped]) -> Result<(), SinkFault>
     requires near { AreIn 0 (2 ^ 32) items.now }
-    ensures said { OnOk result (IsSaid (shown (K.taken out.old) (K.told out.old) (K.faults out.old))
-        (shown (K.taken out.new) (K.told out.new) (K.faults out.new)) (log_text items.now)) }
-    ensures broken { OnErr result (IsBrokenOff (shown (K.taken out.old) (K.told out.old) (K.faults out.old))
-        (shown (K.taken out.new) (K.told out.new) (K.faults out.new)) (log_text items.now)) }
+    ensures said { OnOk result (IsSaid (K.shown out.old) (K.shown out.new) (log_text items.now)) }
+    ensures broken { OnErr result (IsBrokenOff (K.shown out.old) (K.shown out.new) (log_text items.now)) }
 {
     for stamped in items {
         put_line(out, *stamped)?;

@@ -3,7 +3,7 @@
 ghost use Rattle.std.specs.Prelude.{◌≡◌, false};
 ghost use Rattle.board_run.specs.Putting.{IsLogBrokenAt};
 ghost use Rattle.board_run.specs.Texts.{log_text};
-ghost use Rattle.io_edge.specs.Said.{IsSaid, shown};
+ghost use Rattle.io_edge.specs.Said.{IsSaid};
 ghost use Rattle.story_run.specs.Running.{log_at};
 
 use crate::line::put_items;
@@ -18,11 +18,11 @@ pub(crate) struct ByStamp;
 impl<K: Sink> Teller<K, SinkFault> for ByStamp {
     ghost WIRES = { false };
 
-    ghost has_told = { λ e s first k it out. IsSaid (shown (K.taken first) (K.told first) (K.faults first))
-        (shown (K.taken out) (K.told out) (K.faults out)) (log_text (log_at s k)) };
+    ghost has_told = { λ e s first k it out. IsSaid (K.shown first)
+        (K.shown out) (log_text (log_at s k)) };
 
-    ghost is_broken = { λ e s first k out. IsLogBrokenAt s (shown (K.taken first) (K.told first) (K.faults first))
-        (shown (K.taken out) (K.told out) (K.faults out)) k };
+    ghost is_broken = { λ e s first k out. IsLogBrokenAt s (K.shown first)
+        (K.shown out) k };
 
     const WIRES: bool = false;
 

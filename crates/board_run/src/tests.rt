@@ -57,7 +57,7 @@ fn ran(
     requires { length keys.now ≤ 4194304 }
 {
     let history = history_of(rt, alloc, keys)?;
-    let board = Board::new(alloc, image, ListFeed::new(&history))?;
+    let board = Board::new(alloc, image, 0, ListFeed::new(&history))?;
     let mut out = MemSink::new(alloc, 65536, Vec::new(alloc))?;
     match board.run_to(&mut out, probes) {
         Ok(ended) => Ok((out, ended)),
@@ -295,7 +295,7 @@ fn a_put_that_fails_ends_it(rt: HostRuntime) -> Result<(), Fail> {
     let alloc = rt.alloc();
     let image = image_of(&[0x9a, 0xef, 0x8a, 0xff, 0x04, 0x00]);
     let history = history_of(&rt, alloc, b"0 end\n")?;
-    let board = Board::new(alloc, &image, ListFeed::new(&history))?;
+    let board = Board::new(alloc, &image, 0, ListFeed::new(&history))?;
     let mut fails = Vec::new(alloc);
     fails.push(3)?;
     let mut out = MemSink::new(alloc, 65536, fails)?;

@@ -18,16 +18,19 @@ abbrev Leave : Debuggee → List (List ℕ) → Type 0
 Leave s ls = (d : Debug) (end : Told) → lines_told s ls d ≡ Ok end → end.debug ≡ obeyed_all s (asked ls) d
 
 -- the others, behind a line that printed this and left that
-behind_it : (s : Debuggee) (text : List ℕ) (cs : List Command) (d : Debug) (r : Result Told Rule) → ((end : Told) → r ≡ Ok end → end.debug ≡ obeyed_all s cs d)
+behind_it : (s : Debuggee) (text : List ℕ) (cs : List Command) (d : Debug) (r : Result Told Rule)
+    → ((end : Told) → r ≡ Ok end → end.debug ≡ obeyed_all s cs d)
     → (end : Told) → and_then r (λ u. Ok (behind text u)) ≡ Ok end → end.debug ≡ obeyed_all s cs d
 behind_it s text cs d (Ok u) h end e = let same : behind text u ≡ end = cc e in ap (λ (t : Told). t.debug) (sym same) ∙ h u refl
 behind_it s text cs d (Err rule) h end e = absurd (cc e)
 
 -- a line that isn't blank, by what it asks for and whether the probe is there
 commanded : (s : Debuggee) (ls : List (List ℕ)) (d : Debug) → Leave s ls → (c : Command) (m : Option Rule) (end : Told)
-    → and_then (and_then (unless m c) (λ f. Ok (obeyed s f d))) (λ t. and_then (lines_told s ls t.debug) (λ u. Ok (behind t.text u))) ≡ Ok end
+    → and_then (and_then (unless m c) (λ f. Ok (obeyed s f d))) (λ t. and_then (lines_told s ls t.debug) (λ u. Ok (behind t.text u)))
+    ≡ Ok end
     → end.debug ≡ obeyed_all s (c ∷ asked ls) d
-commanded s ls d h c None end e = behind_it s (obeyed s c d).text (asked ls) (obeyed s c d).debug (lines_told s ls (obeyed s c d).debug) (h (obeyed s c d).debug) end e
+commanded s ls d h c None end e =
+    behind_it s (obeyed s c d).text (asked ls) (obeyed s c d).debug (lines_told s ls (obeyed s c d).debug) (h (obeyed s c d).debug) end e
 commanded s ls d h c (Some rule) end e = absurd (cc e)
 
 formed : (s : Debuggee) (ls : List (List ℕ)) (d : Debug) → Leave s ls → (o : Option Command) (end : Told)

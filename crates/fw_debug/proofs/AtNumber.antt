@@ -11,13 +11,15 @@ arm_set a b [] i d l = absurd (omega (arith, l))
 arm_set a b (w ∷ ws) zero d l = refl
 arm_set a b (w ∷ ws) (suc i) d l = ap (λ t. w ∷ t) (arm_set a b ws i d (omega (arith, l)))
 
-read_map : {X : Type 0} (see : X → Watch) (xs : List X) (i : ℕ) (x : X) → i < length xs → x ≡ get_or xs i x → see x ≡ get_or (map see xs) i (see x)
+read_map : {X : Type 0} (see : X → Watch) (xs : List X) (i : ℕ) (x : X)
+    → i < length xs → x ≡ get_or xs i x → see x ≡ get_or (map see xs) i (see x)
 read_map see [] i x l h = absurd (omega arith)
 read_map see (y ∷ ys) zero x l h = ap see h
 read_map see (y ∷ ys) (suc i) x l h = read_map see ys i x (omega (arith, l)) h
 
 -- one of them is armed
-pub armed_at : {X : Type 0} (see : X → Watch) (xs : List X) (i : ℕ) (x y : X) (a b : ℕ) → i < length xs → x ≡ get_or xs i x → see y ≡ armed a b (see x)
+pub armed_at : {X : Type 0} (see : X → Watch) (xs : List X) (i : ℕ) (x y : X) (a b : ℕ)
+    → i < length xs → x ≡ get_or xs i x → see y ≡ armed a b (see x)
     → map see (set xs i y) ≡ arm_at i a b (map see xs)
 armed_at see xs i x y a b l is e =
     map-set see xs i y ∙ ap (λ v. set (map see xs) i v) (e ∙ ap (armed a b) (read_map see xs i x l is))

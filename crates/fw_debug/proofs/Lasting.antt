@@ -1,5 +1,6 @@
 -- What a probe has counted behind several lines of a session.
-use Rattle.std.proofs.Common.{cond, ◌≡◌, ◌≤◌, ◌<◌, ℕ, zero, suc, ◌-◌, Bool, true, false, ◌==◌, nat_lt, List, [], ◌∷◌, Some, None, refl, ap, sym, ◌∙◌, arith}
+use Rattle.std.proofs.Common.{cond, ◌≡◌, ◌≤◌, ◌<◌, ℕ, zero, suc, ◌-◌, Bool, true, false, ◌==◌}
+use Rattle.std.proofs.Common.{nat_lt, List, [], ◌∷◌, Some, None, refl, ap, sym, ◌∙◌, arith}
 use Rattle.std.proofs.lemmas.Bool.Decides.{nat_tests}
 use Rattle.std.specs.Prelude.{slice_get}
 use Rattle.std.specs.List.{remove}
@@ -44,7 +45,8 @@ drop_above (w ∷ ws) zero i l = refl
 drop_above (w ∷ ws) (suc p) zero l = absurd (omega (arith, l))
 drop_above (w ∷ ws) (suc p) (suc i) l = drop_above ws p i (omega (arith, l))
 
-drop_other : (ws : List Watch) (p i : ℕ) (b : Bool) → nat_lt p i ≡ b → (p ≡ i → ⊥) → slice_get (remove ws p) (cond b (i - 1) i) ≡ slice_get ws i
+drop_other : (ws : List Watch) (p i : ℕ) (b : Bool)
+    → nat_lt p i ≡ b → (p ≡ i → ⊥) → slice_get (remove ws p) (cond b (i - 1) i) ≡ slice_get ws i
 drop_other ws p zero true is h = absurd (grind (arith, nat_tests, is))
 drop_other ws p (suc i) true is h =
     let e : suc i - 1 ≡ i = omega arith in
@@ -59,12 +61,14 @@ not_this : (p i : ℕ) → (p == i) ≡ false → p ≡ i → ⊥
 not_this p i h e = grind (arith, nat_tests, h, e)
 
 module _ (s : Debuggee) (d : Debug) (probe : ℕ) (watch : Watch) (is : slice_get d.probes probe ≡ Some watch) where
-  read_counted : (new : Debug) → IsCounted s.story d new → slice_get new.probes probe ≡ Some (counted_between s.story d.steps new.steps watch)
+  read_counted : (new : Debug)
+      → IsCounted s.story d new → slice_get new.probes probe ≡ Some (counted_between s.story d.steps new.steps watch)
   read_counted new h =
       ap (λ ps. slice_get ps probe) h.probes ∙ slice_get-map (counted_between s.story d.steps new.steps) d.probes probe
       ∙ ap (option_map (counted_between s.story d.steps new.steps)) is
 
-  still_counted : (probes : List Watch) (later : ℕ) → slice_get probes later ≡ slice_get d.probes probe → slice_get probes later ≡ Some (counted_between s.story d.steps d.steps watch)
+  still_counted : (probes : List Watch) (later : ℕ)
+      → slice_get probes later ≡ slice_get d.probes probe → slice_get probes later ≡ Some (counted_between s.story d.steps d.steps watch)
   still_counted probes later same = same ∙ is ∙ ap (λ w. Some w) (sym (counted_nowhere s.story d.steps watch))
 
   arm_counted : (p a b later : ℕ) (this : Bool) → (p == probe) ≡ this → cond this None (Some probe) ≡ Some later
@@ -72,19 +76,23 @@ module _ (s : Debuggee) (d : Debug) (probe : ℕ) (watch : Watch) (is : slice_ge
   arm_counted p a b later true at h = absurd (cc h)
   arm_counted p a b later false at h =
       let e : later ≡ probe = cc h in
-      still_counted (arm_at p a b d.probes) later (ap (slice_get (arm_at p a b d.probes)) e ∙ arm_other p a b d.probes probe (not_this p probe at))
+      still_counted (arm_at p a b d.probes) later
+      (ap (slice_get (arm_at p a b d.probes)) e ∙ arm_other p a b d.probes probe (not_this p probe at))
 
-  drop_counted : (p later : ℕ) (this : Bool) → (p == probe) ≡ this → cond this None (Some (cond (nat_lt p probe) (probe - 1) probe)) ≡ Some later
+  drop_counted : (p later : ℕ) (this : Bool)
+      → (p == probe) ≡ this → cond this None (Some (cond (nat_lt p probe) (probe - 1) probe)) ≡ Some later
       → slice_get (remove d.probes p) later ≡ Some (counted_between s.story d.steps d.steps watch)
   drop_counted p later true at h = absurd (cc h)
   drop_counted p later false at h =
       let e : later ≡ cond (nat_lt p probe) (probe - 1) probe = cc h in
-      still_counted (remove d.probes p) later (ap (slice_get (remove d.probes p)) e ∙ drop_other d.probes p probe (nat_lt p probe) refl (not_this p probe at))
+      still_counted (remove d.probes p) later
+      (ap (slice_get (remove d.probes p)) e ∙ drop_other d.probes p probe (nat_lt p probe) refl (not_this p probe at))
 
   same_number : (later : ℕ) → Some probe ≡ Some later → slice_get d.probes later ≡ slice_get d.probes probe
   same_number later h = let e : later ≡ probe = cc h in ap (slice_get d.probes) e
 
-  read_later : (new : Debug) (later : ℕ) → Some probe ≡ Some later → IsCounted s.story d new → slice_get new.probes later ≡ Some (counted_between s.story d.steps new.steps watch)
+  read_later : (new : Debug) (later : ℕ) → Some probe ≡ Some later
+      → IsCounted s.story d new → slice_get new.probes later ≡ Some (counted_between s.story d.steps new.steps watch)
   read_later new later at h = let e : later ≡ probe = cc at in ap (slice_get new.probes) e ∙ read_counted new h
 
   -- one line
@@ -112,16 +120,21 @@ lines_later : (s : Debuggee) (lines : List Command) (d : Debug) → d.steps ≤ 
 lines_later s [] d = omega arith
 lines_later s (command ∷ others) d = omega (arith, line_later s command d, lines_later s others (obeyed s command d).debug)
 
-lines_from : (s : Debuggee) (command : Command) (others : List Command) (d : Debug) (probe later : ℕ) (watch : Watch) (o : Option ℕ) → number_behind command probe ≡ o
+lines_from : (s : Debuggee) (command : Command) (others : List Command) (d : Debug) (probe later : ℕ) (watch : Watch) (o : Option ℕ)
+    → number_behind command probe ≡ o
     → slice_get d.probes probe ≡ Some watch → option_and_then (number_after others) o ≡ Some later
     → ((now : Watch) (mid : ℕ) → slice_get (obeyed s command d).debug.probes mid ≡ Some now → number_after others mid ≡ Some later
-    → slice_get (obeyed_all s (command ∷ others) d).probes later ≡ Some (counted_between s.story (obeyed s command d).debug.steps (obeyed_all s (command ∷ others) d).steps now))
-    → slice_get (obeyed_all s (command ∷ others) d).probes later ≡ Some (counted_between s.story d.steps (obeyed_all s (command ∷ others) d).steps watch)
+    → slice_get (obeyed_all s (command ∷ others) d).probes later
+    ≡ Some (counted_between s.story (obeyed s command d).debug.steps (obeyed_all s (command ∷ others) d).steps now))
+    → slice_get (obeyed_all s (command ∷ others) d).probes later
+    ≡ Some (counted_between s.story d.steps (obeyed_all s (command ∷ others) d).steps watch)
 lines_from s command others d probe later watch None at is to more = absurd (cc to)
 lines_from s command others d probe later watch (Some mid) at is to more =
     let k = (obeyed s command d).debug.steps in
     more (counted_between s.story d.steps k watch) mid (line_counts s d probe watch is command mid at) to
-    ∙ ap (λ w. Some w) (sym (counted_both s.story d.steps k (obeyed_all s (command ∷ others) d).steps (line_later s command d) (lines_later s others (obeyed s command d).debug) watch))
+    ∙ ap (λ w. Some w)
+    (sym (counted_both s.story d.steps k (obeyed_all s (command ∷ others) d).steps (line_later s command d)
+    (lines_later s others (obeyed s command d).debug) watch))
 
 pub lines_count : LinesCount
 lines_count s [] d probe later watch is to = still_counted s d probe watch is d.probes later (same_number s d probe watch is later to)

@@ -7,7 +7,8 @@ use Rattle.board_probes.specs.Probes.{first_met, sight_in}
 use Rattle.fw_debug.specs.Sessions.{Debug, Debuggee, Hunted, next_state, stepped_to, walk, hunt}
 use Rattle.fw_debug.specs.Making.{LeadsTo, hunt_behind}
 
-walk_by : (s : Debuggee) (n : ℕ) (d : Debug) (o : Option (World Beside)) → next_state s d.steps ≡ o → walk s (suc n) d ≡ elim o [ None ↦ d | Some w ↦ walk s n (stepped_to w d) ]
+walk_by : (s : Debuggee) (n : ℕ) (d : Debug) (o : Option (World Beside))
+    → next_state s d.steps ≡ o → walk s (suc n) d ≡ elim o [ None ↦ d | Some w ↦ walk s n (stepped_to w d) ]
 walk_by s n d o e = ap (λ (v : Option (World Beside)). elim v as (λ x. Debug) [ None ↦ d | Some w ↦ walk s n (stepped_to w d) ]) e
 
 -- where the run has ended a walk stays
@@ -18,12 +19,18 @@ walk_ended s (suc n) d e = walk_by s n d None e
 hunt_by : (s : Debuggee) (n : ℕ) (d : Debug) (o : Option (World Beside)) → next_state s d.steps ≡ o → hunt s (suc n) d
     ≡ elim o [
       | None ↦ record { debug = d; hit = None }
-      | Some w ↦ elim (first_met 0 (sight_in w) d.probes) [ Some probe ↦ record { debug = stepped_to w d; hit = Some probe } | None ↦ hunt s n (stepped_to w d) ]
+      | Some w ↦ elim (first_met 0 (sight_in w) d.probes) [
+        | Some probe ↦ record { debug = stepped_to w d; hit = Some probe }
+        | None ↦ hunt s n (stepped_to w d)
+      ]
     ]
 hunt_by s n d o e =
     ap (λ (v : Option (World Beside)). elim v as (λ x. Hunted) [
       | None ↦ record { debug = d; hit = None }
-      | Some w ↦ elim (first_met 0 (sight_in w) d.probes) as (λ x. Hunted) [ Some probe ↦ record { debug = stepped_to w d; hit = Some probe } | None ↦ hunt s n (stepped_to w d) ]
+      | Some w ↦ elim (first_met 0 (sight_in w) d.probes) as (λ x. Hunted) [
+        | Some probe ↦ record { debug = stepped_to w d; hit = Some probe }
+        | None ↦ hunt s n (stepped_to w d)
+      ]
     ]) e
 
 abbrev pub came : Debug → Option ℕ → Hunted
@@ -47,7 +54,8 @@ none_led s d = record {
 }
 
 -- one step
-pub one_led : (s : Debuggee) (d : Debug) (w : World Beside) → next_state s d.steps ≡ Some w → LeadsTo s 1 d (stepped_to w d) (first_met 0 (sight_in w) d.probes)
+pub one_led : (s : Debuggee) (d : Debug) (w : World Beside)
+    → next_state s d.steps ≡ Some w → LeadsTo s 1 d (stepped_to w d) (first_met 0 (sight_in w) d.probes)
 one_led s d w next = record {
   walked = λ more. let z : 1 + more ≡ suc more = omega arith in ap (λ (n : ℕ). walk s n d) z ∙ walk_by s more d (Some w) next;
   hunted = λ more. let z : 1 + more ≡ suc more = omega arith in
@@ -55,10 +63,13 @@ one_led s d w next = record {
 }
 
 -- some steps that hit no probe, and then others
-pub then_led : (s : Debuggee) (a b : ℕ) (d e f : Debug) (hit : Option ℕ) → LeadsTo s a d e None → LeadsTo s b e f hit → LeadsTo s (a + b) d f hit
+pub then_led : (s : Debuggee) (a b : ℕ) (d e f : Debug) (hit : Option ℕ)
+    → LeadsTo s a d e None → LeadsTo s b e f hit → LeadsTo s (a + b) d f hit
 then_led s a b d e f hit one two = record {
-  walked = λ more. let z : a + b + more ≡ a + (b + more) = omega arith in ap (λ (n : ℕ). walk s n d) z ∙ one.walked (b + more) ∙ two.walked more;
-  hunted = λ more. let z : a + b + more ≡ a + (b + more) = omega arith in ap (λ (n : ℕ). hunt s n d) z ∙ one.hunted (b + more) ∙ two.hunted more;
+  walked = λ more. let z : a + b + more ≡ a + (b + more) = omega arith in
+      ap (λ (n : ℕ). walk s n d) z ∙ one.walked (b + more) ∙ two.walked more;
+  hunted = λ more. let z : a + b + more ≡ a + (b + more) = omega arith in
+      ap (λ (n : ℕ). hunt s n d) z ∙ one.hunted (b + more) ∙ two.hunted more;
 }
 
 module _ (s : Debuggee) (left made : ℕ) (d e : Debug) (hit : Option ℕ) (within : made ≤ left) (led : LeadsTo s made d e hit) where

@@ -1,5 +1,6 @@
 -- What a session comes to by the steps that are made at once.
-use Rattle.std.proofs.Common.{◌≡◌, ◌≤◌, ◌<◌, ℕ, suc, ◌+◌, ◌-◌, Bool, true, false, List, map, leb, Some, None, Ok, Err, refl, ap, sym, subst, ◌∙◌, arith}
+use Rattle.std.proofs.Common.{◌≡◌, ◌≤◌, ◌<◌, ℕ, suc, ◌+◌, ◌-◌, Bool, true, false, List, map, leb}
+use Rattle.std.proofs.Common.{Some, None, Ok, Err, refl, ap, sym, subst, ◌∙◌, arith}
 use Rattle.std.specs.Prelude.{OnOk}
 use Rattle.std.proofs.lemmas.Bool.Decides.{nat_tests}
 use Rattle.std.specs.declared.option.Option.{Option}
@@ -9,7 +10,7 @@ use Rattle.board_lines.specs.declared.lines.Lines.{Lines}
 use Rattle.board_probes.proofs.Sights.{same_sight}
 use Rattle.board_probes.specs.Probes.{Sight, Watch, first_met, looked, sight_in, sight_of}
 use Rattle.board_probes.specs.Resting.{all_rest}
-use Rattle.joint_feed.specs.Course.{IsOnCourse, IsStepOn}
+use Rattle.joint_feed.specs.Course.{IsOnCourse}
 use Rattle.joint_feed.specs.Stories.{Story, state_at}
 use Rattle.joint_feed.specs.declared.course.Course.{Course}
 use Rattle.joint_run.specs.Joint.{Beside}
@@ -20,7 +21,7 @@ use Rattle.mcs48_core.specs.declared.stepping.Stuck.{Stuck}
 use Rattle.fw_debug.specs.Advance.{IsStateAt}
 use Rattle.fw_debug.specs.Making.{IsAdvanced, IsMade, LeadsTo, RestAt}
 use Rattle.fw_debug.specs.Sessions.{Debug, Debuggee, Sitting, debug, session_is_over, next_state, sitting, stepped_to}
-use Rattle.fw_debug.specs.Striding.{HasStrode}
+use Rattle.fw_debug.specs.Striding.{HasStrode, IsStepOn}
 use Rattle.fw_debug.specs.declared.stepping.Made.{Made}
 use Rattle.fw_debug.proofs.Leading.{none_led, one_led, then_led}
 use Rattle.fw_debug.proofs.Passing.{HasPassed, at_time, not_yet, passed}
@@ -108,7 +109,8 @@ module _ (s : Debuggee) (left : ℕ) (old new : Course) (before : List Watch) (c
             let hit : None ≡ first_met 0 (sight_in w) before = sym (p.unmet_here more) ∙ ap (λ (u : Sight). first_met 0 u before) sight in
             subst (λ (u : World Beside). LeadsTo s (last.steps - old.joint.steps) first
             (at_time last.steps (map (looked last.steps (sight_in u)) before)) (first_met 0 (sight_in u) before)) e
-            (subst (λ (o : Option ℕ). LeadsTo s (last.steps - old.joint.steps) first (at_time last.steps (map (looked last.steps (sight_in w)) before)) o) hit
+            (subst (λ (o : Option ℕ).
+            LeadsTo s (last.steps - old.joint.steps) first (at_time last.steps (map (looked last.steps (sight_in w)) before)) o) hit
             (subst (λ (ws : List Watch). LeadsTo s (last.steps - old.joint.steps) first (at_time last.steps ws) None) probes
             (subst (λ (n : ℕ). LeadsTo s n first (at_time last.steps p.probes) None) made p.led)));
       } in
@@ -135,12 +137,14 @@ advanced s left most rest old new r h thin order open_now room few alone g befor
     let so_far : HasPassed s old before g.count g.last =
     elim rest as (λ b. rest ≡ b → HasPassed s old before g.count g.last) [
       | true ↦ λ f.
-          let resting : all_rest clk before ≡ true = ap (λ (v : Sight). all_rest v.lines.clk before) sight ∙ at_rest f h.world (here s old h) in
+          let resting : all_rest clk before ≡ true =
+          ap (λ (v : Sight). all_rest v.lines.clk before) sight ∙ at_rest f h.world (here s old h) in
           passed s old before h open_now thin order most room clk refl resting g.count g.last g.quiet within
       | false ↦ λ f.
           let none = alone f in
           let zero_steps : g.count ≡ 0 = omega (arith, cycle, within, none) in
-          let still : g.last ≡ old.joint = subst (λ k. Rattle.joint_glide.specs.Quiet.AreQuiet old.ahead.due _ k old.joint g.last) zero_steps g.quiet in
+          let still : g.last ≡ old.joint =
+          subst (λ k. Rattle.joint_glide.specs.Quiet.AreQuiet old.ahead.due _ k old.joint g.last) zero_steps g.quiet in
           subst (λ k. HasPassed s old before k g.last) (sym zero_steps) (not_yet s old before h open_now g.last still)
     ] refl in
     strode s left old new before g.count g.last (omega (arith, cycle, within, few)) counts.1 so_far r g.step g.later
@@ -161,19 +165,24 @@ made_none left old new before made a same_steps none no_hit = record {
   ended = λ e. a.ended same_steps;
   led = subst (λ (n : ℕ). LeadsTo old.debuggee n (debug old before) (debug new before) made.hit) (sym none)
       (subst (λ (o : Option ℕ). LeadsTo old.debuggee 0 (debug old before) (debug new before) o) (sym no_hit)
-      (subst (λ (n : ℕ). LeadsTo old.debuggee 0 (debug old before) (at_time n before) None) (sym same_steps) (none_led old.debuggee (debug old before))));
+      (subst (λ (n : ℕ). LeadsTo old.debuggee 0 (debug old before) (at_time n before) None) (sym same_steps)
+      (none_led old.debuggee (debug old before))));
 }
 
 -- steps were made, and each probe looked at the state that the last one led to
-pub made_some : (left : ℕ) (old new : Sitting) (before after : List Watch) (made : Made) (m : Machine) (steps : ℕ) → IsAdvanced left old before new
-    → old.steps < new.steps → made.steps ≡ new.steps - old.steps → IsStateAt new m → steps ≡ new.steps → after ≡ map (looked steps (sight_of m)) before
+pub made_some : (left : ℕ) (old new : Sitting) (before after : List Watch) (made : Made) (m : Machine) (steps : ℕ)
+    → IsAdvanced left old before new
+    → old.steps < new.steps
+    → made.steps ≡ new.steps - old.steps → IsStateAt new m → steps ≡ new.steps → after ≡ map (looked steps (sight_of m)) before
     → made.hit ≡ first_met 0 (sight_of m) before → IsMade left old before made new after
 made_some left old new before after made m steps a some count at is looks hit =
     let within = a.within in
     let w = at.world in
-    let there : state_at old.debuggee.story new.steps ≡ Some w = ap (λ (d : Debuggee). state_at d.story new.steps) (sym a.debuggee) ∙ at.state in
+    let there : state_at old.debuggee.story new.steps ≡ Some w =
+    ap (λ (d : Debuggee). state_at d.story new.steps) (sym a.debuggee) ∙ at.state in
     let seen : map (looked new.steps (sight_in w)) before ≡ after =
-    ap (λ (v : Sight). map (looked new.steps v) before) (sym at.sight) ∙ sym (looks ∙ ap (λ (n : ℕ). map (looked n (sight_of m)) before) is) in
+    ap (λ (v : Sight). map (looked new.steps v) before) (sym at.sight)
+    ∙ sym (looks ∙ ap (λ (n : ℕ). map (looked n (sight_of m)) before) is) in
     let met : first_met 0 (sight_in w) before ≡ made.hit = ap (λ (v : Sight). first_met 0 v before) (sym at.sight) ∙ sym hit in
     record {
       debuggee = a.debuggee;
@@ -181,7 +190,8 @@ made_some left old new before after made m steps a some count at is looks hit =
       ended = λ none. absurd (omega (arith, none, count, some));
       led = subst (λ (n : ℕ). LeadsTo old.debuggee n (debug old before) (debug new after) made.hit) (sym count)
           (subst (λ (o : Option ℕ). LeadsTo old.debuggee (new.steps - old.steps) (debug old before) (debug new after) o) met
-          (subst (λ (ws : List Watch). LeadsTo old.debuggee (new.steps - old.steps) (debug old before) (debug new ws) (first_met 0 (sight_in w) before)) seen
+          (subst (λ (ws : List Watch).
+          LeadsTo old.debuggee (new.steps - old.steps) (debug old before) (debug new ws) (first_met 0 (sight_in w) before)) seen
           (a.led some w there)));
     }
 

@@ -34,11 +34,13 @@ behind_twice a b (Ok t) = ap (λ (x : List ℕ). Ok (told t.debug x)) (sym (appe
 behind_twice a b (Err rule) = refl
 
 -- behind a line come its others and then more
-others_both : (s : Debuggee) (ys : List (List ℕ)) (text : List ℕ) (r : Outcome) → before_all text (and_lines s ys r) ≡ and_lines s ys (before_all text r)
+others_both : (s : Debuggee) (ys : List (List ℕ)) (text : List ℕ) (r : Outcome)
+    → before_all text (and_lines s ys r) ≡ and_lines s ys (before_all text r)
 others_both s ys text (Ok t) = behind_twice text t.text (lines_told s ys t.debug)
 others_both s ys text (Err rule) = refl
 
-first_both : (s : Debuggee) (xs ys : List (List ℕ)) (r : Outcome) → ((d : Debug) → lines_told s (xs ++ ys) d ≡ and_lines s ys (lines_told s xs d))
+first_both : (s : Debuggee) (xs ys : List (List ℕ)) (r : Outcome)
+    → ((d : Debug) → lines_told s (xs ++ ys) d ≡ and_lines s ys (lines_told s xs d))
     → and_lines s (xs ++ ys) r ≡ and_lines s ys (and_lines s xs r)
 first_both s xs ys (Ok t) h = ap (before_all t.text) (h t.debug) ∙ others_both s ys t.text (lines_told s xs t.debug)
 first_both s xs ys (Err rule) h = refl
@@ -54,20 +56,24 @@ pub record AreDone (s : Debuggee) (all : List (List ℕ)) (d : Debug) (rest : Li
   pub all_so : all ≡ first ++ rest
   pub told : lines_told s first d ≡ Ok (told now text)
 
-right_by : (s : Debuggee) (others : List (List ℕ)) (text : List ℕ) (end : Told) (r : Outcome) → before_all text (and_lines s others r) ≡ Ok end → (t : Told) × (r ≡ Ok t)
+right_by : (s : Debuggee) (others : List (List ℕ)) (text : List ℕ) (end : Told) (r : Outcome)
+    → before_all text (and_lines s others r) ≡ Ok end → (t : Told) × (r ≡ Ok t)
 right_by s others text end (Ok t) e = (t, refl)
 right_by s others text end (Err rule) e = absurd (cc e)
 
 module _ (s : Debuggee) (all : List (List ℕ)) (d : Debug) (line : List ℕ) (others : List (List ℕ)) (now : Debug) (text : List ℕ) where
   -- where all lines come to an end, so does the next one
-  pub next_right : (end : Told) → lines_told s all d ≡ Ok end → AreDone s all d (line ∷ others) now text → (t : Told) × (line_told s line now ≡ Ok t)
+  pub next_right : (end : Told)
+      → lines_told s all d ≡ Ok end → AreDone s all d (line ∷ others) now text → (t : Told) × (line_told s line now ≡ Ok t)
   next_right end right done =
       let e : and_lines s (line ∷ others) (Ok (told now text)) ≡ Ok end =
-      sym (ap (and_lines s (line ∷ others)) done.told) ∙ sym (told_both s done.first (line ∷ others) d) ∙ sym (ap (λ ls. lines_told s ls d) done.all_so) ∙ right in
+      sym (ap (and_lines s (line ∷ others)) done.told) ∙ sym (told_both s done.first (line ∷ others) d)
+      ∙ sym (ap (λ ls. lines_told s ls d) done.all_so) ∙ right in
       right_by s others text end (line_told s line now) e
 
   -- with one line more
-  pub one_more : (t : Told) → line_told s line now ≡ Ok t → AreDone s all d (line ∷ others) now text → AreDone s all d others t.debug (text ++ t.text)
+  pub one_more : (t : Told)
+      → line_told s line now ≡ Ok t → AreDone s all d (line ∷ others) now text → AreDone s all d others t.debug (text ++ t.text)
   one_more t is done =
       let one : lines_told s (line ∷ []) now ≡ Ok (told t.debug (t.text ++ [])) = ap (and_lines s []) is in
       record {
@@ -78,20 +84,25 @@ module _ (s : Debuggee) (all : List (List ℕ)) (d : Debug) (line : List ℕ) (o
             ∙ ap (λ (x : List ℕ). Ok (told t.debug (text ++ x))) (append-nil t.text);
       }
 
-line_is : (t : Told) (r : Outcome) (now new : Debug) (text text' : List ℕ) → r ≡ Ok t → IsLine r now text (Ok tt) new text' → (t.debug ≡ new) × (text' ≡ text ++ t.text)
+line_is : (t : Told) (r : Outcome) (now new : Debug) (text text' : List ℕ)
+    → r ≡ Ok t → IsLine r now text (Ok tt) new text' → (t.debug ≡ new) × (text' ≡ text ++ t.text)
 line_is t r now new text text' is h = subst (λ (o : Outcome). IsLine o now text (Ok tt) new text') is h
 
-line_lacks : (t : Told) (r : Outcome) (now new : Debug) (text text' : List ℕ) (fault : LineFault) → r ≡ Ok t → IsLine r now text (Err fault) new text' → (fault ≡ Memory) × (t.debug ≡ new)
+line_lacks : (t : Told) (r : Outcome) (now new : Debug) (text text' : List ℕ) (fault : LineFault)
+    → r ≡ Ok t → IsLine r now text (Err fault) new text' → (fault ≡ Memory) × (t.debug ≡ new)
 line_lacks t r now new text text' fault is h =
-    let so : IsLine (Ok t) now text (Err fault) new text' = subst (λ (o : Outcome). IsLine o now text (Err fault) new text') is h in (so.0, so.1)
+    let so : IsLine (Ok t) now text (Err fault) new text' = subst (λ (o : Outcome). IsLine o now text (Err fault) new text') is h in
+    (so.0, so.1)
 
-module _ (s s' : Debuggee) (all : List (List ℕ)) (d : Debug) (rest : List (List ℕ)) (line : List ℕ) (others : List (List ℕ)) (now new : Debug) (text text' : List ℕ) (end : Told)
+module _ (s s' : Debuggee) (all : List (List ℕ)) (d : Debug) (rest : List (List ℕ)) (line : List ℕ)
+    (others : List (List ℕ)) (now new : Debug) (text text' : List ℕ) (end : Told)
     (same : s' ≡ s) (right : lines_told s all d ≡ Ok end) (next : rest ≡ line ∷ others) (done : AreDone s all d rest now text) where
   before : AreDone s all d (line ∷ others) now text
   before = subst (λ ls. AreDone s all d ls now text) next done
 
   pub asked : (t : Told) × (line_told s' line now ≡ Ok t)
-  asked = subst (λ (r : Debuggee). (t : Told) × (line_told r line now ≡ Ok t)) (sym same) (next_right s all d line others now text end right before)
+  asked = subst (λ (r : Debuggee). (t : Told) × (line_told r line now ≡ Ok t)) (sym same)
+      (next_right s all d line others now text end right before)
 
   after : AreDone s all d others asked.0.debug (text ++ asked.0.text)
   after = one_more s all d line others now text asked.0 (subst (λ (r : Debuggee). line_told r line now ≡ Ok asked.0) same asked.1) before
@@ -99,16 +110,20 @@ module _ (s s' : Debuggee) (all : List (List ℕ)) (d : Debug) (rest : List (Lis
   -- the next line is obeyed
   pub goes_on : IsLine (line_told s' line now) now text (Ok tt) new text' → AreDone s all d others new text'
   goes_on h =
-      let is : (asked.0.debug ≡ new) × (text' ≡ text ++ asked.0.text) = line_is asked.0 (line_told s' line now) now new text text' asked.1 h in
-      subst (λ x. AreDone s all d others new x) (sym is.1) (subst (λ (x : Debug). AreDone s all d others x (text ++ asked.0.text)) is.0 after)
+      let is : (asked.0.debug ≡ new) × (text' ≡ text ++ asked.0.text) =
+      line_is asked.0 (line_told s' line now) now new text text' asked.1 h in
+      subst (λ x. AreDone s all d others new x) (sym is.1)
+      (subst (λ (x : Debug). AreDone s all d others x (text ++ asked.0.text)) is.0 after)
 
   -- or memory was wanting for its text
-  pub stops : (fault : LineFault) → IsLine (line_told s' line now) now text (Err fault) new text' → (fault ≡ Memory) × AreDone s all d others new (text ++ asked.0.text)
+  pub stops : (fault : LineFault)
+      → IsLine (line_told s' line now) now text (Err fault) new text' → (fault ≡ Memory) × AreDone s all d others new (text ++ asked.0.text)
   stops fault h =
       let is : (fault ≡ Memory) × (asked.0.debug ≡ new) = line_lacks asked.0 (line_told s' line now) now new text text' fault asked.1 h in
       (is.0, subst (λ (x : Debug). AreDone s all d others x (text ++ asked.0.text)) is.1 after)
 
-module _ (s : Debuggee) (script : List ℕ) (probes : List Watch) (rest : List (List ℕ)) (now : Debug) (text : List ℕ) (done : AreDone s (lines script) (begun probes) rest now text) where
+module _ (s : Debuggee) (script : List ℕ) (probes : List Watch) (rest : List (List ℕ)) (now : Debug) (text : List ℕ)
+    (done : AreDone s (lines script) (begun probes) rest now text) where
   -- behind the last line all are obeyed
   pub all_done : rest ≡ [] → IsObeyed s script probes text now.probes
   all_done none = record {
@@ -122,21 +137,27 @@ module _ (s : Debuggee) (script : List ℕ) (probes : List Watch) (rest : List (
     text,
     record {
       steps = now.steps;
-      told = ap (λ ls. lines_told s ls (begun probes)) (ap (take (length done.first)) done.all_so ∙ take-append_seam done.first rest) ∙ done.told;
+      told = ap (λ ls. lines_told s ls (begun probes)) (ap (take (length done.first)) done.all_so ∙ take-append_seam done.first rest)
+          ∙ done.told;
     },
   )
 
 -- want of memory is answered
-pub lacks : {X : Type 0} (result : Result X LineFault) (fault : LineFault) (P : X → Type 0) → IsErrAnd result (λ e. e ≡ fault) → fault ≡ Memory → MatchResult result P (λ e. e ≡ Memory)
+pub lacks : {X : Type 0} (result : Result X LineFault) (fault : LineFault) (P : X → Type 0)
+    → IsErrAnd result (λ e. e ≡ fault) → fault ≡ Memory → MatchResult result P (λ e. e ≡ Memory)
 lacks (Ok x) fault P is memory = absurd is
 lacks (Err e) fault P is memory = is ∙ memory
 
 -- a session at its start is over this run
-pub said_by : {X : Type 0} (items : X → List ℕ) (result : Result X LineFault) (sitting : Sitting) (s : Debuggee) (script : List ℕ) (probes left : List Watch) → sitting ≡ record { debuggee = s; steps = 0 }
-    → MatchResult result (λ x. IsObeyed sitting.debuggee script probes (items x) left) (λ e. e ≡ Memory) → MatchResult result (λ x. IsObeyed s script probes (items x) left) (λ e. e ≡ Memory)
-said_by items result sitting s script probes left is h = subst (λ (x : Sitting). MatchResult result (λ y. IsObeyed x.debuggee script probes (items y) left) (λ e. e ≡ Memory)) is h
+pub said_by : {X : Type 0} (items : X → List ℕ) (result : Result X LineFault) (sitting : Sitting) (s : Debuggee) (script : List ℕ)
+    (probes left : List Watch) → sitting ≡ record { debuggee = s; steps = 0 }
+    → MatchResult result (λ x. IsObeyed sitting.debuggee script probes (items x) left) (λ e. e ≡ Memory)
+    → MatchResult result (λ x. IsObeyed s script probes (items x) left) (λ e. e ≡ Memory)
+said_by items result sitting s script probes left is h =
+    subst (λ (x : Sitting). MatchResult result (λ y. IsObeyed x.debuggee script probes (items y) left) (λ e. e ≡ Memory)) is h
 
-pub part_by : (sitting : Sitting) (s : Debuggee) (script : List ℕ) (probes left : List Watch) → sitting ≡ record { debuggee = s; steps = 0 } → IsObeyedInPart sitting.debuggee script probes left → IsObeyedInPart s script probes left
+pub part_by : (sitting : Sitting) (s : Debuggee) (script : List ℕ) (probes left : List Watch) → sitting ≡ record { debuggee = s; steps = 0 }
+    → IsObeyedInPart sitting.debuggee script probes left → IsObeyedInPart s script probes left
 part_by sitting s script probes left is h = subst (λ (x : Sitting). IsObeyedInPart x.debuggee script probes left) is h
 
 -- no line is obeyed yet

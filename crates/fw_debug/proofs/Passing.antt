@@ -1,5 +1,6 @@
 -- Quiet steps, made at once, lead a session on, and probes that rest needn't look at them.
-use Rattle.std.proofs.Common.{◌≡◌, ◌≤◌, ◌<◌, ◌&&◌, ◌||◌, ℕ, zero, suc, ◌+◌, Bool, true, false, List, [], ◌∷◌, map, Some, None, is_none, refl, ap, sym, subst, ◌∙◌, arith}
+use Rattle.std.proofs.Common.{◌≡◌, ◌≤◌, ◌<◌, ◌&&◌, ◌||◌, ℕ, zero, suc, ◌+◌, Bool, true, false, List, []}
+use Rattle.std.proofs.Common.{◌∷◌, map, Some, None, is_none, refl, ap, sym, subst, ◌∙◌, arith}
 use Rattle.std.specs.Prelude.{nat_le, if◌then◌else◌}
 use Rattle.std.specs.declared.option.Option.{Option}
 use Rattle.std.proofs.lemmas.Bool.{and_parts}
@@ -41,7 +42,8 @@ none_met clk number v (w ∷ ws) h =
     not_met w number v _ (first_met (suc number) v ws) (unmet w.kind w.counted.arms w.ear v arms) ∙ none_met clk (suc number) v ws parts.1
 
 -- nor are they behind a look
-pub none_met_behind : (clk : Bool) (number n : ℕ) (u v : Sight) (ws : List Watch) → all_rest clk ws ≡ true → first_met number v (map (looked n u) ws) ≡ None
+pub none_met_behind : (clk : Bool) (number n : ℕ) (u v : Sight) (ws : List Watch)
+    → all_rest clk ws ≡ true → first_met number v (map (looked n u) ws) ≡ None
 none_met_behind clk number n u v [] h = refl
 none_met_behind clk number n u v (w ∷ ws) h =
     let parts = and_parts (rests clk w) (all_rest clk ws) h in
@@ -81,17 +83,20 @@ module _ (s : Debuggee) (old : Course) (before : List Watch) (h : IsOnCourse s.s
   pub not_yet : (m : Machine) → m ≡ old.joint → HasPassed s old before 0 m
   not_yet m e = subst (λ (n : Machine). HasPassed s old before 0 n) (sym e) none_passed
 
-  module _ (thin : IsThin s.story.edges) (order : AreInOrder s.story.edges) (most : ℕ) (room : old.joint.cycle + most < s.story.stop + s.latest)
+  module _ (thin : IsThin s.story.edges) (order : AreInOrder s.story.edges) (most : ℕ)
+      (room : old.joint.cycle + most < s.story.stop + s.latest)
       (clk : Bool) (level : (sight_of old.joint).lines.clk ≡ clk) (at_rest : all_rest clk before ≡ true) where
     -- before its end, and where no tick starts, the run goes on
-    still_open : (m : Machine) (on : IsOnCourse s.story (moved old m)) → (starts_tick s.story on.world ≡ false) → m.cycle ≤ old.joint.cycle + most
+    still_open : (m : Machine) (on : IsOnCourse s.story (moved old m))
+        → (starts_tick s.story on.world ≡ false) → m.cycle ≤ old.joint.cycle + most
         → session_is_over s on.world ≡ false
     still_open m on off below =
         let at = on.in_run.cycle in
         let before_end : nat_le (s.story.stop + s.latest) on.world.cycle ≡ false = grind (arith, nat_tests, at, below, room) in
         ap (λ b. (b && nat_le (4096 + s.story.stop) on.world.cycle) || nat_le (s.story.stop + s.latest) on.world.cycle) off ∙ before_end
 
-    pub passed : (k : ℕ) (m : Machine) → AreQuiet old.ahead.due TICK k old.joint m → m.cycle ≤ old.joint.cycle + most → HasPassed s old before k m
+    pub passed : (k : ℕ) (m : Machine)
+        → AreQuiet old.ahead.due TICK k old.joint m → m.cycle ≤ old.joint.cycle + most → HasPassed s old before k m
     passed zero m e below = not_yet m e
     passed (suc k) m q below =
         let between = q.0 in
@@ -128,7 +133,8 @@ module _ (s : Debuggee) (old : Course) (before : List Watch) (h : IsOnCourse s.s
           probes = probes;
           led = subst (λ (n : ℕ). LeadsTo s n (at_time old.joint.steps before) (at_time m.steps probes) None) count
               (then_led s k 1 (at_time old.joint.steps before) (at_time between.steps it.probes) (at_time m.steps probes) None it.led one);
-          same_later = λ n v more. all_rested clk m.steps n (sight_of m) v before more (ap (λ (l : Lines). l.clk) same_wire ∙ level) at_rest;
+          same_later =
+              λ n v more. all_rested clk m.steps n (sight_of m) v before more (ap (λ (l : Lines). l.clk) same_wire ∙ level) at_rest;
           same_hit = λ v. none_met_behind clk 0 m.steps (sight_of m) v before at_rest ∙ sym (none_met clk 0 v before at_rest);
           goes_on = λ v e. ap (session_is_over s) (sym (same s (moved old m) on v e)) ∙ still_open m on (sym off) below;
           wires = same_wire;

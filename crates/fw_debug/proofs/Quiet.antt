@@ -24,7 +24,8 @@ abbrev pub moved : Course → Machine → Course
 moved c m = record c { joint = m }
 
 -- each takes a cycle at least, and is counted
-pub quiet_counts : (due : Due) (tick k : ℕ) (old new : Machine) → AreQuiet due tick k old new → (old.cycle + k ≤ new.cycle) × (new.steps ≡ old.steps + k)
+pub quiet_counts : (due : Due) (tick k : ℕ) (old new : Machine)
+    → AreQuiet due tick k old new → (old.cycle + k ≤ new.cycle) × (new.steps ≡ old.steps + k)
 quiet_counts due tick zero old new h =
     let cycle = ap (λ (m : Machine). m.cycle) h in
     let steps = ap (λ (m : Machine). m.steps) h in
@@ -57,9 +58,10 @@ module _ (s : Story) (thin : IsThin s.edges) (order : AreInOrder s.edges) where
   on_one c new q h =
       let edges = q.edges in
       let host = q.host in
-      on_moved s (record c { joint = new; seen = q.seen }) new c.seen refl
-      (on_again s c new q.seen h thin order q.step q.run c.ahead q.some q.few h.fed (omega (arith, edges)) (omega (arith, host)))
+      on_moved s (record c { joint = new; seen = q.seen }) new c.seen c.fill refl
+      (on_again s c new q.seen h thin order q.step q.run c.fill c.ahead q.some q.few h.fed (omega (arith, edges)) (omega (arith, host)))
 
-  pub on_quiet : (c : Course) (tick k : ℕ) (last : Machine) → AreQuiet c.ahead.due tick k c.joint last → IsOnCourse s c → IsOnCourse s (moved c last)
+  pub on_quiet : (c : Course) (tick k : ℕ) (last : Machine)
+      → AreQuiet c.ahead.due tick k c.joint last → IsOnCourse s c → IsOnCourse s (moved c last)
   on_quiet c tick zero last e h = subst (λ (m : Machine). IsOnCourse s (moved c m)) (sym e) h
   on_quiet c tick (suc k) last e h = on_one (moved c e.0) last e.2 (on_quiet c tick k e.0 e.1 h)

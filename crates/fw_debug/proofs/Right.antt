@@ -1,5 +1,6 @@
 -- A script that is judged right breaks no rule where it is obeyed.
-use Rattle.std.proofs.Common.{cond, ◌≡◌, ◌<◌, ◌+◌, ◌-◌, ℕ, zero, suc, Bool, true, false, List, [], ◌∷◌, length, Some, None, Ok, Err, refl, ap, sym, subst, ◌∙◌, arith}
+use Rattle.std.proofs.Common.{cond, ◌≡◌, ◌<◌, ◌+◌, ◌-◌, ℕ, zero, suc, Bool, true, false, List, [], ◌∷◌}
+use Rattle.std.proofs.Common.{length, Some, None, Ok, Err, refl, ap, sym, subst, ◌∙◌, arith}
 use Rattle.std.specs.Prelude.{nat_lt}
 use Rattle.std.specs.List.{remove}
 use Rattle.std.specs.Str.Lines.{lines}
@@ -38,11 +39,14 @@ dropped_one : (ws : List Watch) (p : ℕ) → missing (length ws) (Drop p) ≡ N
 dropped_one ws p there = omega (arith, length-remove ws p (below_so (length ws) p (nat_lt p (length ws)) refl there))
 
 -- a line leaves as many probes as it was judged to leave
-pub left_so : (s : Debuggee) (c : Command) (d : Debug) → missing (length d.probes) c ≡ None → left c (length d.probes) ≡ length (obeyed s c d).debug.probes
+pub left_so : (s : Debuggee) (c : Command) (d : Debug)
+    → missing (length d.probes) c ≡ None → left c (length d.probes) ≡ length (obeyed s c d).debug.probes
 left_so s (Step k) d there =
-    sym (ap (λ (ws : List Watch). length ws) (walk_counts s k d).probes ∙ length-map d.probes (counted_between s.story d.steps (walk s k d).steps))
+    sym (ap (λ (ws : List Watch). length ws) (walk_counts s k d).probes
+    ∙ length-map d.probes (counted_between s.story d.steps (walk s k d).steps))
 left_so s (Go k) d there =
-    sym (ap (λ (ws : List Watch). length ws) (hunt_counts s k d).probes ∙ length-map d.probes (counted_between s.story d.steps (hunt s k d).debug.steps))
+    sym (ap (λ (ws : List Watch). length ws) (hunt_counts s k d).probes
+    ∙ length-map d.probes (counted_between s.story d.steps (hunt s k d).debug.steps))
 left_so s Show d there = refl
 left_so s (Ram cell) d there = refl
 left_so s (Arm p a b) d there = armed_all p a b d.probes
@@ -53,7 +57,8 @@ there_by : (n : ℕ) (c : Command) (f : Command) (m : Option Rule) → missing n
 there_by n c f None e is = let same : f ≡ c = cc is in subst (λ (x : Command). missing n x ≡ None) same e
 there_by n c f (Some rule) e is = absurd (cc is)
 
-there_from : (n : ℕ) (c : Command) (o : Option Command) → and_then (some_or Form o) (λ f. unless (missing n f) f) ≡ Ok c → missing n c ≡ None
+there_from : (n : ℕ) (c : Command) (o : Option Command)
+    → and_then (some_or Form o) (λ f. unless (missing n f) f) ≡ Ok c → missing n c ≡ None
 there_from n c (Some f) is = there_by n c f (missing n f) refl is
 there_from n c None is = absurd (cc is)
 
@@ -62,7 +67,8 @@ judged_there : (n : ℕ) (line : List ℕ) (c : Command) → judged n line ≡ O
 judged_there n line c is = there_from n c (command_in line) is
 
 abbrev RightOnes : Debuggee → List (List ℕ) → Type 0
-RightOnes s ls = (k n end : ℕ) (d : Debug) → n ≡ length d.probes → outcome_from take_line Ok k n ls ≡ Ok end → (t : Told) × (lines_told s ls d ≡ Ok t)
+RightOnes s ls =
+    (k n end : ℕ) (d : Debug) → n ≡ length d.probes → outcome_from take_line Ok k n ls ≡ Ok end → (t : Told) × (lines_told s ls d ≡ Ok t)
 
 abbrev after_line : Debuggee → List (List ℕ) → Result Told Rule → Result Told Rule
 after_line s ls r = and_then r (λ t. and_then (lines_told s ls t.debug) (λ u. Ok (behind t.text u)))
@@ -70,25 +76,32 @@ after_line s ls r = and_then r (λ t. and_then (lines_told s ls t.debug) (λ u. 
 abbrev goes_from : ℕ → List (List ℕ) → Result ℕ Rule → Result ℕ (Fault Rule)
 goes_from k ls r = and_then (at_item k r) (λ after. outcome_from take_line Ok (k + 1) after ls)
 
-others_right : (s : Debuggee) (ls : List (List ℕ)) (t : Told) → (u : Told) × (lines_told s ls t.debug ≡ Ok u) → (u : Told) × (after_line s ls (Ok t) ≡ Ok u)
+others_right : (s : Debuggee) (ls : List (List ℕ)) (t : Told)
+    → (u : Told) × (lines_told s ls t.debug ≡ Ok u) → (u : Told) × (after_line s ls (Ok t) ≡ Ok u)
 others_right s ls t h = (behind t.text h.0, ap (λ (r : Result Told Rule). and_then r (λ u. Ok (behind t.text u))) h.1)
 
-command_right : (s : Debuggee) (ls : List (List ℕ)) → RightOnes s ls → (k end : ℕ) (d : Debug) (r : Result Command Rule) → ((c : Command) → r ≡ Ok c → missing (length d.probes) c ≡ None)
-    → goes_from k ls (and_then r (λ c. Ok (left c (length d.probes)))) ≡ Ok end → (u : Told) × (after_line s ls (and_then r (λ c. Ok (obeyed s c d))) ≡ Ok u)
+command_right : (s : Debuggee) (ls : List (List ℕ))
+    → RightOnes s ls → (k end : ℕ) (d : Debug) (r : Result Command Rule) → ((c : Command) → r ≡ Ok c → missing (length d.probes) c ≡ None)
+    → goes_from k ls (and_then r (λ c. Ok (left c (length d.probes)))) ≡ Ok end
+    → (u : Told) × (after_line s ls (and_then r (λ c. Ok (obeyed s c d))) ≡ Ok u)
 command_right s ls h k end d (Ok c) there e =
     others_right s ls (obeyed s c d) (h (k + 1) (left c (length d.probes)) end (obeyed s c d).debug (left_so s c d (there c refl)) e)
 command_right s ls h k end d (Err rule) there e = absurd (cc e)
 
 line_right : (s : Debuggee) (ls : List (List ℕ)) → RightOnes s ls → (k end : ℕ) (d : Debug) (line : List ℕ) (blank : Bool)
-    → goes_from k ls (cond blank (Ok (length d.probes)) (and_then (judged (length d.probes) line) (λ c. Ok (left c (length d.probes))))) ≡ Ok end
-    → (u : Told) × (after_line s ls (cond blank (Ok (told d [])) (and_then (judged (length d.probes) line) (λ c. Ok (obeyed s c d)))) ≡ Ok u)
+    → goes_from k ls (cond blank (Ok (length d.probes)) (and_then (judged (length d.probes) line) (λ c. Ok (left c (length d.probes)))))
+    ≡ Ok end
+    → (u : Told)
+    × (after_line s ls (cond blank (Ok (told d [])) (and_then (judged (length d.probes) line) (λ c. Ok (obeyed s c d)))) ≡ Ok u)
 line_right s ls h k end d line true e = others_right s ls (told d []) (h (k + 1) (length d.probes) end d refl e)
-line_right s ls h k end d line false e = command_right s ls h k end d (judged (length d.probes) line) (judged_there (length d.probes) line) e
+line_right s ls h k end d line false e =
+    command_right s ls h k end d (judged (length d.probes) line) (judged_there (length d.probes) line) e
 
 right_ones : (s : Debuggee) (ls : List (List ℕ)) → RightOnes s ls
 right_ones s [] k n end d same e = (told d [], refl)
 right_ones s (line ∷ ls) k n end d same e =
-    line_right s ls (right_ones s ls) k end d line (is_blank_line line) (subst (λ m. outcome_from take_line Ok k m (line ∷ ls) ≡ Ok end) same e)
+    line_right s ls (right_ones s ls) k end d line (is_blank_line line)
+    (subst (λ m. outcome_from take_line Ok k m (line ∷ ls) ≡ Ok end) same e)
 
 verdict_right : (r : Result ℕ (Fault Rule)) → IsVerdict r (Ok tt) → (end : ℕ) × (r ≡ Ok end)
 verdict_right (Ok end) h = (end, refl)
@@ -99,7 +112,8 @@ unfolding script_of
 script_unfolds n script = refl
 
 -- the lines of a script that is judged right for so many probes come to an end
-pub right_told : (s : Debuggee) (n : ℕ) (script : List ℕ) (d : Debug) → n ≡ length d.probes → IsRight n script → (t : Told) × (lines_told s (lines script) d ≡ Ok t)
+pub right_told : (s : Debuggee) (n : ℕ) (script : List ℕ) (d : Debug)
+    → n ≡ length d.probes → IsRight n script → (t : Told) × (lines_told s (lines script) d ≡ Ok t)
 right_told s n script d same right =
     let e : (end : ℕ) × (script_of n script ≡ Ok end) = verdict_right (script_of n script) right in
     right_ones s (lines script) 1 n e.0 d same (sym (script_unfolds n script) ∙ e.1)

@@ -28,7 +28,8 @@ stuck_as : (due : Due) (old new : Machine) (o : Option (World Beside)) (stuck : 
 stuck_as due old new None stuck h = h.1
 stuck_as due old new (Some w) stuck h = absurd h
 
-module _ (s : Story) (c : Course) (h : IsOnCourse s c) (thin : IsThin s.edges) (order : AreInOrder s.edges) (most : ℕ) (new : Machine) (seen : Seen) where
+module _ (s : Story) (c : Course) (h : IsOnCourse s c) (thin : IsThin s.edges) (order : AreInOrder s.edges)
+    (most : ℕ) (new : Machine) (seen : Seen) where
   module _ (gone : HasGone c.ahead.due TICK most c.joint (Ok seen) new) where
     abbrev there : Course
     there = moved c gone.last
@@ -43,7 +44,8 @@ module _ (s : Story) (c : Course) (h : IsOnCourse s c) (thin : IsThin s.edges) (
     pub took_host : seen.host ≤ length c.ahead.due.host.items
     took_host = host_few s there new seen on_there thin order gone.step gone.run
 
-    pub strode_on : (ahead : Ahead) → 0 < seen.cycles → seen.cycles < 3 → IsFed s.edges s.events ahead → ahead.made ≡ c.ahead.made + seen.edges
+    pub strode_on : (ahead : Ahead)
+        → 0 < seen.cycles → seen.cycles < 3 → IsFed s.edges s.events ahead → ahead.made ≡ c.ahead.made + seen.edges
         → ahead.done ≡ c.ahead.done + seen.host → HasStrode s most c (Ok tt) (record c { joint = new; ahead = ahead; seen = seen })
     strode_on ahead some few fed made done = record {
       count = gone.count;
@@ -51,7 +53,7 @@ module _ (s : Story) (c : Course) (h : IsOnCourse s c) (thin : IsThin s.edges) (
       quiet = gone.quiet;
       within = gone.within;
       step = (
-        on_again s there new seen on_there thin order gone.step gone.run ahead some few fed made done,
+        on_again s there new seen on_there thin order gone.step gone.run c.fill ahead some few fed made done,
         steps_more s there new seen on_there thin order gone.step gone.run,
       );
       later = later s there new seen on_there thin order gone.step gone.run some;
@@ -73,6 +75,6 @@ module _ (s : Story) (c : Course) (h : IsOnCourse s c) (thin : IsThin s.edges) (
           last = gone.last;
           quiet = gone.quiet;
           within = gone.within;
-          step = (on_moved s here new seen still on_here, still, refl, no_further s here new stuck on_here thin order gone.run);
+          step = (on_moved s here new seen c.fill still on_here, still, refl, no_further s here new stuck on_here thin order gone.run);
           later = tt;
         }

@@ -2,18 +2,20 @@
 use Rattle.std.specs.Prelude.{ℕ, zero, suc, ◌+◌, Bool, ◌&&◌, ◌||◌, nat_le, List, map}
 use Rattle.std.specs.Prelude.{Some, None, is_none, if◌then◌else◌}
 use Rattle.std.specs.declared.option.Option.{Option}
+use Rattle.joint_run.specs.Filled.{filled}
 use Rattle.joint_run.specs.Joint.{Beside}
 use Rattle.joint_run.specs.Run.{World}
 use Rattle.joint_feed.specs.Stories.{Story, state_at, starts_tick}
 use Rattle.board_probes.specs.Probes.{Watch, looked, first_met, sight_in}
 
--- what is debugged: a program with its history, and how many cycles behind the end stamp its run ends at the latest
+-- what is debugged: a program with its history, and by how much the cycle in which its run ends at the latest is
+-- greater than the end stamp
 pub record Debuggee : Type 0 where
   pub story : Story
   pub latest : ℕ
 
--- how many cycles behind the end stamp an image that keeps its time has begun a tick: stamp 0 is cycle 4,096, and tick
--- starts are less than 2,056 cycles apart
+-- the cycle in which an image that keeps its time has begun a tick is so much greater than the end stamp: stamp 0 is
+-- cycle 4,096, and tick starts are less than 2,056 cycles apart
 abbrev pub latest_start : ℕ
 latest_start = 6152
 
@@ -24,6 +26,10 @@ of_layout story = record { story = story; latest = latest_start }
 -- any program: its run ends at the end stamp itself
 abbrev pub of_program : Story → Debuggee
 of_program story = record { story = story; latest = 4096 }
+
+-- the same in a part that held this byte at power-on
+abbrev pub with_fill : ℕ → Debuggee → Debuggee
+with_fill fill d = record { story = record d.story { held = filled fill }; latest = d.latest }
 
 -- a session without its probes: what is debugged, and how many steps are made
 pub record Sitting : Type 0 where

@@ -1,9 +1,10 @@
-//! What is debugged: a program under a history, and where its run ends.
+//! What is debugged: a program under a history, where its run ends, and what the part held at power-on.
 
 ghost use Rattle.std.specs.Prelude.{◌≡◌, ◌≤◌};
 ghost use Rattle.fw_compile.specs.Image.{image_of};
+ghost use Rattle.joint_feed.specs.Filled.{filled_story};
 ghost use Rattle.joint_feed.specs.Stories.{story};
-ghost use Rattle.fw_debug.specs.Sessions.{latest_start, of_layout, of_program};
+ghost use Rattle.fw_debug.specs.Sessions.{latest_start, of_layout, of_program, with_fill};
 
 use fw_compile::compile;
 use key_file::History;
@@ -11,29 +12,31 @@ use layout_reader::Layout;
 use mcs48_isa::Image;
 use std::marker::Model;
 
-/// How many cycles behind the end stamp the run of a layout's image ends at the latest: stamp 0 is cycle 4,096, and tick
-/// starts are less than 2,056 cycles apart.
+/// By how much the cycle in which the run of a layout's image ends at the latest is greater than the end stamp: stamp 0 is
+/// cycle 4,096, and tick starts are less than 2,056 cycles apart.
 const LATEST_OF_LAYOUT: u64 = 6_152;
 
 /// The same of any program: its run ends at the end stamp itself.
 const LATEST_OF_PROGRAM: u64 = 4_096;
 
-/// A program, the history that it runs under, and how many cycles behind the end stamp the run ends at the latest.
+/// A program, the history that it runs under, how many cycles behind the end stamp the run ends at the latest, and the byte
+/// that data memory, A and T hold at power-on.
 #[derive(Drop)]
 pub struct Debuggee {
     image: Image,
     history: History,
     latest: u64,
+    fill: u8,
 }
 
 impl Model for Debuggee {
     ghost use Rattle.std.specs.Prelude.{◌≤◌};
-    ghost use Rattle.joint_feed.specs.Stories.{story};
+    ghost use Rattle.joint_feed.specs.Filled.{filled_story};
     ghost use Rattle.fw_debug.specs.Sessions.{Debuggee, latest_start};
 
     ghost Value = { Debuggee };
 
-    ghost view = { λ d. record { story = story d.image.bytes d.history; latest = d.latest } };
+    ghost view = { λ d. record { story = filled_story d.fill d.image.bytes d.history; latest = d.latest } };
 
     ghost invariant = { λ d. d.latest ≤ latest_start };
 }
@@ -49,6 +52,7 @@ impl Debuggee {
             image,
             history,
             latest: LATEST_OF_LAYOUT,
+            fill: 0,
         }
     }
 
@@ -60,14 +64,27 @@ impl Debuggee {
             image,
             history,
             latest: LATEST_OF_PROGRAM,
+            fill: 0,
         }
     }
 
-    /// The program, its history, and how many cycles behind the end stamp the run ends at the latest.
-    pub(crate) fn into_parts(self) -> (Image, History, u64)
-        ensures parts { record { story = story result.0.bytes result.1; latest = result.2 } ≡ self }
+    /// The same in a part whose data memory, A and T hold this byte at power-on.
+    pub fn with_fill(self, fill: u8) -> Debuggee
+        ensures { result ≡ with_fill fill self }
+    {
+        Debuggee {
+            image: self.image,
+            history: self.history,
+            latest: self.latest,
+            fill,
+        }
+    }
+
+    /// The program, its history, how many cycles behind the end stamp the run ends at the latest, and the byte at power-on.
+    pub(crate) fn into_parts(self) -> (Image, History, u64, u8)
+        ensures parts { record { story = filled_story result.3 result.0.bytes result.1; latest = result.2 } ≡ self }
         ensures latest { result.2 ≤ latest_start }
     {
-        (self.image, self.history, self.latest)
+        (self.image, self.history, self.latest, self.fill)
     }
 }

@@ -36,18 +36,18 @@ pub struct Session {
 impl Model for Session {
     ghost use Rattle.std.specs.Prelude.{◌≤◌};
     ghost use Rattle.joint_feed.specs.Course.{IsOnCourse};
-    ghost use Rattle.joint_feed.specs.Stories.{story};
+    ghost use Rattle.joint_feed.specs.Filled.{filled_story};
     ghost use Rattle.fw_debug.specs.Sessions.{Sitting, latest_start};
 
     ghost Value = { Sitting };
 
-    ghost view = { λ s. record { debuggee = record { story = story s.image.bytes s.history; latest = s.latest }; steps = s.course.joint.steps } };
+    ghost view = { λ s. record { debuggee = record { story = filled_story s.course.fill s.image.bytes s.history; latest = s.latest }; steps = s.course.joint.steps } };
 
-    ghost invariant = { λ s. IsOnCourse (story s.image.bytes s.history) s.course × (s.latest ≤ latest_start) };
+    ghost invariant = { λ s. IsOnCourse (filled_story s.course.fill s.image.bytes s.history) s.course × (s.latest ≤ latest_start) };
 }
 
-/// Whether a run with this end stamp, and with its latest end so many cycles behind it, is over at a cycle, at which a
-/// tick starts or not.
+/// Whether a run with this end stamp, whose latest end is the cycle that is so much greater, is over at a cycle, at which
+/// a tick starts or not.
 fn is_end(starts: bool, cycle: u64, stop: u64, latest: u64) -> bool
     requires stop { stop ≤ 240000000 }
     requires latest { latest ≤ latest_start }
@@ -71,9 +71,9 @@ impl Session {
     pub fn new(alloc: Global, debuggee: Debuggee) -> Result<Session, AllocError>
         ensures made { IfOk result (λ s. s ≡ sitting debuggee 0) }
     {
-        let (image, history, latest) = debuggee.into_parts();
+        let (image, history, latest, fill) = debuggee.into_parts();
         let bios = Bios::new(alloc)?;
-        let course = Course::new(&image, bios, &history);
+        let course = Course::new(&image, bios, fill, &history);
         Ok(Session {
             image,
             history,

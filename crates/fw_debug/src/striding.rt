@@ -1,8 +1,8 @@
 //! Steps of a run at once: quiet ones, and then one of any kind.
 
-ghost use Rattle.std.specs.Prelude.{◌+◌, ◌<◌, ◌^◌};
+ghost use Rattle.std.specs.Prelude.{◌≡◌, ◌+◌, ◌<◌, ◌^◌};
 ghost use Rattle.joint_feed.specs.Course.{IsOnCourse};
-ghost use Rattle.joint_feed.specs.Stories.{story};
+ghost use Rattle.joint_feed.specs.Filled.{run_of};
 ghost use Rattle.key_file.specs.Accepted.{IsAccepted};
 ghost use Rattle.fw_debug.specs.Striding.{HasStrode};
 
@@ -15,10 +15,11 @@ use mcs48_core::Stuck;
 /// Joint steps of the run of this history: quiet ones, in at most `most` cycles together, none of which leads to a tick
 /// start, and then one of any kind. There may be no quiet one. Where the processor is stuck the steps before stand.
 pub(crate) fn stride(course: &mut Course, history: &History, most: u64) -> Result<(), Stuck>
-    requires on { IsOnCourse (story course.old.joint.image.bytes history.now) course.old }
+    requires on { IsOnCourse (run_of course.old history.now) course.old }
     requires near { course.old.joint.cycle + most < 2 ^ 62 }
     ensures accepted { IsAccepted history.now }
-    ensures strode { HasStrode (story course.old.joint.image.bytes history.now) most course.old result course.new }
+    ensures fill { course.new.fill ≡ course.old.fill }
+    ensures strode { HasStrode (run_of course.old history.now) most course.old result course.new }
 {
     let _ = history.end();
     go_on(

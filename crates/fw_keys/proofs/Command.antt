@@ -9,6 +9,7 @@ use Rattle.bits.specs.Bits.{bit}
 use Rattle.fw_keys.proofs.Blocks.{Just, leaf, seq_just, relax, bytes_of}
 use Rattle.std.proofs.Common.{nat_lt}
 use Rattle.fw_keys.proofs.Ready.{based, ready_law}
+use Rattle.fw_kernel.specs.declared.cells.TheConstants.{LIGHTS}
 use Rattle.fw_kernel.specs.Places.{HasKernel}
 use Rattle.fw_kernel.specs.declared.labels.TheConstants.{COMMAND, READY, SCAN}
 use Rattle.fw_keys.proofs.Block.{Ends, Safe}
@@ -56,7 +57,7 @@ module _ (d : Board) (bytes : List ℕ) (hk : HasKernel bytes) (small : All IsBy
   Obeys = Leads d (kernel_in true bytes) x (begin_at d COMMAND f ring m board)
       (Ends d x m board SCAN 68 (Keeps held (obeyed (image_keys bytes) (f 28) (not (f 29 == 0))) f ring))
 
-  facts_of : (g : ℕ → ℕ) → g 66 ≡ f 66 → g 68 ≡ f 68 → g 70 ≤ 2 → g 77 ≡ 16 * (g 77 / 16 % 8) → IsFnCell (g 78)
+  facts_of : (g : ℕ → ℕ) → g 66 ≡ f 66 → g 68 ≡ f 68 → g 70 ≤ 2 → g LIGHTS ≡ 16 * (g LIGHTS / 16 % 8) → IsFnCell (g 78)
       → ((i : ℕ) → 32 ≤ i → i < 60 → g i ≡ f i) → ((i : ℕ) → 78 ≤ i → i < 92 → g i ≡ f i) → (g 8 ≡ f 8) × (g 9 ≡ f 9)
       → kbd_of held g ring ≡ obeyed (image_keys bytes) (f 28) (not (f 29 == 0)) (kbd_of held f ring) → (a : ℕ)
       → Keeps held (obeyed (image_keys bytes) (f 28) (not (f 29 == 0))) f ring a g ring

@@ -2,6 +2,7 @@
 use Rattle.std.proofs.Common.{◌≡◌, ◌≤◌, ◌<◌, ℕ, ◌+◌, ◌-◌, List, All, Bool, true, false, ◌==◌, refl, ap, sym}
 use Rattle.std.proofs.Common.{◌∙◌, arith, None}
 use Rattle.mcs48_core.specs.Cpu.{Cpu}
+use Rattle.fw_kernel.specs.declared.cells.TheConstants.{LIGHTS}
 use Rattle.fw_kernel.specs.declared.labels.TheConstants.{DONE}
 use Rattle.fw_kernel.specs.Places.{HasKernel}
 use Rattle.joint_run.specs.Run.{Board, after_cycles}
@@ -60,7 +61,7 @@ module _ (d : Board) (bytes : List ℕ) (hk : HasKernel bytes) (alike : IsSilent
   -- without a frame no port is written from the lights on
   pub record AtHead (e : Stage d.State) : Type 0 where
     pub off : e.off ≡ 231
-    pub p2 : e.cpu.p2 ≡ 255 - f 77
+    pub p2 : e.cpu.p2 ≡ 255 - f LIGHTS
     pub board_is : e.board ≡ shining d bytes hk alike small low held y m board f ring
 
   abbrev pub Works : Meeting → ℕ → (Stage d.State → Type 0) → Type 0
@@ -111,8 +112,8 @@ module _ (d : Board) (bytes : List ℕ) (hk : HasKernel bytes) (alike : IsSilent
 
   -- the clock is low
   pub inhibited_works : Inv f → (f 69 == 0) ≡ true
-      → (d.pins 44 (255 - f 77) (y + 231 + 22)
-      (after_cycles 22 0 (λ o. d.cycle (255 - f 77) (y + 231 + o)) (shining d bytes hk alike small low held y m board f
+      → (d.pins 44 (255 - f LIGHTS) (y + 231 + 22)
+      (after_cycles 22 0 (λ o. d.cycle (255 - f LIGHTS) (y + 231 + o)) (shining d bytes hk alike small low held y m board f
       ring))).t0
       ≡ false → Safe m 10 f ring
       → Works Inhibited (231 + (31 + (56 + (2 + edges_most changes_now)))) AtHead

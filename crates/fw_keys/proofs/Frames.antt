@@ -19,7 +19,7 @@ use Rattle.kbd_model.specs.declared.meeting.Meeting.TheVariants.{Sent, Got, Cut}
 use Rattle.kbd_model.specs.Keyboard.{Keyboard, offer}
 use Rattle.kbd_model.specs.Commands.{obeyed}
 use Rattle.kbd_model.specs.Tick.{sent_byte, met, tested_if, is_inhibited, is_scanning}
-use Rattle.kbd_model.proofs.Whole.{IsWhole}
+use Rattle.kbd_model.proofs.CodesAreWhole.{IsWhole}
 use Rattle.fw_keys.specs.State.{kbd_of, layers_of, queue_of, Inv}
 use Rattle.fw_keys.specs.Edges.{image_keys, IsSilentAlike}
 use Rattle.fw_keys.proofs.Block.{Ends, Safe}

@@ -10,6 +10,7 @@ use Rattle.std.specs.declared.option.Option.{Option}
 use Rattle.fw_logic.proofs.Sound.{sound}
 use Rattle.fw_logic.proofs.Sound.{weaken}
 use Rattle.fw_keys.proofs.Blocks.{ring-get}
+use Rattle.fw_kernel.specs.declared.cells.TheConstants.{LIGHTS}
 use Rattle.fw_kernel.specs.Places.{HasKernel}
 use Rattle.fw_kernel.specs.declared.labels.TheConstants.{TESTED}
 use Rattle.fw_keys.proofs.Block.{Bytes}
@@ -37,7 +38,7 @@ abbrev pub headed : (ℕ → ℕ) → (ℕ → ℕ) → ℕ → ℕ → ℕ → 
 headed look f r4 r5 i =
     if nat_le 32 i && nat_lt i 44 then look (i - 32) else
     if nat_le 48 i && nat_lt i 60 then bit_xor (f (i - 16)) (look (i - 48)) else
-    put (put (put (put (put f 24 44) 25 77) 27 0) 28 r4) 29 r5 i
+    put (put (put (put (put f 24 44) 25 LIGHTS) 27 0) 28 r4) 29 r5 i
 
 pub head_changes : (look f : ℕ → ℕ) (r4 r5 i : ℕ) → i < 12
     → headed look f r4 r5 (48 + i) ≡ bit_xor (f (32 + i)) (look i)
@@ -81,11 +82,11 @@ module _ (d : Board) (bytes : List ℕ) (hk : HasKernel bytes) (small : All IsBy
     started = begin_at d 10 f ring m board
 
     abbrev pub shone : Cpu
-    shone = record m { p1 = 44; p2 = 255 - f 77 }
+    shone = record m { p1 = 44; p2 = 255 - f LIGHTS }
 
     -- the board at the head's end: the lights are put in the cycle 229 behind
     abbrev pub board_lit : d.State
-    board_lit = after_cycles 2 229 (λ o. d.cycle (255 - f 77) (y + o)) (after_cycles 229 0 (λ o. d.cycle m.p2 (y + o)) board)
+    board_lit = after_cycles 2 229 (λ o. d.cycle (255 - f LIGHTS) (y + o)) (after_cycles 229 0 (λ o. d.cycle m.p2 (y + o)) board)
 
     abbrev HeadShape : ℕ → ℕ → Stage d.State → Type 0
     HeadShape r4 r5 e =

@@ -14,7 +14,7 @@ use Rattle.kbd_model.specs.Keyboard.{Keyboard, offer}
 use Rattle.kbd_model.specs.Commands.{obeyed, obeyed_in, parameter, commanded}
 use Rattle.kbd_model.specs.Tick.{met, sent_byte, without_offered, tested_if, repeated, repeated_if, edge_if}
 use Rattle.kbd_model.specs.Tick.{edges_if, is_scanning, is_inhibited, ticked}
-use Rattle.kbd_model.proofs.Whole.{IsWhole, entered_whole, make_whole, release_whole, dropped_whole, cleared_whole}
+use Rattle.kbd_model.proofs.CodesAreWhole.{IsWhole, entered_whole, make_whole, release_whole, dropped_whole, cleared_whole}
 use Rattle.kbd_model.specs.declared.edge.TickEdge.{TickEdge}
 use Rattle.kbd_model.specs.Layers.{Layers, layered, all_layers_after}
 use Rattle.fw_keys.specs.Frameless.{IsPressed}

@@ -1,6 +1,6 @@
 -- What the offer says of the byte that is sent, as the law of step 1 wants it.
 use Rattle.kbd_model.specs.Laws.{whole}
-use Rattle.kbd_model.proofs.Whole.{IsWhole, code_behind}
+use Rattle.kbd_model.proofs.CodesAreWhole.{IsWhole, code_behind}
 use Rattle.std.proofs.Common.{Bool}
 use Rattle.std.proofs.Common.{◌≡◌, ◌<◌, ℕ, suc, zero, ◌+◌, ◌%◌, List, length, true, false, not, ◌==◌, Some}
 use Rattle.std.proofs.Common.{None, refl, ap, sym, ◌∙◌, arith, slice_index}

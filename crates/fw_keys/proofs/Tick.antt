@@ -15,6 +15,7 @@ use Rattle.fw_keys.proofs.Held.{layers_same}
 use Rattle.fw_keys.proofs.SameCells.{head_keeps}
 use Rattle.fw_keys.proofs.Offered.{unoffered}
 use Rattle.fw_keys.proofs.Testing.{testing_law}
+use Rattle.fw_kernel.specs.declared.cells.TheConstants.{LIGHTS}
 use Rattle.fw_kernel.specs.Places.{HasKernel}
 use Rattle.fw_kernel.specs.declared.labels.TheConstants.{DONE, SCAN, TESTED}
 use Rattle.fw_keys.proofs.Block.{Ends, Safe}
@@ -62,7 +63,7 @@ module _ (d : Board) (bytes : List ℕ) (hk : HasKernel bytes) (alike : IsSilent
           (memory now last) e.cpu
       pub off : e.off ≡ 231 + used
       pub short : used ≤ max + (56 + (2 + edges_most changed))
-      pub board_now : e.board ≡ after_cycles used (y + 231) (d.cycle (255 - f 77)) shining
+      pub board_now : e.board ≡ after_cycles used (y + 231) (d.cycle (255 - f LIGHTS)) shining
       pub kbd : kbd_of held now last ≡ keyed (image_keys bytes) inhibited changed down (layers_of f)
           (step (kbd_of held f ring))
       pub layers : layers_of now ≡ after (image_keys bytes) changed down (layers_of f)
@@ -170,7 +171,7 @@ module _ (d : Board) (bytes : List ℕ) (hk : HasKernel bytes) (alike : IsSilent
           off = ap (λ o. o + e2.off) a.off;
           short = b.short;
           board_now = b.board_now ∙ ap (λ k. after_cycles e2.off (y + 231) (d.cycle k.p2) e.board) a.cpu
-              ∙ ap (λ q. after_cycles e2.off (y + 231) (d.cycle (255 - f 77)) q) a.board_now;
+              ∙ ap (λ q. after_cycles e2.off (y + 231) (d.cycle (255 - f LIGHTS)) q) a.board_now;
           kbd = b.facts.0;
           downs = b.facts.1;
           inv = b.facts.2;
@@ -185,27 +186,27 @@ module _ (d : Board) (bytes : List ℕ) (hk : HasKernel bytes) (alike : IsSilent
     -- nothing is offered, and both wires are high at the looks
     abbrev pub IsFreeAt : Type 0
     IsFreeAt =
-        ((d.pins 44 (255 - f 77) (y + 231 + 22) (after_cycles 22 0 (λ o. d.cycle (255 - f 77) (y + 231 + o)) shining)).t0
+        ((d.pins 44 (255 - f LIGHTS) (y + 231 + 22) (after_cycles 22 0 (λ o. d.cycle (255 - f LIGHTS) (y + 231 + o)) shining)).t0
         ≡ true)
-        × ((d.pins 44 (255 - f 77) (y + 231 + 24) (after_cycles 24 0 (λ o. d.cycle (255 - f 77) (y + 231 + o)) shining)).t1
+        × ((d.pins 44 (255 - f LIGHTS) (y + 231 + 24) (after_cycles 24 0 (λ o. d.cycle (255 - f LIGHTS) (y + 231 + o)) shining)).t1
         ≡ true)
 
     look_at : (m' : Cpu) (board' : d.State) (r4 r5 k : ℕ) (test : Pins → Bool)
         → m' ≡ scratched lit TESTED (memory (headed_by r4 r5) ring) m' → board' ≡ shining
         → test (d.pins m'.p1 m'.p2 (y + 231 + k) (after_cycles k 0 (λ o. d.cycle m'.p2 (y + 231 + o)) board'))
-        ≡ test (d.pins 44 (255 - f 77) (y + 231 + k) (after_cycles k 0 (λ o. d.cycle (255 - f 77) (y + 231 + o)) shining))
+        ≡ test (d.pins 44 (255 - f LIGHTS) (y + 231 + k) (after_cycles k 0 (λ o. d.cycle (255 - f LIGHTS) (y + 231 + o)) shining))
     look_at m' board' r4 r5 k test is where_board =
         ap (λ c. test (d.pins c.p1 c.p2 (y + 231 + k) (after_cycles k 0 (λ o. d.cycle c.p2 (y + 231 + o)) board'))) is
-        ∙ ap (λ b. test (d.pins 44 (255 - f 77) (y + 231 + k) (after_cycles k 0 (λ o. d.cycle (255 - f 77) (y + 231 + o)) b)))
+        ∙ ap (λ b. test (d.pins 44 (255 - f LIGHTS) (y + 231 + k) (after_cycles k 0 (λ o. d.cycle (255 - f LIGHTS) (y + 231 + o)) b)))
         where_board
 
     abbrev pub same_kbd : Keyboard → Keyboard
     same_kbd k = k
 
     idle_way : Inv f → (f 69 == 0) ≡ true → offer (kbd_of held f ring) ≡ None
-        → (d.pins 44 (255 - f 77) (y + 231 + 22) (after_cycles 22 0 (λ o. d.cycle (255 - f 77) (y + 231 + o)) shining)).t0
+        → (d.pins 44 (255 - f LIGHTS) (y + 231 + 22) (after_cycles 22 0 (λ o. d.cycle (255 - f LIGHTS) (y + 231 + o)) shining)).t0
         ≡ true
-        → (d.pins 44 (255 - f 77) (y + 231 + 24) (after_cycles 24 0 (λ o. d.cycle (255 - f 77) (y + 231 + o)) shining)).t1
+        → (d.pins 44 (255 - f LIGHTS) (y + 231 + 24) (after_cycles 24 0 (λ o. d.cycle (255 - f LIGHTS) (y + 231 + o)) shining)).t1
         ≡ true
         → Way false 31 same_kbd
     idle_way inv no_test nothing clock high m' board' r4 r5 is where_board offers safe =
@@ -231,7 +232,7 @@ module _ (d : Board) (bytes : List ℕ) (hk : HasKernel bytes) (alike : IsSilent
         )
 
     inhibited_way : Inv f → (f 69 == 0) ≡ true
-        → (d.pins 44 (255 - f 77) (y + 231 + 22) (after_cycles 22 0 (λ o. d.cycle (255 - f 77) (y + 231 + o)) shining)).t0
+        → (d.pins 44 (255 - f LIGHTS) (y + 231 + 22) (after_cycles 22 0 (λ o. d.cycle (255 - f LIGHTS) (y + 231 + o)) shining)).t0
         ≡ false
         → Way true 31 same_kbd
     inhibited_way inv no_test clock m' board' r4 r5 is where_board offers safe =
@@ -285,7 +286,7 @@ module _ (d : Board) (bytes : List ℕ) (hk : HasKernel bytes) (alike : IsSilent
         (tick_by false 31 same_kbd (idle_way inv no_test nothing wires.0 wires.1) safe)
 
     pub inhibited_tick : Inv f → (f 69 == 0) ≡ true
-        → (d.pins 44 (255 - f 77) (y + 231 + 22) (after_cycles 22 0 (λ o. d.cycle (255 - f 77) (y + 231 + o)) shining)).t0
+        → (d.pins 44 (255 - f LIGHTS) (y + 231 + 22) (after_cycles 22 0 (λ o. d.cycle (255 - f LIGHTS) (y + 231 + o)) shining)).t0
         ≡ false → Safe m 10 f ring → TickLaw Inhibited true 31 same_kbd
     inhibited_tick inv no_test low_clock safe =
         with_model Inhibited true 31 same_kbd

@@ -5,6 +5,7 @@ use Rattle.std.proofs.Common.{bit_and, bit_or, refl, ap, sym, ◌∙◌, subst, 
 use Rattle.std.proofs.lemmas.Bool.Decides.{nat_tests}
 use Rattle.mcs48_core.specs.Cpu.{Cpu}
 use Rattle.mcs48_core.specs.Status.{digit}
+use Rattle.fw_kernel.specs.declared.cells.TheConstants.{LIGHTS}
 use Rattle.fw_kernel.specs.Places.{HasKernel}
 use Rattle.fw_kernel.specs.declared.labels.TheConstants.{SEND, S_CELL, S_STOP, SCAN}
 use Rattle.fw_logic.proofs.Block.{memory, put, scratched, begin_at, At}
@@ -109,7 +110,7 @@ module _ (d : Board) (bytes : List ℕ) (has : HasKernel bytes) (x : ℕ) (m : C
       q.board_now ∙ low_again))
 
   -- the looks of the cells before j show the clock high, that of cell j shows it low
-  pub cut_frame : IsFree m → m.p2 ≡ v → 255 - f 77 ≡ v → f 28 ≡ byte → (f 29 == 0) ≡ false
+  pub cut_frame : IsFree m → m.p2 ≡ v → 255 - f LIGHTS ≡ v → f 28 ≡ byte → (f 29 == 0) ≡ false
       → (j n : ℕ) → j + suc n ≡ 10 → ((k : ℕ) → k < j → is_high k ≡ true) → is_high j ≡ false
       → Leads d (kernel_in true bytes) x (begin_at d SEND f ring m board) (Cut j n)
   cut_frame free out lit is some j n count high low =

@@ -5,6 +5,7 @@ use Rattle.mcs48_core.specs.Cpu.{Cpu}
 use Rattle.bits.specs.Bits.{bit}
 use Rattle.mcs48_core.specs.Status.{digit}
 use Rattle.board_lines.specs.Frame.{parity_of}
+use Rattle.fw_kernel.specs.declared.cells.TheConstants.{LIGHTS}
 use Rattle.fw_kernel.specs.Places.{HasKernel}
 use Rattle.fw_kernel.specs.declared.labels.TheConstants.{SEND, S_CELL, S_STOP, SENT}
 use Rattle.fw_logic.proofs.Block.{memory, put, scratched, begin_at, At}
@@ -42,14 +43,14 @@ module _ (d : Board) (bytes : List ℕ) (has : HasKernel bytes) (y : ℕ) (m : C
     (ring : List ℕ) where
   -- the registers of a sent frame at its first cell
   abbrev pub readied : ℕ → ℕ
-  readied = put (put (put (put f 25 (in_quarters (f 28))) 26 (bit_and (255 - f 77) 253)) 27 10) 30 (f 28)
+  readied = put (put (put (put f 25 (in_quarters (f 28))) 26 (bit_and (255 - f LIGHTS) 253)) 27 10) 30 (f 28)
 
   abbrev pub lit_low : Cpu
-  lit_low = record m { p2 = bit_and (255 - f 77) 253 }
+  lit_low = record m { p2 = bit_and (255 - f LIGHTS) 253 }
 
   abbrev pub board_readied : d.State
   board_readied =
-      after_cycles 18 10 (λ o. d.cycle (bit_and (255 - f 77) 253) (y + o)) (after_cycles 10 0 (λ o. d.cycle m.p2 (y + o)) board)
+      after_cycles 18 10 (λ o. d.cycle (bit_and (255 - f LIGHTS) 253) (y + o)) (after_cycles 10 0 (λ o. d.cycle m.p2 (y + o)) board)
 
   abbrev pub Readied : Stage d.State → Type 0
   Readied e =

@@ -4,6 +4,7 @@ use Rattle.std.proofs.Common.{bit_and, bit_or, refl, ap, sym, ◌∙◌, subst, 
 use Rattle.std.proofs.lemmas.Bool.Decides.{nat_tests}
 use Rattle.mcs48_core.specs.Cpu.{Cpu}
 use Rattle.board_lines.specs.Frame.{parity_of}
+use Rattle.fw_kernel.specs.declared.cells.TheConstants.{LIGHTS}
 use Rattle.fw_kernel.specs.Places.{HasKernel}
 use Rattle.fw_kernel.specs.declared.labels.TheConstants.{SEND, S_CELL, S_STOP, SENT}
 use Rattle.fw_logic.proofs.Block.{memory, put, scratched, begin_at, At}
@@ -33,11 +34,11 @@ start_put v byte i l =
     rw (a, b) refl
 
 -- the registers at the first cell, in the frame's words
-first_cells : (f : ℕ → ℕ) (ring : List ℕ) (v byte : ℕ) → 255 - f 77 ≡ v → f 28 ≡ byte
-    → memory (put (put (put (put f 25 (in_quarters (f 28))) 26 (bit_and (255 - f 77) 253)) 27 10) 30 (f 28)) ring
+first_cells : (f : ℕ → ℕ) (ring : List ℕ) (v byte : ℕ) → 255 - f LIGHTS ≡ v → f 28 ≡ byte
+    → memory (put (put (put (put f 25 (in_quarters (f 28))) 26 (bit_and (255 - f LIGHTS) 253)) 27 10) 30 (f 28)) ring
     ≡ memory (sending f v byte 0 10 (f 24)) ring
 first_cells f ring v byte lit is =
-    ap (λ b. memory (put (put (put (put f 25 (in_quarters b)) 26 (bit_and (255 - f 77) 253)) 27 10) 30 b) ring) is
+    ap (λ b. memory (put (put (put (put f 25 (in_quarters b)) 26 (bit_and (255 - f LIGHTS) 253)) 27 10) 30 b) ring) is
     ∙ ap (λ w. memory (put (put (put (put f 25 (in_quarters byte)) 26 (bit_and w 253)) 27 10) 30 byte) ring) lit
 
 module _ (d : Board) (bytes : List ℕ) (has : HasKernel bytes) (x : ℕ) (m : Cpu) (board : d.State) (f : ℕ → ℕ)
@@ -52,16 +53,16 @@ module _ (d : Board) (bytes : List ℕ) (has : HasKernel bytes) (x : ℕ) (m : C
   is_high k = look d bytes has x m board f ring v byte released small k
 
   -- from the look at data to the first cell
-  pub begins : IsFree m → m.p2 ≡ v → 255 - f 77 ≡ v → f 28 ≡ byte → (f 29 == 0) ≡ false
+  pub begins : IsFree m → m.p2 ≡ v → 255 - f LIGHTS ≡ v → f 28 ≡ byte → (f 29 == 0) ≡ false
       → Leads d (kernel_in true bytes) x (begin_at d SEND f ring m board) (In 10)
   begins free out lit is some =
       let low : f 28 < 256 = subst (λ b. b < 256) (sym is) small in
-      let data_low : bit_and (255 - f 77) 253 ≡ wired v true false = ap (λ w. bit_and w 253) lit in
+      let data_low : bit_and (255 - f LIGHTS) 253 ≡ wired v true false = ap (λ w. bit_and w 253) lit in
       let here : after_cycles 10 0 (λ o. d.cycle m.p2 (x + o)) board ≡ at_offset 10 =
       spans d x (sent_latch v byte) 10 0 x 0 m.p2 board board refl (λ i l. before_start v byte i l ∙ sym out) refl in
-      let there : after_cycles 18 10 (λ o. d.cycle (bit_and (255 - f 77) 253) (x + o))
+      let there : after_cycles 18 10 (λ o. d.cycle (bit_and (255 - f LIGHTS) 253) (x + o))
       (after_cycles 10 0 (λ o. d.cycle m.p2 (x + o)) board) ≡ at_offset 28 =
-      spans d x (sent_latch v byte) 18 10 x 10 (bit_and (255 - f 77) 253)
+      spans d x (sent_latch v byte) 18 10 x 10 (bit_and (255 - f LIGHTS) 253)
       (after_cycles 10 0 (λ o. d.cycle m.p2 (x + o)) board) board refl
       (λ i l. start_put v byte i l ∙ sym data_low) here in
       weaken d (kernel_in true bytes) (has_rows true bytes has) x (Readied d bytes has x m board f ring) (In 10)
@@ -95,7 +96,7 @@ module _ (d : Board) (bytes : List ℕ) (has : HasKernel bytes) (x : ℕ) (m : C
       (high p.k (omega (arith, c))) free) n s h free
 
   -- a frame that isn't cut
-  pub sent_frame : IsFree m → m.p2 ≡ v → 255 - f 77 ≡ v → f 28 ≡ byte → (f 29 == 0) ≡ false
+  pub sent_frame : IsFree m → m.p2 ≡ v → 255 - f LIGHTS ≡ v → f 28 ≡ byte → (f 29 == 0) ≡ false
       → ((k : ℕ) → k < 10 → is_high k ≡ true)
       → Leads d (kernel_in true bytes) x (begin_at d SEND f ring m board)
       (At d m SENT (sending f v byte 10 0 0) ring 368 (at_offset 368))

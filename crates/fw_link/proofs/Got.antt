@@ -31,7 +31,7 @@ use Rattle.joint_run.specs.Joint.{Beside, lights_of}
 use Rattle.joint_run.specs.Run.{Board}
 use Rattle.pc_wires.specs.Wires.{Pc}
 use Rattle.wires_agree.proofs.Got.{frame_shown}
-use Rattle.wires_agree.proofs.Whole.{cycles_more}
+use Rattle.wires_agree.proofs.CellByCell.{cycles_more}
 use Rattle.wires_agree.specs.Cycles.{board_cycles}
 
 -- eight bits that agree with those of a frame

@@ -13,7 +13,7 @@ use Rattle.pc_wires.specs.Wires.{Pc}
 use Rattle.wires_agree.proofs.Meetings.{request_at, free_or_pulls}
 use Rattle.wires_agree.proofs.Pulls.{pulled_span}
 use Rattle.wires_agree.proofs.Spans.{IsAt}
-use Rattle.wires_agree.proofs.Whole.{cycles_more}
+use Rattle.wires_agree.proofs.CellByCell.{cycles_more}
 use Rattle.wires_agree.specs.Cells.{IsUp}
 use Rattle.wires_agree.specs.Cycles.{board_cycles}
 use Rattle.wires_agree.specs.Ticks.{at_meeting, leaves_clock}

@@ -7,6 +7,7 @@ use Rattle.board_lines.specs.declared.event.Edge.{Edge}
 use Rattle.board_lines.specs.declared.event.HostEvent.{HostEvent}
 use Rattle.board_lines.specs.declared.lines.Lines.{Lines}
 use Rattle.ctl_wire.specs.Wire.{drive}
+use Rattle.fw_kernel.specs.declared.cells.TheConstants.{LIGHTS}
 use Rattle.fw_kernel.specs.Places.{HasKernel}
 use Rattle.fw_kernel.specs.declared.labels.TheConstants.{SEND, SENT, SCAN}
 use Rattle.fw_logic.proofs.Block.{begin_at, At}
@@ -31,7 +32,7 @@ use Rattle.wires_agree.specs.Cycles.{board_cycles}
 module _ (edges : List Edge) (events : List HostEvent) (d : Board) (to : d.State → Beside)
     (over : IsOver edges events d to) (bytes : List ℕ) (has : HasKernel bytes) (start : ℕ) (m : Cpu) (s : d.State)
     (f : ℕ → ℕ) (ring : List ℕ) (v byte : ℕ) (released : IsReleased v) (small : byte < 256) (lines : ℕ → Lines)
-    (shown : lights_of v ≡ (to s).shown) (out : m.p2 ≡ v) (lit : 255 - f 77 ≡ v) (offered : f 28 ≡ byte)
+    (shown : lights_of v ≡ (to s).shown) (out : m.p2 ≡ v) (lit : 255 - f LIGHTS ≡ v) (offered : f 28 ≡ byte)
     (some : (f 29 == 0) ≡ false) where
   -- the PC's side after so many cycles of the frame, and what stands beside the processor then
   abbrev pub pc_in : ℕ → Pc

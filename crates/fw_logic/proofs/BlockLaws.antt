@@ -4,6 +4,7 @@ use Rattle.std.proofs.Common.{nat_le, nat_lt, leb, length, drop, get_or, slice_i
 use Rattle.std.proofs.Common.{subst, arith, add-zero}
 use Rattle.std.proofs.lemmas.Bool.Decides.{nat_tests}
 use Rattle.mcs48_core.specs.Cpu.{Cpu}
+use Rattle.fw_kernel.specs.declared.cells.TheConstants.{LIGHTS}
 use Rattle.fw_kernel.specs.declared.labels.TheConstants.{TICK, READ, OFFER, LAMPS, TESTED, LOOKS}
 use Rattle.fw_kernel.specs.Places.{HasKernel}
 use Rattle.joint_run.specs.Run.{Board, World, after_cycles}
@@ -162,20 +163,20 @@ module _ (d : Board) (bytes : List ℕ) (has : HasKernel bytes) where
       let m = w.cpu in
       let f = cells_of m.ram in
       let ring = drop 112 m.ram in
-      let lit : ℕ = 255 - f 77 in
-      from_world w LAMPS is f (memory_is m.ram is.memory) (record m { p2 = lit }) TESTED 6 (put f 25 77)
+      let lit : ℕ = 255 - f LIGHTS in
+      from_world w LAMPS is f (memory_is m.ram is.memory) (record m { p2 = lit }) TESTED 6 (put f 25 LIGHTS)
       (after_cycles 2 (w.cycle + 4) (d.cycle lit) (in_tick d w 4)) (PutsLights d w)
       (lamps d bytes has w.cycle m f ring w.board is.free)
       (λ e cpu free cycle board.
       let p2 : e.cpu.p2 ≡ lit = ap (λ (c : Cpu). c.p2) cpu in
       record {
-        to = at_end w e (record m { p2 = lit }) TESTED (put f 25 77) is.memory cpu free;
+        to = at_end w e (record m { p2 = lit }) TESTED (put f 25 LIGHTS) is.memory cpu free;
         cycle = cycle;
         p1 = ap (λ (c : Cpu). c.p1) cpu;
         p2 = p2;
         f1 = ap (λ (c : Cpu). c.f1) cpu;
         board = board ∙ ap (λ p. after_cycles 2 (w.cycle + 4) (d.cycle p) (in_tick d w 4)) (sym p2);
-        others = kept_cell w e (record m { p2 = lit }) TESTED 25 77 is.memory cpu;
+        others = kept_cell w e (record m { p2 = lit }) TESTED 25 LIGHTS is.memory cpu;
       })
 
   -- the looks

@@ -1,6 +1,7 @@
 -- The lights, and the looks at both wires. Each law counts cycles from its block's head.
 use Rattle.std.proofs.Common.{◌≡◌, ℕ, ◌+◌, ◌-◌, List, [], ◌∷◌, Bool, true, false, not, refl, ap, sym, ◌∙◌}
 use Rattle.mcs48_core.specs.Cpu.{Cpu}
+use Rattle.fw_kernel.specs.declared.cells.TheConstants.{LIGHTS}
 use Rattle.fw_kernel.specs.declared.labels.TheConstants.{LAMPS, TESTED, LOOKS, SEND, GOT, PULLED}
 use Rattle.fw_kernel.specs.Places.{HasKernel}
 use Rattle.joint_run.specs.Run.{Board, after_cycles}
@@ -21,21 +22,21 @@ module _ (d : Board) (bytes : List ℕ) (has : HasKernel bytes) (y : ℕ) (k : C
 
   -- the lights are put in the fifth of six cycles
   abbrev pub lit : Cpu
-  lit = record k { p2 = 255 - f 77 }
+  lit = record k { p2 = 255 - f LIGHTS }
 
   abbrev pub lit_board : d.State
-  lit_board = after_cycles 2 (y + 4) (d.cycle (255 - f 77)) (after_cycles 4 y step board)
+  lit_board = after_cycles 2 (y + 4) (d.cycle (255 - f LIGHTS)) (after_cycles 4 y step board)
 
   pub lamps : Leads d (kernel_in true bytes) y (begin_at d LAMPS f ring k board)
-      (At d lit TESTED (put f 25 77) ring 6 lit_board)
+      (At d lit TESTED (put f 25 LIGHTS) ring 6 lit_board)
   lamps =
-      straight d (kernel_in true bytes) (has_rows true bytes has) (Until TESTED ∷ []) y k LAMPS TESTED 6 f (put f 25 77)
+      straight d (kernel_in true bytes) (has_rows true bytes has) (Until TESTED ∷ []) y k LAMPS TESTED 6 f (put f 25 LIGHTS)
       ring
       lit board lit_board free (
         refl,
         refl,
-        sym (ticks_from 2 4 y (d.cycle (255 - f 77)) (after_cycles 4 0 (λ o. step (y + o)) board))
-            ∙ ap (λ b. after_cycles 2 (y + 4) (d.cycle (255 - f 77)) b) (absolute 4 y step board),
+        sym (ticks_from 2 4 y (d.cycle (255 - f LIGHTS)) (after_cycles 4 0 (λ o. step (y + o)) board))
+            ∙ ap (λ b. after_cycles 2 (y + 4) (d.cycle (255 - f LIGHTS)) b) (absolute 4 y step board),
       )
 
   -- the clock is looked at in cycle 16, data in cycle 18

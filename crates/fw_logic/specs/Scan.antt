@@ -1,5 +1,6 @@
 -- What a tick reads, keeps and puts. A tick is told from its start's state to that of the next start.
 use Rattle.std.specs.Prelude.{ℕ, ◌+◌, ◌-◌, ◌*◌}
+use Rattle.fw_kernel.specs.declared.cells.TheConstants.{LIGHTS}
 use Rattle.mcs48_core.specs.declared.levels.Pins.{Pins}
 use Rattle.joint_run.specs.Run.{Board, World, after_cycles}
 
@@ -17,4 +18,4 @@ in_tick d w n = after_cycles n w.cycle (d.cycle w.cpu.p2) w.board
 
 -- the byte in which the lights stand, at bits 4 to 6; a latch bit 0 lights
 abbrev pub lights_cell : ℕ
-lights_cell = 77
+lights_cell = LIGHTS

@@ -64,9 +64,6 @@ pub record Shown : Type 0 where
   pub told : Option HeldBytes
   pub faults : ℕ
 
-abbrev pub shown : Option (List ℕ) → Option HeldBytes → ℕ → Shown
-shown taken told faults = record { taken = taken; told = told; faults = faults }
-
 -- a text is said whole: the sink has taken all of it, line by line, and no put failed
 pub record IsSaid (before after : Shown) (text : List ℕ) : Type 0 where
   pub all : TakesAll before.taken after.taken text

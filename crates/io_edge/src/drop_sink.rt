@@ -19,11 +19,7 @@ impl DropSink {
 }
 
 impl Sink for DropSink {
-    ghost faults = { λ s. 0 };
-
-    ghost taken = { λ s. None };
-
-    ghost told = { λ s. None };
+    ghost shown = { λ s. record { taken = None; told = None; faults = 0 } };
 
     fn put(&mut self, piece: &[u8]) -> Result<usize, SinkFault>
         requires some { 0 < length piece.now }

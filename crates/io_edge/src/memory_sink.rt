@@ -85,11 +85,7 @@ impl MemSink {
 }
 
 impl Sink for MemSink {
-    ghost faults = { λ s. s.faults };
-
-    ghost taken = { λ s. Some s.taken };
-
-    ghost told = { λ s. Some s };
+    ghost shown = { λ s. record { taken = Some s.taken; told = Some s; faults = s.faults } };
 
     fn put(&mut self, piece: &[u8]) -> Result<usize, SinkFault>
         requires some { 0 < length piece.now }

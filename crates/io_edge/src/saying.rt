@@ -2,19 +2,19 @@
 
 ghost use Rattle.std.specs.Prelude.{◌≡◌, ℕ, ◌+◌, ◌<◌, ◌≤◌, ◌==◌, length, drop, position, true, false, Some, IfSome, OnErr, OnOk};
 ghost use Rattle.io_edge.specs.Faults.{Rose};
-ghost use Rattle.io_edge.specs.Said.{IsBrokenOff, IsSaid, TakesAll, TakesPart, line_length, offered, said, shown};
+ghost use Rattle.io_edge.specs.Said.{IsBrokenOff, IsSaid, TakesAll, TakesPart, line_length, offered, said};
 
 use crate::sink::{Sink, SinkFault};
 
 /// Puts the piece, and what wasn't taken of it again, until all of it is taken or a put fails.
 pub fn put_all<K: Sink>(out: &mut K, piece: &[u8]) -> Result<(), SinkFault>
-    ensures all { OnOk result (TakesAll (K.taken out.old) (K.taken out.new) piece.now) }
-    ensures steady { OnOk result (K.faults out.new ≡ K.faults out.old) }
-    ensures part { OnErr result (TakesPart (K.taken out.old) (K.taken out.new) piece.now) }
-    ensures failed { OnErr result (Rose (K.faults out.old) (K.faults out.new)) }
-    ensures none_failed { OnOk result (IfSome (K.told out.old) (λ sink. (offered piece.now sink).failed ≡ false)) }
-    ensures one_failed { OnErr result (IfSome (K.told out.old) (λ sink. (offered piece.now sink).failed ≡ true)) }
-    ensures after { IfSome (K.told out.old) (λ sink. K.told out.new ≡ Some (offered piece.now sink).sink) }
+    ensures all { OnOk result (TakesAll (K.shown out.old).taken (K.shown out.new).taken piece.now) }
+    ensures steady { OnOk result ((K.shown out.new).faults ≡ (K.shown out.old).faults) }
+    ensures part { OnErr result (TakesPart (K.shown out.old).taken (K.shown out.new).taken piece.now) }
+    ensures failed { OnErr result (Rose (K.shown out.old).faults (K.shown out.new).faults) }
+    ensures none_failed { OnOk result (IfSome (K.shown out.old).told (λ sink. (offered piece.now sink).failed ≡ false)) }
+    ensures one_failed { OnErr result (IfSome (K.shown out.old).told (λ sink. (offered piece.now sink).failed ≡ true)) }
+    ensures after { IfSome (K.shown out.old).told (λ sink. (K.shown out.new).told ≡ Some (offered piece.now sink).sink) }
 {
     let mut done = 0;
     while done < piece.len() {
@@ -46,17 +46,8 @@ fn line_end(text: &[u8], start: usize) -> usize
 /// Says a text: puts it line by line, each line whole, and what wasn't taken of it again, until all is taken or a put
 /// fails.
 pub fn say<K: Sink>(out: &mut K, text: &[u8]) -> Result<(), SinkFault>
-    ensures all { OnOk result (TakesAll (K.taken out.old) (K.taken out.new) text.now) }
-    ensures steady { OnOk result (K.faults out.new ≡ K.faults out.old) }
-    ensures part { OnErr result (TakesPart (K.taken out.old) (K.taken out.new) text.now) }
-    ensures failed { OnErr result (Rose (K.faults out.old) (K.faults out.new)) }
-    ensures none_failed { OnOk result (IfSome (K.told out.old) (λ sink. (said text.now sink).failed ≡ false)) }
-    ensures one_failed { OnErr result (IfSome (K.told out.old) (λ sink. (said text.now sink).failed ≡ true)) }
-    ensures after { IfSome (K.told out.old) (λ sink. K.told out.new ≡ Some (said text.now sink).sink) }
-    ensures said { OnOk result (IsSaid (shown (K.taken out.old) (K.told out.old) (K.faults out.old))
-        (shown (K.taken out.new) (K.told out.new) (K.faults out.new)) text.now) }
-    ensures broken { OnErr result (IsBrokenOff (shown (K.taken out.old) (K.told out.old) (K.faults out.old))
-        (shown (K.taken out.new) (K.told out.new) (K.faults out.new)) text.now) }
+    ensures said { OnOk result (IsSaid (K.shown out.old) (K.shown out.new) text.now) }
+    ensures broken { OnErr result (IsBrokenOff (K.shown out.old) (K.shown out.new) text.now) }
 {
     let mut start = 0;
     while start < text.len() {

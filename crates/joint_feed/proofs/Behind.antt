@@ -1,5 +1,6 @@
 -- What is handed in next, behind what was handed in and isn't made yet.
-use Rattle.std.proofs.Common.{◌≡◌, ◌≤◌, ◌<◌, ℕ, zero, suc, ◌+◌, ◌-◌, List, [], ◌∷◌, ◌++◌, length, take, drop, None, Some, refl, ap, sym, subst, ◌∙◌, arith, append_assoc, length-append}
+use Rattle.std.proofs.Common.{◌≡◌, ◌≤◌, ℕ, zero, suc, ◌+◌, ◌-◌, List, [], ◌∷◌, ◌++◌, length, take, drop, None, Some}
+use Rattle.std.proofs.Common.{refl, ap, sym, ◌∙◌, arith, append_assoc}
 use Rattle.std.specs.List.{slice_get}
 use Rattle.std.proofs.lemmas.List.{length-drop, length-take, take_all}
 
@@ -27,7 +28,8 @@ drop_again (suc m) n zero (x ∷ xs) e = absurd (omega (arith, e))
 drop_again (suc m) n (suc k) (x ∷ xs) e = drop_again m n k xs (omega (arith, e))
 
 -- of the next n behind so many, k are made: those that are left, and behind them what wasn't handed in, are the rest
-pub rest_behind : {X : Type 0} (n made k taken : ℕ) (all due : List X) → due ≡ take n (drop made all) → taken ≡ made + length due → k ≤ length due
+pub rest_behind : {X : Type 0} (n made k taken : ℕ) (all due : List X)
+    → due ≡ take n (drop made all) → taken ≡ made + length due → k ≤ length due
     → drop k due ++ drop taken all ≡ drop (made + k) all
 rest_behind n made k taken all due next given within =
     let left = drop made all in
@@ -39,7 +41,8 @@ rest_behind n made k taken all due next given within =
     ∙ drop_again made k (made + k) all refl
 
 -- those of them that are made are there
-pub next_within : {X : Type 0} (n made k : ℕ) (all due : List X) → due ≡ take n (drop made all) → k ≤ length due → made ≤ length all → made + k ≤ length all
+pub next_within : {X : Type 0} (n made k : ℕ) (all due : List X)
+    → due ≡ take n (drop made all) → k ≤ length due → made ≤ length all → made + k ≤ length all
 next_within n made k all due next within there =
     let a : length due ≡ length (take n (drop made all)) = ap length next in
     let b = length-take n (drop made all) in
@@ -58,7 +61,8 @@ first_behind (y ∷ ys) (suc n) x h =
     let e : suc n + 1 ≡ suc (n + 1) = omega arith in
     ap (λ k. x ∷ drop k (y ∷ ys)) e ∙ first_behind ys n x h
 
-pub one_more_behind : {X : Type 0} (next all : List X) (n : ℕ) (x : X) → Some x ≡ slice_get all n → (next ++ x ∷ []) ++ drop (n + 1) all ≡ next ++ drop n all
+pub one_more_behind : {X : Type 0} (next all : List X) (n : ℕ) (x : X)
+    → Some x ≡ slice_get all n → (next ++ x ∷ []) ++ drop (n + 1) all ≡ next ++ drop n all
 one_more_behind next all n x h = append_assoc next (x ∷ []) (drop (n + 1) all) ∙ ap (λ v. next ++ v) (first_behind all n x h)
 
 -- nothing is left to take

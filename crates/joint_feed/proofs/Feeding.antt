@@ -1,5 +1,6 @@
 -- What is handed to the joint machine is what it asks for.
-use Rattle.std.proofs.Common.{◌≡◌, ◌≤◌, ◌<◌, ℕ, zero, suc, ◌+◌, ◌-◌, true, false, List, [], ◌∷◌, ◌++◌, length, take, drop, refl, ap, sym, ◌∙◌, arith}
+use Rattle.std.proofs.Common.{◌≡◌, ◌≤◌, ◌<◌, ℕ, zero, suc, ◌+◌, ◌-◌, true, false, List, [], ◌∷◌}
+use Rattle.std.proofs.Common.{◌++◌, length, take, drop, refl, ap, sym, ◌∙◌, arith}
 use Rattle.std.specs.Prelude.{if◌then◌else◌, nat_le}
 use Rattle.std.proofs.lemmas.Bool.Decides.{nat_tests}
 use Rattle.board_lines.specs.declared.event.Edge.{Edge}
@@ -21,7 +22,11 @@ thin_behind (suc n) (x ∷ xs) h = thin_behind n xs h.1
 
 -- an edge that isn't made at a cycle
 unmade : (cycle : ℕ) (e : Edge) (es : List Edge) → made_first cycle (e ∷ es) ≡ [] → is_made cycle e ≡ false
-unmade cycle e es h = elim (is_made cycle e) as (λ b. (if b then e ∷ made_first cycle es else []) ≡ [] → b ≡ false) [ true ↦ λ g. absurd cc | false ↦ λ g. refl ] h
+unmade cycle e es h =
+    elim (is_made cycle e) as (λ b. (if b then e ∷ made_first cycle es else []) ≡ [] → b ≡ false) [
+      | true ↦ λ g. absurd cc
+      | false ↦ λ g. refl
+    ] h
 
 none_made : (cycle : ℕ) (e : Edge) (es : List Edge) → is_made cycle e ≡ false → made_first cycle (e ∷ es) ≡ []
 none_made cycle e es h = ap (λ b. if b then e ∷ made_first cycle es else []) h
@@ -35,7 +40,8 @@ unmade_before earlier later (e ∷ es) l h =
     none_made earlier e es off_before
 
 -- of edges that are thin at most four are made in two cycles
-pub four_are_all : (cycle : ℕ) (xs : List Edge) → IsThin xs → made_first (cycle - 2) xs ≡ [] → made_first cycle (drop (length (take 4 xs)) xs) ≡ []
+pub four_are_all : (cycle : ℕ) (xs : List Edge)
+    → IsThin xs → made_first (cycle - 2) xs ≡ [] → made_first cycle (drop (length (take 4 xs)) xs) ≡ []
 four_are_all cycle [] h k = refl
 four_are_all cycle (a ∷ []) h k = refl
 four_are_all cycle (a ∷ b ∷ []) h k = refl
@@ -50,10 +56,12 @@ four_are_all cycle (a ∷ b ∷ c ∷ d ∷ e ∷ xs) h k =
     none_made cycle e xs off_too
 
 -- behind those that a step makes none is made in it
-pub rest_unmade : (cycle : ℕ) (ys zs : List Edge) → made_first cycle zs ≡ [] → made_first cycle (drop (length (made_first cycle ys)) (ys ++ zs)) ≡ []
+pub rest_unmade : (cycle : ℕ) (ys zs : List Edge)
+    → made_first cycle zs ≡ [] → made_first cycle (drop (length (made_first cycle ys)) (ys ++ zs)) ≡ []
 rest_unmade cycle [] zs h = h
 rest_unmade cycle (y ∷ ys) zs h =
-    elim (is_made cycle y) as (λ b. is_made cycle y ≡ b → made_first cycle (drop (length (if b then y ∷ made_first cycle ys else [])) (y ∷ (ys ++ zs))) ≡ []) [
+    elim (is_made cycle y) as (λ b. is_made cycle y ≡ b
+    → made_first cycle (drop (length (if b then y ∷ made_first cycle ys else [])) (y ∷ (ys ++ zs))) ≡ []) [
       | true ↦ λ g. rest_unmade cycle ys zs h
       | false ↦ λ g. none_made cycle y (ys ++ zs) g
     ] refl

@@ -1,23 +1,23 @@
 -- A joint step is made, and the events of the history go on.
-use Rattle.std.proofs.Common.{◌≡◌, ◌≤◌, ◌<◌, ℕ, suc, ◌+◌, ◌-◌, List, [], length, take, drop, Some, None, Ok, Err, refl, ap, sym, subst, ◌∙◌, ◌++◌, arith, add-one}
+use Rattle.std.proofs.Common.{◌≡◌, ◌≤◌, ◌<◌, ℕ, suc, ◌+◌, ◌-◌, List, [], length, take, drop, Some, None}
+use Rattle.std.proofs.Common.{Ok, Err, refl, ap, sym, subst, ◌∙◌, ◌++◌, arith, add-one}
 use Rattle.std.proofs.lemmas.List.{length-take, length-drop}
 use Rattle.std.specs.declared.option.Option.{Option}
-use Rattle.std.specs.declared.result.Result.{Result}
-use Rattle.std.specs.Result.{IsErr}
 use Rattle.board_lines.specs.Edges.{AreInOrder}
 use Rattle.board_lines.specs.declared.event.Edge.{Edge}
 use Rattle.key_file.specs.Accepted.{IsThin}
+use Rattle.host_turn.specs.declared.stamped.Stamped.{Stamped}
 use Rattle.joint_run.specs.declared.due.Due.{Due}
 use Rattle.joint_run.specs.declared.due.Seen.{Seen}
 use Rattle.joint_run.specs.declared.machine.Machine.{Machine}
 use Rattle.joint_run.specs.Due.{due_step, made_first, machine_after, IsSeen, IsJointStep}
-use Rattle.joint_run.specs.History.{IsInRun, IsDueOf, GoesOn as RunGoesOn, IsStepOfRun}
-use Rattle.joint_run.specs.Joint.{Beside, joint_board, joint_start, log_of}
+use Rattle.joint_run.specs.History.{IsInRunFrom, IsDueOf, GoesOn as RunGoesOn, IsStepOfRun}
+use Rattle.joint_run.specs.Joint.{Beside, joint_board, joint_start_of, log_of}
 use Rattle.joint_run.specs.Run.{World, run_at}
 use Rattle.mcs48_core.specs.declared.stepping.Stuck.{Stuck}
 use Rattle.joint_feed.specs.declared.course.Course.{Course}
 use Rattle.joint_feed.specs.declared.ahead.Ahead.{Ahead}
-use Rattle.joint_feed.specs.Course.{IsOnCourse, IsSaid, IsStepOn}
+use Rattle.joint_feed.specs.Course.{IsOnCourse}
 use Rattle.joint_feed.specs.Ahead.{IsFed}
 use Rattle.joint_feed.specs.Stories.{Story, state_at}
 use Rattle.joint_feed.proofs.Counts.{made_few, done_few}
@@ -41,31 +41,41 @@ pub record IsMade (due : Due) (old : Machine) (seen : Seen) (new : Machine) : Ty
   pub after : new ≡ machine_after due old world
   pub seen_so : IsSeen due old world seen
 
-made_if : (due : Due) (old : Machine) (seen : Seen) (new : Machine) (o : Option (World Beside)) → due_step due old ≡ o → IsJointStep due old o (Ok seen) new → IsMade due old seen new
+made_if : (due : Due) (old : Machine) (seen : Seen) (new : Machine) (o : Option (World Beside))
+    → due_step due old ≡ o → IsJointStep due old o (Ok seen) new → IsMade due old seen new
 made_if due old seen new None e h = absurd h
 made_if due old seen new (Some w) e h = record { world = w; step = e; after = h.0; seen_so = h.1 }
 
-pub made : (due : Due) (old : Machine) (seen : Seen) (new : Machine) → IsJointStep due old (due_step due old) (Ok seen) new → IsMade due old seen new
+pub made : (due : Due) (old : Machine) (seen : Seen) (new : Machine)
+    → IsJointStep due old (due_step due old) (Ok seen) new → IsMade due old seen new
 made due old seen new h = made_if due old seen new (due_step due old) refl h
 
 -- the state that the machine stands at
 pub here : (s : Story) (it : Course) (h : IsOnCourse s it) → state_at s it.joint.steps ≡ Some h.world
-here s it h = subst (λ (bytes : List ℕ). run_at (joint_board s.edges s.events) bytes joint_start it.joint.steps ≡ Some h.world) h.image h.in_run.run
+here s it h = subst (λ (bytes : List ℕ). run_at (joint_board s.edges s.events) bytes (joint_start_of s.held) it.joint.steps
+    ≡ Some h.world) h.image h.in_run.run
+
+-- these items are what the step behind the first k puts behind the log
+abbrev pub IsSaid : Story → ℕ → List Stamped → Type 0
+IsSaid s k items =
+    (w v : World Beside) → state_at s k ≡ Some w → state_at s (suc k) ≡ Some v
+    → log_of v.board ≡ log_of w.board ++ items
 
 -- what stands in equal options is equal
 pub same_state : {w v : World Beside} → Some w ≡ Some v → w ≡ v
 same_state h = cc h
 
 module _ (s : Story) (it : Course) (new : Machine) (seen : Seen) (h : IsOnCourse s it) (thin : IsThin s.edges) (order : AreInOrder s.edges)
-    (is : IsJointStep it.ahead.due it.joint (due_step it.ahead.due it.joint) (Ok seen) new) (run : IsStepOfRun it.ahead.due it.joint (Ok seen) new) where
+    (is : IsJointStep it.ahead.due it.joint (due_step it.ahead.due it.joint) (Ok seen) new)
+    (run : IsStepOfRun it.ahead.due it.joint (Ok seen) new) where
   abbrev pub old : World Beside
   old = h.world
 
   abbrev pub left : List Edge
   left = drop it.ahead.made s.edges
 
-  pub on : RunGoesOn s.edges s.events it.ahead.made old seen new
-  on = run s.edges s.events it.ahead.made old order h.in_run (due_of s it h thin)
+  pub on : RunGoesOn s.held s.edges s.events it.ahead.made old seen new
+  on = run s.held s.edges s.events it.ahead.made old order h.in_run (due_of s it h thin)
 
   pub step : IsMade it.ahead.due it.joint seen new
   step = made it.ahead.due it.joint seen new is
@@ -109,8 +119,10 @@ module _ (s : Story) (it : Course) (new : Machine) (seen : Seen) (h : IsOnCourse
   none_left =
       let due = it.ahead.due.edges.items in
       let count : seen.edges ≡ length (made_first old.cycle (take 4 left)) =
-      step.seen_so.edges ∙ ap (λ (n : ℕ). length (made_first n due)) h.in_run.cycle ∙ ap (λ (v : List Edge). length (made_first old.cycle v)) h.fed.edges_next in
-      let rest = rest_unmade old.cycle (take 4 left) (drop (length (take 4 left)) left) (four_are_all old.cycle left (thin_behind it.ahead.made s.edges thin) h.unreached) in
+      step.seen_so.edges ∙ ap (λ (n : ℕ). length (made_first n due)) h.in_run.cycle
+      ∙ ap (λ (v : List Edge). length (made_first old.cycle v)) h.fed.edges_next in
+      let rest = rest_unmade old.cycle (take 4 left) (drop (length (take 4 left)) left)
+      (four_are_all old.cycle left (thin_behind it.ahead.made s.edges thin) h.unreached) in
       ap (made_first old.cycle) (sym (drop_more it.ahead.made seen.edges (it.ahead.made + seen.edges) s.edges refl))
       ∙ ap (λ (n : ℕ). made_first old.cycle (drop n left)) count
       ∙ ap (λ (v : List Edge). made_first old.cycle (drop (length (made_first old.cycle (take 4 left))) v)) (sym (cut_at_four left))
@@ -121,7 +133,8 @@ module _ (s : Story) (it : Course) (new : Machine) (seen : Seen) (h : IsOnCourse
   there =
       let image : new.image.bytes ≡ s.bytes = ap (λ m. m.image.bytes) step.after ∙ h.image in
       subst (λ (k : ℕ). state_at s k ≡ Some on.next) steps_more
-      (subst (λ (bytes : List ℕ). run_at (joint_board s.edges s.events) bytes joint_start new.steps ≡ Some on.next) image on.in_run.run)
+      (subst (λ (bytes : List ℕ). run_at (joint_board s.edges s.events) bytes (joint_start_of s.held) new.steps ≡ Some on.next)
+      image on.in_run.run)
 
   -- what is told is what the step puts behind the log
   pub is_said : IsSaid s it.joint.steps seen.items.items
@@ -135,15 +148,17 @@ module _ (s : Story) (it : Course) (new : Machine) (seen : Seen) (h : IsOnCourse
   later some = let c = cycle_more in omega (arith, c, some)
 
   -- the step is in the course again
-  pub on_again : (ahead : Ahead) → 0 < seen.cycles → seen.cycles < 3 → IsFed s.edges s.events ahead → ahead.made ≡ it.ahead.made + seen.edges
-      → ahead.done ≡ it.ahead.done + seen.host → IsOnCourse s (record { joint = new; ahead = ahead; seen = seen })
-  on_again ahead some few fed made_now done_now =
-      let next_cycle : old.cycle + seen.cycles ≡ on.next.cycle = ap (λ (n : ℕ). n + seen.cycles) (sym h.in_run.cycle) ∙ cycle_more ∙ on.in_run.cycle in
+  pub on_again : (fill : ℕ) (ahead : Ahead) → 0 < seen.cycles → seen.cycles < 3 → IsFed s.edges s.events ahead
+      → ahead.made ≡ it.ahead.made + seen.edges
+      → ahead.done ≡ it.ahead.done + seen.host → IsOnCourse s (record { joint = new; ahead = ahead; seen = seen; fill = fill })
+  on_again fill ahead some few fed made_now done_now =
+      let next_cycle : old.cycle + seen.cycles ≡ on.next.cycle = ap (λ (n : ℕ). n + seen.cycles) (sym h.in_run.cycle) ∙ cycle_more
+      ∙ on.in_run.cycle in
       record {
         world = on.next;
         image = ap (λ m. m.image.bytes) step.after ∙ h.image;
         few = let a = h.few in let b = steps_more in let d = cycle_more in omega (arith, a, b, d, some);
-        in_run = subst (λ (n : ℕ). IsInRun s.edges s.events new n on.next) (sym made_now) on.in_run;
+        in_run = subst (λ (n : ℕ). IsInRunFrom s.held s.edges s.events new n on.next) (sym made_now) on.in_run;
         unreached =
             let soon : on.next.cycle - 2 ≤ old.cycle = omega (arith, next_cycle, few) in
             subst (λ (n : ℕ). made_first (on.next.cycle - 2) (drop n s.edges) ≡ []) (sym made_now)
@@ -158,14 +173,14 @@ module _ (s : Story) (it : Course) (new : Machine) (seen : Seen) (h : IsOnCourse
 pub no_further : (s : Story) (it : Course) (new : Machine) (stuck : Stuck) → IsOnCourse s it → IsThin s.edges → AreInOrder s.edges
     → IsStepOfRun it.ahead.due it.joint (Err stuck) new → state_at s (suc it.joint.steps) ≡ None
 no_further s it new stuck h thin order run =
-    let none = run s.edges s.events it.ahead.made h.world order h.in_run (due_of s it h thin) in
-    subst (λ (bytes : List ℕ). run_at (joint_board s.edges s.events) bytes joint_start (suc it.joint.steps) ≡ None) h.image none
+    let none = run s.held s.edges s.events it.ahead.made h.world order h.in_run (due_of s it h thin) in
+    subst (λ (bytes : List ℕ). run_at (joint_board s.edges s.events) bytes (joint_start_of s.held) (suc it.joint.steps) ≡ None) h.image none
 
 -- where neither machine nor events have changed the course is the same
-pub on_moved : (s : Story) (it : Course) (joint : Machine) (seen : Seen) → joint ≡ it.joint → IsOnCourse s it
-    → IsOnCourse s (record { joint = joint; ahead = it.ahead; seen = seen })
-on_moved s it joint seen e h =
-    let still : IsOnCourse s (record { joint = it.joint; ahead = it.ahead; seen = seen }) = record {
+pub on_moved : (s : Story) (it : Course) (joint : Machine) (seen : Seen) (fill : ℕ) → joint ≡ it.joint → IsOnCourse s it
+    → IsOnCourse s (record { joint = joint; ahead = it.ahead; seen = seen; fill = fill })
+on_moved s it joint seen fill e h =
+    let still : IsOnCourse s (record { joint = it.joint; ahead = it.ahead; seen = seen; fill = fill }) = record {
       world = h.world;
       image = h.image;
       few = h.few;
@@ -176,10 +191,4 @@ on_moved s it joint seen e h =
       done_within = h.done_within;
       made_within = h.made_within;
     } in
-    subst (λ (m : Machine). IsOnCourse s (record { joint = m; ahead = it.ahead; seen = seen })) (sym e) still
-
--- so it is after a step that could not be made
-pub stands_still : (s : Story) (it new : Course) (r : Result (Unit {0}) Stuck) → IsErr r → IsOnCourse s new → new.joint ≡ it.joint → new.ahead ≡ it.ahead
-    → state_at s (suc it.joint.steps) ≡ None → IsStepOn s it r new
-stands_still s it new (Ok done) is course joint feed none = absurd (cc is)
-stands_still s it new (Err stuck) is course joint feed none = (course, joint, feed, none)
+    subst (λ (m : Machine). IsOnCourse s (record { joint = m; ahead = it.ahead; seen = seen; fill = fill })) (sym e) still

@@ -1,3 +1,4 @@
 pub mod Course
 pub mod Ahead
 pub mod Stories
+pub mod Filled

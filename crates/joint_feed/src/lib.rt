@@ -7,5 +7,6 @@
 
 mod ahead;
 mod course;
+mod event;
 
 pub use course::Course;

@@ -7,6 +7,7 @@ use Rattle.board_lines.specs.declared.event.Edge.{Edge}
 use Rattle.board_lines.specs.declared.event.HostEvent.{HostEvent}
 use Rattle.board_lines.specs.Edges.{AreInOrder}
 use Rattle.board_lines.specs.Matrix.{all_up, turned_by}
+use Rattle.mcs48_core.specs.Cpu.{Cpu}
 use Rattle.mcs48_core.specs.declared.levels.Pins.{Pins}
 use Rattle.mcs48_core.specs.declared.stepping.Stuck.{Stuck}
 use Rattle.mcs48_core.specs.Step.{Stepped, stepped}
@@ -14,10 +15,10 @@ use Rattle.joint_run.specs.declared.due.Due.{Due}
 use Rattle.joint_run.specs.declared.due.Seen.{Seen}
 use Rattle.joint_run.specs.declared.machine.Machine.{Machine}
 use Rattle.joint_run.specs.Run.{World, after_cycles, seen, after_step, step_on, run_at}
-use Rattle.joint_run.specs.Joint.{Beside, keys_at, pins_by, joint_pins, joint_cycle, joint_board, joint_start}
+use Rattle.joint_run.specs.Joint.{Beside, keys_at, pins_by, joint_pins, joint_cycle, joint_board, joint_start_of}
 use Rattle.joint_run.specs.Due.{beside, outside_of, passed, made_first, keys_in_step, due_board}
 use Rattle.joint_run.specs.Due.{world_of, due_step, machine_after, told, IsSeen, IsJointStep}
-use Rattle.joint_run.specs.History.{IsInRun, IsDueOf, GoesOn, IsNext, IsStepOfRun}
+use Rattle.joint_run.specs.History.{IsInRunFrom, IsDueOf, GoesOn, IsNext, IsStepOfRun}
 use Rattle.joint_run.proofs.Made.{made_now, taken_now, reached_now, turned_on}
 use Rattle.joint_run.proofs.Runs.{next_one, next_two, behind, same_cycles}
 
@@ -34,8 +35,8 @@ pub are_few_told : (result : Result (Unit {0}) Stuck) (seen : Seen)
 are_few_told (Ok done) seen some few = (some, few)
 are_few_told (Err stuck) seen some few = tt
 
-module _ (edges : List Edge) (events : List HostEvent) (order : AreInOrder edges) (m : Machine) (made : ℕ) (w : World Beside)
-    (r : IsInRun edges events m made w) (due : Due) (d : IsDueOf edges events made w due) where
+module _ (held : Cpu) (edges : List Edge) (events : List HostEvent) (order : AreInOrder edges) (m : Machine) (made : ℕ) (w : World Beside)
+    (r : IsInRunFrom held edges events m made w) (due : Due) (d : IsDueOf edges events made w due) where
   abbrev firsts : List Edge
   firsts = made_first w.cycle due.edges.items
 
@@ -56,7 +57,7 @@ module _ (edges : List Edge) (events : List HostEvent) (order : AreInOrder edges
   abbrev given : Pins
   given = pins_by (keys_in_step due m) m.mcu.p1 m.mcu.p2 (beside m.outside 0 [])
 
-  run_on : run_at (joint_board edges events) m.image.bytes joint_start (suc m.steps)
+  run_on : run_at (joint_board edges events) m.image.bytes (joint_start_of held) (suc m.steps)
       ≡ after_step (joint_board edges events) w (stepped m.image.bytes given m.mcu)
   run_on =
       ap (λ o. step_on (joint_board edges events) m.image.bytes o) r.run
@@ -87,10 +88,10 @@ module _ (edges : List Edge) (events : List HostEvent) (order : AreInOrder edges
       ∙ taken_now edges order made w.cycle due.edges.items r.reached d.next d.all
 
   goes : (n : Stepped) (seen : Seen) (new : Machine)
-      → run_at (joint_board edges events) m.image.bytes joint_start (suc m.steps) ≡ Some (came n)
+      → run_at (joint_board edges events) m.image.bytes (joint_start_of held) (suc m.steps) ≡ Some (came n)
       → new ≡ machine_after due m (record { cpu = n.cpu; board = alone n; cycle = m.cycle + n.cycles })
       → IsSeen due m (record { cpu = n.cpu; board = alone n; cycle = m.cycle + n.cycles }) seen → 0 < seen.cycles → seen.cycles < 3
-      → GoesOn edges events made w seen new
+      → GoesOn held edges events made w seen new
   goes n seen new run e s some few =
       let count : m.cycle + seen.cycles ≡ m.cycle + n.cycles = s.cycles in
       let same : (came n).board ≡ behind done w.board.pc.side.log (alone n) =
@@ -100,8 +101,8 @@ module _ (edges : List Edge) (events : List HostEvent) (order : AreInOrder edges
       record {
         next = came n;
         in_run = record {
-          run = ap (λ (x : Machine). run_at (joint_board edges events) x.image.bytes joint_start x.steps) e
-              ∙ ap (λ k. run_at (joint_board edges events) m.image.bytes joint_start k) on ∙ run;
+          run = ap (λ (x : Machine). run_at (joint_board edges events) x.image.bytes (joint_start_of held) x.steps) e
+              ∙ ap (λ k. run_at (joint_board edges events) m.image.bytes (joint_start_of held) k) on ∙ run;
           mcu = ap (λ (x : Machine). x.mcu) e;
           outside = ap (λ (x : Machine). x.outside) e ∙ ap outside_of (sym same);
           cycle = ap (λ (x : Machine). x.cycle) e ∙ ap (λ c. c + n.cycles) r.cycle;
@@ -118,8 +119,9 @@ module _ (edges : List Edge) (events : List HostEvent) (order : AreInOrder edges
       }
 
   by_row : (o : Option Stepped) (result : Result Seen Stuck) (new : Machine)
-      → run_at (joint_board edges events) m.image.bytes joint_start (suc m.steps) ≡ after_step (joint_board edges events) w o
-      → IsJointStep due m (after_step (due_board due m) (world_of m) o) result new → AreFew result → IsNext edges events m made w result new
+      → run_at (joint_board edges events) m.image.bytes (joint_start_of held) (suc m.steps) ≡ after_step (joint_board edges events) w o
+      → IsJointStep due m (after_step (due_board due m) (world_of m) o) result new → AreFew result
+      → IsNext held edges events m made w result new
   by_row None (Ok seen) new run h few = absurd h
   by_row None (Err stuck) new run h few = run
   by_row (Some n) (Ok seen) new run h few = goes n seen new run h.0 h.1 few.0 few.1
@@ -128,7 +130,7 @@ module _ (edges : List Edge) (events : List HostEvent) (order : AreInOrder edges
 pub step_of_run : (due : Due) (m : Machine) (result : Result Seen Stuck) (new : Machine)
     → IsJointStep due m (due_step due m) result new → AreFew result
     → IsStepOfRun due m result new
-step_of_run due m result new h few edges events made w order r d =
-    by_row edges events order m made w r due d
+step_of_run due m result new h few held edges events made w order r d =
+    by_row held edges events order m made w r due d
     (stepped m.image.bytes (pins_by (keys_in_step due m) m.mcu.p1 m.mcu.p2 (beside m.outside 0 [])) m.mcu)
-    result new (run_on edges events order m made w r due d) h few
+    result new (run_on held edges events order m made w r due d) h few

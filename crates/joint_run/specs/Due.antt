@@ -12,7 +12,8 @@ use Rattle.ctl_wire.specs.declared.wire.Wire.{Wire}
 use Rattle.host_turn.specs.declared.stamped.Stamped.{Stamped}
 use Rattle.host_turn.specs.Cycle.{desk_at_start}
 use Rattle.int09.specs.Bios.{start}
-use Rattle.mcs48_core.specs.Reset.{reset_cpu}
+use Rattle.mcs48_core.specs.Cpu.{Cpu}
+use Rattle.mcs48_core.specs.Reset.{reset_cpu, reset_in}
 use Rattle.mcs48_core.specs.declared.stepping.Stuck.{Stuck}
 use Rattle.joint_run.specs.declared.due.Due.{Due}
 use Rattle.joint_run.specs.declared.due.Seen.{Seen}
@@ -30,16 +31,20 @@ outside_at_start = record {
   shown = 0;
 }
 
--- the machine at power-on, with this program
-abbrev pub powered_on : List ℕ → Machine
-powered_on image = record {
+-- the machine of a part at power-on that held this when it was switched on, with this program
+abbrev pub powered_on_from : Cpu → List ℕ → Machine
+powered_on_from held image = record {
   image = record { bytes = image };
   matrix = all_up;
-  mcu = reset_cpu;
+  mcu = reset_in held;
   outside = outside_at_start;
   cycle = 0;
   steps = 0;
 }
+
+-- with cleared memory
+abbrev pub powered_on : List ℕ → Machine
+powered_on image = powered_on_from reset_cpu image
 
 -- what stands outside the processor as a state of the joint run, with so many events of the host done and this said
 abbrev pub beside : Outside → ℕ → List Stamped → Beside

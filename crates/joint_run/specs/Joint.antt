@@ -9,7 +9,8 @@ use Rattle.board_lines.specs.Matrix.{all_up, turned_by, rows_of}
 use Rattle.host_turn.specs.declared.stamped.Stamped.{Stamped}
 use Rattle.host_turn.specs.Run.{says_lights}
 use Rattle.mcs48_core.specs.declared.levels.Pins.{Pins}
-use Rattle.mcs48_core.specs.Reset.{reset_cpu}
+use Rattle.mcs48_core.specs.Cpu.{Cpu}
+use Rattle.mcs48_core.specs.Reset.{reset_cpu, reset_in}
 use Rattle.bits.specs.Bits.{bit}
 use Rattle.pc_wires.specs.Wires.{Pc, pc_at_start, wires, board_cycle}
 use Rattle.joint_run.specs.Run.{Board, World}
@@ -57,9 +58,13 @@ joint_board edges events = record { State = Beside; pins = joint_pins edges; cyc
 abbrev pub beside_at_start : Beside
 beside_at_start = record { pc = pc_at_start; shown = 0 }
 
--- power-on: the first state of the joint run
+-- power-on: the first state of the joint run, with cleared memory
 abbrev pub joint_start : World Beside
 joint_start = record { cpu = reset_cpu; board = beside_at_start; cycle = 0 }
+
+-- the first state of the run of a part that held this when it was switched on
+abbrev pub joint_start_of : Cpu → World Beside
+joint_start_of held = record { cpu = reset_in held; board = beside_at_start; cycle = 0 }
 
 -- what was said so far, in order
 abbrev pub log_of : Beside → List Stamped

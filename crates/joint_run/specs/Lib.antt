@@ -5,5 +5,6 @@ pub mod Laws
 pub mod Cycle
 pub mod Due
 pub mod Edgeless
+pub mod Filled
 pub mod History
 pub mod Sound

@@ -3,10 +3,12 @@
 ghost use Rattle.std.specs.Prelude.{◌≡◌, ◌+◌, ◌<◌, ◌≤◌, ◌^◌, ℕ, IfOk, OnErr, OnOk, Some, true};
 ghost use Rattle.int09.specs.Bios.{start};
 ghost use Rattle.joint_run.specs.Cycle.{is_let_go, outside_wires};
-ghost use Rattle.joint_run.specs.Due.{due_step, ended, machine_after, powered_on, told, IsJointStep, IsSeen};
+ghost use Rattle.joint_run.specs.Due.{due_step, ended, machine_after, powered_on, powered_on_from, told, IsJointStep, IsSeen};
 ghost use Rattle.joint_run.specs.Edgeless.{without_edges};
-ghost use Rattle.joint_run.specs.History.{IsFirstOfRun, IsStepOfRun};
+ghost use Rattle.joint_run.specs.Filled.{filled};
+ghost use Rattle.joint_run.specs.History.{IsFirstOfRun, IsFirstOfRunFrom, IsStepOfRun};
 ghost use Rattle.mcs48_core.specs.Leap.{spun};
+ghost use Rattle.mcs48_core.specs.Reset.{reset_in};
 ghost use Rattle.mcs48_core.specs.Step.{stepped, IsStep};
 
 use crate::due::{Due, Seen};
@@ -37,18 +39,38 @@ impl Model for Joint {
     ghost invariant = { λ j. IsSound j.machine };
 }
 
+/// The processor after reset, in a part whose data memory, A and T held this byte when it was switched on.
+fn reset_filled(fill: u8) -> Mcu
+    ensures { result ≡ reset_in (filled fill) }
+{
+    let mut mcu = reset();
+    mcu.a = fill;
+    mcu.t = fill;
+    mcu.ram = [fill; 128];
+    mcu
+}
+
 impl Joint {
-    /// The machine at power-on, with this program and with INT 09h at its start.
+    /// The machine at power-on, with this program, with INT 09h at its start and with cleared memory.
     pub fn power_on(image: &Image, bios: Bios) -> Joint
         requires start { bios ≡ start }
         ensures parts { result ≡ powered_on image.now.bytes }
         ensures run { IsFirstOfRun result }
     {
+        Joint::power_on_filled(image, bios, 0)
+    }
+
+    /// The machine at power-on, with this program and with INT 09h at its start, where data memory, A and T hold this byte.
+    pub fn power_on_filled(image: &Image, bios: Bios, fill: u8) -> Joint
+        requires start { bios ≡ start }
+        ensures parts { result ≡ powered_on_from (filled fill) image.now.bytes }
+        ensures run { IsFirstOfRunFrom (filled fill) result }
+    {
         Joint {
             machine: Machine {
                 image: Image { bytes: image.bytes },
                 matrix: Matrix::new(),
-                mcu: reset(),
+                mcu: reset_filled(fill),
                 outside: Outside::new(bios),
                 cycle: 0,
                 steps: 0,

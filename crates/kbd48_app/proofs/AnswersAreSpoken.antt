@@ -167,17 +167,17 @@ module _ (words : List (String Global)) (shelf after : Option Told) where
       (λ taking. ends_over_debug words word word' word'' name name' name'' shelf after (answer_of said) probes
       (left_so left taking) is more at at' at'' same same' same'' (h taking))
 
-  pub probe_spoken : (a b c d : String Global) (image layout keys script : List ℕ) (probes left : List Watch)
+  pub probe_spoken : (fill : ℕ) (a b c d : String Global) (image layout keys script : List ℕ) (probes left : List Watch)
       (said : Result (Vec ℕ Global) Refusal) (result : Result Spoken Refusal)
-      (x : Shown) → command_of (map string_bytes words) ≡ Some Probe → 4 < length words
+      (x : Shown) → command_of (map string_bytes words) ≡ Some (Probe fill) → 4 < length words
       → a ≡ slice_index_or words 1 a → b ≡ slice_index_or words 2 b → c ≡ slice_index_or words 3 c → d ≡ slice_index_or words 4 d
       → image ≡ string_bytes a → layout ≡ string_bytes b → keys ≡ string_bytes c → script ≡ string_bytes d → result ≡ still_to_say said
-      → ((taking : Taking) → MayEnd (probe_plan image layout keys script) shelf (answer_of said) after probes (left_so left taking))
+      → ((taking : Taking) → MayEnd (probe_plan fill image layout keys script) shelf (answer_of said) after probes (left_so left taking))
       → IsSpoken (MaySay probes left) result x x
-  probe_spoken a b c d image layout keys script probes left said result x is more at_a at_b at_c at_d same_a same_b same_c same_d so h =
+  probe_spoken fill a b c d image layout keys script probes left said result x is more at_a at_b at_c at_d is_a is_b is_c is_d so h =
       unsaid_so (MaySay probes left) said result x so
-      (λ taking. ends_over_probe words a b c d image layout keys script shelf after (answer_of said) probes (left_so left taking)
-      is more at_a at_b at_c at_d same_a same_b same_c same_d (h taking))
+      (λ taking. ends_over_probe words fill a b c d image layout keys script shelf after (answer_of said) probes (left_so left taking)
+      is more at_a at_b at_c at_d is_a is_b is_c is_d (h taking))
 
 -- `sample` fetches nothing
 pub sample_spoken : (words : List (String Global)) (shelf : Option Told) (count n : ℕ) (probes left : List Watch)

@@ -16,7 +16,7 @@ use Rattle.io_edge.proofs.Pieces.{AreLines, broken_before, lines_behind, said_th
 use Rattle.io_edge.specs.Said.{IsBrokenOff, IsSaid, Shown}
 use Rattle.io_edge.specs.Shelf.{Told, after_fetch}
 use Rattle.io_edge.specs.declared.sink.SinkFault.{SinkFault}
-use Rattle.joint_feed.specs.Stories.{Story, story}
+use Rattle.joint_feed.specs.Stories.{Story}
 use Rattle.key_file.specs.Histories.{KeyHistory}
 use Rattle.key_file.specs.KeyFile.{history_of}
 use Rattle.key_file.specs.declared.fault.KeyFault.{KeyFault}
@@ -32,10 +32,11 @@ use Rattle.wire_trace.proofs.OfLines.{changes_are_lines, header_is_lines}
 use Rattle.wire_trace.specs.Text.{header}
 use Rattle.wire_trace.specs.Trace.{changes_to}
 use Rattle.kbd48_app.specs.declared.words.BoardCommand.{BoardCommand}
+use Rattle.kbd48_app.specs.declared.words.BoardRun.{BoardRun}
 use Rattle.kbd48_app.specs.declared.words.BoardCommand.TheVariants.{Log, Trace}
 use Rattle.kbd48_app.specs.declared.words.Command.TheVariants.{Board}
 use Rattle.kbd48_app.specs.Answers.{IsBoardTold, Left, MayAnswerBoard, MayEnd}
-use Rattle.kbd48_app.specs.BoardTexts.{HaveLookedToLine, board_end, board_log, board_said}
+use Rattle.kbd48_app.specs.BoardTexts.{HaveLookedToLine, board_end, board_log, board_said, board_story}
 use Rattle.kbd48_app.specs.Fetching.{MayGive}
 use Rattle.kbd48_app.specs.Plans.{Answer, Plan, Boards, keys_next, keys_refusal, program_next, program_plan, with_history, with_image}
 use Rattle.kbd48_app.specs.Plans.{with_layout}
@@ -45,7 +46,7 @@ use Rattle.kbd48_app.specs.Spoken.{IsSpoken, May}
 use Rattle.kbd48_app.specs.Taking.{Taking, Whole, CutOff}
 use Rattle.kbd48_app.specs.Telling.{MayTellBoard}
 use Rattle.kbd48_app.specs.Words.{command_of}
-use Rattle.kbd48_app.proofs.FilesAreFound.{found_so, unfound}
+use Rattle.kbd48_app.proofs.FilesAreFound.{found_so, keys_unfound}
 use Rattle.kbd48_app.proofs.WordsAreNames.{ends_over_board}
 use Rattle.kbd48_app.proofs.RunPlans.{HistoryOutcome, LayoutOutcome, plan_from}
 use Rattle.kbd48_app.proofs.AnswersAreSpoken.{MaySay, spoken_on}
@@ -108,7 +109,7 @@ module _ (wanted : BoardCommand) (s : Story) (probes left : List Watch) where
           )
 
 -- behind a key file
-module _ (wanted : BoardCommand) (image : List ℕ) (layout : KeyLayout) (text : List ℕ) where
+module _ (wanted : BoardRun) (image : List ℕ) (layout : KeyLayout) (text : List ℕ) where
   pub board_refused : (fault : KeyFault) (refusal : Refusal) (probes : List Watch) (taking : Taking)
       → history_of layout text ≡ Err fault → refusal ≡ keys_refusal fault
       → MayTellBoard wanted image layout text (Err refusal) probes (left_so probes taking)
@@ -135,17 +136,17 @@ module _ (wanted : BoardCommand) (image : List ℕ) (layout : KeyLayout) (text :
         → MayTellBoard wanted image layout text (Err Memory) probes (left_so probes taking)
     board_lacking probes taking = board_ran history (Err Memory) probes (left_so probes taking) is (inl (refl, refl, refl))
 
-    pub boarded : (s : Story) (probes left : List Watch) (result : Result Spoken Refusal) (x y : Shown) → s ≡ story image history
-        → IsSpoken (MayBoard wanted s probes left) result x y
+    pub boarded : (s : Story) (probes left : List Watch) (result : Result Spoken Refusal) (x y : Shown)
+        → s ≡ board_story wanted image history → IsSpoken (MayBoard wanted.told s probes left) result x y
         → IsSpoken (λ answer taking log. MayTellBoard wanted image layout text answer probes (left_behind left taking log)) result x y
     boarded s probes left result x y this h =
-        spoken_on (MayBoard wanted s probes left)
+        spoken_on (MayBoard wanted.told s probes left)
         (λ answer taking log. MayTellBoard wanted image layout text answer probes (left_behind left taking log))
         (λ answer taking log k. board_ran history answer probes (left_behind left taking log) is
-        (inr (subst (λ (t : Story). IsBoardTold wanted t answer probes (left_behind left taking log)) this k))) result x y h
+        (inr (subst (λ (t : Story). IsBoardTold wanted.told t answer probes (left_behind left taking log)) this k))) result x y h
 
 -- behind all three files
-module _ (wanted : BoardCommand) (first second third : List ℕ) (shelf on mid last : Option Told)
+module _ (wanted : BoardRun) (first second third : List ℕ) (shelf on mid last : Option Told)
     (file document keys : Vec ℕ Global) (image : List ℕ) (layout : KeyLayout) (text : List ℕ)
     (gives : MayGive kinds.Hex first shelf (Ok file)) (fetched : on ≡ option_map after_fetch shelf) (is : hex_of file.items ≡ Ok image)
     (gives' : MayGive kinds.Layout second on (Ok document)) (fetched' : mid ≡ option_map after_fetch on)
@@ -175,7 +176,7 @@ module _ (wanted : BoardCommand) (first second third : List ℕ) (shelf on mid l
       (λ answer taking log k. over_three answer probes (left_behind left taking log) k) result x y h
 
 -- the key file wasn't fetched
-module _ (wanted : BoardCommand) (first second third : List ℕ) (shelf on mid last : Option Told)
+module _ (wanted : BoardRun) (first second third : List ℕ) (shelf on mid last : Option Told)
     (file document : Vec ℕ Global) (image : List ℕ) (layout : KeyLayout)
     (gives : MayGive kinds.Hex first shelf (Ok file)) (fetched : on ≡ option_map after_fetch shelf) (is : hex_of file.items ≡ Ok image)
     (gives' : MayGive kinds.Layout second on (Ok document)) (fetched' : mid ≡ option_map after_fetch on)
@@ -185,16 +186,8 @@ module _ (wanted : BoardCommand) (first second third : List ℕ) (shelf on mid l
   without_keys : (taking : Taking)
       → MayEnd (program_plan (Boards wanted) first second third) shelf (Err refusal) last probes (left_so probes taking)
   without_keys taking =
-      let next : KeyLayout → KeyHistory → Plan = λ of. Boards wanted image in
-      let left : Left = left_so probes taking in
-      found_so kinds.Hex first (λ b. with_image (program_next (Boards wanted) second third) (hex_of b))
-      shelf on last (Err refusal) probes left file gives fetched
-      (subst (λ (o : HexOutcome). MayEnd (with_image (program_next (Boards wanted) second third) o) on (Err refusal) last probes left)
-      (sym is)
-      (found_so kinds.Layout second (plan_from next third) on mid last (Err refusal) probes left document gives' fetched'
-      (subst (λ (o : LayoutOutcome). MayEnd (with_layout (keys_next next third) o) mid (Err refusal) last probes left) (sym has)
-      (unfound kinds.Keys third (λ t. with_history (next layout) (history_of layout t)) mid last (Err refusal)
-      probes left refusal gives'' fetched'' refl refl refl))))
+      keys_unfound (Boards wanted) first second third shelf on mid last file document image layout gives fetched is
+      gives' fetched' has refusal gives'' fetched'' probes (left_so probes taking) refl refl
 
   pub keys_unread : (result : Result Spoken Refusal) (x : Shown) → IsErrAnd result (λ (r : Refusal). r ≡ refusal)
       → IsSpoken (λ answer taking log.
@@ -208,7 +201,7 @@ module _ (wanted : BoardCommand) (first second third : List ℕ) (shelf on mid l
       (sym same) (without_keys, refl)
 
 -- the same of the words
-pub board_spoken : (words : List (String Global)) (shelf after : Option Told) (wanted : BoardCommand)
+pub board_spoken : (words : List (String Global)) (shelf after : Option Told) (wanted : BoardRun)
     (word word' word'' : String Global) (name name' name'' : List ℕ) (probes left : List Watch)
     (result : Result Spoken Refusal) (x y : Shown)
     → command_of (map string_bytes words) ≡ Some (Board wanted) → 3 < length words → word ≡ slice_index_or words 1 word

@@ -2,7 +2,7 @@
 use Rattle.std.proofs.Common.{◌≡◌, ℕ, List, Some, None, inl, inr, refl, ap, subst, ◌∙◌}
 use Rattle.std.specs.declared.option.Option.{Option}
 use Rattle.fw_compile.specs.Image.{image_of}
-use Rattle.fw_debug.specs.Sessions.{Debuggee, of_layout, of_program}
+use Rattle.fw_debug.specs.Sessions.{Debuggee, of_layout, of_program, with_fill}
 use Rattle.joint_feed.specs.Stories.{story}
 use Rattle.io_edge.specs.Shelf.{Told, Fetched, Fails, Long, Found, after_fetch, fetched}
 use Rattle.kbd48_app.specs.declared.exit.Exit.{Exit}
@@ -150,13 +150,13 @@ module _ (n : ℕ) where
       script_led name (of_layout (story (image_of layout) history)) script fault shelf h is
 
   -- in `probe`
-  probe_read : (name image : List ℕ) → IsReadThird (λ layout. probe_next name image)
-  probe_read name image read file layout history shelf h =
-      script_alone name (of_program (story image history)) read file shelf h
+  probe_read : (fill : ℕ) (name image : List ℕ) → IsReadThird (λ layout. probe_next fill name image)
+  probe_read fill name image read file layout history shelf h =
+      script_alone name (with_fill fill (of_program (story image history))) read file shelf h
 
-  probe_led : (name image : List ℕ) → IsScriptLed n (λ layout. probe_next name image)
-  probe_led name image script fault layout history shelf h is =
-      script_led name (of_program (story image history)) script fault shelf h is
+  probe_led : (fill : ℕ) (name image : List ℕ) → IsScriptLed n (λ layout. probe_next fill name image)
+  probe_led fill name image script fault layout history shelf h is =
+      script_led name (with_fill fill (of_program (story image history))) script fault shelf h is
 
   -- the first fault of a file leads to its exit
   pub fault_led : (fault : Fault) (command : Option Command) (words : List (List ℕ)) (shelf : Told)
@@ -179,10 +179,10 @@ module _ (n : ℕ) where
   fault_led fault (Some Debug) words shelf h =
       fault_led_by_run n (debug_next (third_in words)) (debug_read (third_in words)) (debug_led (third_in words))
       (name_in words) (second_in words) shelf fault h
-  fault_led fault (Some Probe) words shelf h =
+  fault_led fault (Some (Probe fill)) words shelf h =
       let name = fourth_in words in
-      fault_led_by_program (probe_next name) (name_in words) (second_in words) (third_in words) shelf
-      n (probe_read name) (probe_led name) fault h
+      fault_led_by_program (probe_next fill name) (name_in words) (second_in words) (third_in words) shelf
+      n (probe_read fill name) (probe_led fill name) fault h
 
   -- a run of the processor that stops
   step_stuck : (command : Option Command) (words : List (List ℕ)) (shelf : Told)

@@ -13,6 +13,7 @@ use Rattle.kbd48_app.specs.Reached.{Reads}
 use Rattle.kbd48_app.specs.Says.{exit_said}
 use Rattle.kbd48_app.proofs.ExitAndCause.{IsCaused, caused_as}
 use Rattle.kbd48_app.proofs.CertPlans.{cert_exits}
+use Rattle.kbd48_app.proofs.FileFaults.{cert_fault, hex_fault}
 use Rattle.kbd48_app.proofs.PlansEnd.{leads}
 use Rattle.kbd48_app.proofs.PlansWithinPlans.{IsWithin, fetch_caused, whole}
 
@@ -25,7 +26,7 @@ module _ (n : ℕ) (command : Option Command) (plan : Plan) (shelf : Told) where
         | inl done ↦ caused_as n command plan shelf (exit_said (cert_said image text)) exits.Done done tt
         | inr fault ↦
             caused_as n command plan shelf (exit_said (cert_said image text)) exits.Input (ap exit_said fault.1)
-            (inr (inr (inr (inr (inl (fault.0, (bytes, read, image, is, text, read', fault.1)))))))
+            (cert_fault n plan shelf fault.0 (bytes, read, image, is, text, read', fault.1))
       ]
 
   -- behind the image's file
@@ -35,7 +36,7 @@ module _ (n : ℕ) (command : Option Command) (plan : Plan) (shelf : Told) where
   image_exit second bytes after (Ok image) is read within =
       fetch_caused n command plan shelf kinds.Cert second (Certifies image) after within
       (λ text read' more. judged bytes image text is read read')
-  image_exit second bytes after (Err fault) is read within = inr (inl (fault, (bytes, read, is)))
+  image_exit second bytes after (Err fault) is read within = hex_fault n plan shelf fault (bytes, read, is)
 
 pub cert_caused : (n : ℕ) (command : Option Command) (first second : List ℕ) (shelf : Told)
     → IsCaused n command (pair_plan Certify first second) shelf (leads n (pair_plan Certify first second) shelf)

@@ -19,6 +19,7 @@ use Rattle.kbd48_app.specs.Words.{name_in, second_in, third_in, fourth_in}
 use Rattle.kbd48_app.proofs.BoardExits.{board_caused}
 use Rattle.kbd48_app.proofs.ExitAndCause.{IsCaused, caused_as}
 use Rattle.kbd48_app.proofs.CertExits.{cert_caused}
+use Rattle.kbd48_app.proofs.FileFaults.{asm_fault, hex_fault, layout_fault}
 use Rattle.kbd48_app.proofs.PlansEnd.{leads, IsExit}
 use Rattle.kbd48_app.proofs.FileExits.{Exits, file_exits}
 use Rattle.kbd48_app.proofs.ProgramExits.{probe_caused}
@@ -42,12 +43,11 @@ module _ (n : ℕ) where
               | inl input ↦
                   so exits.Input input.0
                   (elim input.1 [
-                    | inl hex ↦ inr (inl (hex.0, (bytes, here kinds.Hex hex.1, hex.2)))
+                    | inl hex ↦ hex_fault n plan shelf hex.0 (bytes, here kinds.Hex hex.1, hex.2)
                     | inr others ↦
                         elim others [
-                          | inl asm ↦ inr (inr (inl (asm.0, (bytes, here kinds.Asm asm.1, asm.2))))
-                          | inr layout ↦
-                              inr (inr (inr (inl (layout.0, (bytes, here kinds.Layout layout.1, layout.2)))))
+                          | inl asm ↦ asm_fault n plan shelf asm.0 (bytes, here kinds.Asm asm.1, asm.2)
+                          | inr layout ↦ layout_fault n plan shelf layout.0 (bytes, here kinds.Layout layout.1, layout.2)
                         ]
                   ])
               | inr stops ↦
@@ -83,8 +83,8 @@ module _ (n : ℕ) where
       board_caused n wanted (name_in words) (second_in words) (third_in words) shelf
   caused (Some Debug) words shelf =
       debug_caused n (Some Debug) (third_in words) (name_in words) (second_in words) shelf
-  caused (Some Probe) words shelf =
-      probe_caused n (Some Probe) (name_in words) (second_in words) (third_in words) (fourth_in words) shelf
+  caused (Some (Probe fill)) words shelf =
+      probe_caused n (Some (Probe fill)) fill (name_in words) (second_in words) (third_in words) (fourth_in words) shelf
 
   -- the exit of a call: with its cause, or that of want of memory, or of a sink that fails
   abbrev pub Ended : Option Command → Plan → Told → Exit → Type 0

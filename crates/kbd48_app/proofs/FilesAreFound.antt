@@ -1,7 +1,9 @@
 -- Behind files that were found.
 use Rattle.std.proofs.Common.{◌≡◌, ℕ, List, [], Global, Ok, Err, inl, inr, refl, ap, subst, sym, ◌∙◌}
 use Rattle.std.specs.Option.{option_map}
+use Rattle.std.specs.Result.{IsErrAnd}
 use Rattle.std.specs.declared.option.Option.{Option}
+use Rattle.std.specs.declared.result.Result.{Result}
 use Rattle.std.specs.declared.vec.Vec.{Vec}
 use Rattle.board_probes.specs.Probes.{Watch}
 use Rattle.fw_debug.specs.Sessions.{Debuggee}
@@ -14,7 +16,7 @@ use Rattle.layout_reader.specs.Layouts.{KeyLayout}
 use Rattle.kbd48_app.specs.declared.kind.Kind.{Kind}
 use Rattle.kbd48_app.specs.declared.kind.Kind.TheVariants as kinds
 use Rattle.kbd48_app.specs.declared.refusal.Refusal.{Refusal}
-use Rattle.kbd48_app.specs.Answers.{MayAnswerDebug, MayEnd, MayFetch, Left}
+use Rattle.kbd48_app.specs.Answers.{MayAnswerDebug, MayEnd, MayFetch, Left, answer_of}
 use Rattle.kbd48_app.specs.Fetching.{IsGiven, MayGive}
 use Rattle.kbd48_app.specs.Kinds.{limit_of}
 use Rattle.kbd48_app.specs.Plans.{Answer, Plan, Debugs, Fetches, history_plan, keys_next, program_next}
@@ -80,6 +82,29 @@ pub image_found : (first second third : List ℕ) (next : Behind) (shelf on afte
 image_found first second third next shelf on after answer probes left file image gives fetched is h =
     found_so kinds.Hex first (program_from next second third) shelf on after answer probes left file gives fetched
     (subst (λ (o : HexOutcome). MayEnd (with_image (program_next next second third) o) on answer after probes left) (sym is) h)
+
+-- behind an image and a layout without a fault, where the key file wasn't fetched
+module _ (next : Behind) (first second third : List ℕ) (shelf on mid last : Option Told) (file document : Vec ℕ Global)
+    (image : List ℕ) (layout : KeyLayout)
+    (gives : MayGive kinds.Hex first shelf (Ok file)) (fetched : on ≡ option_map after_fetch shelf) (is : hex_of file.items ≡ Ok image)
+    (gives' : MayGive kinds.Layout second on (Ok document)) (fetched' : mid ≡ option_map after_fetch on)
+    (has : layout_of_document document.items ≡ Ok layout)
+    (refusal : Refusal) (gives'' : MayGive kinds.Keys third mid (Err refusal)) (fetched'' : last ≡ option_map after_fetch mid)
+    (probes : List Watch) (left : Left) (kept : left.probes ≡ probes) (alone : left.log ≡ []) where
+  pub keys_unfound : MayEnd (program_plan next first second third) shelf (Err refusal) last probes left
+  keys_unfound =
+      let behind : Following = λ of. next image in
+      image_found first second third next shelf on last (Err refusal) probes left file image gives fetched is
+      (found_so kinds.Layout second (plan_from behind third) on mid last (Err refusal) probes left document gives' fetched'
+      (subst (λ (o : LayoutOutcome). MayEnd (with_layout (keys_next behind third) o) mid (Err refusal) last probes left) (sym has)
+      (unfound kinds.Keys third (λ t. with_history (behind layout) (history_of layout t)) mid last (Err refusal)
+      probes left refusal gives'' fetched'' refl kept alone)))
+
+  pub keys_unfound_by : (result : Result (Vec ℕ Global) Refusal) → IsErrAnd result (λ (r : Refusal). r ≡ refusal)
+      → MayEnd (program_plan next first second third) shelf (answer_of result) last probes left
+  keys_unfound_by (Ok text) same = absurd same
+  keys_unfound_by (Err r) same =
+      subst (λ (k : Refusal). MayEnd (program_plan next first second third) shelf (Err k) last probes left) (sym same) keys_unfound
 
 -- a script behind what is debugged, by what that is
 pub script_of : (s t : Debuggee) (name : List ℕ) (shelf after : Option Told) (answer : Answer) (probes : List Watch) (left : Left)

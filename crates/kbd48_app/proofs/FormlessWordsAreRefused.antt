@@ -115,7 +115,7 @@ never_ends (Runs command layout history) never shelf after answer probes left h 
 never_ends (Boards wanted image history) never shelf after answer probes left h is =
     elim h.0 [
       | inl memory ↦ let e : exits.Memory ≡ exits.Words = sym (ap exit_said memory.0) ∙ is in cc
-      | inr told ↦ never_board wanted told.0 told.0.end (sym (ap exit_said told.3) ∙ is)
+      | inr told ↦ never_board wanted.told told.0 told.0.end (sym (ap exit_said told.3) ∙ is)
     ]
 never_ends (Samples count) never shelf after answer probes left h is =
     elim h.0 [
@@ -163,10 +163,10 @@ never_command (Board wanted) words = λ bytes.
     (hex_of bytes)
 never_command Debug words =
     λ bytes. never_layout (debug_next (third_in words)) (λ layout history script. tt) (second_in words) (layout_of_document bytes)
-never_command Probe words = λ bytes.
-    never_image (program_next (probe_next (fourth_in words)) (second_in words) (third_in words))
+never_command (Probe fill) words = λ bytes.
+    never_image (program_next (probe_next fill (fourth_in words)) (second_in words) (third_in words))
     (λ image document.
-    never_layout (λ layout. probe_next (fourth_in words) image) (λ layout history script. tt)
+    never_layout (λ layout. probe_next fill (fourth_in words) image) (λ layout history script. tt)
     (third_in words) (layout_of_document document))
     (hex_of bytes)
 

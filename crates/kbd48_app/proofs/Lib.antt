@@ -21,6 +21,7 @@ pub mod RunPlans
 pub mod ProgramPlans
 pub mod PairsAlike
 pub mod OneText
+pub mod OptionsAreFew
 pub mod PrintAlike
 pub mod RunPrintsExpected
 pub mod RunExits
@@ -28,13 +29,13 @@ pub mod ProgramExits
 pub mod ScriptsAreAnswered
 pub mod FilesAreFound
 pub mod ExitAndCause
+pub mod FileFaults
 pub mod CertExits
 pub mod TextPlans
 pub mod TextExits
 pub mod MemoryComesFirst
 pub mod StrokesAreAccepted
 pub mod StartsAreLines
-pub mod OutcomeBehind
 pub mod RunsAreSaid
 pub mod AnswersAreSpoken
 pub mod LogsAreLines

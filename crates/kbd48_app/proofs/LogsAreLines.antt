@@ -5,7 +5,7 @@ use Rattle.std.specs.declared.option.Option.{Option}
 use Rattle.board_probes.specs.Probes.{Watch}
 use Rattle.io_edge.proofs.Pieces.{AreLines}
 use Rattle.io_edge.specs.Shelf.{Told, Fetched, Fails, Long, Found, after_fetch}
-use Rattle.joint_feed.specs.Stories.{story}
+use Rattle.kbd48_app.specs.BoardTexts.{board_story}
 use Rattle.kbd48_app.specs.declared.kind.Kind.{Kind}
 use Rattle.kbd48_app.specs.declared.refusal.Refusal.TheVariants.{Read, TooLong, Memory}
 use Rattle.kbd48_app.specs.declared.words.Command.{Command}
@@ -29,7 +29,10 @@ lines_by (Certifies image text) shelf answer after probes left h = inl h.1.2
 lines_by (Spells layout text) shelf answer after probes left h = inl h.1.2
 lines_by (Runs command layout history) shelf answer after probes left h = inl h.2
 lines_by (Boards wanted image history) shelf answer after probes left h =
-    elim h.0 [ inl memory ↦ inl memory.1 | inr told ↦ subst AreLines (sym told.2) (log_is_lines wanted (story image history) told.0) ]
+    elim h.0 [
+      | inl memory ↦ inl memory.1
+      | inr told ↦ subst AreLines (sym told.2) (log_is_lines wanted.told (board_story wanted image history) told.0)
+    ]
 lines_by (Samples count) shelf answer after probes left h = inl h.2
 lines_by (Debugs s script) shelf answer after probes left h = inl h.2
 lines_by (Fetches kind name next) shelf answer after probes left h =

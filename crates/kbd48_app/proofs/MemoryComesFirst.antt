@@ -20,6 +20,7 @@ use Rattle.kbd48_app.specs.declared.kind.Kind.{Kind}
 use Rattle.kbd48_app.specs.declared.kind.Kind.TheVariants as kinds
 use Rattle.kbd48_app.specs.declared.refusal.Refusal.TheVariants.{Read, TooLong, Memory}
 use Rattle.kbd48_app.specs.declared.words.BoardCommand.{BoardCommand}
+use Rattle.kbd48_app.specs.declared.words.BoardRun.{BoardRun}
 use Rattle.kbd48_app.specs.declared.words.Command.{Command}
 use Rattle.kbd48_app.specs.declared.words.Command.TheVariants.{OverFile, OverPair, Debug, Probe, Board, Feed, Sample}
 use Rattle.kbd48_app.specs.declared.words.PairCommand.TheVariants.{Certify, Spell, OverRun}
@@ -97,30 +98,30 @@ not_memory wanted run Over is = cc
 not_memory wanted run (Stuck place) is = cc
 
 -- the run of a program on the board
-board_keeps : (wanted : BoardCommand) (image : List ℕ) (history : KeyHistory) → KeepsFirst (Boards wanted image history)
+board_keeps : (wanted : BoardRun) (image : List ℕ) (history : KeyHistory) → KeepsFirst (Boards wanted image history)
 board_keeps wanted image history shelf answer after probes left h is =
-    elim h.0 [ inl memory ↦ (memory.2, memory.1) | inr told ↦ absurd (not_memory wanted told.0 told.0.end (sym told.3 ∙ is)) ]
+    elim h.0 [ inl memory ↦ (memory.2, memory.1) | inr told ↦ absurd (not_memory wanted.told told.0 told.0.end (sym told.3 ∙ is)) ]
 
-program_history_keeps : (wanted : BoardCommand) (image : List ℕ) (outcome : HistoryOutcome)
+program_history_keeps : (wanted : BoardRun) (image : List ℕ) (outcome : HistoryOutcome)
     → KeepsFirst (with_history (Boards wanted image) outcome)
 program_history_keeps wanted image (Ok history) = board_keeps wanted image history
 program_history_keeps wanted image (Err fault) = λ shelf answer after probes left h is. (h.1.1, h.1.2)
 
-program_layout_keeps : (wanted : BoardCommand) (image keys : List ℕ) (outcome : LayoutOutcome)
+program_layout_keeps : (wanted : BoardRun) (image keys : List ℕ) (outcome : LayoutOutcome)
     → KeepsFirst (with_layout (keys_next (λ layout. Boards wanted image) keys) outcome)
 program_layout_keeps wanted image keys (Ok layout) =
     fetch_keeps kinds.Keys keys (λ text. with_history (Boards wanted image) (history_of layout text))
     (λ text. program_history_keeps wanted image (history_of layout text))
 program_layout_keeps wanted image keys (Err fault) = λ shelf answer after probes left h is. (h.1.1, h.1.2)
 
-program_image_keeps : (wanted : BoardCommand) (layout keys : List ℕ) (outcome : HexOutcome)
+program_image_keeps : (wanted : BoardRun) (layout keys : List ℕ) (outcome : HexOutcome)
     → KeepsFirst (with_image (λ image. history_plan (λ of. Boards wanted image) layout keys) outcome)
 program_image_keeps wanted layout keys (Ok image) =
     fetch_keeps kinds.Layout layout (plan_from (λ of. Boards wanted image) keys)
     (λ bytes. program_layout_keeps wanted image keys (layout_of_document bytes))
 program_image_keeps wanted layout keys (Err fault) = λ shelf answer after probes left h is. (h.1.1, h.1.2)
 
-program_keeps : (wanted : BoardCommand) (image layout keys : List ℕ) → KeepsFirst (program_plan (Boards wanted) image layout keys)
+program_keeps : (wanted : BoardRun) (image layout keys : List ℕ) → KeepsFirst (program_plan (Boards wanted) image layout keys)
 program_keeps wanted image layout keys =
     fetch_keeps kinds.Hex image (λ bytes. with_image (λ read. history_plan (λ of. Boards wanted read) layout keys) (hex_of bytes))
     (λ bytes. program_image_keeps wanted layout keys (hex_of bytes))
@@ -142,7 +143,7 @@ keeps_as (Some (OverPair (OverRun Trace))) words shelf answer after probes left 
 keeps_as (Some (Board wanted)) words shelf answer after probes left first h is =
     program_keeps wanted (name_in words) (second_in words) (third_in words) shelf answer after probes left h is
 keeps_as (Some Debug) words shelf answer after probes left first h is = absurd cc
-keeps_as (Some Probe) words shelf answer after probes left first h is = absurd cc
+keeps_as (Some (Probe fill)) words shelf answer after probes left first h is = absurd cc
 
 pub lacks_first : (log : List ℕ) (words : List (List ℕ)) (shelf after : Option Told) (probes left : List Watch) (x z : Shown) (exit : Exit)
     → EndedBehind log words shelf after probes left x z exit

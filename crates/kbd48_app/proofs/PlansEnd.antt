@@ -7,7 +7,6 @@ use Rattle.story_run.specs.declared.ending.End.{End}
 use Rattle.story_run.specs.declared.ending.End.TheVariants.{Over, Stuck}
 use Rattle.board_probes.specs.Probes.{Watch}
 use Rattle.fw_debug.specs.Sessions.{Debuggee}
-use Rattle.joint_feed.specs.Stories.{story}
 use Rattle.io_edge.specs.Said.{Shown}
 use Rattle.layout_reader.specs.Layouts.{KeyLayout}
 use Rattle.typed_log.specs.Typing.{first_without}
@@ -19,7 +18,7 @@ use Rattle.kbd48_app.specs.declared.refusal.Refusal.TheVariants.{Read, TooLong, 
 use Rattle.kbd48_app.specs.declared.words.BoardCommand.{BoardCommand}
 use Rattle.kbd48_app.specs.declared.words.Command.{Command}
 use Rattle.kbd48_app.specs.Answers.{OnFetched, MayAnswerOf, MayAnswerSession, MayEnd, MayEndAs, MayAnswer, Left, MayAnswerText}
-use Rattle.kbd48_app.specs.BoardTexts.{board_said}
+use Rattle.kbd48_app.specs.BoardTexts.{board_said, board_story}
 use Rattle.kbd48_app.specs.CertTexts.{cert_said}
 use Rattle.kbd48_app.specs.Debugging.{script_fault}
 use Rattle.kbd48_app.specs.Kinds.{limit_of}
@@ -49,7 +48,7 @@ leads n (Gives said) shelf = exit_said said
 leads n (Certifies image text) shelf = exit_said (cert_said image text)
 leads n (Spells layout text) shelf = exit_by (first_without layout text)
 leads n (Runs command layout history) shelf = exits.Done
-leads n (Boards wanted image history) shelf = board_exit (end_of (story image history))
+leads n (Boards wanted image history) shelf = board_exit (end_of (board_story wanted image history))
 leads n (Samples count) shelf = exits.Done
 leads n (Debugs s script) shelf = exit_by (script_fault n script)
 leads n (Fetches kind name next) shelf =
@@ -100,8 +99,8 @@ ends_so (Boards wanted image history) shelf answer after probes left h =
     elim h.0 [
       | inl memory ↦ inr (memory.0, refl)
       | inr told ↦
-          let led = ap board_exit (end_found (story image history) told.0 told.1) in
-          inl (ap exit_said told.3 ∙ board_led wanted told.0 told.0.end ∙ sym led)
+          let led = ap board_exit (end_found (board_story wanted image history) told.0 told.1) in
+          inl (ap exit_said told.3 ∙ board_led wanted.told told.0 told.0.end ∙ sym led)
     ]
 ends_so (Samples count) shelf answer after probes left h =
     elim h.0 [ inl memory ↦ inr (memory.0, refl) | inr said ↦ inl (ap exit_said said.3) ]

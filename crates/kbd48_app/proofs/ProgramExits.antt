@@ -1,7 +1,7 @@
 -- The exits of a plan that fetches an image, a layout and a key file.
-use Rattle.std.proofs.Common.{◌≡◌, ℕ, List, Ok, Err, inl, inr, refl}
+use Rattle.std.proofs.Common.{◌≡◌, ℕ, List, Ok, Err, refl}
 use Rattle.std.specs.declared.option.Option.{Option}
-use Rattle.fw_debug.specs.Sessions.{of_program}
+use Rattle.fw_debug.specs.Sessions.{of_program, with_fill}
 use Rattle.hexfile.specs.Hex.{HexOutcome, hex_of}
 use Rattle.io_edge.specs.Shelf.{Told, after_fetch}
 use Rattle.joint_feed.specs.Stories.{story}
@@ -10,6 +10,7 @@ use Rattle.kbd48_app.specs.declared.words.Command.{Command}
 use Rattle.kbd48_app.specs.Plans.{Plan, probe_next, probe_plan, program_next, program_plan, with_image}
 use Rattle.kbd48_app.specs.Reached.{Reads}
 use Rattle.kbd48_app.proofs.ExitAndCause.{IsCaused}
+use Rattle.kbd48_app.proofs.FileFaults.{hex_fault}
 use Rattle.kbd48_app.proofs.PlansEnd.{leads}
 use Rattle.kbd48_app.proofs.ProgramPlans.{Behind, program_from}
 use Rattle.kbd48_app.proofs.RunExits.{IsCausedThird, history_exits, script_exits}
@@ -30,7 +31,7 @@ image_exit : (n : ℕ) (command : Option Command) (plan : Plan) (shelf : Told) (
 image_exit n command plan shelf next second third bytes after causes (Ok image) is read within =
     history_exits n command plan shelf (λ layout. next image) (causes bytes image read is) second third after within
 image_exit n command plan shelf next second third bytes after causes (Err fault) is read within =
-    inr (inl (fault, (bytes, read, is)))
+    hex_fault n plan shelf fault (bytes, read, is)
 
 pub program_caused : (n : ℕ) (command : Option Command) (next : Behind) (first second third : List ℕ) (shelf : Told)
     → IsCausedFourth n command (program_plan next first second third) shelf next
@@ -42,10 +43,11 @@ program_caused n command next first second third shelf causes =
     (λ bytes read within.
     image_exit n command plan shelf next second third bytes (after_fetch shelf) causes (hex_of bytes) refl read within)
 
-pub probe_caused : (n : ℕ) (command : Option Command) (first second third fourth : List ℕ) (shelf : Told)
-    → IsCaused n command (probe_plan first second third fourth) shelf
-    (leads n (probe_plan first second third fourth) shelf)
-probe_caused n command first second third fourth shelf =
-    program_caused n command (probe_next fourth) first second third shelf
+pub probe_caused : (n : ℕ) (command : Option Command) (fill : ℕ) (first second third fourth : List ℕ) (shelf : Told)
+    → IsCaused n command (probe_plan fill first second third fourth) shelf
+    (leads n (probe_plan fill first second third fourth) shelf)
+probe_caused n command fill first second third fourth shelf =
+    program_caused n command (probe_next fill fourth) first second third shelf
     (λ bytes image read is layout history after reads within.
-    script_exits n command (probe_plan first second third fourth) shelf fourth (of_program (story image history)) after within)
+    script_exits n command (probe_plan fill first second third fourth) shelf fourth
+    (with_fill fill (of_program (story image history))) after within)

@@ -1,5 +1,5 @@
 -- The exits of `run`, `expect` and `debug`.
-use Rattle.std.proofs.Common.{◌≡◌, ℕ, List, None, Some, Ok, Err, inl, inr, refl}
+use Rattle.std.proofs.Common.{◌≡◌, ℕ, List, None, Some, Ok, Err, refl}
 use Rattle.std.specs.declared.option.Option.{Option}
 use Rattle.fw_compile.specs.Image.{image_of}
 use Rattle.fw_debug.specs.Sessions.{Debuggee, of_layout}
@@ -19,6 +19,7 @@ use Rattle.kbd48_app.specs.Plans.{Plan, Debugs, Runs, debug_next, debug_plan, hi
 use Rattle.kbd48_app.specs.Plans.{script_next, with_history, with_layout}
 use Rattle.kbd48_app.specs.Reached.{Reads}
 use Rattle.kbd48_app.proofs.ExitAndCause.{IsCaused}
+use Rattle.kbd48_app.proofs.FileFaults.{keys_fault, layout_fault, script_has_fault}
 use Rattle.kbd48_app.proofs.PlansEnd.{leads, exit_by}
 use Rattle.kbd48_app.proofs.FetchesReach.{lacks}
 use Rattle.kbd48_app.proofs.RunPlans.{Following, HistoryOutcome, LayoutOutcome, plan_from}
@@ -47,7 +48,7 @@ module _ (n : ℕ) (command : Option Command) (plan : Plan) (shelf : Told) where
     keys_exit bytes text layout after (Ok history) has gives read read' within =
         third layout history after (bytes, read, has, text, read', gives) within
     keys_exit bytes text layout after (Err (faults.Input line number)) has gives read read' within =
-        inr (inr (inr (inr (inr (inl ((line, number), (bytes, read, layout, has, text, read', gives)))))))
+        keys_fault n plan shelf (line, number) (bytes, read, layout, has, text, read', gives)
     keys_exit bytes text layout after (Err (faults.Timing line number earlier stamp)) has gives read read' within =
         ((line, number), (earlier, stamp), (bytes, read, layout, has, text, read', gives))
     keys_exit bytes text layout after (Err faults.Memory) has gives read read' within =
@@ -64,7 +65,7 @@ module _ (n : ℕ) (command : Option Command) (plan : Plan) (shelf : Told) where
         (λ text read' more.
         keys_exit bytes text layout (after_fetch after) (history_of layout text) has refl read read' more)
     layout_exit second bytes after (Err fault) has read within =
-        inr (inr (inr (inl (fault, (bytes, read, has)))))
+        layout_fault n plan shelf fault (bytes, read, has)
 
     -- both, where the plan reaches them
     pub history_exits : (first second : List ℕ) (before : Told) → IsWithin (history_plan next first second) before plan shelf
@@ -78,7 +79,7 @@ module _ (n : ℕ) (command : Option Command) (plan : Plan) (shelf : Told) where
   script_caused : (script : List ℕ) (fault : Option (ℕ × ℕ)) → script_fault n script ≡ fault
       → Reads kinds.Script script plan shelf → IsCaused n command plan shelf (exit_by fault)
   script_caused script None is read = tt
-  script_caused script (Some fault) is read = inr (inr (inr (inr (inr (inr (inl (fault, (script, read, is))))))))
+  script_caused script (Some fault) is read = script_has_fault n plan shelf fault (script, read, is)
 
   pub script_exits : (name : List ℕ) (s : Debuggee) (after : Told) → IsWithin (script_next name s) after plan shelf
       → IsCaused n command plan shelf (leads n (script_next name s) after)

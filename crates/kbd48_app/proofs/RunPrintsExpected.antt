@@ -15,7 +15,8 @@ use Rattle.kbd48_app.specs.declared.words.RunCommand.TheVariants.{Expect}
 use Rattle.kbd48_app.specs.RunTexts.{HaveLookedAtAll, IsRunText, expected_text}
 
 -- its text, if there is memory for one
-pub printed : (layout : KeyLayout) (history : KeyHistory) (starts : List ℕ) (result : Result (Vec ℕ Global) AllocError) (probes left : List Watch)
+pub printed : (layout : KeyLayout) (history : KeyHistory) (starts : List ℕ) (result : Result (Vec ℕ Global) AllocError)
+    (probes left : List Watch)
     → (are : AreStartsOf (story (image_of layout) history) starts probes left) → IsAsExpected layout history are.run
     → IfOk result (λ text. text.items ≡ expected_text layout history are.run)
     → IfOk result (λ text. (o : Outcome) × IsRunText Expect layout history text.items o

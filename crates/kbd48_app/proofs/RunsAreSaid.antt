@@ -5,7 +5,6 @@ use Rattle.std.specs.Result.{IsErrAnd}
 use Rattle.std.specs.declared.result.Result.{Result}
 use Rattle.fw_compile.specs.Image.{image_of}
 use Rattle.board_probes.specs.Probes.{Watch}
-use Rattle.fw_logic.specs.JointRun.{KeepsTime}
 use Rattle.io_edge.specs.Said.{IsBrokenOff, IsSaid, Shown}
 use Rattle.io_edge.specs.declared.sink.SinkFault.{SinkFault}
 use Rattle.joint_feed.specs.Stories.{Story, story}
@@ -17,6 +16,7 @@ use Rattle.layout_reader.specs.Layouts.{IsKeyLayout, KeyLayout, us84}
 use Rattle.story_run.specs.declared.ending.Ending.TheVariants.{TickStart}
 use Rattle.story_run.specs.Running.{IsOverBehind}
 use Rattle.subsystem.specs.Agreement.{RunsAsExpected}
+use Rattle.subsystem.specs.Outcomes.{RunsComeToOutcomes}
 use Rattle.subsystem.specs.Running.{IsOutcome, Outcome}
 use Rattle.kbd48_app.specs.declared.refusal.Refusal.{Refusal}
 use Rattle.kbd48_app.specs.declared.refusal.Refusal.TheVariants.{Memory}
@@ -34,7 +34,6 @@ use Rattle.kbd48_app.specs.Telling.{MayTell}
 use Rattle.wire_trace.specs.Ending.{IsTraceBrokenOff, IsTraceSaid}
 use Rattle.wire_trace.specs.Trace.{trace_to}
 use Rattle.wires_heard.specs.Hearing.{HearsAll}
-use Rattle.kbd48_app.proofs.OutcomeBehind.{outcome_behind}
 use Rattle.kbd48_app.proofs.RunPlans.{HistoryOutcome}
 use Rattle.kbd48_app.proofs.StrokesAreAccepted.{sample_accepted}
 
@@ -177,7 +176,7 @@ module _ (layout : KeyLayout) (text : List ℕ) (history : KeyHistory) (is : his
   pub trace_lacking : (taking : Taking) → MayTell Trace layout text (Err Memory) probes (left_so probes taking)
   trace_lacking taking = ran Trace layout text history (Err Memory) probes (left_so probes taking) is refl (inl (refl, refl))
 
-  module _ (law : RunsAsExpected) (time : KeepsTime (image_of layout) history.edges history.host)
+  module _ (law : RunsAsExpected) (outcomes : RunsComeToOutcomes)
       (heard : HearsAll (story (image_of layout) history)) (sound : IsKeyLayout layout) (accepted : IsAcceptedFor layout history)
       (x y : Shown) where
     abbrev s : Story
@@ -186,7 +185,7 @@ module _ (layout : KeyLayout) (text : List ℕ) (history : KeyHistory) (is : his
     trace_told : (k : ℕ) → IsOverBehind TickStart s k → (taking : Taking)
         → MayTell Trace layout text (Ok (trace_to s k)) probes (left_so probes taking)
     trace_told k over taking =
-        let made = outcome_behind s time k over in
+        let made = outcomes layout history k sound accepted over in
         let run = made.0 in
         ran Trace layout text history (Ok (trace_to s k)) probes (left_so probes taking) is refl
         (inr (trace_to s k, run, (made.1, law layout history run sound accepted made.1, ap (trace_to s) (sym made.2), heard), refl, refl))

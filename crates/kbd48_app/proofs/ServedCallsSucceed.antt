@@ -8,7 +8,7 @@ use Rattle.story_run.specs.declared.ending.End.TheVariants.{Over, Stuck}
 use Rattle.cycle_cert.specs.Answers.{answer_of as certificate_said}
 use Rattle.cycle_cert.specs.Faults.{number_of}
 use Rattle.board_probes.specs.Probes.{Watch}
-use Rattle.joint_feed.specs.Stories.{story}
+use Rattle.kbd48_app.specs.BoardTexts.{board_story}
 use Rattle.io_edge.specs.Faults.{Rose}
 use Rattle.io_edge.specs.MemorySink.{HeldBytes}
 use Rattle.io_edge.specs.Said.{said}
@@ -67,7 +67,7 @@ served_past n (Gives said) shelf h = said_past said h
 served_past n (Certifies image text) shelf h = inl (right_exit number_of (certificate_said image text) h.0 h.1)
 served_past n (Spells layout text) shelf h = inl (ap exit_by h)
 served_past n (Runs command layout history) shelf h = inl refl
-served_past n (Boards wanted image history) shelf h = board_past (end_of (story image history))
+served_past n (Boards wanted image history) shelf h = board_past (end_of (board_story wanted image history))
 served_past n (Samples count) shelf h = inl refl
 served_past n (Debugs s script) shelf h = inl (ap exit_by h)
 
@@ -82,7 +82,7 @@ done_left (OverFile Compile) = inl refl
 done_left (OverPair command) = inl refl
 done_left (Board wanted) = inl refl
 done_left Debug = inl refl
-done_left Probe = inl refl
+done_left (Probe fill) = inl refl
 
 memory_left : (command : Command) → IsLeft (Some command) exits.Memory
 memory_left (Feed bytes) = inr refl
@@ -94,7 +94,7 @@ memory_left (OverFile Compile) = inr refl
 memory_left (OverPair command) = inr refl
 memory_left (Board wanted) = inr (inl refl)
 memory_left Debug = inr refl
-memory_left Probe = inr refl
+memory_left (Probe fill) = inr refl
 
 -- a byte without an instruction, where it has its cause
 stuck_left : (command : Option Command) (p : Plan) (shelf : Told) → IsStuck command p shelf → IsLeft command exits.Stuck
@@ -128,7 +128,7 @@ fileless_left n words (OverPair Spell) after answer probes left served may = abs
 fileless_left n words (OverPair (OverRun command)) after answer probes left served may = absurd served
 fileless_left n words (Board wanted) after answer probes left served may = absurd served
 fileless_left n words Debug after answer probes left served may = absurd served
-fileless_left n words Probe after answer probes left served may = absurd served
+fileless_left n words (Probe fill) after answer probes left served may = absurd served
 
 answers_left : (words : List (List ℕ)) (command : Option Command) (shelf after : Option Told)
     (answer : Answer) (probes : List Watch) (left : Left)

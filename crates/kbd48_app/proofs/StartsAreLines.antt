@@ -11,7 +11,7 @@ use Rattle.mcs48_core.specs.StateText.{state_row, state_text_of}
 use Rattle.story_run.specs.Telling.{IsBrokenBehind}
 use Rattle.subsystem.specs.Running.{Outcome}
 use Rattle.subsystem.specs.Texts.{log_text}
-use Rattle.subsystem.proofs.Whole.{are_lines}
+use Rattle.subsystem.proofs.FirstStepsBeginLog.{are_lines}
 use Rattle.kbd48_app.specs.RunTexts.{behind_log, run_text, start_line, start_lines}
 
 ends : (number stamp : ℕ) → EndsLine (start_line number stamp)

@@ -1,5 +1,5 @@
 -- The exits of `type`.
-use Rattle.std.proofs.Common.{◌≡◌, ℕ, List, None, Some, Ok, Err, inl, inr, refl}
+use Rattle.std.proofs.Common.{◌≡◌, ℕ, List, None, Some, Ok, Err, refl}
 use Rattle.std.specs.declared.option.Option.{Option}
 use Rattle.io_edge.specs.Shelf.{Told, after_fetch}
 use Rattle.layout_reader.specs.Documents.{layout_of_document}
@@ -11,6 +11,7 @@ use Rattle.kbd48_app.specs.declared.words.PairCommand.TheVariants.{Spell}
 use Rattle.kbd48_app.specs.Plans.{Plan, Spells, pair_plan, text_next, with_layout}
 use Rattle.kbd48_app.specs.Reached.{Reads}
 use Rattle.kbd48_app.proofs.ExitAndCause.{IsCaused}
+use Rattle.kbd48_app.proofs.FileFaults.{layout_fault, text_fault}
 use Rattle.kbd48_app.proofs.PlansEnd.{exit_by, leads}
 use Rattle.kbd48_app.proofs.RunPlans.{LayoutOutcome}
 use Rattle.kbd48_app.proofs.PlansWithinPlans.{IsWithin, fetch_caused, whole}
@@ -22,7 +23,7 @@ module _ (n : ℕ) (command : Option Command) (plan : Plan) (shelf : Told) where
       → IsCaused n command plan shelf (exit_by first)
   text_exit bytes text layout None is has read read' = tt
   text_exit bytes text layout (Some fault) is has read read' =
-      inr (inr (inr (inr (inr (inr (inr (fault, (bytes, read, layout, is, text, read', has))))))))
+      text_fault n plan shelf fault (bytes, read, layout, is, text, read', has)
 
   -- behind the layout's document
   layout_exit : (second bytes : List ℕ) (after : Told) (outcome : LayoutOutcome) → layout_of_document bytes ≡ outcome
@@ -31,7 +32,7 @@ module _ (n : ℕ) (command : Option Command) (plan : Plan) (shelf : Told) where
   layout_exit second bytes after (Ok layout) is read within =
       fetch_caused n command plan shelf kinds.Text second (Spells layout) after within
       (λ text read' more. text_exit bytes text layout (first_without layout text) is refl read read')
-  layout_exit second bytes after (Err fault) is read within = inr (inr (inr (inl (fault, (bytes, read, is)))))
+  layout_exit second bytes after (Err fault) is read within = layout_fault n plan shelf fault (bytes, read, is)
 
 pub text_caused : (n : ℕ) (command : Option Command) (first second : List ℕ) (shelf : Told)
     → IsCaused n command (pair_plan Spell first second) shelf (leads n (pair_plan Spell first second) shelf)

@@ -4,7 +4,7 @@ use Rattle.std.proofs.Common.{slice_index_or, String, Global, Some, ap, sym, sub
 use Rattle.std.specs.declared.option.Option.{Option}
 use Rattle.board_probes.specs.Probes.{Watch}
 use Rattle.io_edge.specs.Shelf.{Told}
-use Rattle.kbd48_app.specs.declared.words.BoardCommand.{BoardCommand}
+use Rattle.kbd48_app.specs.declared.words.BoardRun.{BoardRun}
 use Rattle.kbd48_app.specs.declared.words.Command.{Command}
 use Rattle.kbd48_app.specs.declared.words.Command.TheVariants.{OverFile, OverPair, Debug, Probe, Board}
 use Rattle.kbd48_app.specs.declared.words.PairCommand.{PairCommand}
@@ -91,7 +91,7 @@ ends_over_debug words word word' word'' name name' name'' shelf after answer pro
     subst (λ (c : Option Command). MayEndAs c texts shelf answer after probes left) (sym is) named
 
 -- `board`, whose names are the words behind its own
-pub ends_over_board : (words : List (String Global)) (wanted : BoardCommand) (word word' word'' : String Global)
+pub ends_over_board : (words : List (String Global)) (wanted : BoardRun) (word word' word'' : String Global)
     (name name' name'' : List ℕ) (shelf after : Option Told) (answer : Answer) (probes : List Watch) (left : Left)
     → command_of (map string_bytes words) ≡ Some (Board wanted) → 3 < length words → word ≡ slice_index_or words 1 word
     → word' ≡ slice_index_or words 2 word' → word'' ≡ slice_index_or words 3 word'' → name ≡ string_bytes word → name' ≡ string_bytes word'
@@ -119,12 +119,12 @@ fourth_name (first ∷ second ∷ third ∷ fourth ∷ []) word more at = absurd
 fourth_name (first ∷ second ∷ third ∷ fourth ∷ fifth ∷ others) word more at = ap string_bytes at
 
 -- `probe`, whose names are the words behind its own
-module _ (words : List (String Global)) (a b c d : String Global) (image layout keys script : List ℕ)
+module _ (words : List (String Global)) (fill : ℕ) (a b c d : String Global) (image layout keys script : List ℕ)
     (shelf after : Option Told) (answer : Answer) (probes : List Watch) (left : Left) where
-  pub ends_over_probe : command_of (map string_bytes words) ≡ Some Probe → 4 < length words
+  pub ends_over_probe : command_of (map string_bytes words) ≡ Some (Probe fill) → 4 < length words
       → a ≡ slice_index_or words 1 a → b ≡ slice_index_or words 2 b → c ≡ slice_index_or words 3 c → d ≡ slice_index_or words 4 d
       → image ≡ string_bytes a → layout ≡ string_bytes b → keys ≡ string_bytes c → script ≡ string_bytes d
-      → MayEnd (probe_plan image layout keys script) shelf answer after probes left
+      → MayEnd (probe_plan fill image layout keys script) shelf answer after probes left
       → MayAnswer (map string_bytes words) shelf answer after probes left
   ends_over_probe is more at_a at_b at_c at_d same_a same_b same_c same_d h =
       let texts = map string_bytes words in
@@ -132,9 +132,11 @@ module _ (words : List (String Global)) (a b c d : String Global) (image layout 
       let second : layout ≡ second_in texts = same_b ∙ second_name words b (omega (arith, more)) at_b in
       let third : keys ≡ third_in texts = same_c ∙ third_name words c (omega (arith, more)) at_c in
       let fourth : script ≡ fourth_in texts = same_d ∙ fourth_name words d more at_d in
-      let named : MayEnd (probe_plan (name_in texts) (second_in texts) (third_in texts) (fourth_in texts)) shelf answer after probes left =
-      subst (λ (n : List ℕ). MayEnd (probe_plan (name_in texts) (second_in texts) (third_in texts) n) shelf answer after probes left) fourth
-      (subst (λ (n : List ℕ). MayEnd (probe_plan (name_in texts) (second_in texts) n script) shelf answer after probes left) third
-      (subst (λ (n : List ℕ). MayEnd (probe_plan (name_in texts) n keys script) shelf answer after probes left) second
-      (subst (λ (n : List ℕ). MayEnd (probe_plan n layout keys script) shelf answer after probes left) first h))) in
+      let named : MayEnd (probe_plan fill (name_in texts) (second_in texts) (third_in texts) (fourth_in texts))
+      shelf answer after probes left =
+      subst (λ (n : List ℕ). MayEnd (probe_plan fill (name_in texts) (second_in texts) (third_in texts) n)
+      shelf answer after probes left) fourth
+      (subst (λ (n : List ℕ). MayEnd (probe_plan fill (name_in texts) (second_in texts) n script) shelf answer after probes left) third
+      (subst (λ (n : List ℕ). MayEnd (probe_plan fill (name_in texts) n keys script) shelf answer after probes left) second
+      (subst (λ (n : List ℕ). MayEnd (probe_plan fill n layout keys script) shelf answer after probes left) first h))) in
       subst (λ (k : Option Command). MayEndAs k texts shelf answer after probes left) (sym is) named

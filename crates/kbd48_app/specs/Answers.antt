@@ -9,19 +9,20 @@ use Rattle.std.specs.declared.vec.Vec.{Vec}
 use Rattle.board_run.specs.Running as board
 use Rattle.board_probes.specs.Probes.{Watch}
 use Rattle.fw_debug.specs.Sessions.{Debuggee}
-use Rattle.joint_feed.specs.Stories.{Story, story}
+use Rattle.joint_feed.specs.Stories.{Story}
 use Rattle.subsystem.specs.Running.{Outcome}
 use Rattle.io_edge.specs.Shelf.{Told, Fetched, Fails, Long, Found, after_fetch, fetched}
 use Rattle.kbd48_app.specs.declared.refusal.Refusal.{Refusal}
 use Rattle.kbd48_app.specs.declared.refusal.Refusal.TheVariants.{Words, Read, TooLong, Script, Text, Memory}
 use Rattle.kbd48_app.specs.declared.words.BoardCommand.{BoardCommand}
+use Rattle.kbd48_app.specs.declared.words.BoardRun.{BoardRun}
 use Rattle.kbd48_app.specs.declared.words.Command.{Command}
 use Rattle.kbd48_app.specs.declared.words.RunCommand.{RunCommand}
 use Rattle.key_file.specs.Histories.{KeyHistory}
 use Rattle.layout_reader.specs.Layouts.{KeyLayout}
 use Rattle.typed_log.specs.Typing.{first_without}
 use Rattle.fw_debug.specs.Obeyed.{IsObeyed, IsObeyedInPart}
-use Rattle.kbd48_app.specs.BoardTexts.{AreLeftOnBoard, board_log, board_said}
+use Rattle.kbd48_app.specs.BoardTexts.{AreLeftOnBoard, board_log, board_said, board_story}
 use Rattle.kbd48_app.specs.CertTexts.{cert_said, IsCertText}
 use Rattle.kbd48_app.specs.Debugging.{script_fault}
 use Rattle.kbd48_app.specs.Kinds.{limit_of}
@@ -80,10 +81,10 @@ IsBoardTold wanted s answer probes left =
     × (answer ≡ board_said wanted run run.end) × AreLeftOnBoard wanted s run left.taking probes left.probes
 
 -- what may be answered of such a run under a history; no memory is wanting once it has begun
-abbrev pub MayAnswerBoard : BoardCommand → List ℕ → KeyHistory → Answer → List Watch → Left → Type 0
+abbrev pub MayAnswerBoard : BoardRun → List ℕ → KeyHistory → Answer → List Watch → Left → Type 0
 MayAnswerBoard wanted image history answer probes left =
     ((answer ≡ Err Memory) × (left.log ≡ []) × (left.probes ≡ probes))
-    ⊎ IsBoardTold wanted (story image history) answer probes left
+    ⊎ IsBoardTold wanted.told (board_story wanted image history) answer probes left
 
 -- what may be answered of the run of so many strokes; no memory is wanting once it has begun
 abbrev pub MayAnswerSample : ℕ → Answer → List Watch → List Watch → Type 0

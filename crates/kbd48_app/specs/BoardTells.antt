@@ -16,6 +16,7 @@ use Rattle.kbd48_app.specs.declared.words.BoardCommand.TheVariants as board_comm
 use Rattle.kbd48_app.specs.declared.words.RunCommand.TheVariants.{Log, Trace}
 use Rattle.kbd48_app.specs.Answers.{Left, MayAnswerBoard, MayAnswerRun}
 use Rattle.kbd48_app.specs.Plans.{Answer}
+use Rattle.kbd48_app.specs.Words.{on_board}
 
 -- a text has a line with its tick for each item that a run said, and a log has a line with its stamp for each that was
 -- said up to the end stamp
@@ -32,7 +33,7 @@ abbrev pub BoardTellsRun : Type 0
 BoardTellsRun = (of : KeyLayout) (history : KeyHistory) (text : List ℕ) (answer : Answer) (probes others : List Watch)
     (left kept : Left) → IsKeyLayout of → IsAcceptedFor of history
     → MayAnswerRun (Log false false) of history (Ok text) probes left
-    → MayAnswerBoard (board_commands.Log false) (image_of of) history answer others kept
+    → MayAnswerBoard (on_board (board_commands.Log false) 0) (image_of of) history answer others kept
     → (answer ≡ Err Memory)
     ⊎ ((answer ≡ Ok []) × TellsText (story (image_of of) history) text kept.log)
 
@@ -41,5 +42,5 @@ abbrev pub BoardTracesRun : Type 0
 BoardTracesRun = (of : KeyLayout) (history : KeyHistory) (text : List ℕ) (answer : Answer) (probes others : List Watch)
     (left kept : Left) → IsKeyLayout of → IsAcceptedFor of history
     → MayAnswerRun Trace of history (Ok text) probes left
-    → MayAnswerBoard board_commands.Trace (image_of of) history answer others kept
+    → MayAnswerBoard (on_board board_commands.Trace 0) (image_of of) history answer others kept
     → (answer ≡ Err Memory) ⊎ ((answer ≡ Ok []) × (more : List ℕ) × (text ≡ kept.log ++ more))

@@ -8,17 +8,24 @@ use Rattle.story_run.specs.declared.ending.End.{End}
 use Rattle.story_run.specs.declared.ending.End.TheVariants.{Over, Stuck}
 use Rattle.board_probes.specs.Probes.{Watch}
 use Rattle.io_edge.specs.Said.{Shown}
+use Rattle.joint_feed.specs.Filled.{filled_story}
 use Rattle.joint_feed.specs.Stories.{Story}
+use Rattle.key_file.specs.Histories.{KeyHistory}
 use Rattle.mcs48_core.specs.StateText.{state_text_of}
 use Rattle.story_run.specs.Telling.{IsBrokenBehind}
 use Rattle.wire_trace.specs.Trace.{trace_to}
 use Rattle.kbd48_app.specs.declared.refusal.Refusal.TheVariants as refusals
 use Rattle.kbd48_app.specs.declared.words.BoardCommand.{BoardCommand}
 use Rattle.kbd48_app.specs.declared.words.BoardCommand.TheVariants.{Log, Trace}
+use Rattle.kbd48_app.specs.declared.words.BoardRun.{BoardRun}
 use Rattle.kbd48_app.specs.Plans.{Answer}
 use Rattle.kbd48_app.specs.RunTexts.{HaveLookedAtAll}
 use Rattle.kbd48_app.specs.Says.{text_said}
 use Rattle.kbd48_app.specs.Taking.{Taking, Whole, CutOff}
+
+-- what runs: the image, in a part that holds the byte of `--fill` at power-on, under the history
+abbrev pub board_story : BoardRun → List ℕ → KeyHistory → Story
+board_story wanted image history = filled_story wanted.fill image history
 
 -- what is said of a run as it is made: its log, or its two wires, as they change
 abbrev pub board_log : BoardCommand → Story → Outcome → List ℕ

@@ -10,7 +10,6 @@ use Rattle.layout_reader.specs.Documents.{layout_of_document}
 use Rattle.layout_reader.specs.Faults.{Refusal as LayoutRefusal}
 use Rattle.layout_reader.specs.Layouts.{KeyLayout}
 use Rattle.typed_log.specs.Typing.{first_without}
-use Rattle.joint_feed.specs.Stories.{story}
 use Rattle.key_file.specs.Histories.{KeyHistory}
 use Rattle.key_file.specs.KeyFile.{history_of}
 use Rattle.key_file.specs.declared.fault.KeyFault.{KeyFault}
@@ -22,10 +21,11 @@ use Rattle.kbd48_app.specs.declared.exit.Exit.TheVariants.{Memory, Write}
 use Rattle.kbd48_app.specs.declared.kind.Kind.{Kind}
 use Rattle.kbd48_app.specs.declared.kind.Kind.TheVariants.{Hex, Asm, Layout, Keys, Cert, Script, Text}
 use Rattle.kbd48_app.specs.declared.refusal.Refusal.TheVariants as refusals
-use Rattle.kbd48_app.specs.declared.words.BoardCommand.{BoardCommand}
+use Rattle.kbd48_app.specs.declared.words.BoardRun.{BoardRun}
 use Rattle.kbd48_app.specs.declared.words.Command.{Command}
 use Rattle.kbd48_app.specs.declared.words.Command.TheVariants.{OverFile, Board}
 use Rattle.kbd48_app.specs.declared.words.FileCommand.TheVariants.{Step}
+use Rattle.kbd48_app.specs.BoardTexts.{board_story}
 use Rattle.kbd48_app.specs.CertTexts.{cert_said}
 use Rattle.kbd48_app.specs.Debugging.{script_fault}
 use Rattle.kbd48_app.specs.Plans.{Plan}
@@ -99,18 +99,18 @@ StepIsStuck command plan shelf =
     × (image : List ℕ) × (hex_of bytes ≡ Ok image)
     × (stuck : Stuck) × (after_steps image count ≡ Stopped stuck)
 
--- the run of `board`, of the image of the HEX file under the history of the key file for the layout, ends at such a
--- byte
+-- the run of `board`, of the image of the HEX file, in a part that holds the byte of `--fill` at power-on, under the
+-- history of the key file for the layout, ends at such a byte
 abbrev pub BoardIsStuck : Option Command → Plan → Told → Type 0
 BoardIsStuck command plan shelf =
-    (wanted : BoardCommand) × (command ≡ Some (Board wanted))
+    (wanted : BoardRun) × (command ≡ Some (Board wanted))
     × (bytes : List ℕ) × Reads Hex bytes plan shelf
     × (image : List ℕ) × (hex_of bytes ≡ Ok image)
     × (document : List ℕ) × Reads Layout document plan shelf
     × (layout : KeyLayout) × (layout_of_document document ≡ Ok layout)
     × (text : List ℕ) × Reads Keys text plan shelf
     × (history : KeyHistory) × (history_of layout text ≡ Ok history)
-    × (run : Outcome) × IsOutcome (story image history) run
+    × (run : Outcome) × IsOutcome (board_story wanted image history) run
     × (stuck : Stuck) × (run.end ≡ BoardStuck stuck)
 
 abbrev pub IsStuck : Option Command → Plan → Told → Type 0

@@ -13,7 +13,7 @@ use Rattle.key_file.specs.KeyFile.{history_of}
 use Rattle.key_file.specs.declared.fault.KeyFault.{KeyFault}
 use Rattle.key_file.specs.declared.fault.KeyFault.TheVariants as keys
 use Rattle.fw_compile.specs.Image.{image_of}
-use Rattle.fw_debug.specs.Sessions.{Debuggee, of_layout, of_program}
+use Rattle.fw_debug.specs.Sessions.{Debuggee, of_layout, of_program, with_fill}
 use Rattle.joint_feed.specs.Stories.{story}
 use Rattle.mcs48_isa.specs.Listing.{listing_of}
 use Rattle.mcs48_core.specs.StateText.{state_text_of}
@@ -22,7 +22,7 @@ use Rattle.kbd48_app.specs.declared.kind.Kind.TheVariants as kinds
 use Rattle.kbd48_app.specs.declared.refusal.Refusal.{Refusal}
 use Rattle.kbd48_app.specs.declared.refusal.Refusal.TheVariants.{Words, Hex, Asm, Layout, Keys, Timing}
 use Rattle.kbd48_app.specs.declared.refusal.Refusal.TheVariants.{Stuck, Memory}
-use Rattle.kbd48_app.specs.declared.words.BoardCommand.{BoardCommand}
+use Rattle.kbd48_app.specs.declared.words.BoardRun.{BoardRun}
 use Rattle.kbd48_app.specs.declared.words.Command.{Command}
 use Rattle.kbd48_app.specs.declared.words.Command.TheVariants.{OverFile, OverPair, Debug, Probe, Board, Feed, Sample}
 use Rattle.kbd48_app.specs.declared.words.FileCommand.{FileCommand}
@@ -48,7 +48,7 @@ pub data Plan : Type 0 where
   Certifies : List ℕ → List ℕ → Plan
   Spells : KeyLayout → List ℕ → Plan
   Runs : RunCommand → KeyLayout → KeyHistory → Plan
-  Boards : BoardCommand → List ℕ → KeyHistory → Plan
+  Boards : BoardRun → List ℕ → KeyHistory → Plan
   Samples : ℕ → Plan
   Debugs : Debuggee → List ℕ → Plan
   Fetches : Kind → List ℕ → (List ℕ → Plan) → Plan
@@ -138,12 +138,12 @@ abbrev pub program_plan : (List ℕ → KeyHistory → Plan) → List ℕ → Li
 program_plan next first second third =
     Fetches kinds.Hex first (λ bytes. with_image (program_next next second third) (hex_of bytes))
 
--- `probe`: any program, under the history of the key file
-abbrev pub probe_next : List ℕ → List ℕ → KeyHistory → Plan
-probe_next name image history = script_next name (of_program (story image history))
+-- `probe`: any program, in a part that holds this byte at power-on, under the history of the key file
+abbrev pub probe_next : ℕ → List ℕ → List ℕ → KeyHistory → Plan
+probe_next fill name image history = script_next name (with_fill fill (of_program (story image history)))
 
-abbrev pub probe_plan : List ℕ → List ℕ → List ℕ → List ℕ → Plan
-probe_plan first second third fourth = program_plan (probe_next fourth) first second third
+abbrev pub probe_plan : ℕ → List ℕ → List ℕ → List ℕ → List ℕ → Plan
+probe_plan fill first second third fourth = program_plan (probe_next fill fourth) first second third
 
 -- a command over two files, by their names
 abbrev pub pair_plan : PairCommand → List ℕ → List ℕ → Plan
@@ -162,7 +162,8 @@ plan_of (Some (OverFile command)) words =
 plan_of (Some (OverPair command)) words = pair_plan command (name_in words) (second_in words)
 plan_of (Some (Board wanted)) words = program_plan (Boards wanted) (name_in words) (second_in words) (third_in words)
 plan_of (Some Debug) words = debug_plan (name_in words) (second_in words) (third_in words)
-plan_of (Some Probe) words = probe_plan (name_in words) (second_in words) (third_in words) (fourth_in words)
+plan_of (Some (Probe fill)) words =
+    probe_plan fill (name_in words) (second_in words) (third_in words) (fourth_in words)
 
 abbrev pub plan : List (List ℕ) → Plan
 plan words = plan_of (command_of words) words

@@ -10,6 +10,7 @@ use Rattle.std.specs.declared.option.Option.{Option}
 use Rattle.hex_text.specs.Digits.{digit_value}
 use Rattle.kbd48_app.specs.declared.words.BoardCommand.{BoardCommand}
 use Rattle.kbd48_app.specs.declared.words.BoardCommand.TheVariants as board
+use Rattle.kbd48_app.specs.declared.words.BoardRun.{BoardRun}
 use Rattle.kbd48_app.specs.declared.words.Command.{Command}
 use Rattle.kbd48_app.specs.declared.words.Command.TheVariants.{OverFile, OverPair, Debug, Probe, Board, Feed, Sample}
 use Rattle.kbd48_app.specs.declared.words.FileCommand.{FileCommand}
@@ -62,10 +63,21 @@ debug_of (layout ∷ keys ∷ script ∷ []) =
     if is_name layout && is_name keys && is_name script then Some Debug else None
 debug_of words = None
 
--- `probe` NAME NAME NAME NAME
+-- `--fill` BYTE: what data memory, A and T hold at power-on
+abbrev pub fill_by : List ℕ → List ℕ → Option ℕ
+fill_by option byte = if bytes_eq option (codes "--fill") then byte_of byte else None
+
+-- the option of `probe`: 00 where it isn't there
+unfoldable pub fill_of : List (List ℕ) → Option ℕ
+fill_of [] = Some 0
+fill_of (option ∷ byte ∷ []) = fill_by option byte
+fill_of words = None
+
+-- `probe` NAME NAME NAME NAME, and its option
 abbrev pub probe_of : List (List ℕ) → Option Command
-probe_of (image ∷ layout ∷ keys ∷ script ∷ []) =
-    if is_name image && is_name layout && is_name keys && is_name script then Some Probe else None
+probe_of (image ∷ layout ∷ keys ∷ script ∷ options) =
+    if is_name image && is_name layout && is_name keys && is_name script
+    then option_map Probe (fill_of options) else None
 probe_of words = None
 
 -- both options of `run`, in either order
@@ -90,18 +102,34 @@ run_of (first ∷ second ∷ options) =
     then option_map (λ command. OverPair (OverRun command)) (log_of options) else None
 run_of words = None
 
--- the option of `board`: `--steps` or `--trace`, one of them at most
-abbrev pub board_option_of : List (List ℕ) → Option BoardCommand
-board_option_of [] = Some (board.Log false)
-board_option_of (option ∷ []) =
+-- a run on the board, by what is told of it and by what a part holds at power-on
+abbrev pub on_board : BoardCommand → ℕ → BoardRun
+on_board told fill = record { told = told; fill = fill }
+
+-- what is told of a run on the board, by `--steps` or `--trace`
+abbrev pub told_by : List ℕ → Option BoardCommand
+told_by option =
     if bytes_eq option (codes "--steps") then Some (board.Log true)
     else (if bytes_eq option (codes "--trace") then Some board.Trace else None)
-board_option_of words = None
 
--- `board` NAME NAME NAME, and its option
+-- by one of them and `--fill` BYTE
+abbrev pub both_by : Option BoardCommand → Option ℕ → Option BoardRun
+both_by told fill = option_and_then (λ command. option_map (on_board command) fill) told
+
+-- the options of `board`: `--steps` or `--trace`, one of them at most, and `--fill` BYTE, in either order
+unfoldable pub board_options_of : List (List ℕ) → Option BoardRun
+board_options_of [] = both_by (Some (board.Log false)) (Some 0)
+board_options_of (option ∷ []) = both_by (told_by option) (Some 0)
+board_options_of (option ∷ byte ∷ []) = both_by (Some (board.Log false)) (fill_by option byte)
+board_options_of (first ∷ second ∷ third ∷ []) =
+    if bytes_eq first (codes "--fill") then both_by (told_by third) (byte_of second)
+    else both_by (told_by first) (fill_by second third)
+board_options_of words = None
+
+-- `board` NAME NAME NAME, and its options
 abbrev pub board_of : List (List ℕ) → Option Command
 board_of (image ∷ layout ∷ keys ∷ options) =
-    if is_name image && is_name layout && is_name keys then option_map Board (board_option_of options) else None
+    if is_name image && is_name layout && is_name keys then option_map Board (board_options_of options) else None
 board_of words = None
 
 -- the bytes that words give, where each is a BYTE
@@ -155,7 +183,7 @@ is_trace Trace = true
 abbrev pub leaves_probes : Option Command → Bool
 leaves_probes (Some (OverPair (OverRun command))) = is_trace command
 leaves_probes (Some Debug) = false
-leaves_probes (Some Probe) = false
+leaves_probes (Some (Probe fill)) = false
 leaves_probes (Some (Board wanted)) = false
 leaves_probes (Some (Sample count)) = false
 leaves_probes command = true
@@ -193,7 +221,7 @@ abbrev pub files_in : Command → ℕ
 files_in (OverFile command) = 1
 files_in (OverPair command) = 2
 files_in Debug = 3
-files_in Probe = 4
+files_in (Probe fill) = 4
 files_in (Board wanted) = 3
 files_in (Feed bytes) = 0
 files_in (Sample count) = 0

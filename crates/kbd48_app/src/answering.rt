@@ -2,7 +2,6 @@
 
 ghost use Rattle.std.specs.Prelude.{◌≡◌, ◌⊎◌, ◌≤◌, [], List, map, string_bytes, length, true, Ok, Err, Some};
 ghost use Rattle.io_edge.specs.Faults.{Rose};
-ghost use Rattle.io_edge.specs.Said.{shown};
 ghost use Rattle.kbd48_app.specs.Answers.{answer_of, MayAnswer, MayAnswerOf, MayEnd};
 ghost use Rattle.kbd48_app.specs.Kinds.{limit_of, kind_of};
 ghost use Rattle.kbd48_app.specs.Plans.{Gives, Fetches, assembled, compiled, file_said, pair_plan};
@@ -168,8 +167,7 @@ fn told<K: Sink>(
         let after = map (λ b. watch b) probes.new.items in
         IsSpoken (λ answer taking log. MayTell command layout.now text.now answer before
         (record { probes = after; taking = taking; log = log }))
-        result (shown (K.taken out.old) (K.told out.old) (K.faults out.old))
-        (shown (K.taken out.new) (K.told out.new) (K.faults out.new)) }
+        result (K.shown out.old) (K.shown out.new) }
     ensures untouched { leaves_probes (Some (Command.OverPair (PairCommand.OverRun command))) ≡ true
         → map (λ b. watch b) probes.new.items ≡ map (λ b. watch b) probes.old.items }
     ensures unread { result ≡ Err Refusal.Read → ⊥ }
@@ -196,8 +194,7 @@ fn over_run<F: Shelf, K: Sink>(
         let after = map (λ b. watch b) probes.new.items in
         IsSpoken (λ answer taking log. MayEnd (pair_plan (PairCommand.OverRun command) layout.now keys.now) (F.told shelf.old)
         answer (F.told shelf.new) before (record { probes = after; taking = taking; log = log }))
-        result (shown (K.taken out.old) (K.told out.old) (K.faults out.old))
-        (shown (K.taken out.new) (K.told out.new) (K.faults out.new)) }
+        result (K.shown out.old) (K.shown out.new) }
     ensures untouched { leaves_probes (Some (Command.OverPair (PairCommand.OverRun command))) ≡ true
         → map (λ b. watch b) probes.new.items ≡ map (λ b. watch b) probes.old.items }
     ensures read { result ≡ Err Refusal.Read → Rose (F.faults shelf.old) (F.faults shelf.new) }
@@ -223,8 +220,7 @@ fn over_pair<F: Shelf, K: Sink>(
         let after = map (λ b. watch b) probes.new.items in
         IsSpoken (λ answer taking log. MayEnd (pair_plan command first.now second.now) (F.told shelf.old)
         answer (F.told shelf.new) before (record { probes = after; taking = taking; log = log }))
-        result (shown (K.taken out.old) (K.told out.old) (K.faults out.old))
-        (shown (K.taken out.new) (K.told out.new) (K.faults out.new)) }
+        result (K.shown out.old) (K.shown out.new) }
     ensures untouched { leaves_probes (Some (Command.OverPair command)) ≡ true
         → map (λ b. watch b) probes.new.items ≡ map (λ b. watch b) probes.old.items }
     ensures read { result ≡ Err Refusal.Read → Rose (F.faults shelf.old) (F.faults shelf.new) }
@@ -251,8 +247,7 @@ pub fn answer<F: Shelf, K: Sink>(
         let after = map (λ b. watch b) probes.new.items in
         IsSpoken (λ answer taking log. MayAnswer (map string_bytes words.now) (F.told shelf.old)
         answer (F.told shelf.new) before (record { probes = after; taking = taking; log = log }))
-        result (shown (K.taken out.old) (K.told out.old) (K.faults out.old))
-        (shown (K.taken out.new) (K.told out.new) (K.faults out.new)) }
+        result (K.shown out.old) (K.shown out.new) }
     ensures untouched { leaves_probes (command_of (map string_bytes words.now)) ≡ true
         → map (λ b. watch b) probes.new.items ≡ map (λ b. watch b) probes.old.items }
     ensures read { result ≡ Err Refusal.Read → Rose (F.faults shelf.old) (F.faults shelf.new) }
@@ -268,8 +263,8 @@ pub fn answer<F: Shelf, K: Sink>(
         Some(Command::Debug) => {
             to_say(over_debug(alloc, &words[1], &words[2], &words[3], shelf, probes))
         }
-        Some(Command::Probe) => to_say(over_probe(
-            alloc, &words[1], &words[2], &words[3], &words[4], shelf, probes,
+        Some(Command::Probe { fill }) => to_say(over_probe(
+            alloc, fill, &words[1], &words[2], &words[3], &words[4], shelf, probes,
         )),
         Some(Command::Board(wanted)) => over_board(
             alloc, wanted, &words[1], &words[2], &words[3], shelf, out, probes,

@@ -3,7 +3,6 @@
 
 ghost use Rattle.std.specs.Prelude.{◌≡◌, ◌⊎◌, ◌≤◌, Err, length, map, Ok};
 ghost use Rattle.io_edge.specs.Faults.{Rose};
-ghost use Rattle.io_edge.specs.Said.{shown};
 ghost use Rattle.key_file.specs.Accepted.{IsAccepted};
 ghost use Rattle.story_run.specs.Gliding.{history_of};
 ghost use Rattle.kbd48_app.specs.Kinds.{limit_of};
@@ -18,7 +17,7 @@ use crate::judging::{events_in, image_in, layout_in};
 use crate::kind::Kind;
 use crate::refusal::Refusal;
 use crate::spoken::Spoken;
-use crate::words::BoardCommand;
+use crate::words::{BoardCommand, BoardRun};
 use board_probes::Probe;
 use board_run::{Board, End};
 use io_edge::{Shelf, Sink};
@@ -40,8 +39,7 @@ fn put_log<F: Feed, K: Sink>(
         let after = map (λ b. watch b) probes.new.items in
         IsSpoken (λ answer taking log. IsBoardTold (BoardCommand.Log steps) board answer before
         (record { probes = after; taking = taking; log = log }))
-        (Ok result) (shown (K.taken out.old) (K.told out.old) (K.faults out.old))
-        (shown (K.taken out.new) (K.told out.new) (K.faults out.new)) }
+        (Ok result) (K.shown out.old) (K.shown out.new) }
 {
     match board.run_to(out, probes) {
         Err(fault) => Spoken::Said(Err(fault)),
@@ -69,8 +67,7 @@ fn put_trace<F: Feed, K: Sink>(
         let after = map (λ b. watch b) probes.new.items in
         IsSpoken (λ answer taking log. IsBoardTold BoardCommand.Trace board answer before
         (record { probes = after; taking = taking; log = log }))
-        (Ok result) (shown (K.taken out.old) (K.told out.old) (K.faults out.old))
-        (shown (K.taken out.new) (K.told out.new) (K.faults out.new)) }
+        (Ok result) (K.shown out.old) (K.shown out.new) }
 {
     match board.trace_to(out, probes) {
         Err(fault) => Spoken::Said(Err(fault)),
@@ -93,8 +90,7 @@ fn put_board<F: Feed, K: Sink>(
         let after = map (λ b. watch b) probes.new.items in
         IsSpoken (λ answer taking log. IsBoardTold wanted board answer before
         (record { probes = after; taking = taking; log = log }))
-        (Ok result) (shown (K.taken out.old) (K.told out.old) (K.faults out.old))
-        (shown (K.taken out.new) (K.told out.new) (K.faults out.new)) }
+        (Ok result) (K.shown out.old) (K.shown out.new) }
 {
     match wanted {
         BoardCommand::Log { steps } => put_log(board, steps, out, probes),
@@ -106,7 +102,7 @@ fn put_board<F: Feed, K: Sink>(
 /// each line is put as it arises in the run.
 fn run_board<K: Sink>(
     alloc: Global,
-    wanted: BoardCommand,
+    wanted: BoardRun,
     image: &Image,
     layout: &Layout,
     text: &[u8],
@@ -118,14 +114,13 @@ fn run_board<K: Sink>(
         let after = map (λ b. watch b) probes.new.items in
         IsSpoken (λ answer taking log. MayTellBoard wanted image.now.bytes layout.now text.now answer before
         (record { probes = after; taking = taking; log = log }))
-        result (shown (K.taken out.old) (K.told out.old) (K.faults out.old))
-        (shown (K.taken out.new) (K.told out.new) (K.faults out.new)) }
+        result (K.shown out.old) (K.shown out.new) }
     ensures unread { result ≡ Err Refusal.Read → ⊥ }
 {
     let feed = events_in(text, layout)?;
-    match Board::new(alloc, image, feed) {
+    match Board::new(alloc, image, wanted.fill, feed) {
         Err(_) => Err(Refusal::Memory),
-        Ok(board) => Ok(put_board(board, wanted, out, probes)),
+        Ok(board) => Ok(put_board(board, wanted.told, out, probes)),
     }
 }
 
@@ -133,7 +128,7 @@ fn run_board<K: Sink>(
 /// run.
 pub fn over_board<F: Shelf, K: Sink>(
     alloc: Global,
-    wanted: BoardCommand,
+    wanted: BoardRun,
     image: &str,
     layout: &str,
     keys: &str,
@@ -145,8 +140,7 @@ pub fn over_board<F: Shelf, K: Sink>(
         let after = map (λ b. watch b) probes.new.items in
         IsSpoken (λ answer taking log. MayEnd (program_plan (Boards wanted) image.now layout.now keys.now) (F.told shelf.old)
         answer (F.told shelf.new) before (record { probes = after; taking = taking; log = log }))
-        result (shown (K.taken out.old) (K.told out.old) (K.faults out.old))
-        (shown (K.taken out.new) (K.told out.new) (K.faults out.new)) }
+        result (K.shown out.old) (K.shown out.new) }
     ensures read { result ≡ Err Refusal.Read → Rose (F.faults shelf.old) (F.faults shelf.new) }
     ensures steady { (result ≡ Err Refusal.Read) ⊎ (F.faults shelf.new ≡ F.faults shelf.old) }
 {

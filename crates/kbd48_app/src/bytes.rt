@@ -24,7 +24,7 @@ impl Model for KeyboardBytes {
 }
 
 /// The value of a BYTE, two hexadecimal digits of either case.
-fn read_byte(word: &str) -> Option<u8>
+pub(crate) fn read_byte(word: &str) -> Option<u8>
     ensures { result ≡ byte_of word.now }
 {
     match word.as_bytes() {

@@ -113,10 +113,11 @@ pub fn over_debug<F: Shelf>(
     over_script(alloc, debuggee, script, shelf, probes)
 }
 
-/// `probe`: fetches the image, the layout, the key file and the script, judges each before the next is fetched, and then
-/// obeys the script's lines.
+/// `probe`, in a part whose data memory, A and T hold this byte at power-on: fetches the image, the layout, the key file and
+/// the script, judges each before the next is fetched, and then obeys the script's lines.
 pub fn over_probe<F: Shelf>(
     alloc: Global,
+    fill: u8,
     image: &str,
     layout: &str,
     keys: &str,
@@ -124,7 +125,7 @@ pub fn over_probe<F: Shelf>(
     shelf: &mut F,
     probes: &mut Vec<Box<dyn Probe>>,
 ) -> Result<Vec<u8>, Refusal>
-    ensures ends { (taking : Taking) → MayEnd (probe_plan image.now layout.now keys.now script.now) (F.told shelf.old)
+    ensures ends { (taking : Taking) → MayEnd (probe_plan fill image.now layout.now keys.now script.now) (F.told shelf.old)
         (answer_of result) (F.told shelf.new) (map (λ b. watch b) probes.old.items)
         (record { probes = map (λ b. watch b) probes.new.items; taking = taking; log = [] }) }
     ensures read { result ≡ Err Refusal.Read → Rose (F.faults shelf.old) (F.faults shelf.new) }
@@ -136,6 +137,6 @@ pub fn over_probe<F: Shelf>(
     let layout = layout_in(alloc, &document)?;
     let text = fetch_file(alloc, shelf, keys, Kind::Keys)?;
     let history = history_in(alloc, &text, &layout)?;
-    let debuggee = Debuggee::of_program(image, history);
+    let debuggee = Debuggee::of_program(image, history).with_fill(fill);
     over_script(alloc, debuggee, script, shelf, probes)
 }

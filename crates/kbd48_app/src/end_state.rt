@@ -1,7 +1,7 @@
 //! The state at a run's end, said where it is wanted.
 
 ghost use Rattle.std.specs.Prelude.{◌≡◌, [], if◌then◌else◌, OnErr, OnOk};
-ghost use Rattle.io_edge.specs.Said.{IsBrokenOff, IsSaid, shown};
+ghost use Rattle.io_edge.specs.Said.{IsBrokenOff, IsSaid};
 ghost use Rattle.mcs48_core.specs.StateText.{state_text_of};
 
 use arrayvec::ArrayVec;
@@ -30,11 +30,9 @@ pub fn put_end<K: Sink>(
     cycles: u64,
     wanted: bool,
 ) -> Result<(), SinkFault>
-    ensures said { OnOk result (IsSaid (shown (K.taken out.old) (K.told out.old) (K.faults out.old))
-        (shown (K.taken out.new) (K.told out.new) (K.faults out.new))
+    ensures said { OnOk result (IsSaid (K.shown out.old) (K.shown out.new)
         (if wanted then state_text_of end.now steps cycles else [])) }
-    ensures broken { OnErr result (IsBrokenOff (shown (K.taken out.old) (K.told out.old) (K.faults out.old))
-        (shown (K.taken out.new) (K.told out.new) (K.faults out.new))
+    ensures broken { OnErr result (IsBrokenOff (K.shown out.old) (K.shown out.new)
         (if wanted then state_text_of end.now steps cycles else [])) }
 {
     if !wanted {

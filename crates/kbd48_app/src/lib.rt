@@ -19,6 +19,7 @@ mod judging;
 mod kind;
 mod latency;
 mod law;
+mod options;
 mod refusal;
 mod sampling;
 mod spelling;

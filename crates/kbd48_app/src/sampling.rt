@@ -1,7 +1,6 @@
 //! `sample`: a run of the sample layout under so many strokes of keys, and what it counts.
 
 ghost use Rattle.std.specs.Prelude.{◌≡◌, ◌≤◌, [], map, Err, IfOk, MatchResult, Ok};
-ghost use Rattle.io_edge.specs.Said.{shown};
 ghost use Rattle.subsystem.specs.Counts.{none_counted, with_lines};
 ghost use Rattle.key_file.specs.Accepted.{IsAccepted, IsAcceptedFor};
 ghost use Rattle.layout_reader.specs.Layouts.{us84};
@@ -150,8 +149,7 @@ pub fn sample<K: Sink>(
     ensures says { let before = map (λ b. watch b) probes.old.items in
         let after = map (λ b. watch b) probes.new.items in
         IsSpoken (λ answer taking log. MayAnswerSample count answer before after × (log ≡ []))
-        result (shown (K.taken out.old) (K.told out.old) (K.faults out.old))
-        (shown (K.taken out.new) (K.told out.new) (K.faults out.new)) }
+        result (K.shown out.old) (K.shown out.new) }
     ensures unread { result ≡ Err Refusal.Read → ⊥ }
 {
     runs_are_expected();

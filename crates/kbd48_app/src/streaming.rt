@@ -2,7 +2,7 @@
 //! lines.
 
 ghost use Rattle.std.specs.Prelude.{◌≡◌, ◌≤◌, [], if◌then◌else◌, Err, length, map, OnErr, OnOk};
-ghost use Rattle.io_edge.specs.Said.{IsBrokenOff, IsSaid, shown};
+ghost use Rattle.io_edge.specs.Said.{IsBrokenOff, IsSaid};
 ghost use Rattle.story_run.specs.Gliding.{history_of};
 ghost use Rattle.subsystem.specs.Running.{IsOutcome, Outcome};
 ghost use Rattle.key_file.specs.Accepted.{IsAccepted};
@@ -40,10 +40,8 @@ fn start_line(number: usize, stamp: u64) -> ArrayVec<u8, 64>
 
 /// Puts a line a tick start.
 fn put_starts<K: Sink>(out: &mut K, starts: &[u64]) -> Result<(), SinkFault>
-    ensures said { OnOk result (IsSaid (shown (K.taken out.old) (K.told out.old) (K.faults out.old))
-        (shown (K.taken out.new) (K.told out.new) (K.faults out.new)) (start_lines 0 starts.now)) }
-    ensures broken { OnErr result (IsBrokenOff (shown (K.taken out.old) (K.told out.old) (K.faults out.old))
-        (shown (K.taken out.new) (K.told out.new) (K.faults out.new)) (start_lines 0 starts.now)) }
+    ensures said { OnOk result (IsSaid (K.shown out.old) (K.shown out.new) (start_lines 0 starts.now)) }
+    ensures broken { OnErr result (IsBrokenOff (K.shown out.old) (K.shown out.new) (start_lines 0 starts.now)) }
 {
     for number in 0..starts.len() {
         say(out, &start_line(number, starts[number]))?;
@@ -53,11 +51,9 @@ fn put_starts<K: Sink>(out: &mut K, starts: &[u64]) -> Result<(), SinkFault>
 
 /// Puts a run's tick starts, where they are wanted.
 fn put_ticks<K: Sink>(out: &mut K, starts: &[u64], wanted: bool) -> Result<(), SinkFault>
-    ensures said { OnOk result (IsSaid (shown (K.taken out.old) (K.told out.old) (K.faults out.old))
-        (shown (K.taken out.new) (K.told out.new) (K.faults out.new))
+    ensures said { OnOk result (IsSaid (K.shown out.old) (K.shown out.new)
         (if wanted then start_lines 0 starts.now else [])) }
-    ensures broken { OnErr result (IsBrokenOff (shown (K.taken out.old) (K.told out.old) (K.faults out.old))
-        (shown (K.taken out.new) (K.told out.new) (K.faults out.new))
+    ensures broken { OnErr result (IsBrokenOff (K.shown out.old) (K.shown out.new)
         (if wanted then start_lines 0 starts.now else [])) }
 {
     if !wanted {
@@ -77,11 +73,10 @@ fn put_run<F: Feed, K: Sink>(
 ) -> Result<(), SinkFault>
     requires accepted { IsAccepted (history_of engine) }
     ensures said { OnOk result ((run : Outcome) × IsOutcome engine run
-        × IsSaid (shown (K.taken out.old) (K.told out.old) (K.faults out.old))
-        (shown (K.taken out.new) (K.told out.new) (K.faults out.new)) (run_text ticks steps run)
+        × IsSaid (K.shown out.old) (K.shown out.new) (run_text ticks steps run)
         × HaveLookedAtAll engine run.steps (map (λ b. watch b) probes.old.items) (map (λ b. watch b) probes.new.items)) }
-    ensures broken { let first = shown (K.taken out.old) (K.told out.old) (K.faults out.old) in
-        let last = shown (K.taken out.new) (K.told out.new) (K.faults out.new) in
+    ensures broken { let first = K.shown out.old in
+        let last = K.shown out.new in
         OnErr result ((run : Outcome) × IsOutcome engine run × IsBrokenOff first last (run_text ticks steps run)
         × HaveLookedToCut ticks steps engine run first last (map (λ b. watch b) probes.old.items)
         (map (λ b. watch b) probes.new.items)) }
@@ -107,8 +102,7 @@ pub fn stream<K: Sink>(
         let after = map (λ b. watch b) probes.new.items in
         IsSpoken (λ answer taking log. MayTell (RunCommand.Log ticks steps) layout.now text.now answer before
         (record { probes = after; taking = taking; log = log }))
-        result (shown (K.taken out.old) (K.told out.old) (K.faults out.old))
-        (shown (K.taken out.new) (K.told out.new) (K.faults out.new)) }
+        result (K.shown out.old) (K.shown out.new) }
     ensures unread { result ≡ Err Refusal.Read → ⊥ }
 {
     runs_are_expected();

@@ -3,7 +3,7 @@
 ghost use Rattle.std.specs.Prelude.{◌≡◌, ℕ, ◌-◌, ◌^◌, ◌<◌, ◌⊎◌, List, length, map, true, false, None, Some, IfSome};
 ghost use Rattle.hexfile.specs.declared.fault.HexFault.{HexFault};
 ghost use Rattle.io_edge.specs.Faults.{Rose};
-ghost use Rattle.io_edge.specs.Said.{TakesAll, said, shown};
+ghost use Rattle.io_edge.specs.Said.{TakesAll, said};
 ghost use Rattle.layout_reader.specs.Faults.{Refusal as LayoutRefusal};
 ghost use Rattle.kbd48_app.specs.declared.kind.Kind.{Kind};
 ghost use Rattle.kbd48_app.specs.Answers.{MayAnswer};
@@ -30,8 +30,7 @@ use std::alloc::Global;
 
 /// Prints a text, and ends with this exit, or with `Write` where the sink fails.
 fn print<K: Sink>(out: &mut K, text: &[u8], exit: Exit) -> Exit
-    ensures says { Prints text.now exit (shown (K.taken out.old) (K.told out.old) (K.faults out.old))
-        (shown (K.taken out.new) (K.told out.new) (K.faults out.new)) result }
+    ensures says { Prints text.now exit (K.shown out.old) (K.shown out.new) result }
 {
     match say(out, text) {
         Ok(()) => exit,
@@ -42,8 +41,7 @@ fn print<K: Sink>(out: &mut K, text: &[u8], exit: Exit) -> Exit
 /// Prints the line of a refusal, and ends with its exit, or with `Write` where the sink fails.
 fn print_refusal<K: Sink>(out: &mut K, refusal: &Refusal) -> Exit
     ensures says { Prints (line_of refusal.now) (exit_of refusal.now)
-        (shown (K.taken out.old) (K.told out.old) (K.faults out.old))
-        (shown (K.taken out.new) (K.told out.new) (K.faults out.new)) result }
+        (K.shown out.old) (K.shown out.new) result }
 {
     print(out, &refusal.line(), refusal.exit())
 }
@@ -51,8 +49,7 @@ fn print_refusal<K: Sink>(out: &mut K, refusal: &Refusal) -> Exit
 /// Prints what is left of an answer to be said, and ends with its exit, or with `Write` where the sink fails or has
 /// failed.
 fn conclude<K: Sink>(out: &mut K, answer: &Result<Spoken, Refusal>) -> Exit
-    ensures concludes { Concludes answer.now (shown (K.taken out.old) (K.told out.old) (K.faults out.old))
-        (shown (K.taken out.new) (K.told out.new) (K.faults out.new)) result }
+    ensures concludes { Concludes answer.now (K.shown out.old) (K.shown out.new) result }
 {
     match answer {
         Ok(Spoken::Text(text)) => print(out, text, Exit::Done),
@@ -88,8 +85,8 @@ pub fn kbd48<F: Shelf, K: Sink>(
     // the one that the step which said this line led to.
     ensures says { let before = map (λ b. watch b) probes.old.items in
         let after = map (λ b. watch b) probes.new.items in
-        let first = shown (K.taken out.old) (K.told out.old) (K.faults out.old) in
-        let last = shown (K.taken out.new) (K.told out.new) (K.faults out.new) in
+        let first = K.shown out.old in
+        let last = K.shown out.new in
         (log : List ℕ) × (answer : Answer)
         × MayAnswer (texts words.now) (F.told shelf.old) answer (F.told shelf.new) before
         (record { probes = after; taking = taking_of result first last; log = log })
@@ -146,19 +143,19 @@ pub fn kbd48<F: Shelf, K: Sink>(
     // line is all that is said.
     ensures memory_first { takes_memory_first (asked words.now) ≡ true → result ≡ Exit.Memory
         → (map (λ b. watch b) probes.new.items ≡ map (λ b. watch b) probes.old.items)
-        × TakesAll (K.taken out.old) (K.taken out.new) (line_of Refusal.Memory) }
+        × TakesAll (K.shown out.old).taken (K.shown out.new).taken (line_of Refusal.Memory) }
     // Write: only where the sink's count of faults rose, and where it did, nothing else comes.
-    ensures write { result ≡ Exit.Write → Rose (K.faults out.old) (K.faults out.new) }
-    ensures put_failed { K.faults out.old < K.faults out.new → result ≡ Exit.Write }
+    ensures write { result ≡ Exit.Write → Rose (K.shown out.old).faults (K.shown out.new).faults }
+    ensures put_failed { (K.shown out.old).faults < (K.shown out.new).faults → result ≡ Exit.Write }
     // Where nothing stands in the way, and no put failed, only want of memory is left, or in `step` and `board` a byte
     // without an instruction.
     ensures complete { IsFaultless (length probes.old.items) (texts words.now) (F.told shelf.old)
-        → K.faults out.new ≡ K.faults out.old → K.faults out.old < 2 ^ 64 - 1
+        → (K.shown out.new).faults ≡ (K.shown out.old).faults → (K.shown out.old).faults < 2 ^ 64 - 1
         → IsLeft (asked words.now) result }
     // The same, of a sink that tells itself, where no put of what was said failed.
-    ensures complete_told { IfSome (K.told out.old) (λ sink.
+    ensures complete_told { IfSome (K.shown out.old).told (λ sink.
         IsFaultless (length probes.old.items) (texts words.now) (F.told shelf.old)
-        → (text : List ℕ) × (K.told out.new ≡ Some (said text sink).sink)
+        → (text : List ℕ) × ((K.shown out.new).told ≡ Some (said text sink).sink)
         × ((said text sink).failed ≡ false → IsLeft (asked words.now) result)) }
     // The fetches: those that the words come to, in their order, and no others.
     ensures fetches { IfSome (F.told shelf.old) (λ told.

@@ -2,7 +2,6 @@
 
 ghost use Rattle.std.specs.Prelude.{◌≡◌, ◌≤◌, List, Err, length};
 ghost use Rattle.board_probes.specs.Probes.{Watch};
-ghost use Rattle.io_edge.specs.Said.{shown};
 ghost use Rattle.kbd48_app.specs.declared.kind.Kind.{Kind};
 ghost use Rattle.kbd48_app.specs.Kinds.{limit_of};
 ghost use Rattle.kbd48_app.specs.declared.words.RunCommand.{RunCommand};
@@ -12,11 +11,10 @@ ghost use Rattle.kbd48_app.specs.Telling.{MayTell};
 use crate::judging::events_in;
 use crate::refusal::Refusal;
 use crate::spoken::Spoken;
-use agreement::run_and_model_agree;
 use io_edge::{Sink, SinkFault};
 use layout_reader::Layout;
 use std::alloc::Global;
-use subsystem::runs_are_expected;
+use subsystem::{runs_are_expected, runs_come_to_outcomes};
 use wire_trace::{TraceFault, trace};
 
 /// `trace`, of a layout and the text of a key file. The text is judged in one pass, all memory is taken, and then each
@@ -31,12 +29,11 @@ pub fn trace_wires<K: Sink>(
     ensures says { (probes : List Watch) →
         IsSpoken (λ answer taking log. MayTell RunCommand.Trace layout.now text.now answer probes
         (record { probes = probes; taking = taking; log = log }))
-        result (shown (K.taken out.old) (K.told out.old) (K.faults out.old))
-        (shown (K.taken out.new) (K.told out.new) (K.faults out.new)) }
+        result (K.shown out.old) (K.shown out.new) }
     ensures unread { result ≡ Err Refusal.Read → ⊥ }
 {
     runs_are_expected();
-    run_and_model_agree();
+    runs_come_to_outcomes();
     let feed = events_in(text, layout)?;
     match trace(alloc, layout, feed, out) {
         Err(TraceFault::Memory) => Err(Refusal::Memory),

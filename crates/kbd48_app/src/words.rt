@@ -1,15 +1,14 @@
 //! The words that follow the program's name, read by their places.
 
-ghost use Rattle.std.specs.Prelude.{◌≡◌, ◌<◌, ◌≤◌, codes, length, map, string_bytes, IfSome};
-ghost use Rattle.std.specs.Str.{bytes_eq};
+ghost use Rattle.std.specs.Prelude.{◌≡◌, ◌<◌, ◌≤◌, length, map, string_bytes, IfSome};
 ghost use Rattle.std.specs.Char.{is_ascii_digit};
 ghost use Rattle.std.specs.List.{list_all};
 ghost use Rattle.kbd48_app.specs.Words.{is_name, is_short_number, count_of, step_of, named_of, pair_of, debug_of, probe_of};
-ghost use Rattle.kbd48_app.specs.Words.{are_both, board_of, board_option_of};
-ghost use Rattle.kbd48_app.specs.Words.{log_of, run_of, feed_of, sample_of, command_of, files_in, is_form};
+ghost use Rattle.kbd48_app.specs.Words.{run_of, board_of, feed_of, sample_of, command_of, files_in, is_form};
 
 use crate::bytes::KeyboardBytes;
 use crate::kind::Kind;
+use crate::options::{read_board_options, read_probe_option, read_run_options};
 use crate::strokes::Strokes;
 
 /// The greatest COUNT of steps.
@@ -59,6 +58,13 @@ pub enum BoardCommand {
     Trace,
 }
 
+/// A run on the board: what is told of it, and the byte that data memory, A and T hold at power-on.
+#[derive(Clone, Copy, Debug, PartialEq, Eq, Drop)]
+pub struct BoardRun {
+    pub told: BoardCommand,
+    pub fill: u8,
+}
+
 /// A command, as the words give it.
 #[derive(Debug, Drop)]
 pub enum Command {
@@ -68,12 +74,12 @@ pub enum Command {
     OverPair(PairCommand),
     /// `debug` NAME NAME NAME: a layout, a key file for it, and a script. They are the three words behind the command.
     Debug,
-    /// `probe` NAME NAME NAME NAME: a HEX image, a layout, a key file for it, and a script. They are the four words behind
+    /// `probe` NAME NAME NAME NAME and its option: a HEX image, a layout, a key file for it, and a script. They are the four
+    /// words behind the command. With `--fill`, the byte that data memory, A and T hold at power-on, and else 00.
+    Probe { fill: u8 },
+    /// `board` NAME NAME NAME and its options: a HEX image, a layout, and a key file for it. They are the three words behind
     /// the command.
-    Probe,
-    /// `board` NAME NAME NAME and its option: a HEX image, a layout, and a key file for it. They are the three words behind
-    /// the command.
-    Board(BoardCommand),
+    Board(BoardRun),
     /// `words` BYTE ..
     Feed(KeyboardBytes),
     /// `sample` COUNT
@@ -182,69 +188,17 @@ fn read_debug(words: &[String]) -> Option<Command>
     }
 }
 
-/// `probe` NAME NAME NAME NAME
+/// `probe` NAME NAME NAME NAME, and its option.
 fn read_probe(words: &[String]) -> Option<Command>
     ensures command { result ≡ probe_of (map string_bytes words.now) }
     ensures named { IfSome result (λ command. files_in command ≤ length words.now) }
 {
     match words {
-        [image, layout, keys, script]
+        [image, layout, keys, script, options @ ..]
             if is_name(image) && is_name(layout) && is_name(keys) && is_name(script) => {
-            Some(Command::Probe)
+            let fill = read_probe_option(options)?;
+            Some(Command::Probe { fill })
         }
-        _ => None,
-    }
-}
-
-/// Whether the word is the option for a run's tick starts.
-fn is_ticks(word: &str) -> bool
-    ensures { result ≡ bytes_eq word.now (codes "--ticks") }
-{
-    word == "--ticks"
-}
-
-/// Whether the word is the option for the state at a run's end.
-fn is_steps(word: &str) -> bool
-    ensures { result ≡ bytes_eq word.now (codes "--steps") }
-{
-    word == "--steps"
-}
-
-/// Whether the word is the option for the two wires.
-fn is_trace(word: &str) -> bool
-    ensures { result ≡ bytes_eq word.now (codes "--trace") }
-{
-    word == "--trace"
-}
-
-/// Whether two words are both options of `run`, in either order.
-fn are_both(first: &str, second: &str) -> bool
-    ensures { result ≡ are_both first.now second.now }
-{
-    is_ticks(first) && is_steps(second) || is_steps(first) && is_ticks(second)
-}
-
-/// The options of `run`, each at most once.
-fn read_options(words: &[String]) -> Option<RunCommand>
-    ensures { result ≡ log_of (map string_bytes words.now) }
-{
-    match words {
-        [] => Some(RunCommand::Log {
-            ticks: false,
-            steps: false,
-        }),
-        [option] if is_ticks(option) => Some(RunCommand::Log {
-            ticks: true,
-            steps: false,
-        }),
-        [option] if is_steps(option) => Some(RunCommand::Log {
-            ticks: false,
-            steps: true,
-        }),
-        [first, second] if are_both(first, second) => Some(RunCommand::Log {
-            ticks: true,
-            steps: true,
-        }),
         _ => None,
     }
 }
@@ -256,26 +210,14 @@ fn read_run(words: &[String]) -> Option<Command>
 {
     match words {
         [first, second, options @ ..] if is_name(first) && is_name(second) => {
-            let command = read_options(options)?;
+            let command = read_run_options(options)?;
             Some(Command::OverPair(PairCommand::OverRun(command)))
         }
         _ => None,
     }
 }
 
-/// The options of `board`, of which there is one at most.
-fn read_board_option(words: &[String]) -> Option<BoardCommand>
-    ensures { result ≡ board_option_of (map string_bytes words.now) }
-{
-    match words {
-        [] => Some(BoardCommand::Log { steps: false }),
-        [option] if is_steps(option) => Some(BoardCommand::Log { steps: true }),
-        [option] if is_trace(option) => Some(BoardCommand::Trace),
-        _ => None,
-    }
-}
-
-/// `board` NAME NAME NAME, and its option.
+/// `board` NAME NAME NAME, and its options.
 fn read_board(words: &[String]) -> Option<Command>
     ensures command { result ≡ board_of (map string_bytes words.now) }
     ensures named { IfSome result (λ command. files_in command ≤ length words.now) }
@@ -283,7 +225,7 @@ fn read_board(words: &[String]) -> Option<Command>
     match words {
         [image, layout, keys, options @ ..] if is_name(image) && is_name(layout) && is_name(keys) =>
             {
-                let wanted = read_board_option(options)?;
+                let wanted = read_board_options(options)?;
                 Some(Command::Board(wanted))
             }
         _ => None,

@@ -69,22 +69,29 @@ null_good h fits = (and_tt (has_ty (layout Z) h) fits.0, (record { fits = lit< t
 
 module _ {M : Type 1} {𝓤 : Ura M} {𝓛 : Logic 𝓤} {K : Type 0} {Γ : List (Item 𝓤)} {G : Goal 𝓤 𝓛.H} where
   pub handle_in : K → (p : Ptr) (h : Val) (a : Global) (m : Option Keyboard)
-      → Step K 𝓛 (‵ (Ha.own_val (record { at = p; alloc = a; keyboard = m }) (both (ptr_val p) h ∷ [])) ∷ Γ) G (‵ (held_at a p m) ∷ ‵ (Z.own_val a (h ∷ [])) ∷ Γ) G
+      → Step K 𝓛 (‵ (Ha.own_val (record { at = p; alloc = a; keyboard = m }) (both (ptr_val p) h ∷ [])) ∷ Γ)
+      G (‵ (held_at a p m) ∷ ‵ (Z.own_val a (h ∷ [])) ∷ Γ) G
   handle_in t p h a m = step (λ s. let v : Val = both (ptr_val p) h in
-      nothing t $ move t (2 ∷ 0 ∷ []) $ fjoin t $ feq_i t (List Val) (ptr_val p ∷ []) (ptr_val p ∷ []) refl $ fjoin t $ feq_i t (List Val) (v ∷ []) (v ∷ []) refl $ fjoin t $
-      fpack t (Valss (RawPtr ∷ (heap.the_field).row ∷ [])) (within (shape handle.the_type) (p, ((heap.the_field).into a, tt)) (v ∷ [])) (ptr_val p ∷ [], (h ∷ [], tt)) $ fjoin t $ s)
+      nothing t $ move t (2 ∷ 0 ∷ []) $ fjoin t $ feq_i t (List Val) (ptr_val p ∷ []) (ptr_val p ∷ []) refl $ fjoin t $
+      feq_i t (List Val) (v ∷ []) (v ∷ []) refl $ fjoin t $
+      fpack t (Valss (RawPtr ∷ (heap.the_field).row ∷ [])) (within (shape handle.the_type) (p, ((heap.the_field).into a, tt)) (v ∷ []))
+      (ptr_val p ∷ [], (h ∷ [], tt)) $ fjoin t $ s)
 
   pub handle_out : K → (d : Ha.Denot) (vs : List Val)
-      → ((h : Val) → vs ≡ both (ptr_val d.at) h ∷ [] → Good (layout Z) h → Seq K 𝓛 (‵ (held_at d.alloc d.at d.keyboard) ∷ ‵ (Z.own_val d.alloc (h ∷ [])) ∷ Γ) G)
+      → ((h : Val) → vs ≡ both (ptr_val d.at) h ∷ []
+      → Good (layout Z) h → Seq K 𝓛 (‵ (held_at d.alloc d.at d.keyboard) ∷ ‵ (Z.own_val d.alloc (h ∷ [])) ∷ Γ) G)
       → Seq K 𝓛 (‵ (Ha.own_val d vs) ∷ Γ) G
   handle_out t d vs k =
-      fsplit t $ fpick t (λ vss. fsplit t $ feq_l t (λ ev. fsplit t $ feq_l t (λ ep. fsplit t $ handle_tells al t d.alloc vss.1.0 (λ h ea fits. move t (1 ∷ []) $ drop t $ move t (1 ∷ []) $ k h
-      (subst (λ (ws : List Val). vs ≡ vstruct (of_list (ptr_val d.at ∷ (ws ++ []))) ∷ []) ea (subst (λ (ps : List Val). vs ≡ vstruct (of_list (ps ++ (vss.1.0 ++ []))) ∷ []) ep ev)) fits))))
+      fsplit t $ fpick t (λ vss. fsplit t $ feq_l t (λ ev. fsplit t $
+      feq_l t (λ ep. fsplit t $ handle_tells al t d.alloc vss.1.0 (λ h ea fits. move t (1 ∷ []) $ drop t $ move t (1 ∷ []) $ k h
+      (subst (λ (ws : List Val). vs ≡ vstruct (of_list (ptr_val d.at ∷ (ws ++ []))) ∷ []) ea
+      (subst (λ (ps : List Val). vs ≡ vstruct (of_list (ps ++ (vss.1.0 ++ []))) ∷ []) ep ev)) fits))))
 
   -- the two cases of what a handle owns
   pub held_cases : K → (a : Global) (p : Ptr) (m : Option Keyboard)
       → (p ≡ null_ptr → m ≡ None → Seq K 𝓛 Γ G)
-      → ((b o : ℕ) (s : Keyboard) → p ≡ block_ptr b o → m ≡ Some s → Testable (block_ptr b o) → Seq K 𝓛 (‵ (box_owns (ghosts.dealloc_token a) R (block_ptr b o) s) ∷ Γ) G)
+      → ((b o : ℕ) (s : Keyboard) → p ≡ block_ptr b o
+      → m ≡ Some s → Testable (block_ptr b o) → Seq K 𝓛 (‵ (box_owns (ghosts.dealloc_token a) R (block_ptr b o) s) ∷ Γ) G)
       → Seq K 𝓛 (‵ (held_at a p m) ∷ Γ) G
   held_cases t a null_ptr None none one = drop t $ none refl refl
   held_cases t a null_ptr (Some s) none one = use1 𝓛 (given ⊥ (‵ ftrue)) (never_e 𝓤 _) $ learn t (λ x. absurd x)
@@ -92,5 +99,7 @@ module _ {M : Type 1} {𝓤 : Ura M} {𝓛 : Logic 𝓤} {K : Type 0} {Γ : List
   held_cases t a (block_ptr b o) (Some s) none one =
       let p : Ptr = block_ptr b o in let B = sem 𝓛 (box_owns (ghosts.dealloc_token a) R p s) in
       use1 𝓛 (given (Testable p) (‵ (box_owns (ghosts.dealloc_token a) R p s)))
-      (fact_use 𝓤 (Testable p) (via 𝓤 _ (snd∗ 𝓤 (sem 𝓛 (lies_at R full_share p s)) (sem 𝓛 (ghosts.dealloc_token a (bare (lone R.mir)) p))) (dealloc_token-Testable 𝓛 a (bare (lone R.mir)) p)) (guard_i 𝓤 (Testable p) B)) $
+      (fact_use 𝓤 (Testable p)
+      (via 𝓤 _ (snd∗ 𝓤 (sem 𝓛 (lies_at R full_share p s)) (sem 𝓛 (ghosts.dealloc_token a (bare (lone R.mir)) p)))
+      (dealloc_token-Testable 𝓛 a (bare (lone R.mir)) p)) (guard_i 𝓤 (Testable p) B)) $
       learn t (λ e. one b o s refl refl e)

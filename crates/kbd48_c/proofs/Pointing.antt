@@ -11,7 +11,8 @@ use Rattle.std_alloc.proofs.BoxSteps.Form as box
 use Rattle.kbd48_c.specs.contracts.pointer.BoxPointer as pointer
 
 -- a run at the one machine value that the parameter is stored as
-pub at_word : {M : Type 1} (𝓤 : Ura M) (Run : List Val → SProp 𝓤) (vs : List Val) (w : Val) → vs ≡ w ∷ [] → ent 𝓤 (Run (w ∷ [])) (Run (vs ++ []))
+pub at_word : {M : Type 1} (𝓤 : Ura M) (Run : List Val → SProp 𝓤) (vs : List Val) (w : Val)
+    → vs ≡ w ∷ [] → ent 𝓤 (Run (w ∷ [])) (Run (vs ++ []))
 at_word 𝓤 Run vs w is = subst (λ (us : List Val). ent 𝓤 (Run (w ∷ [])) (Run (us ++ []))) (sym is) (id⊢ 𝓤 (Run (w ∷ [])))
 
 module _ (E : box.Bx) where
@@ -28,7 +29,8 @@ module _ (E : box.Bx) where
   beside p b o h ps hs is at has = λ i. vstruct (of_list ((is ∙ ap (λ (q : Ptr). ptr_val q ∷ []) at) i ++ (has i ++ [])))
 
   module _ {M : Type 1} {𝓤 : Ura M} {𝓛 : Logic 𝓤} {K : Type 0} {Γ : List (Item 𝓤)} {G : Goal 𝓤 𝓛.H} where
-    pub to_pointer : K → (b : box.D E) (vs : List Val) → Step K 𝓛 (‵ (Pointing.own_val (pointed b) vs) ∷ Γ) G (‵ ((box.B E).own_val b vs) ∷ Γ) G
+    pub to_pointer : K
+        → (b : box.D E) (vs : List Val) → Step K 𝓛 (‵ (Pointing.own_val (pointed b) vs) ∷ Γ) G (‵ ((box.B E).own_val b vs) ∷ Γ) G
     to_pointer t b vs = step (λ s. use1 𝓛 (‵ (Pointing.own_val (pointed b) vs)) (id⊢ 𝓤 _) $ s)
 
     pub to_box : K → (b : box.D E) (vs : List Val) → Step K 𝓛 (‵ ((box.B E).own_val b vs) ∷ Γ) G (‵ (Pointing.own_val (pointed b) vs) ∷ Γ) G

@@ -6,7 +6,8 @@ use Rattle.live_board.specs.declared.parts.Parts.{Parts as Keyboard}
 use Rattle.kbd48_c.specs.Exports.{Through}
 
 pub through_call : (does : Keyboard → ℤ → Keyboard → Type 0) (old new : Option Keyboard) (status : ℤ) (k taken after : Keyboard)
-    → SFits w32 status → k ≡ taken → Some taken ≡ old → new ≡ Some after → does k status after → Through does old (to_z w32 (of_z w32 status)) new
+    → SFits w32 status
+    → k ≡ taken → Some taken ≡ old → new ≡ Some after → does k status after → Through does old (to_z w32 (of_z w32 status)) new
 through_call does old new status k taken after fits same was is h =
     subst (λ s. Through does old s new) (sym (to_z-of_z w32 status fits))
     (subst (λ o. Through does o status new) was (subst (λ t. Through does (Some t) status new) same (after, is, h)))

@@ -3,7 +3,7 @@ pub mod Silent
 pub mod Known
 pub mod Edges
 pub mod Order
-pub mod Whole
+pub mod CodesAreWhole
 pub mod Once
 pub mod Adds
 pub mod Alike

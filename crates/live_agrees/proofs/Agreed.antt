@@ -1,5 +1,6 @@
 -- The log so far is the beginning of what the model says.
-use Rattle.std.proofs.Common.{◌≡◌, ◌≤◌, ◌<◌, ℕ, suc, ◌+◌, ◌-◌, ◌*◌, true, false, List, ◌++◌, length, drop, leb, Some, refl, ap, sym, subst, ◌∙◌, arith}
+use Rattle.std.proofs.Common.{◌≡◌, ◌≤◌, ◌<◌, ℕ, suc, ◌+◌, ◌-◌, ◌*◌, true, false, List, ◌++◌}
+use Rattle.std.proofs.Common.{length, drop, leb, Some, refl, ap, sym, subst, ◌∙◌, arith}
 use Rattle.std.proofs.Math.Seq.{drop-append_seam}
 use Rattle.std.proofs.lemmas.Bool.Decides.{nat_tests}
 use Rattle.std.specs.declared.option.Option.{Option}
@@ -10,6 +11,7 @@ use Rattle.joint_feed.proofs.Going.{same_state}
 use Rattle.joint_feed.specs.Stories.{Story, state_at}
 use Rattle.joint_run.specs.Joint.{Beside, joint_board, joint_start, log_of}
 use Rattle.joint_run.specs.Run.{World, run_at}
+use Rattle.mcs48_core.specs.Reset.{reset_cpu}
 use Rattle.live_agrees.proofs.Logs.{goes_between}
 use Rattle.live_agrees.specs.Law.{AnswersAreAlike, LogsAgree, StatesAreAlike, history_of}
 use Rattle.live_board.proofs.Stepping.{here}
@@ -41,7 +43,7 @@ logs_agree law layout p stop k s is bytes accepted =
     let keeps = both.0 in
     let agrees = both.1 in
     let w = s.world in
-    let story : Story = record { bytes = image_of layout; edges = p.edges; events = p.events; stop = 0 } in
+    let story : Story = record { bytes = image_of layout; edges = p.edges; events = p.events; stop = 0; held = reset_cpu } in
     let at : state_at story p.steps ≡ Some w =
     subst (λ b. run_at (joint_board p.edges p.events) b joint_start p.steps ≡ Some w) bytes (here p k s) in
     let n : ℕ = w.cycle in

@@ -33,9 +33,11 @@ cycles_go : (hs : List HostEvent) (p2 n now : ℕ) (s : Beside) → Goes (log_of
 cycles_go hs p2 zero now s = ([], sym (append-nil (log_of s)))
 cycles_go hs p2 (suc n) now s =
     let next = joint_cycle hs p2 now s in
-    goes_then (log_of s) (log_of next) (log_of (after_cycles n (now + 1) (joint_cycle hs p2) next)) (cycle_goes hs p2 now s) (cycles_go hs p2 n (now + 1) next)
+    goes_then (log_of s) (log_of next) (log_of (after_cycles n (now + 1) (joint_cycle hs p2) next))
+    (cycle_goes hs p2 now s) (cycles_go hs p2 n (now + 1) next)
 
-after_goes : (es : List Edge) (hs : List HostEvent) (w v : World Beside) (o : Option Stepped) → after_step (joint_board es hs) w o ≡ Some v → Goes (log_of w.board) (log_of v.board)
+after_goes : (es : List Edge) (hs : List HostEvent) (w v : World Beside) (o : Option Stepped)
+    → after_step (joint_board es hs) w o ≡ Some v → Goes (log_of w.board) (log_of v.board)
 after_goes es hs w v None h = absurd cc
 after_goes es hs w v (Some n) h =
     let board = ap (λ (u : World Beside). u.board) (same_state h) in
@@ -46,7 +48,8 @@ module _ (s : Story) where
   step_goes k w v h g = after_goes s.edges s.events w v (stepped s.bytes (seen (joint_board s.edges s.events) w) w.cpu) (joined s k w v h g)
 
   -- from a state on so many steps the log goes on and the cycle doesn't fall
-  pub goes_between : (k d : ℕ) (w v : World Beside) → state_at s k ≡ Some w → state_at s (d + k) ≡ Some v → (w.cycle ≤ v.cycle) × Goes (log_of w.board) (log_of v.board)
+  pub goes_between : (k d : ℕ) (w v : World Beside)
+      → state_at s k ≡ Some w → state_at s (d + k) ≡ Some v → (w.cycle ≤ v.cycle) × Goes (log_of w.board) (log_of v.board)
   goes_between k zero w v h g =
       let z : zero + k ≡ k = omega arith in
       let e : w ≡ v = same_state (sym h ∙ ap (state_at s) (sym z) ∙ g) in

@@ -1,5 +1,6 @@
 -- The host's event is done in the first cycle of the step, and what it asks for is answered.
-use Rattle.std.proofs.Common.{◌≡◌, ◌≤◌, ◌<◌, ℕ, zero, suc, ◌+◌, Bool, true, false, not, ◌&&◌, List, [], ◌∷◌, ◌++◌, append_assoc, Some, None, refl, ap, sym, subst, ◌∙◌, arith}
+use Rattle.std.proofs.Common.{◌≡◌, ◌≤◌, ◌<◌, ℕ, zero, suc, ◌+◌, Bool, true, false, not, ◌&&◌, List, [], ◌∷◌}
+use Rattle.std.proofs.Common.{◌++◌, append_assoc, Some, None, refl, ap, sym, subst, ◌∙◌, arith}
 use Rattle.std.specs.Prelude.{◌==◌, if◌then◌else◌, is_some, nat_le, slice_get, length}
 use Rattle.std.specs.Option.{option_map_or}
 use Rattle.std.specs.declared.option.Option.{Option}
@@ -43,7 +44,11 @@ put_input None s = refl
 put_input (Some byte) s = refl
 
 wrong_input : (s : ControllerState) → (after_wrong s).input ≡ s.input
-wrong_input s = elim (asks_again s) as (λ b. (if b then record s { resends = s.resends + 1 } else gave_up s).input ≡ s.input) [ true ↦ refl | false ↦ refl ]
+wrong_input s =
+    elim (asks_again s) as (λ b. (if b then record s { resends = s.resends + 1 } else gave_up s).input ≡ s.input) [
+      | true ↦ refl
+      | false ↦ refl
+    ]
 
 core_input : (byte : Option ℕ) (s : ControllerState) → (core_after byte s).input ≡ s.input
 core_input None s = wrong_input s
@@ -52,12 +57,15 @@ core_input (Some byte) s = put_input _ _
 in_input : (now : ℕ) (dat : Bool) (w : Wire) (p : Port Wire) → (edge_in now dat w p).core.input ≡ p.core.input
 in_input now dat (Recv flip bits) p =
     let byte : Option ℕ = Rattle.board_lines.specs.Frame.byte_of (Rattle.ctl_wire.specs.Wire.turned flip (bits ++ dat ∷ [])) in
-    elim (length bits == 10) as (λ b. (if b then received now byte p else record p { link = Busy (Recv flip (bits ++ dat ∷ [])) }).core.input ≡ p.core.input) [
+    elim (length bits == 10) as (λ b.
+    (if b then received now byte p else record p { link = Busy (Recv flip (bits ++ dat ∷ [])) }).core.input ≡ p.core.input) [
       | true ↦ core_input byte p.core
       | false ↦ refl
     ]
 in_input now dat (Send byte edges) p =
-    elim (edges == 10) as (λ b. (if b then Rattle.ctl_link.specs.Link.handed_over p else record p { link = Busy (Send byte (edges + 1)) }).core.input ≡ p.core.input) [ true ↦ refl | false ↦ refl ]
+    elim (edges == 10) as (λ b.
+    (if b then Rattle.ctl_link.specs.Link.handed_over p else record p { link = Busy (Send byte (edges + 1)) }).core.input
+    ≡ p.core.input) [ true ↦ refl | false ↦ refl ]
 
 edge_input : (now : ℕ) (dat : Bool) (l : Link Wire) (p : Port Wire) → (edge_at now dat l p).core.input ≡ p.core.input
 edge_input now dat Free p = refl
@@ -68,7 +76,10 @@ edge_input now dat (Busy w) p = in_input now dat w p
 
 look_input : (now : ℕ) (clock : Bool) (line : Lines) (p : Port Wire) → (port_looked now clock line p).core.input ≡ p.core.input
 look_input now clock line p =
-    elim (clock && not line.clk) as (λ b. (if b then edge_at now line.dat p.link p else p).core.input ≡ p.core.input) [ true ↦ edge_input now line.dat p.link p | false ↦ refl ]
+    elim (clock && not line.clk) as (λ b. (if b then edge_at now line.dat p.link p else p).core.input ≡ p.core.input) [
+      | true ↦ edge_input now line.dat p.link p
+      | false ↦ refl
+    ]
 
 -- a write waits by the input buffer alone
 waits_same : (act : HostAct) (s t : ControllerState) → s.input ≡ t.input → waits act s ≡ waits act t
@@ -92,13 +103,22 @@ answered_lit : (act : HostAct) (h : Host) (now shown lights : ℕ) (items said :
 answered_lit (Write60 byte) h now shown lights items said more = tt
 answered_lit (Write64 byte) h now shown lights items said more = tt
 answered_lit Read60 h now shown lights items said more =
-    elim (lights == shown) as (λ b. IsAnswered Read60 (((if b then [] else record { cycle = now; item = Lights lights } ∷ []) ++ stamped now (((acted Read60 h).items ++ items) ++ said)) ++ more)) [ true ↦ refl | false ↦ refl ]
+    elim (lights == shown) as (λ b.
+    IsAnswered Read60
+    (((if b then [] else record { cycle = now; item = Lights lights } ∷ []) ++ stamped now (((acted Read60 h).items ++ items) ++ said))
+    ++ more)) [ true ↦ refl | false ↦ refl ]
 answered_lit Mask h now shown lights items said more = tt
 answered_lit Unmask h now shown lights items said more = tt
 answered_lit Take h now shown lights items said more =
-    elim (lights == shown) as (λ b. IsAnswered Take (((if b then [] else record { cycle = now; item = Lights lights } ∷ []) ++ stamped now (((acted Take h).items ++ items) ++ said)) ++ more)) [ true ↦ refl | false ↦ refl ]
+    elim (lights == shown) as (λ b.
+    IsAnswered Take
+    (((if b then [] else record { cycle = now; item = Lights lights } ∷ []) ++ stamped now (((acted Take h).items ++ items) ++ said))
+    ++ more)) [ true ↦ refl | false ↦ refl ]
 answered_lit Status h now shown lights items said more =
-    elim (lights == shown) as (λ b. IsAnswered Status (((if b then [] else record { cycle = now; item = Lights lights } ∷ []) ++ stamped now (((acted Status h).items ++ items) ++ said)) ++ more)) [ true ↦ refl | false ↦ refl ]
+    elim (lights == shown) as (λ b.
+    IsAnswered Status
+    (((if b then [] else record { cycle = now; item = Lights lights } ∷ []) ++ stamped now (((acted Status h).items ++ items) ++ said))
+    ++ more)) [ true ↦ refl | false ↦ refl ]
 answered_lit (Flip bit) h now shown lights items said more = tt
 
 module _ (now p2 : ℕ) (e : HostEvent) (o : Outside) (late : e.stamp + 4096 ≤ now) (room : waits e.act o.desk.port.core ≡ false) where
@@ -106,7 +126,8 @@ module _ (now p2 : ℕ) (e : HostEvent) (o : Outside) (late : e.stamp + 4096 ≤
   looked = looked_outside now (outside_wires p2 o) o
 
   is_now : is_done now (Some e) looked.desk.port.core ≡ true
-  is_now = done_now now e looked.desk.port.core late (waits_same e.act looked.desk.port.core o.desk.port.core (look_input now o.clock (outside_wires p2 o) o.desk.port) ∙ room)
+  is_now = done_now now e looked.desk.port.core late
+      (waits_same e.act looked.desk.port.core o.desk.port.core (look_input now o.clock (outside_wires p2 o) o.desk.port) ∙ room)
 
   -- the items of the first cycle, by whether the event is done
   abbrev turn_by : Bool → Turn
@@ -118,7 +139,10 @@ module _ (now p2 : ℕ) (e : HostEvent) (o : Outside) (late : e.stamp + 4096 ≤
   abbrev items_by : Bool → List Stamped
   items_by done =
       lights_said now o.shown (lights_of p2)
-      ++ stamped now ((turn_by done).items ++ said_of (settled now (broken_off is_breakable now (Rattle.host_turn.specs.Cycle.port_by (turn_by done) looked.desk.port))).did)
+      ++ stamped now
+      ((turn_by done).items
+      ++ said_of (settled now
+      (broken_off is_breakable now (Rattle.host_turn.specs.Cycle.port_by (turn_by done) looked.desk.port))).did)
 
   first_answers : (more : List Stamped) → IsAnswered e.act ((outside_cycle now p2 (Some e) o).items ++ more)
   first_answers more =
@@ -137,7 +161,8 @@ module _ (now p2 : ℕ) (e : HostEvent) (o : Outside) (late : e.stamp + 4096 ≤
   in_first : IsDone (joint_cycle (e ∷ []) p2 now (beside o 0 []))
   in_first =
       let c : Passed = outside_cycle now p2 (Some e) o in
-      let is : joint_cycle (e ∷ []) p2 now (beside o 0 []) ≡ beside c.outside (if c.done then 0 + 1 else 0) ([] ++ c.items) = cycle_is (e ∷ []) p2 now o 0 [] in
+      let is : joint_cycle (e ∷ []) p2 now (beside o 0 []) ≡ beside c.outside (if c.done then 0 + 1 else 0) ([] ++ c.items) =
+      cycle_is (e ∷ []) p2 now o 0 [] in
       record {
         one = ap (λ (b : Beside). b.pc.side.done) is ∙ ap (λ d. if d then 0 + 1 else 0) is_now;
         more = [];
@@ -150,7 +175,9 @@ module _ (now p2 : ℕ) (e : HostEvent) (o : Outside) (late : e.stamp + 4096 ≤
       let c : Passed = outside_cycle at p2 None q in
       let is : joint_cycle (e ∷ []) p2 at s ≡ beside c.outside 1 (s.pc.side.log ++ c.items) =
       cycle_is (e ∷ []) p2 at q s.pc.side.done s.pc.side.log
-      ∙ ap (λ n. beside (outside_cycle at p2 (slice_get (e ∷ []) n) q).outside (if (outside_cycle at p2 (slice_get (e ∷ []) n) q).done then n + 1 else n) (s.pc.side.log ++ (outside_cycle at p2 (slice_get (e ∷ []) n) q).items)) h.one in
+      ∙ ap (λ n. beside (outside_cycle at p2 (slice_get (e ∷ []) n) q).outside
+      (if (outside_cycle at p2 (slice_get (e ∷ []) n) q).done then n + 1 else n)
+      (s.pc.side.log ++ (outside_cycle at p2 (slice_get (e ∷ []) n) q).items)) h.one in
       let first : List Stamped = (outside_cycle now p2 (Some e) o).items in
       record {
         one = ap (λ (b : Beside). b.pc.side.done) is;
@@ -174,12 +201,15 @@ pub record HasDone (act : HostAct) (w : World Beside) : Type 0 where
   pub one : w.board.pc.side.done ≡ 1
   pub answered : IsAnswered act w.board.pc.side.log
 
-module _ (due : Due) (m : Machine) (e : HostEvent) (only : due.host.items ≡ e ∷ []) (late : e.stamp + 4096 ≤ m.cycle) (room : waits e.act m.outside.desk.port.core ≡ false) where
-  by_row : (w : World Beside) (o : Option Stepped) → m.cycle < w.cycle → after_step (due_board due m) (world_of m) o ≡ Some w → HasDone e.act w
+module _ (due : Due) (m : Machine) (e : HostEvent) (only : due.host.items ≡ e ∷ []) (late : e.stamp + 4096 ≤ m.cycle)
+    (room : waits e.act m.outside.desk.port.core ≡ false) where
+  by_row : (w : World Beside) (o : Option Stepped)
+      → m.cycle < w.cycle → after_step (due_board due m) (world_of m) o ≡ Some w → HasDone e.act w
   by_row w None l h = absurd cc
   by_row w (Some n) l h =
       let c : m.cycle + n.cycles ≡ w.cycle = ap (λ (u : World Beside). u.cycle) (same_state h) in
-      let is : after_cycles n.cycles m.cycle (joint_cycle due.host.items n.cpu.p2) (beside m.outside 0 []) ≡ w.board = ap (λ (u : World Beside). u.board) (same_state h) in
+      let is : after_cycles n.cycles m.cycle (joint_cycle due.host.items n.cpu.p2) (beside m.outside 0 []) ≡ w.board =
+      ap (λ (u : World Beside). u.board) (same_state h) in
       let same : after_cycles n.cycles m.cycle (joint_cycle (e ∷ []) n.cpu.p2) (beside m.outside 0 []) ≡ w.board =
       ap (λ hs. after_cycles n.cycles m.cycle (joint_cycle hs n.cpu.p2) (beside m.outside 0 [])) (sym only) ∙ is in
       let done : IsDone m.cycle n.cpu.p2 e m.outside late room w.board = subst (IsDone m.cycle n.cpu.p2 e m.outside late room) same

@@ -1,5 +1,6 @@
 -- Going on by quiet steps and a step behind them, with the interrupt line watched: no quiet step raises it.
-use Rattle.std.proofs.Common.{◌≡◌, ◌≤◌, ◌<◌, ℕ, zero, suc, ◌+◌, Bool, true, false, not, ◌&&◌, drop, None, Some, Ok, Err, refl, ap, sym, ◌∙◌, arith}
+use Rattle.std.proofs.Common.{◌≡◌, ◌≤◌, ◌<◌, ℕ, zero, suc, ◌+◌, Bool, true, false, not, ◌&&◌}
+use Rattle.std.proofs.Common.{drop, None, Some, Ok, Err, refl, ap, sym, ◌∙◌, arith}
 use Rattle.joint_glide.specs.Quiet.{AreQuiet, HasGone}
 use Rattle.std.specs.declared.option.Option.{Option}
 use Rattle.joint_feed.specs.Stories.{state_at}
@@ -43,7 +44,8 @@ steady : (b : Bool) → (not b && b) ≡ false
 steady true = refl
 steady false = refl
 
-pub goes_quietly : (p : Past) (old : Keyboard) (cycles : ℕ) (watched : Bool) (k : Keyboard) (tick n : ℕ) (m : Machine) → GoesOnSo p old cycles watched k
+pub goes_quietly : (p : Past) (old : Keyboard) (cycles : ℕ) (watched : Bool) (k : Keyboard) (tick n : ℕ) (m : Machine)
+    → GoesOnSo p old cycles watched k
     → AreQuiet k.due tick n k.joint m → m.cycle ≤ old.joint.cycle + cycles → GoesOnSo p old cycles watched (record k { joint = m })
 goes_quietly p old cycles watched k tick zero m so h room = goes_still p old cycles watched k (record k { joint = m }) h refl so
 goes_quietly p old cycles watched k tick (suc n) m so h room =
@@ -53,12 +55,14 @@ goes_quietly p old cycles watched k tick (suc n) m so h room =
     let at = ap (λ (x : Machine). x.cycle) q.parts in
     let here : Keyboard = record k { joint = between } in
     let next : Keyboard = record { joint = m; due = k.due; seen = q.seen } in
-    let before : GoesOnSo p old cycles watched here = goes_quietly p old cycles watched k tick n between so h.1 (omega (arith, at, some, room)) in
+    let before : GoesOnSo p old cycles watched here =
+    goes_quietly p old cycles watched k tick n between so h.1 (omega (arith, at, some, room)) in
     let left : k.due.edges.items ≡ drop q.seen.edges k.due.edges.items = ap (λ e. drop e k.due.edges.items) (sym q.edges) in
     let t : Stands (gone_on p m.steps) next = one_on (gone_on p between.steps) here before.stands next q.step q.run left refl in
     let steps = (counted k.due between m q.seen q.step).1 in
     let flat : (not (raises between.outside.desk.port.core) && raises m.outside.desk.port.core) ≡ false =
-    ap (λ (o : Outside). not (raises between.outside.desk.port.core) && raises o.desk.port.core) (ap (λ (x : Machine). x.outside) q.parts) ∙ steady (raises between.outside.desk.port.core) in
+    ap (λ (o : Outside). not (raises between.outside.desk.port.core) && raises o.desk.port.core) (ap (λ (x : Machine). x.outside) q.parts)
+    ∙ steady (raises between.outside.desk.port.core) in
     goes_still p old cycles watched next (record k { joint = m }) refl refl
     (goes_more p old cycles watched here next before t steps (omega (arith, at, some, room)) (λ is. flat))
 
@@ -78,7 +82,8 @@ module _ (k new : Keyboard) (most : ℕ) (g : HasGone k.due 2048 most k.joint (O
       let cycles = (counted k.due g.last new.joint new.seen g.step).0 in
       omega (arith, later, cycles, some)
 
-  module _ (p : Past) (old : Keyboard) (cycles : ℕ) (watched : Bool) (so : GoesOnSo p old cycles watched k) (room : k.joint.cycle + most < old.joint.cycle + cycles)
+  module _ (p : Past) (old : Keyboard) (cycles : ℕ) (watched : Bool) (so : GoesOnSo p old cycles watched k)
+      (room : k.joint.cycle + most < old.joint.cycle + cycles)
       (left : new.due.edges.items ≡ drop new.seen.edges k.due.edges.items) (same : new.due.host ≡ k.due.host) where
     abbrev before : Keyboard
     before = record k { joint = g.last }
@@ -95,7 +100,8 @@ module _ (k new : Keyboard) (most : ℕ) (g : HasGone k.due 2048 most k.joint (O
     pub stands_on : Stands (gone_on p new.joint.steps) new
     stands_on = one_on (gone_on p g.last.steps) before so_last.stands new g.step g.run left same
 
-    pub goes_all : (watched ≡ true → (not (raises k.joint.outside.desk.port.core) && raises new.joint.outside.desk.port.core) ≡ false) → GoesOnSo p old cycles watched new
+    pub goes_all : (watched ≡ true → (not (raises k.joint.outside.desk.port.core) && raises new.joint.outside.desk.port.core) ≡ false)
+        → GoesOnSo p old cycles watched new
     goes_all flat =
         goes_more p old cycles watched before new so_last stands_on one_step last_room
         (λ is. ap (λ x. not x && raises new.joint.outside.desk.port.core) (same_line k g.count g.last g.quiet) ∙ flat is)
@@ -120,18 +126,21 @@ stuck_same : (due : Due) (old new : Machine) (stuck : Stuck) (o : Option (World 
 stuck_same due old new stuck None h = h.1
 stuck_same due old new stuck (Some w) h = absurd h
 
-pub stuck_later : (k new : Keyboard) (most : ℕ) (stuck : Stuck) → HasGone k.due 2048 most k.joint (Err stuck) new.joint → k.joint.cycle ≤ new.joint.cycle
+pub stuck_later : (k new : Keyboard) (most : ℕ) (stuck : Stuck)
+    → HasGone k.due 2048 most k.joint (Err stuck) new.joint → k.joint.cycle ≤ new.joint.cycle
 stuck_later k new most stuck g =
     let later = only_later k g.count g.last g.quiet in
     let cycle = ap (λ (m : Machine). m.cycle) (stuck_same k.due g.last new.joint stuck (due_step k.due g.last) g.step) in
     omega (arith, later, cycle)
 
-pub has_stuck : (k new : Keyboard) (most : ℕ) (stuck : Stuck) → HasGone k.due 2048 most k.joint (Err stuck) new.joint → new.due ≡ k.due → (p : Past) (old : Keyboard) (cycles : ℕ) (watched : Bool)
+pub has_stuck : (k new : Keyboard) (most : ℕ) (stuck : Stuck)
+    → HasGone k.due 2048 most k.joint (Err stuck) new.joint → new.due ≡ k.due → (p : Past) (old : Keyboard) (cycles : ℕ) (watched : Bool)
     → GoesOnSo p old cycles watched k → k.joint.cycle + most < old.joint.cycle + cycles → HasRun p old cycles watched (ends.Stuck stuck) new
 has_stuck k new most stuck g due p old cycles watched so room =
     let within = g.within in
     let before : Keyboard = record k { joint = g.last } in
-    let so_last : GoesOnSo p old cycles watched before = goes_quietly p old cycles watched k 2048 g.count g.last so g.quiet (omega (arith, within, room)) in
+    let so_last : GoesOnSo p old cycles watched before =
+    goes_quietly p old cycles watched k 2048 g.count g.last so g.quiet (omega (arith, within, room)) in
     let is : new.joint ≡ g.last = stuck_same k.due g.last new.joint stuck (due_step k.due g.last) g.step in
     let still = goes_still p old cycles watched before new is due so_last in
     let cycle = ap (λ (m : Machine). m.cycle) is in

@@ -11,10 +11,12 @@ use Rattle.mcs48_core.specs.Step.{stepped}
 use Rattle.live_board.proofs.Alike.{pins_alike, step_alike}
 use Rattle.live_board.specs.Growing.{GrowsAtEnd, grown}
 
-still_ahead : (soon late : ℕ) (edges : List Edge) → soon ≤ late → All (λ e. late ≤ e.stamp + 4096) edges → All (λ e. soon ≤ e.stamp + 4096) edges
+still_ahead : (soon late : ℕ) (edges : List Edge)
+    → soon ≤ late → All (λ e. late ≤ e.stamp + 4096) edges → All (λ e. soon ≤ e.stamp + 4096) edges
 still_ahead soon late edges l h = λ i d m. let k = h i d m in omega (arith, k, l)
 
-still_ahead_events : (soon late : ℕ) (events : List HostEvent) → soon ≤ late → All (λ e. late ≤ e.stamp + 4096) events → All (λ e. soon ≤ e.stamp + 4096) events
+still_ahead_events : (soon late : ℕ) (events : List HostEvent)
+    → soon ≤ late → All (λ e. late ≤ e.stamp + 4096) events → All (λ e. soon ≤ e.stamp + 4096) events
 still_ahead_events soon late events l h = λ i d m. let k = h i d m in omega (arith, k, l)
 
 pub grows : GrowsAtEnd
@@ -27,8 +29,14 @@ grows s edges events (suc k) w h ahead =
     let later = step_later s k v w here h in
     let soon : v.cycle ≤ w.cycle = omega (arith, later) in
     let so_far : state_at t k ≡ Some v =
-    grows s edges events k v here (record { edges_ahead = still_ahead v.cycle w.cycle edges soon ahead.edges_ahead; events_ahead = still_ahead_events v.cycle w.cycle events soon ahead.events_ahead }) in
+    grows s edges events k v here
+    (record {
+      edges_ahead = still_ahead v.cycle w.cycle edges soon ahead.edges_ahead;
+      events_ahead = still_ahead_events v.cycle w.cycle events soon ahead.events_ahead;
+    }) in
     let pins = seen (joint_board s.edges s.events) v in
     ap (step_on (joint_board t.edges t.events) t.bytes) so_far
-    ∙ ap (λ p. after_step (joint_board t.edges t.events) v (stepped s.bytes p v.cpu)) (pins_alike s.edges edges w.cycle v.cpu.p1 v.cpu.p2 v.cycle v.board later ahead.edges_ahead)
-    ∙ step_alike s.events events w.cycle ahead.events_ahead s.edges edges v w (stepped s.bytes pins v.cpu) (omega arith) (joined s k v w here h)
+    ∙ ap (λ p. after_step (joint_board t.edges t.events) v (stepped s.bytes p v.cpu))
+    (pins_alike s.edges edges w.cycle v.cpu.p1 v.cpu.p2 v.cycle v.board later ahead.edges_ahead)
+    ∙ step_alike s.events events w.cycle ahead.events_ahead s.edges edges v w (stepped s.bytes pins v.cpu)
+    (omega arith) (joined s k v w here h)

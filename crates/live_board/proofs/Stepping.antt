@@ -1,5 +1,6 @@
 -- One joint step goes on with the run of the past.
-use Rattle.std.proofs.Common.{◌≡◌, ◌≤◌, ℕ, suc, ◌+◌, ◌-◌, List, [], length, take, drop, Some, None, Ok, Err, refl, ap, sym, subst, ◌∙◌, arith}
+use Rattle.std.proofs.Common.{◌≡◌, ◌≤◌, ℕ, suc, ◌+◌, ◌-◌, List, [], length, take, drop, Some}
+use Rattle.std.proofs.Common.{None, Ok, Err, refl, ap, sym, subst, ◌∙◌, arith}
 use Rattle.std.specs.List.{All}
 use Rattle.std.proofs.lemmas.List.{drop_all, length-drop, take_all}
 use Rattle.std.proofs.lemmas.List.Elements.{All-nil}
@@ -17,13 +18,15 @@ use Rattle.joint_feed.proofs.Counts.{done_few, made_few}
 use Rattle.joint_feed.proofs.Feeding.{drop_more}
 use Rattle.joint_feed.proofs.Going.{IsMade, made as step_made}
 use Rattle.joint_feed.specs.Stories.{state_at}
+use Rattle.mcs48_core.specs.Reset.{reset_cpu}
 use Rattle.mcs48_core.specs.declared.stepping.Stuck.{Stuck}
 use Rattle.live_board.specs.Pasts.{Past, gone_on, state_of, story_of, untouched}
 use Rattle.live_board.specs.Standing.{Stands}
 use Rattle.live_board.specs.declared.parts.Parts.{Parts as Keyboard}
 
 -- at power-on
-pub at_first : (bytes : List ℕ) (k : Keyboard) → k.joint ≡ powered_on bytes → IsFirstOfRun k.joint → k.due.edges.items ≡ [] → k.due.host.items ≡ [] → Stands (untouched bytes 0) k
+pub at_first : (bytes : List ℕ) (k : Keyboard)
+    → k.joint ≡ powered_on bytes → IsFirstOfRun k.joint → k.due.edges.items ≡ [] → k.due.host.items ≡ [] → Stands (untouched bytes 0) k
 at_first bytes k is first edges host = record {
   made = 0;
   made_within = omega arith;
@@ -47,7 +50,8 @@ here p k s =
 pub later_edges : (soon late : ℕ) (es : List Edge) → soon ≤ late → All (λ e. e.stamp + 4096 ≤ soon) es → All (λ e. e.stamp + 4096 ≤ late) es
 later_edges soon late es l h = λ i d m. let k = h i d m in omega (arith, k, l)
 
-pub later_events : (soon late : ℕ) (es : List HostEvent) → soon ≤ late → All (λ e. e.stamp + 4096 ≤ soon) es → All (λ e. e.stamp + 4096 ≤ late) es
+pub later_events : (soon late : ℕ) (es : List HostEvent)
+    → soon ≤ late → All (λ e. e.stamp + 4096 ≤ soon) es → All (λ e. e.stamp + 4096 ≤ late) es
 later_events soon late es l h = λ i d m. let k = h i d m in omega (arith, k, l)
 
 -- all that are left are handed in
@@ -62,13 +66,14 @@ handed edges made cycle items e =
 
 -- a step that was made, of a machine in the run of these edges and events, with all of them handed in
 module _ (edges : List Edge) (events : List HostEvent) (due : Due) (old new : Machine) (seen : Seen) (made : ℕ) (world : World Beside)
-    (within : made ≤ length edges) (order : AreInOrder edges) (in_run : IsInRun edges events old made world) (wait : due.edges.items ≡ drop made edges)
+    (within : made ≤ length edges) (order : AreInOrder edges) (in_run : IsInRun edges events old made world)
+    (wait : due.edges.items ≡ drop made edges)
     (host : due.host.items ≡ take 2 (drop world.board.pc.side.done events))
     (is : IsJointStep due old (due_step due old) (Ok seen) new) (run : IsStepOfRun due old (Ok seen) new) where
-  pub on : GoesOn edges events made world seen new
+  pub on : GoesOn reset_cpu edges events made world seen new
   on =
       let h = handed edges made world.cycle due.edges.items wait in
-      run edges events made world order in_run (record { next = h.0; all = h.1; host = host })
+      run reset_cpu edges events made world order in_run (record { next = h.0; all = h.1; host = host })
 
   pub step : IsMade due old seen new
   step = step_made due old seen new is
@@ -100,8 +105,10 @@ module _ (edges : List Edge) (events : List HostEvent) (due : Due) (old new : Ma
   host_few = let a = done_few due old step.world step.step in let b = step.seen_so.host in omega (arith, a, b)
 
 -- the run goes on by a step, where the host does nothing
-module _ (p : Past) (old : Keyboard) (s : Stands p old) (new : Keyboard) (is : IsJointStep old.due old.joint (due_step old.due old.joint) (Ok new.seen) new.joint)
-    (run : IsStepOfRun old.due old.joint (Ok new.seen) new.joint) (left : new.due.edges.items ≡ drop new.seen.edges old.due.edges.items) (same : new.due.host ≡ old.due.host) where
+module _ (p : Past) (old : Keyboard) (s : Stands p old) (new : Keyboard)
+    (is : IsJointStep old.due old.joint (due_step old.due old.joint) (Ok new.seen) new.joint)
+    (run : IsStepOfRun old.due old.joint (Ok new.seen) new.joint) (left : new.due.edges.items ≡ drop new.seen.edges old.due.edges.items)
+    (same : new.due.host ≡ old.due.host) where
   no_host : old.due.host.items ≡ take 2 (drop s.world.board.pc.side.done p.events)
   no_host =
       let done = s.all_done in
@@ -109,19 +116,27 @@ module _ (p : Past) (old : Keyboard) (s : Stands p old) (new : Keyboard) (is : I
 
   pub one_on : Stands (gone_on p new.joint.steps) new
   one_on =
-      let on = on p.edges p.events old.due old.joint new.joint new.seen s.made s.world s.made_within s.order s.in_run s.edges_wait no_host is run in
-      let cycle = world_later p.edges p.events old.due old.joint new.joint new.seen s.made s.world s.made_within s.order s.in_run s.edges_wait no_host is run in
+      let on = on p.edges p.events old.due old.joint new.joint new.seen s.made s.world s.made_within
+      s.order s.in_run s.edges_wait no_host is run in
+      let cycle = world_later p.edges p.events old.due old.joint new.joint new.seen s.made s.world
+      s.made_within s.order s.in_run s.edges_wait no_host is run in
       record {
         made = s.made + new.seen.edges;
-        made_within = edges_there p.edges p.events old.due old.joint new.joint new.seen s.made s.world s.made_within s.order s.in_run s.edges_wait no_host is run;
+        made_within =
+            edges_there p.edges p.events old.due old.joint new.joint new.seen s.made s.world s.made_within
+            s.order s.in_run s.edges_wait no_host is run;
         world = on.next;
-        image = image_same p.edges p.events old.due old.joint new.joint new.seen s.made s.world s.made_within s.order s.in_run s.edges_wait no_host is run ∙ s.image;
+        image = image_same p.edges p.events old.due old.joint new.joint new.seen s.made s.world s.made_within
+            s.order s.in_run s.edges_wait no_host is run ∙ s.image;
         steps = refl;
         in_run = on.in_run;
-        edges_wait = edges_left p.edges p.events old.due old.joint new.joint new.seen s.made s.world s.made_within s.order s.in_run s.edges_wait no_host is run new.due.edges.items left;
+        edges_wait =
+            edges_left p.edges p.events old.due old.joint new.joint new.seen s.made s.world s.made_within s.order
+            s.in_run s.edges_wait no_host is run new.due.edges.items left;
         none_waits = ap (λ h. h.items) same ∙ s.none_waits;
         all_done =
-            let few = host_few p.edges p.events old.due old.joint new.joint new.seen s.made s.world s.made_within s.order s.in_run s.edges_wait no_host is run in
+            let few = host_few p.edges p.events old.due old.joint new.joint new.seen s.made s.world s.made_within
+            s.order s.in_run s.edges_wait no_host is run in
             let none = ap length s.none_waits in
             let more = on.done in
             let done = s.all_done in
@@ -134,18 +149,20 @@ module _ (p : Past) (old : Keyboard) (s : Stands p old) (new : Keyboard) (is : I
       }
 
 -- a step takes its cycles, and is one
-pub counted : (due : Due) (old new : Machine) (seen : Seen) → IsJointStep due old (due_step due old) (Ok seen) new → (old.cycle + seen.cycles ≡ new.cycle) × (new.steps ≡ suc old.steps)
+pub counted : (due : Due) (old new : Machine) (seen : Seen)
+    → IsJointStep due old (due_step due old) (Ok seen) new → (old.cycle + seen.cycles ≡ new.cycle) × (new.steps ≡ suc old.steps)
 counted due old new seen is =
     let made = step_made due old seen new is in
     let steps = ap (λ m. m.steps) made.after in
     (made.seen_so.cycles ∙ sym (ap (λ m. m.cycle) made.after), omega (arith, steps))
 
 -- where the processor is stuck no state follows
-pub no_further : (p : Past) (old : Keyboard) (s : Stands p old) (new : Machine) (stuck : Stuck) → IsStepOfRun old.due old.joint (Err stuck) new → state_of (gone_on p (suc old.joint.steps)) ≡ None
+pub no_further : (p : Past) (old : Keyboard) (s : Stands p old) (new : Machine) (stuck : Stuck)
+    → IsStepOfRun old.due old.joint (Err stuck) new → state_of (gone_on p (suc old.joint.steps)) ≡ None
 no_further p old s new stuck run =
     let h = handed p.edges s.made s.world.cycle old.due.edges.items s.edges_wait in
     let done = s.all_done in
     let host : old.due.host.items ≡ take 2 (drop s.world.board.pc.side.done p.events) =
     s.none_waits ∙ sym (ap (λ (v : List HostEvent). take 2 v) (drop_all s.world.board.pc.side.done p.events (omega (arith, done)))) in
-    let none = run p.edges p.events s.made s.world s.order s.in_run (record { next = h.0; all = h.1; host = host }) in
+    let none = run reset_cpu p.edges p.events s.made s.world s.order s.in_run (record { next = h.0; all = h.1; host = host }) in
     subst (λ bytes. run_at (joint_board p.edges p.events) bytes joint_start (suc old.joint.steps) ≡ None) s.image none

@@ -1,5 +1,6 @@
 -- Going on, step by step, with the interrupt line watched.
-use Rattle.std.proofs.Common.{◌≡◌, ◌≤◌, ◌<◌, ℕ, suc, ◌+◌, Bool, true, false, not, ◌&&◌, Some, refl, ap, sym, subst, ◌∙◌, ◌⊎◌, inl, inr, ltb, arith}
+use Rattle.std.proofs.Common.{◌≡◌, ◌≤◌, ◌<◌, ℕ, suc, ◌+◌, Bool, true, false, not, ◌&&◌, Some}
+use Rattle.std.proofs.Common.{refl, ap, sym, subst, ◌∙◌, ◌⊎◌, inl, inr, ltb, arith}
 use Rattle.std.proofs.lemmas.Bool.Decides.{nat_tests}
 use Rattle.joint_run.specs.Joint.{Beside}
 use Rattle.joint_run.specs.Run.{World}
@@ -43,15 +44,18 @@ last_or_before j k l =
     ] refl
 
 -- whether the step from here raises it
-rise_is : (p : Past) (k new : Keyboard) → Stands (gone_on p k.joint.steps) k → Stands (gone_on p new.joint.steps) new → new.joint.steps ≡ suc k.joint.steps
+rise_is : (p : Past) (k new : Keyboard)
+    → Stands (gone_on p k.joint.steps) k → Stands (gone_on p new.joint.steps) new → new.joint.steps ≡ suc k.joint.steps
     → rises p k.joint.steps ≡ (not (raises k.joint.outside.desk.port.core) && raises new.joint.outside.desk.port.core)
 rise_is p k new s t steps =
     let a = line_here (gone_on p k.joint.steps) k s in
     let b : raises new.joint.outside.desk.port.core ≡ line_in (state_at (story_of p) (suc k.joint.steps)) =
     line_here (gone_on p new.joint.steps) new t ∙ ap (λ n. line_in (state_at (story_of p) n)) steps in
-    ap (λ x. not x && line_in (state_at (story_of p) (suc k.joint.steps))) (sym a) ∙ ap (λ x. not (raises k.joint.outside.desk.port.core) && x) (sym b)
+    ap (λ x. not x && line_in (state_at (story_of p) (suc k.joint.steps))) (sym a)
+    ∙ ap (λ x. not (raises k.joint.outside.desk.port.core) && x) (sym b)
 
-module _ (p : Past) (old : Keyboard) (cycles : ℕ) (watched : Bool) (k new : Keyboard) (so : GoesOnSo p old cycles watched k) (t : Stands (gone_on p new.joint.steps) new)
+module _ (p : Past) (old : Keyboard) (cycles : ℕ) (watched : Bool) (k new : Keyboard)
+    (so : GoesOnSo p old cycles watched k) (t : Stands (gone_on p new.joint.steps) new)
     (steps : new.joint.steps ≡ suc k.joint.steps) (room : k.joint.cycle < old.joint.cycle + cycles) where
   pub before_on : AreBefore p old.joint.steps new.joint.steps (old.joint.cycle + cycles)
   before_on j w from to h =
@@ -66,7 +70,8 @@ module _ (p : Past) (old : Keyboard) (cycles : ℕ) (watched : Bool) (k new : Ke
             omega (arith, room, at, c)
       ]
 
-  pub calm_on : (watched ≡ true → (not (raises k.joint.outside.desk.port.core) && raises new.joint.outside.desk.port.core) ≡ false) → watched ≡ true → IsCalm p old.joint.steps new.joint.steps
+  pub calm_on : (watched ≡ true → (not (raises k.joint.outside.desk.port.core) && raises new.joint.outside.desk.port.core) ≡ false)
+      → watched ≡ true → IsCalm p old.joint.steps new.joint.steps
   calm_on flat is j from to =
       let to_last : j < suc k.joint.steps = omega (arith, to, steps) in
       elim (last_or_before j k.joint.steps to_last) [
@@ -74,7 +79,8 @@ module _ (p : Past) (old : Keyboard) (cycles : ℕ) (watched : Bool) (k new : Ke
         | inr e ↦ ap (rises p) e ∙ rise_is p k new so.stands t steps ∙ flat is
       ]
 
-  pub goes_more : (watched ≡ true → (not (raises k.joint.outside.desk.port.core) && raises new.joint.outside.desk.port.core) ≡ false) → GoesOnSo p old cycles watched new
+  pub goes_more : (watched ≡ true → (not (raises k.joint.outside.desk.port.core) && raises new.joint.outside.desk.port.core) ≡ false)
+      → GoesOnSo p old cycles watched new
   goes_more flat = record {
     stands = t;
     more = let m = so.more in omega (arith, m, steps);
@@ -82,15 +88,18 @@ module _ (p : Past) (old : Keyboard) (cycles : ℕ) (watched : Bool) (k new : Ke
     calm = calm_on flat;
   }
 
-  pub rose_here : raises k.joint.outside.desk.port.core ≡ false → raises new.joint.outside.desk.port.core ≡ true → rises p k.joint.steps ≡ true
+  pub rose_here : raises k.joint.outside.desk.port.core ≡ false
+      → raises new.joint.outside.desk.port.core ≡ true → rises p k.joint.steps ≡ true
   rose_here was is =
       rise_is p k new so.stands t steps ∙ ap (λ x. not x && raises new.joint.outside.desk.port.core) was ∙ is
 
 -- where only what was said has changed
-pub goes_still : (p : Past) (old : Keyboard) (cycles : ℕ) (watched : Bool) (k new : Keyboard) → new.joint ≡ k.joint → new.due ≡ k.due → GoesOnSo p old cycles watched k → GoesOnSo p old cycles watched new
+pub goes_still : (p : Past) (old : Keyboard) (cycles : ℕ) (watched : Bool) (k new : Keyboard)
+    → new.joint ≡ k.joint → new.due ≡ k.due → GoesOnSo p old cycles watched k → GoesOnSo p old cycles watched new
 goes_still p old cycles watched k new joint due so =
     let base : GoesOnSo p old cycles watched (record { joint = k.joint; due = k.due; seen = new.seen }) = record {
-      stands = stands_still (gone_on p k.joint.steps) k (record { joint = k.joint; due = k.due; seen = new.seen }) refl refl so.stands.none_waits so.stands;
+      stands = stands_still (gone_on p k.joint.steps) k (record { joint = k.joint; due = k.due; seen = new.seen })
+          refl refl so.stands.none_waits so.stands;
       more = so.more;
       before = so.before;
       calm = so.calm;
@@ -99,7 +108,8 @@ goes_still p old cycles watched k new joint due so =
     (subst (λ (j : Machine). GoesOnSo p old cycles watched (record { joint = j; due = k.due; seen = new.seen })) (sym joint) base)
 
 -- where the step wasn't told as a rise
-pub flat_of : (watched was is r : Bool) (old new : Bool) → r ≡ (watched && (not was && is)) → r ≡ false → was ≡ old → is ≡ new → watched ≡ true → (not old && new) ≡ false
+pub flat_of : (watched was is r : Bool) (old new : Bool)
+    → r ≡ (watched && (not was && is)) → r ≡ false → was ≡ old → is ≡ new → watched ≡ true → (not old && new) ≡ false
 flat_of watched was is r old new told flat before after w =
     ap (λ x. not x && new) (sym before) ∙ ap (λ x. not was && x) (sym after) ∙ ap (λ x. x && (not was && is)) (sym w) ∙ sym told ∙ flat
 

@@ -14,6 +14,7 @@ grown s edges events = record {
   edges = s.edges ++ edges;
   events = s.events ++ events;
   stop = s.stop;
+  held = s.held;
 }
 
 -- no stamp of theirs is reached before this cycle. Cycle 4,096 is stamp 0

@@ -7,6 +7,7 @@ use Rattle.board_lines.specs.declared.event.HostEvent.{HostEvent}
 use Rattle.joint_feed.specs.Stories.{Story, state_at}
 use Rattle.joint_run.specs.Joint.{Beside}
 use Rattle.joint_run.specs.Run.{World}
+use Rattle.mcs48_core.specs.Reset.{reset_cpu}
 
 -- the program, the edges of keys and the host's events so far, each with the stamp at which it was made, and how many
 -- joint steps were made since power-on
@@ -16,9 +17,9 @@ pub record Past : Type 0 where
   pub events : List HostEvent
   pub steps : ℕ
 
--- its story: no end stamp is known yet
+-- its story, with cleared memory: no end stamp is known yet
 abbrev pub story_of : Past → Story
-story_of p = record { bytes = p.bytes; edges = p.edges; events = p.events; stop = 0 }
+story_of p = record { bytes = p.bytes; edges = p.edges; events = p.events; stop = 0; held = reset_cpu }
 
 -- the state of the joint run of that story after as many steps, if there is one
 abbrev pub state_of : Past → Option (World Beside)

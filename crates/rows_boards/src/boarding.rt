@@ -4,7 +4,6 @@ use crate::tracing::HEADER;
 use io_edge::{MemShelf, MemSink};
 use kbd48_app::{Exit, form};
 use rows_calls::{Outcome, Row, owned, run, run_into, sample_layout, shelf_with};
-use rows_parts::TYPING_HI;
 use std::alloc::{AllocError, Global};
 use std::test::Fail;
 
@@ -23,7 +22,7 @@ const SILENT: &str = ":03000000000400F9\n:00000001FF\n";
 const PULLS: &str = ":090000009AFE9AFD8A018A0201B0\n:00000001FF\n";
 
 /// A shelf with an image, which is called `f`, a layout and a key file, of which the fetches with these numbers fail.
-fn shelf_over(
+pub(crate) fn shelf_over(
     alloc: Global,
     image: &[u8],
     layout: &[u8],
@@ -55,7 +54,7 @@ fn shelf_for(
 }
 
 /// What the words come to over this image, the sample layout and this key file.
-fn outcome_of(
+pub(crate) fn outcome_of(
     alloc: Global,
     words: &[&str],
     image: &str,
@@ -338,7 +337,7 @@ fn a_put_that_fails_ends_a_trace(rt: HostRuntime) -> Result<(), Fail> {
 }
 
 #[test]
-fn board_takes_three_names_and_an_option(rt: HostRuntime) -> Result<(), Fail> {
+fn board_takes_three_names_and_options(rt: HostRuntime) -> Result<(), Fail> {
     let alloc = rt.alloc();
     let accepted: [&[&str]; 3] = [
         &["board", "f", "us84", "keys"],
@@ -363,82 +362,5 @@ fn board_takes_three_names_and_an_option(rt: HostRuntime) -> Result<(), Fail> {
     for words in refused {
         assert!(rt; !form(&owned(alloc, words)?));
     }
-    Ok(())
-}
-
-/// The line that begins a text, up to its first space and behind it, and the lines behind it.
-fn cut(text: &[u8]) -> Option<(&[u8], &[u8], &[u8])> {
-    let space = text.iter().position(|byte| *byte == b' ')?;
-    let end = text.iter().position(|byte| *byte == b'\n')?;
-    if end < space {
-        return None;
-    }
-    Some((&text[..space], &text[space..end], &text[end + 1..]))
-}
-
-/// A number in decimal digits.
-fn number(digits: &[u8]) -> u64 {
-    let mut value: u64 = 0;
-    for digit in digits {
-        value = value.wrapping_mul(10).wrapping_add(u64::from(*digit & 15));
-    }
-    value
-}
-
-/// The image that `compile` prints, over the key file of a text that is typed: item by item what `run` says, with stamps
-/// in place of ticks.
-#[test]
-fn a_compiled_image_says_what_its_layout_says(rt: HostRuntime) -> Result<(), Fail> {
-    let alloc = rt.alloc();
-    let (keys, log) = TYPING_HI;
-    let compiled = outcome_of(alloc, &["compile", "us84"], "", keys)?;
-    assert_eq!(rt; compiled.exit, Exit::Done);
-    let layout = sample_layout(alloc)?;
-    let files = [
-        ("f", compiled.sink.taken()),
-        ("us84", layout.as_bytes()),
-        ("keys", keys.as_bytes()),
-    ];
-    let mut shelf = shelf_with(alloc, &files, &[])?;
-    let words = ["board", "f", "us84", "keys"];
-    let board = run(alloc, &words, &mut shelf, 65536, &[])?;
-    assert_eq!(rt; board.exit, Exit::Done);
-    let mut left = board.sink.taken();
-    let mut wanted = log.as_bytes();
-    for _line in 0..100 {
-        let (Some((stamp, item, after)), Some((tick, same, behind))) = (cut(left), cut(wanted))
-        else {
-            break;
-        };
-        assert!(rt; item == same);
-        assert!(rt; number(stamp) / 2048 == number(tick));
-        left = after;
-        wanted = behind;
-    }
-    assert!(rt; left.is_empty() && wanted.is_empty());
-    Ok(())
-}
-
-/// And its trace is the beginning of what `trace` says.
-#[test]
-fn a_compiled_image_is_traced_as_its_layout_is(rt: HostRuntime) -> Result<(), Fail> {
-    let alloc = rt.alloc();
-    let (keys, _log) = TYPING_HI;
-    let compiled = outcome_of(alloc, &["compile", "us84"], "", keys)?;
-    let layout = sample_layout(alloc)?;
-    let files = [
-        ("f", compiled.sink.taken()),
-        ("us84", layout.as_bytes()),
-        ("keys", keys.as_bytes()),
-    ];
-    let mut shelf = shelf_with(alloc, &files, &[])?;
-    let words = ["board", "f", "us84", "keys", "--trace"];
-    let board = run(alloc, &words, &mut shelf, 65536, &[])?;
-    assert_eq!(rt; board.exit, Exit::Done);
-    let trace = run(alloc, &["trace", "us84", "keys"], &mut shelf, 65536, &[])?;
-    assert_eq!(rt; trace.exit, Exit::Done);
-    let text = board.sink.taken();
-    assert!(rt; text.len() > HEADER.len());
-    assert!(rt; trace.sink.taken().starts_with(text));
     Ok(())
 }

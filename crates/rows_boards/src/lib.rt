@@ -7,4 +7,8 @@
 #[cfg(test)]
 mod boarding;
 #[cfg(test)]
+mod compiled;
+#[cfg(test)]
+mod filling;
+#[cfg(test)]
 mod tracing;

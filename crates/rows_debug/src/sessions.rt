@@ -75,6 +75,35 @@ fn each_line_is_obeyed_over_a_program_of_eight_bytes(rt: HostRuntime) -> Result<
     Ok(())
 }
 
+/// The cells that the program doesn't write hold the byte of `--fill`, and so do A and T up to their first write.
+#[test]
+fn a_session_begins_with_its_fill(rt: HostRuntime) -> Result<(), Fail> {
+    let alloc = rt.alloc();
+    let layout = sample_layout(alloc)?;
+    let mut shelf = shelf_over(
+        alloc,
+        FILLS_A_CELL.as_bytes(),
+        layout.as_bytes(),
+        b"0 end",
+        b"show\nram 20\nstep 4\nram 20\nram 7F\n",
+        &[],
+    )?;
+    let words = ["probe", "image", "us84", "keys", "script", "--fill", "A5"];
+    let outcome = run(alloc, &words, &mut shelf, 4096, &[])?;
+    assert_eq!(rt; outcome.exit, Exit::Done);
+    assert!(rt;
+        outcome.printed(
+            "pc 000 a A5 psw 08 f1 0 mb 0\n\
+             t A5 pre 00 tf 0 run off ext off tim off rq 0 svc 0\n\
+             p1 FF p2 FF bus FF\n\
+             r A5 A5 A5 A5 A5 A5 A5 A5\n\
+             steps 0 cycles 0\n\
+             ram 20 A5\nat 4\nram 20 2A\nram 7F A5\n"
+        )
+    );
+    Ok(())
+}
+
 /// A session ends before the step that would be stuck.
 #[test]
 fn a_stuck_program_has_ended(rt: HostRuntime) -> Result<(), Fail> {
@@ -168,18 +197,19 @@ fn each_fetch_fails_in_turn(rt: HostRuntime) -> Result<(), Fail> {
     Ok(())
 }
 
-/// Words that aren't `probe` and four names.
-static OTHER_WORDS: [&[&str]; 6] = [
+/// Words that aren't `probe`, four names and its option.
+static OTHER_WORDS: [&[&str]; 7] = [
     &["probe"],
     &["probe", "image", "us84", "keys"],
     &["probe", "image", "us84", "keys", "script", "--steps"],
+    &["probe", "image", "us84", "keys", "script", "--fill"],
     &["probe", "image", "us84", "keys", "-script"],
     &["probe", "-image", "us84", "keys", "script"],
     &["probe", "image", "", "keys", "script"],
 ];
 
 #[test]
-fn probe_takes_four_names(rt: HostRuntime) -> Result<(), Fail> {
+fn probe_takes_four_names_and_an_option(rt: HostRuntime) -> Result<(), Fail> {
     let alloc = rt.alloc();
     let layout = sample_layout(alloc)?;
     for words in &OTHER_WORDS {

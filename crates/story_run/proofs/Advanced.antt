@@ -21,7 +21,8 @@ use Rattle.story_run.proofs.Said.{Said, all_in_less}
 use Rattle.story_run.proofs.Steps.{step_said}
 use Rattle.story_run.proofs.Timekeeping.{soon}
 
-module _ (u : Halt) (s : Story) (old new : Course) (before after : List Watch) (start : IsGoing u s old) (g : HasGlided u s old new before after) where
+module _ (u : Halt) (s : Story) (old new : Course) (before after : List Watch) (start : IsGoing u s old)
+    (g : HasGlided u s old new before after) where
   abbrev last : Course
   last = g.last
 
@@ -44,12 +45,14 @@ module _ (u : Halt) (s : Story) (old new : Course) (before after : List Watch) (
   pub edges_now : new.seen.edges ≤ length new.ahead.due.edges.items
   edges_now =
       subst (λ (a : Ahead). new.seen.edges ≤ length a.due.edges.items) (sym g.stepped.ahead)
-      (edges_taken s last new.joint new.seen g.onward.going.standing.on g.onward.going.accepted.thin g.onward.going.accepted.edges_in_order g.stepped.step g.stepped.run)
+      (edges_taken s last new.joint new.seen g.onward.going.standing.on g.onward.going.accepted.thin
+      g.onward.going.accepted.edges_in_order g.stepped.step g.stepped.run)
 
   pub host_now : new.seen.host ≤ length new.ahead.due.host.items
   host_now =
       subst (λ (a : Ahead). new.seen.host ≤ length a.due.host.items) (sym g.stepped.ahead)
-      (host_taken s last new.joint new.seen g.onward.going.standing.on g.onward.going.accepted.thin g.onward.going.accepted.edges_in_order g.stepped.step g.stepped.run)
+      (host_taken s last new.joint new.seen g.onward.going.standing.on g.onward.going.accepted.thin
+      g.onward.going.accepted.edges_in_order g.stepped.step g.stepped.run)
 
   step_now : new.joint.steps ≡ suc last.joint.steps
   step_now = next_step u s last new g.between after g.onward.going g.stepped
@@ -66,7 +69,7 @@ module _ (u : Halt) (s : Story) (old new : Course) (before after : List Watch) (
   module _ (ahead : Ahead) (fed : IsFed s.edges s.events ahead) (made : ahead.made ≡ new.ahead.made + new.seen.edges)
       (done : ahead.done ≡ new.ahead.done + new.seen.host) where
     abbrev counted : Course
-    counted = record { joint = new.joint; ahead = ahead; seen = new.seen }
+    counted = record { joint = new.joint; ahead = ahead; seen = new.seen; fill = new.fill }
 
     on_now : IsOnCourse s counted
     on_now =
@@ -89,9 +92,11 @@ module _ (u : Halt) (s : Story) (old new : Course) (before after : List Watch) (
         let both : log_of w.board ++ said.more ≡ log_of w.board ++ items =
         sym said.behind ∙ says u s last new g.between after g.onward.going g.stepped w v first next in
         let these : said.more ≡ items =
-        sym (drop-append_seam (log_of w.board) said.more) ∙ ap (drop (length (log_of w.board))) both ∙ drop-append_seam (log_of w.board) items in
+        sym (drop-append_seam (log_of w.board) said.more)
+        ∙ ap (drop (length (log_of w.board))) both ∙ drop-append_seam (log_of w.board) items in
         let until : AreIn w.cycle new.joint.cycle items =
-        subst (λ (n : ℕ). AreIn w.cycle n items) (sym on_now.in_run.cycle) (subst (λ (l : List Stamped). AreIn w.cycle v.cycle l) these said.each) in
+        subst (λ (n : ℕ). AreIn w.cycle n items) (sym on_now.in_run.cycle)
+        (subst (λ (l : List Stamped). AreIn w.cycle v.cycle l) these said.each) in
         let so_far = g.onward.cycle in
         let from = start.standing.on.in_run.cycle in
         let to = g.onward.going.standing.on.in_run.cycle in

@@ -44,7 +44,8 @@ glided_later u s old new before after g =
     (omega (arith, one, so_far), omega (arith, more, cycle))
 
 -- and behind steps that took cycles
-pub onward_later : (u : Halt) (s : Story) (old new : Course) (before after : List Watch) → IsGoing u s old → IsOnward u s old new before after
+pub onward_later : (u : Halt) (s : Story) (old new : Course) (before after : List Watch)
+    → IsGoing u s old → IsOnward u s old new before after
     → old.joint.cycle < new.joint.cycle → old.joint.steps < new.joint.steps
 onward_later u s old new before after g o later =
     let so_far = o.quiet.later in
@@ -69,7 +70,8 @@ module _ (u : Halt) (s : Story) (old p new : Course) (before : List Watch) (d : 
       looks_behind p.joint.steps new d.between steps ∙ d.same new.joint.steps (sight_of new.joint) later
       ∙ sym (looks_behind old.joint.steps new before (omega (arith, steps, so_far)))
 
-  pub wakes : HasGlided u s p new d.between (looked_behind p.joint.steps new d.between) → HasGlided u s old new before (looked_behind old.joint.steps new before)
+  pub wakes : HasGlided u s p new d.between (looked_behind p.joint.steps new d.between)
+      → HasGlided u s old new before (looked_behind old.joint.steps new before)
   wakes g =
       let more = glided_later u s p new d.between (looked_behind p.joint.steps new d.between) g in
       record {
@@ -79,7 +81,8 @@ module _ (u : Halt) (s : Story) (old p new : Course) (before : List Watch) (d : 
         stepped = subst (λ (after : List Watch). IsStepped s g.last new g.between after) (made_good more.0 more.1) g.stepped;
       }
 
-  module _ (onward : IsOnward u s p new d.between (looked_behind p.joint.steps new d.between)) (later : p.joint.cycle < new.joint.cycle) where
+  module _ (onward : IsOnward u s p new d.between (looked_behind p.joint.steps new d.between))
+      (later : p.joint.cycle < new.joint.cycle) where
     steps_later : p.joint.steps < new.joint.steps
     steps_later = onward_later u s p new d.between (looked_behind p.joint.steps new d.between) d.onward.going onward later
 
@@ -102,14 +105,16 @@ module _ (u : Halt) (s : Story) (old p new : Course) (before : List Watch) (d : 
         }
 
   -- the processor is stuck there
-  pub held_up : (stuck : Stuck) → new.joint ≡ p.joint → ((ws : List Watch) → IsHeldUp u s p new ws (looked_behind p.joint.steps new ws) stuck)
+  pub held_up : (stuck : Stuck)
+      → new.joint ≡ p.joint → ((ws : List Watch) → IsHeldUp u s p new ws (looked_behind p.joint.steps new ws) stuck)
       → IsHeldUp u s old new before (looked_behind old.joint.steps new before) stuck
   held_up stuck still held =
       let it = held d.between in
       let here_still : new.joint.steps ≡ p.joint.steps = ap (λ (m : Machine). m.steps) still in
       let after : looked_behind p.joint.steps new d.between ≡ looked_behind old.joint.steps new before =
       looks_none p.joint.steps new d.between here_still ∙ d.seen
-      ∙ ap (λ (m : Machine). looked_behind old.joint.steps (record { joint = m; ahead = p.ahead; seen = p.seen }) before) (sym still) in
+      ∙ ap (λ (m : Machine). looked_behind old.joint.steps
+      (record { joint = m; ahead = p.ahead; seen = p.seen; fill = p.fill }) before) (sym still) in
       record {
         last = it.last;
         onward = subst (λ (ws : List Watch). IsOnward u s old it.last before ws) after
@@ -130,7 +135,8 @@ then_glided u s old p new first second third a b = record {
   stepped = b.stepped;
 }
 
-pub then_held : (u : Halt) (s : Story) (old p new : Course) (first second third : List Watch) (stuck : Stuck) → IsOnward u s old p first second
+pub then_held : (u : Halt) (s : Story) (old p new : Course) (first second third : List Watch) (stuck : Stuck)
+    → IsOnward u s old p first second
     → IsHeldUp u s p new second third stuck → IsHeldUp u s old new first third stuck
 then_held u s old p new first second third stuck a b = record {
   last = b.last;
@@ -148,17 +154,20 @@ as_seen xs see c n after number so =
     so ∙ sym (seen_map see (looked n (sight_of c.joint)) xs)
     ∙ ap (λ (k : ℕ). map (looked k (sight_of c.joint)) (map see xs)) number
 
-pub stretch_as : (u : Halt) (s : Story) (old new : Course) (before after : List Watch) (r : Result Bool Stuck) → after ≡ looked_behind old.joint.steps new before
+pub stretch_as : (u : Halt) (s : Story) (old new : Course) (before after : List Watch) (r : Result Bool Stuck)
+    → after ≡ looked_behind old.joint.steps new before
     → IsStretch u s old before r new (looked_behind old.joint.steps new before) → IsStretch u s old before r new after
 stretch_as u s old new before after r same h = subst (λ (ws : List Watch). IsStretch u s old before r new ws) (sym same) h
 
 -- what is answered of a stretch
-pub stretch_on : (u : Halt) (s : Story) (old new : Course) (before after : List Watch) (b : Bool) → b ≡ true → IsStretch u s old before (Ok b) new after
+pub stretch_on : (u : Halt) (s : Story) (old new : Course) (before after : List Watch) (b : Bool)
+    → b ≡ true → IsStretch u s old before (Ok b) new after
     → IsOnward u s old new before after
 stretch_on u s old new before after true same h = h
 stretch_on u s old new before after false same h = absurd (cc same)
 
-pub stretch_off : (u : Halt) (s : Story) (old new : Course) (before after : List Watch) (b : Bool) → b ≡ false → IsStretch u s old before (Ok b) new after
+pub stretch_off : (u : Halt) (s : Story) (old new : Course) (before after : List Watch) (b : Bool)
+    → b ≡ false → IsStretch u s old before (Ok b) new after
     → HasGlided u s old new before after
 stretch_off u s old new before after true same h = absurd (cc same)
 stretch_off u s old new before after false same h = h

@@ -2,10 +2,10 @@
 use Rattle.std.proofs.Common.{◌≡◌, ◌≤◌, ◌⊎◌, ℕ, zero, suc, ◌+◌, Bool, true, false, ◌&&◌, leb, Some, inl, inr, refl, ap, sym, ◌∙◌, arith}
 use Rattle.std.specs.Prelude.{nat_le}
 use Rattle.std.proofs.lemmas.Bool.Decides.{nat_tests}
-use Rattle.fw_logic.specs.JointRun.{KeepsTime}
+use Rattle.fw_logic.specs.JointRun.{KeepsTimeFrom}
 use Rattle.joint_feed.proofs.Going.{same_state}
 use Rattle.joint_feed.specs.Stories.{Story, state_at}
-use Rattle.joint_run.specs.Joint.{Beside}
+use Rattle.joint_run.specs.Joint.{Beside, joint_start_of}
 use Rattle.joint_run.specs.Run.{World}
 use Rattle.story_run.specs.declared.ending.Ending.{Ending}
 use Rattle.story_run.specs.declared.ending.Ending.TheVariants.{TickStart}
@@ -25,12 +25,13 @@ goes_on_within e s n k end on =
           absurd (cc (open_still, over))
     ] refl
 
-module _ (s : Story) (t : KeepsTime s.bytes s.edges s.events) where
+module _ (s : Story) (t : KeepsTimeFrom (joint_start_of s.held) s.bytes s.edges s.events) where
   -- it goes on up to a state, or was over before
   abbrev Judged : ℕ → Type 0
   Judged n = GoesOnTo TickStart s n ⊎ ((k : ℕ) × IsOverBehind TickStart s k)
 
-  judged_at : (n : ℕ) (w : World Beside) (b : Bool) → state_at s n ≡ Some w → is_over TickStart s w ≡ b → GoesOnTo TickStart s n → Judged (suc n)
+  judged_at : (n : ℕ) (w : World Beside) (b : Bool)
+      → state_at s n ≡ Some w → is_over TickStart s w ≡ b → GoesOnTo TickStart s n → Judged (suc n)
   judged_at n w true there over on = inr (n, record { goes_on = on; world = w; reached = there; over = over })
   judged_at n w false there off on = inl (on, w, there, off)
 
@@ -42,7 +43,8 @@ module _ (s : Story) (t : KeepsTime s.bytes s.edges s.events) where
   judged zero = inl tt
   judged (suc n) = judged_by n (judged n)
 
-  over_within : (n : ℕ) (w : World Beside) → state_at s n ≡ Some w → is_over TickStart s w ≡ true → Judged (suc n) → (k : ℕ) × IsOverBehind TickStart s k
+  over_within : (n : ℕ) (w : World Beside)
+      → state_at s n ≡ Some w → is_over TickStart s w ≡ true → Judged (suc n) → (k : ℕ) × IsOverBehind TickStart s k
   over_within n w there over (inl on) =
       let open_still : is_over TickStart s w ≡ false = ap (is_over TickStart s) (same_state (sym there ∙ on.2)) ∙ on.3 in
       absurd (cc (open_still, over))

@@ -26,7 +26,8 @@ place_stuck : (due : Due) (old new : Machine) (o : Option (World Beside)) (stuck
 place_stuck due old new None stuck h = h.0
 place_stuck due old new (Some w) stuck h = absurd h
 
-module _ (u : Halt) (s : Story) (old new : Course) (before after : List Watch) (stuck : Stuck) (h : IsHeldUp u s old new before after stuck) where
+module _ (u : Halt) (s : Story) (old new : Course) (before after : List Watch) (stuck : Stuck)
+    (h : IsHeldUp u s old new before after stuck) where
   abbrev last : Course
   last = h.last
 
@@ -38,8 +39,8 @@ module _ (u : Halt) (s : Story) (old new : Course) (before after : List Watch) (
 
   on_now : IsOnCourse s new
   on_now =
-      subst (λ (a : Ahead). IsOnCourse s (record { joint = new.joint; ahead = a; seen = new.seen })) (sym h.ahead)
-      (on_moved s last new.joint new.seen h.joint going.standing.on)
+      subst (λ (a : Ahead). IsOnCourse s (record { joint = new.joint; ahead = a; seen = new.seen; fill = new.fill })) (sym h.ahead)
+      (on_moved s last new.joint new.seen new.fill h.joint going.standing.on)
 
   there : state_at s new.joint.steps ≡ Some on_now.world
   there = here s new on_now

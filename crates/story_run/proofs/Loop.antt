@@ -4,9 +4,10 @@ use Rattle.std.specs.declared.result.Result.{Result}
 use Rattle.board_probes.specs.Looks.{looks}
 use Rattle.board_probes.specs.Probes.{Watch}
 use Rattle.joint_feed.proofs.Going.{here, same_state}
-use Rattle.joint_feed.specs.Stories.{Story, state_at, story}
+use Rattle.joint_feed.specs.Filled.{filled_story}
+use Rattle.joint_feed.specs.Stories.{Story, state_at}
 use Rattle.joint_feed.specs.declared.course.Course.{Course}
-use Rattle.joint_run.specs.Joint.{Beside, joint_start}
+use Rattle.joint_run.specs.Joint.{Beside, joint_start_of}
 use Rattle.joint_run.specs.Run.{World}
 use Rattle.key_file.specs.Accepted.{IsAccepted}
 use Rattle.key_file.specs.Histories.{KeyHistory}
@@ -21,13 +22,19 @@ use Rattle.story_run.specs.Looking.{BrokeOff}
 use Rattle.story_run.specs.Running.{GoesOnTo}
 
 -- a run by its image and its history under other names
-pub same_story : (b bytes : List ℕ) (h k : KeyHistory) → b ≡ bytes → h ≡ k → story b h ≡ story bytes k
-same_story b bytes h k image history = ap (λ (v : List ℕ). story v h) image ∙ ap (story bytes) history
+pub same_story : (fill : ℕ) (b bytes : List ℕ) (h k : KeyHistory) → b ≡ bytes → h ≡ k → filled_story fill b h ≡ filled_story fill bytes k
+same_story fill b bytes h k image history = ap (λ (v : List ℕ). filled_story fill v h) image ∙ ap (filled_story fill bytes) history
+
+-- so is the one that a machine stands in
+pub same_run : (e : Ending) (fill : ℕ) (first now : Course) (h k : KeyHistory)
+    → IsStanding e (filled_story fill first.joint.image.bytes k) now → h ≡ k
+    → filled_story fill now.joint.image.bytes h ≡ filled_story fill first.joint.image.bytes k
+same_run e fill first now h k standing history = same_story fill _ _ h k standing.on.image history
 
 -- before the first step
 pub first_cycle : (e : Ending) (s : Story) (c : Course) → IsStanding e s c → c.joint.steps ≡ 0 → c.joint.cycle < 2 ^ 31
 first_cycle e s c h first =
-    let start : joint_start ≡ h.on.world = same_state (sym (ap (state_at s) first) ∙ here s c h.on) in
+    let start : joint_start_of s.held ≡ h.on.world = same_state (sym (ap (state_at s) first) ∙ here s c h.on) in
     let zero : 0 ≡ h.on.world.cycle = ap (λ (w : World Beside). w.cycle) start in
     let same = h.on.in_run.cycle in
     omega (arith, zero, same)
@@ -35,7 +42,8 @@ first_cycle e s c h first =
 pub first_looked : (s : Story) (c : Course) (probes : List Watch) → c.joint.steps ≡ 0 → probes ≡ looks s c.joint.steps probes
 first_looked s c probes first = sym (ap (λ (k : ℕ). looks s k probes) first)
 
-module _ (u : Halt) (s : Story) (c : Course) (standing : IsStanding u.ending s c) (stop : s.stop ≡ u.stop) (over : Bool) (tells : TellsOver u.ending c.joint u.stop over) where
+module _ (u : Halt) (s : Story) (c : Course) (standing : IsStanding u.ending s c) (stop : s.stop ≡ u.stop)
+    (over : Bool) (tells : TellsOver u.ending c.joint u.stop over) where
   -- the run goes on there
   pub going_now : IsTimely u.ending s → IsAccepted (history_of s) → over ≡ false → IsGoing u s c
   going_now timely accepted off = record {
@@ -62,7 +70,8 @@ stuck_end u s old before stuck new after h = record { standing = h.standing; end
 pub going_by : (u : Halt) (s t : Story) (c : Course) → s ≡ t → IsGoing u s c → IsGoing u t c
 going_by u s t c same h = subst (λ (v : Story). IsGoing u v c) same h
 
-pub advanced_with : (e : Ending) (stop : ℕ) (v w : Bool) (s t : Story) (old new : Course) (before after : List Watch) (r : Result (Unit {0}) Stuck)
+pub advanced_with : (e : Ending) (stop : ℕ) (v w : Bool) (s t : Story) (old new : Course)
+    (before after : List Watch) (r : Result (Unit {0}) Stuck)
     → v ≡ w → s ≡ t → IsAdvanced (record { ending = e; stop = stop; wires = v }) s old before r new after
     → IsAdvanced (record { ending = e; stop = stop; wires = w }) t old before r new after
 advanced_with e stop v w s t old new before after r wires same h =
@@ -71,7 +80,8 @@ advanced_with e stop v w s t old new before after r wires same h =
 
 -- the telling broke off behind such steps
 pub broke_off : (u : Halt) (s : Story) (broken : ℕ → Type 0) (old : Course) (first before : List Watch) (new : Course) (after : List Watch)
-    (a : HasAdvanced u s old before new after) → before ≡ looks s old.joint.steps first → broken a.behind.last → BrokeOff u.ending s broken first after
+    (a : HasAdvanced u s old before new after)
+    → before ≡ looks s old.joint.steps first → broken a.behind.last → BrokeOff u.ending s broken first after
 broke_off u s broken old first before new after a so_far h = record {
   last = a.behind.last;
   goes_on = subst (GoesOnTo u.ending s) a.behind.steps a.behind.standing.goes_on;

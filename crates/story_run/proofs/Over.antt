@@ -7,7 +7,8 @@ use Rattle.joint_run.specs.Run.{World}
 use Rattle.story_run.specs.declared.ending.Ending.TheVariants.{TickStart, Stamp}
 use Rattle.story_run.specs.Running.{is_over}
 
-pub reached_at : (s : Story) (w : World Beside) (stop cycle : ℕ) (answer : Bool) → answer ≡ nat_le (4096 + stop) cycle → s.stop ≡ stop → w.cycle ≡ cycle
+pub reached_at : (s : Story) (w : World Beside) (stop cycle : ℕ) (answer : Bool)
+    → answer ≡ nat_le (4096 + stop) cycle → s.stop ≡ stop → w.cycle ≡ cycle
     → answer ≡ is_over Stamp s w
 reached_at s w stop cycle answer is at_stop at_cycle =
     is ∙ ap (λ (n : ℕ). nat_le (4096 + n) cycle) (sym at_stop) ∙ ap (nat_le (4096 + s.stop)) (sym at_cycle)

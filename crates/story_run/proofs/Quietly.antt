@@ -1,5 +1,6 @@
 -- Steps that follow one another at once.
-use Rattle.std.proofs.Common.{◌≡◌, ◌≤◌, ◌<◌, ℕ, suc, ◌+◌, ◌-◌, ◌==◌, Bool, true, false, List, [], ◌∷◌, ◌++◌, map, leb, Some, Ok, refl, ap, sym, subst, ◌∙◌, arith}
+use Rattle.std.proofs.Common.{◌≡◌, ◌≤◌, ◌<◌, ℕ, suc, ◌+◌, ◌-◌, ◌==◌, Bool, true, false, List, [], ◌∷◌}
+use Rattle.std.proofs.Common.{◌++◌, map, leb, Some, Ok, refl, ap, sym, subst, ◌∙◌, arith}
 use Rattle.std.specs.Prelude.{if◌then◌else◌}
 use Rattle.std.proofs.lemmas.Bool.Decides.{nat_tests}
 use Rattle.std.proofs.lemmas.List.{append-nil}
@@ -8,9 +9,9 @@ use Rattle.board_lines.specs.declared.lines.Lines.{Lines}
 use Rattle.board_probes.proofs.Sights.{same_sight}
 use Rattle.board_probes.specs.Looks.{looked_at, looks}
 use Rattle.board_probes.specs.Probes.{Sight, Watch, looked, sight_in, sight_of}
-use Rattle.joint_feed.proofs.Going.{here, on, step, on_again, steps_more as one_more_step, cycle_more, is_said}
+use Rattle.joint_feed.proofs.Going.{here, on, step, on_again, steps_more as one_more_step, cycle_more, is_said, IsSaid}
 use Rattle.joint_feed.specs.Ahead.{IsFed}
-use Rattle.joint_feed.specs.Course.{IsOnCourse, IsSaid}
+use Rattle.joint_feed.specs.Course.{IsOnCourse}
 use Rattle.joint_feed.specs.Stories.{Story, state_at, starts_tick}
 use Rattle.joint_feed.specs.declared.ahead.Ahead.{Ahead}
 use Rattle.joint_feed.specs.declared.course.Course.{Course}
@@ -18,7 +19,7 @@ use Rattle.joint_run.specs.declared.due.Seen.{Seen}
 use Rattle.joint_run.specs.declared.machine.Machine.{Machine}
 use Rattle.joint_run.specs.Due.{due_step, IsJointStep}
 use Rattle.joint_run.specs.History.{GoesOn as RunGoesOn, IsStepOfRun}
-use Rattle.joint_run.specs.Joint.{Beside, joint_board, joint_start}
+use Rattle.joint_run.specs.Joint.{Beside, joint_board, joint_start_of}
 use Rattle.joint_run.specs.Run.{World, run_at}
 use Rattle.story_run.specs.declared.ending.Ending.{Ending}
 use Rattle.story_run.specs.declared.ending.Ending.TheVariants.{TickStart, Stamp}
@@ -42,7 +43,7 @@ module _ (u : Halt) (s : Story) (old : Course) (new : Machine) (seen : Seen) (g 
   next_is : new.steps ≡ suc old.joint.steps
   next_is = one_more_step s old new seen g.standing.on g.accepted.thin g.accepted.edges_in_order is run
 
-  goes_on : RunGoesOn s.edges s.events old.ahead.made g.standing.on.world seen new
+  goes_on : RunGoesOn s.held s.edges s.events old.ahead.made g.standing.on.world seen new
   goes_on = on s old new seen g.standing.on g.accepted.thin g.accepted.edges_in_order is run
 
   there : state_at s (suc old.joint.steps) ≡ Some goes_on.next
@@ -50,7 +51,8 @@ module _ (u : Halt) (s : Story) (old : Course) (new : Machine) (seen : Seen) (g 
       let made = step s old new seen g.standing.on g.accepted.thin g.accepted.edges_in_order is run in
       let image : new.image.bytes ≡ s.bytes = ap (λ m. m.image.bytes) made.after ∙ g.standing.on.image in
       subst (λ (k : ℕ). state_at s k ≡ Some goes_on.next) next_is
-      (subst (λ (b : List ℕ). run_at (joint_board s.edges s.events) b joint_start new.steps ≡ Some goes_on.next) image goes_on.in_run.run)
+      (subst (λ (b : List ℕ). run_at (joint_board s.edges s.events) b (joint_start_of s.held) new.steps ≡ Some goes_on.next)
+      image goes_on.in_run.run)
 
   pub looked_on : (before : List Watch) → map (looked new.steps (sight_of new)) before
       ≡ looked_at (suc old.joint.steps) (state_at s (suc old.joint.steps)) before
@@ -94,14 +96,16 @@ no_start : (b : Bool) (xs : List ℕ) (n : ℕ) → false ≡ b → xs ++ (if b 
 no_start true xs n off = absurd (cc off)
 no_start false xs n off = append-nil xs
 
-module _ (u : Halt) (s : Story) (old new : Course) (before after : List Watch) (g : IsGoing u s old) (t : IsStepped s old new before after) where
+module _ (u : Halt) (s : Story) (old new : Course) (before after : List Watch) (g : IsGoing u s old)
+    (t : IsStepped s old new before after) where
   abbrev with_ahead : Ahead → Course
-  with_ahead ahead = record { joint = new.joint; ahead = ahead; seen = new.seen }
+  with_ahead ahead = record { joint = new.joint; ahead = ahead; seen = new.seen; fill = new.fill }
 
   pub on_with : (ahead : Ahead) → IsFed s.edges s.events ahead → ahead.made ≡ old.ahead.made + new.seen.edges
       → ahead.done ≡ old.ahead.done + new.seen.host → IsOnCourse s (with_ahead ahead)
   on_with ahead fed made done =
-      on_again s old new.joint new.seen g.standing.on g.accepted.thin g.accepted.edges_in_order t.step t.run ahead t.some t.few fed made done
+      on_again s old new.joint new.seen g.standing.on g.accepted.thin g.accepted.edges_in_order t.step t.run
+      new.fill ahead t.some t.few fed made done
 
   pub next_step : new.joint.steps ≡ suc old.joint.steps
   next_step = one_more_step s old new.joint new.seen g.standing.on g.accepted.thin g.accepted.edges_in_order t.step t.run
@@ -121,7 +125,8 @@ module _ (u : Halt) (s : Story) (old new : Course) (before after : List Watch) (
   goes_on_to = subst (GoesOnTo u.ending s) (sym next_step) (g.standing.goes_on, g.standing.on.world, here s old g.standing.on, g.not_over)
 
   -- what it says stands behind the log
-  pub log_more : (v : World Beside) → state_at s new.joint.steps ≡ Some v → log_at s new.joint.steps ≡ log_at s old.joint.steps ++ new.seen.items.items
+  pub log_more : (v : World Beside)
+      → state_at s new.joint.steps ≡ Some v → log_at s new.joint.steps ≡ log_at s old.joint.steps ++ new.seen.items.items
   log_more v there =
       let next : state_at s (suc old.joint.steps) ≡ Some v = ap (state_at s) (sym next_step) ∙ there in
       let first = here s old g.standing.on in
@@ -210,7 +215,8 @@ same_lines : (a b : Lines) → Some a ≡ Some b → a ≡ b
 same_lines a b h = cc h
 
 -- wires that are sampled have kept their levels
-pub levels_kept : (u : Halt) (s : Story) (p q : Course) (first second : List Watch) (lines : Lines) → IsGoing u s p → IsOnward u s p q first second
+pub levels_kept : (u : Halt) (s : Story) (p q : Course) (first second : List Watch) (lines : Lines)
+    → IsGoing u s p → IsOnward u s p q first second
     → (u.wires ≡ true → (sight_of p.joint).lines ≡ lines) → u.wires ≡ true → (sight_of q.joint).lines ≡ lines
 levels_kept u s p q first second lines g a level on =
     let later = a.quiet.later in

@@ -48,10 +48,13 @@ stamped_in now [] = tt
 stamped_in now (item ∷ items) = ((omega arith, omega arith), stamped_in now items)
 
 lights_in : (now shown lights : ℕ) → AreIn now (suc now) (lights_said now shown lights)
-lights_in now shown lights = elim (lights == shown) as (λ b. AreIn now (suc now) (if b then [] else record { cycle = now; item = Rattle.pc_tables.specs.declared.item.Item.TheVariants.Lights lights } ∷ [])) [
-  | true ↦ tt
-  | false ↦ ((omega arith, omega arith), tt)
-]
+lights_in now shown lights =
+    elim (lights == shown) as (λ b.
+    AreIn now (suc now)
+    (if b then [] else record { cycle = now; item = Rattle.pc_tables.specs.declared.item.Item.TheVariants.Lights lights } ∷ [])) [
+      | true ↦ tt
+      | false ↦ ((omega arith, omega arith), tt)
+    ]
 
 -- a look leaves the log
 look_log : (now : ℕ) (line : Lines) (b : Pc) → (looked now line b).side.log ≡ b.side.log
@@ -66,11 +69,14 @@ cycle_log events p2 now s =
     let from_look : l.side.log ≡ s.pc.side.log ++ lights_said now s.shown (lights_of p2) = look_log now (wires (latch_of p2) lit) lit in
     record {
       more = lights_said now s.shown (lights_of p2) ++ stamped now c.items;
-      behind = ap (λ v. v ++ stamped now c.items) from_look ∙ append_assoc s.pc.side.log (lights_said now s.shown (lights_of p2)) (stamped now c.items);
-      each = all_in_both now (suc now) (lights_said now s.shown (lights_of p2)) (stamped now c.items) (lights_in now s.shown (lights_of p2)) (stamped_in now c.items);
+      behind = ap (λ v. v ++ stamped now c.items) from_look
+          ∙ append_assoc s.pc.side.log (lights_said now s.shown (lights_of p2)) (stamped now c.items);
+      each = all_in_both now (suc now) (lights_said now s.shown (lights_of p2)) (stamped now c.items)
+          (lights_in now s.shown (lights_of p2)) (stamped_in now c.items);
     }
 
-cycles_log : (events : List HostEvent) (p2 n now : ℕ) (s : Beside) → Said now (now + n) (log_of s) (log_of (after_cycles n now (joint_cycle events p2) s))
+cycles_log : (events : List HostEvent) (p2 n now : ℕ) (s : Beside)
+    → Said now (now + n) (log_of s) (log_of (after_cycles n now (joint_cycle events p2) s))
 cycles_log events p2 zero now s = record { more = []; behind = sym (append-nil (log_of s)); each = tt }
 cycles_log events p2 (suc n) now s =
     let first = cycle_log events p2 now s in
@@ -78,15 +84,20 @@ cycles_log events p2 (suc n) now s =
     let e : suc now ≡ now + 1 = omega arith in
     let f : now + 1 + n ≡ now + suc n = omega arith in
     subst (λ (k : ℕ). Said now k (log_of s) (log_of (after_cycles n (now + 1) (joint_cycle events p2) (joint_cycle events p2 now s)))) f
-    (said_then now (now + 1) (now + 1 + n) (log_of s) (log_of (joint_cycle events p2 now s)) (log_of (after_cycles n (now + 1) (joint_cycle events p2) (joint_cycle events p2 now s)))
+    (said_then now (now + 1) (now + 1 + n) (log_of s) (log_of (joint_cycle events p2 now s))
+    (log_of (after_cycles n (now + 1) (joint_cycle events p2) (joint_cycle events p2 now s)))
     (omega arith) (omega arith) (subst (λ (k : ℕ). Said now k (log_of s) (log_of (joint_cycle events p2 now s))) e first) rest)
 
-after_log : (edges : List Edge) (events : List HostEvent) (w next : World Beside) (n : Option Stepped) → after_step (joint_board edges events) w n ≡ Some next → Said w.cycle next.cycle (log_of w.board) (log_of next.board)
+after_log : (edges : List Edge) (events : List HostEvent) (w next : World Beside) (n : Option Stepped)
+    → after_step (joint_board edges events) w n ≡ Some next → Said w.cycle next.cycle (log_of w.board) (log_of next.board)
 after_log edges events w next None h = absurd cc
 after_log edges events w next (Some n) h =
-    let e : record { cpu = n.cpu; board = after_cycles n.cycles w.cycle (joint_cycle events n.cpu.p2) w.board; cycle = w.cycle + n.cycles } ≡ next = cc h in
-    subst (λ (v : World Beside). Said w.cycle v.cycle (log_of w.board) (log_of v.board)) e (cycles_log events n.cpu.p2 n.cycles w.cycle w.board)
+    let e : record { cpu = n.cpu; board = after_cycles n.cycles w.cycle (joint_cycle events n.cpu.p2) w.board; cycle = w.cycle + n.cycles }
+    ≡ next = cc h in
+    subst (λ (v : World Beside). Said w.cycle v.cycle (log_of w.board) (log_of v.board)) e
+    (cycles_log events n.cpu.p2 n.cycles w.cycle w.board)
 
 -- what a joint step says
-pub step_log : (edges : List Edge) (events : List HostEvent) (bytes : List ℕ) (w next : World Beside) → joint_step (joint_board edges events) bytes w ≡ Some next → Said w.cycle next.cycle (log_of w.board) (log_of next.board)
+pub step_log : (edges : List Edge) (events : List HostEvent) (bytes : List ℕ) (w next : World Beside)
+    → joint_step (joint_board edges events) bytes w ≡ Some next → Said w.cycle next.cycle (log_of w.board) (log_of next.board)
 step_log edges events bytes w next h = after_log edges events w next (stepped bytes (seen (joint_board edges events) w) w.cpu) h

@@ -1,5 +1,6 @@
 -- Quiet joint steps, made at once, are steps that probes which rest needn't look at.
-use Rattle.std.proofs.Common.{◌≡◌, ◌≤◌, ◌<◌, ◌%◌, ◌&&◌, ◌==◌, ℕ, suc, zero, ◌+◌, Bool, true, false, not, List, refl, ap, sym, subst, ◌∙◌, arith}
+use Rattle.std.proofs.Common.{◌≡◌, ◌≤◌, ◌<◌, ◌%◌, ◌&&◌, ◌==◌, ℕ, suc, zero, ◌+◌, Bool, true}
+use Rattle.std.proofs.Common.{false, not, List, refl, ap, sym, subst, ◌∙◌, arith}
 use Rattle.std.specs.Prelude.{nat_le}
 use Rattle.std.specs.declared.result.Result.{Result}
 use Rattle.std.proofs.lemmas.Bool.Decides.{nat_tests}
@@ -56,7 +57,7 @@ same_wires due m n q =
 
 -- the machine in a run, where no event was taken
 abbrev pub course_at : Course → Machine → Seen → Course
-course_at c m told = record { joint = m; ahead = c.ahead; seen = told }
+course_at c m told = record { joint = m; ahead = c.ahead; seen = told; fill = c.fill }
 
 -- steps were made that probes needn't look at, and the wires are as they were behind the first of them
 pub record HasSlept (u : Halt) (s : Story) (old p : Course) (before : List Watch) (m : Machine) : Type 0 where
@@ -103,6 +104,8 @@ module _ (u : Halt) (s : Story) (old p : Course) (before : List Watch) (d : HasD
     slept_on new result rest at_rest made =
         let last = made.gone.last in
         elim rest as (λ b. rest ≡ b → HasSlept u s old p before last) [
-          | true ↦ λ f. slept (at_rest f) made.place (p.joint.cycle + made.most) made.before_halt made.gone.count last made.gone.quiet made.gone.within
+          | true ↦ λ f.
+              slept (at_rest f) made.place (p.joint.cycle + made.most) made.before_halt made.gone.count
+              last made.gone.quiet made.gone.within
           | false ↦ λ f. not_yet last (subst (λ k. AreQuiet p.ahead.due made.place k p.joint last) (made.alone f) made.gone.quiet)
         ] refl

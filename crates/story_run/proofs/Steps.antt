@@ -1,5 +1,6 @@
 -- The states of a run, one after another.
-use Rattle.std.proofs.Common.{◌≡◌, ◌≤◌, ◌<◌, ℕ, zero, suc, ◌+◌, Bool, true, false, List, [], leb, Some, None, refl, ap, sym, subst, ◌∙◌, arith}
+use Rattle.std.proofs.Common.{◌≡◌, ◌≤◌, ◌<◌, ℕ, zero, suc, ◌+◌, Bool, true, false, List, []}
+use Rattle.std.proofs.Common.{leb, Some, None, refl, ap, sym, subst, ◌∙◌, arith}
 use Rattle.std.proofs.lemmas.Bool.Decides.{nat_tests}
 use Rattle.std.proofs.lemmas.List.{append-nil}
 use Rattle.std.specs.Prelude.{slice_index, ◌%◌}
@@ -28,14 +29,18 @@ timed_row bytes pins m None e = tt
 timed_row bytes pins m (Some d) e = row_timed (slice_index bytes (m.pc % 2048)) (slice_index bytes ((m.pc + 1) % 2048)) d e
 
 timed_by : (external timer : Bool) (x y : Stepped) (o : Option Stepped) → x.cycles ≡ 2 → y.cycles ≡ 2 → IsTimed o
-    → IsTimed (elim external as (λ b. Option Stepped) [ true ↦ Some x | false ↦ elim timer as (λ b. Option Stepped) [ true ↦ Some y | false ↦ o ] ])
+    → IsTimed (elim external as (λ b. Option Stepped) [
+      | true ↦ Some x
+      | false ↦ elim timer as (λ b. Option Stepped) [ true ↦ Some y | false ↦ o ]
+    ])
 timed_by true timer x y o two also h = (omega (arith, two), omega (arith, two))
 timed_by false true x y o two also h = (omega (arith, also), omega (arith, also))
 timed_by false false x y o two also h = h
 
 timed : (bytes : List ℕ) (pins : Pins) (m : Cpu) → IsTimed (stepped bytes pins m)
 timed bytes pins m =
-    timed_by (takes_external pins m) (takes_timer m) (entered 3 pins m) (entered 7 pins (record m { rq = false })) (executed (row_at bytes m.pc) bytes pins m)
+    timed_by (takes_external pins m) (takes_timer m) (entered 3 pins m) (entered 7 pins (record m { rq = false }))
+    (executed (row_at bytes m.pc) bytes pins m)
     refl refl (timed_row bytes pins m (row_at bytes m.pc) refl)
 
 after_later : (s : Story) (w v : World Beside) (n : Option Stepped) → IsTimed n → after_step (joint_board s.edges s.events) w n ≡ Some v
@@ -49,20 +54,24 @@ after_later s w v (Some n) t h =
 
 module _ (s : Story) where
   -- the joint step between two states
-  pub joined : (k : ℕ) (w v : World Beside) → state_at s k ≡ Some w → state_at s (suc k) ≡ Some v → joint_step (joint_board s.edges s.events) s.bytes w ≡ Some v
+  pub joined : (k : ℕ) (w v : World Beside)
+      → state_at s k ≡ Some w → state_at s (suc k) ≡ Some v → joint_step (joint_board s.edges s.events) s.bytes w ≡ Some v
   joined k w v h g = sym (ap (step_on (joint_board s.edges s.events) s.bytes) h) ∙ g
 
   -- it takes one cycle or two
-  pub step_later : (k : ℕ) (w v : World Beside) → state_at s k ≡ Some w → state_at s (suc k) ≡ Some v → (w.cycle < v.cycle) × (v.cycle ≤ w.cycle + 2)
+  pub step_later : (k : ℕ) (w v : World Beside)
+      → state_at s k ≡ Some w → state_at s (suc k) ≡ Some v → (w.cycle < v.cycle) × (v.cycle ≤ w.cycle + 2)
   step_later k w v h g =
       let pins = seen (joint_board s.edges s.events) w in
       after_later s w v (stepped s.bytes pins w.cpu) (timed s.bytes pins w.cpu) (joined k w v h g)
 
   -- and says what it says in them
-  pub step_said : (k : ℕ) (w v : World Beside) → state_at s k ≡ Some w → state_at s (suc k) ≡ Some v → Said w.cycle v.cycle (log_of w.board) (log_of v.board)
+  pub step_said : (k : ℕ) (w v : World Beside)
+      → state_at s k ≡ Some w → state_at s (suc k) ≡ Some v → Said w.cycle v.cycle (log_of w.board) (log_of v.board)
   step_said k w v h g = step_log s.edges s.events s.bytes w v (joined k w v h g)
 
-  before_some : (k : ℕ) (v : World Beside) (o : Option (World Beside)) → state_at s k ≡ o → step_on (joint_board s.edges s.events) s.bytes o ≡ Some v
+  before_some : (k : ℕ) (v : World Beside) (o : Option (World Beside))
+      → state_at s k ≡ o → step_on (joint_board s.edges s.events) s.bytes o ≡ Some v
       → (w : World Beside) × (state_at s k ≡ Some w)
   before_some k v None e h = absurd cc
   before_some k v (Some w) e h = (w, e)
@@ -99,9 +108,14 @@ module _ (s : Story) where
   said_by zero w h = subst (λ (v : World Beside). AreIn 0 v.cycle (log_of v.board)) (same_state h) tt
   said_by (suc k) w h =
       let on = before k w h in
-      let so_far : Said 0 on.0.cycle [] (log_of on.0.board) = record { more = log_of on.0.board; behind = refl; each = said_by k on.0 on.1 } in
+      let so_far : Said 0 on.0.cycle [] (log_of on.0.board) = record {
+        more = log_of on.0.board;
+        behind = refl;
+        each = said_by k on.0 on.1;
+      } in
       let grown = (step_later k on.0 w on.1 h).0 in
-      let both = said_then 0 on.0.cycle w.cycle [] (log_of on.0.board) (log_of w.board) (omega arith) (omega (arith, grown)) so_far (step_said k on.0 w on.1 h) in
+      let both = said_then 0 on.0.cycle w.cycle [] (log_of on.0.board) (log_of w.board) (omega arith)
+      (omega (arith, grown)) so_far (step_said k on.0 w on.1 h) in
       subst (λ (v : List Stamped). AreIn 0 w.cycle v) (sym both.behind) both.each
 
   -- a state before the present one

@@ -3,11 +3,11 @@ use Rattle.std.proofs.Common.{◌≡◌, ◌≤◌, ◌<◌, ◌^◌, ℕ, zero,
 use Rattle.std.specs.Prelude.{nat_le}
 use Rattle.std.proofs.lemmas.Bool.Decides.{nat_tests}
 use Rattle.fw_kernel.specs.declared.labels.TheConstants.{TICK}
-use Rattle.fw_logic.specs.JointRun.{KeepsTime}
+use Rattle.fw_logic.specs.JointRun.{KeepsTimeFrom}
 use Rattle.joint_feed.proofs.Going.{here, same_state}
 use Rattle.joint_feed.specs.Stories.{Story, state_at}
 use Rattle.joint_feed.specs.declared.course.Course.{Course}
-use Rattle.joint_run.specs.Joint.{Beside, joint_board, joint_start}
+use Rattle.joint_run.specs.Joint.{Beside, joint_board, joint_start_of}
 use Rattle.joint_run.specs.Run.{World}
 use Rattle.joint_run.specs.Starts.{IsEnd}
 use Rattle.story_run.specs.declared.ending.Ending.{Ending}
@@ -19,13 +19,13 @@ use Rattle.story_run.specs.Stretching.{NoneHalts}
 use Rattle.story_run.proofs.Steps.{on_at, step_later}
 
 -- the run is never stuck
-pub never_stuck : (s : Story) (k : ℕ) → KeepsTime s.bytes s.edges s.events → state_at s k ≡ None → ⊥
+pub never_stuck : (s : Story) (k : ℕ) → KeepsTimeFrom (joint_start_of s.held) s.bytes s.edges s.events → state_at s k ≡ None → ⊥
 never_stuck s k time none =
     let on = time.goes_on k in
     let there : state_at s k ≡ Some on.0 = on.1 in
     absurd (cc (none, there))
 
-module _ (s : Story) (t : KeepsTime s.bytes s.edges s.events) where
+module _ (s : Story) (t : KeepsTimeFrom (joint_start_of s.held) s.bytes s.edges s.events) where
   grows : (k m : ℕ) (w v : World Beside) → k ≤ m → state_at s k ≡ Some w → state_at s m ≡ Some v → w.cycle ≤ v.cycle
   grows k zero w v l h g =
       let e : k ≡ 0 = omega (arith, l) in
@@ -48,7 +48,8 @@ module _ (s : Story) (t : KeepsTime s.bytes s.edges s.events) where
       ] refl
 
   -- the end is a start that comes soon enough
-  end_soon : (n : ℕ) (e : IsEnd (joint_board s.edges s.events) TICK s.bytes joint_start s.stop n) → e.start.state.cycle < s.stop + 6152
+  end_soon : (n : ℕ) (e : IsEnd (joint_board s.edges s.events) TICK s.bytes (joint_start_of s.held) s.stop n)
+      → e.start.state.cycle < s.stop + 6152
   end_soon zero e =
       let near = t.near zero e.stamp e.start in
       let a = near.most in
@@ -64,7 +65,8 @@ module _ (s : Story) (t : KeepsTime s.bytes s.edges s.events) where
       omega (arith, a, b, before, least)
 
   -- a run that isn't over by now is near its end
-  pub still_near : (k : ℕ) (w : World Beside) → GoesOnTo TickStart s k → state_at s k ≡ Some w → is_over TickStart s w ≡ false → w.cycle < s.stop + 6152
+  pub still_near : (k : ℕ) (w : World Beside)
+      → GoesOnTo TickStart s k → state_at s k ≡ Some w → is_over TickStart s w ≡ false → w.cycle < s.stop + 6152
   still_near k w on here off =
       let end = t.ends s.stop in
       let e = end.1 in
@@ -72,18 +74,21 @@ module _ (s : Story) (t : KeepsTime s.bytes s.edges s.events) where
       let reaches = e.reaches in
       let stamp = e.start.cycle in
       elim (leb k e.start.steps) as (λ b. leb k e.start.steps ≡ b → w.cycle < s.stop + 6152) [
-        | true ↦ λ f. let a = grows k e.start.steps w e.start.state (grind (arith, nat_tests, f)) here e.start.reached in omega (arith, a, soon)
+        | true ↦ λ f. let a = grows k e.start.steps w e.start.state (grind (arith, nat_tests, f)) here e.start.reached in
+            omega (arith, a, soon)
         | false ↦ λ f.
             let j = on_at s TickStart k e.start.steps on (grind (arith, nat_tests, f)) in
             let same : Some j.0 ≡ Some e.start.state = sym j.1 ∙ e.start.reached in
             let open_still : is_over TickStart s e.start.state ≡ false = sym (ap (is_over TickStart s) (same_state same)) ∙ j.2 in
             let reached : nat_le (4096 + s.stop) e.start.state.cycle ≡ true = grind (arith, nat_tests, reaches, stamp) in
-            let over : is_over TickStart s e.start.state ≡ true = ap (λ b. b && nat_le (4096 + s.stop) e.start.state.cycle) e.start.at ∙ reached in
+            let over : is_over TickStart s e.start.state ≡ true =
+            ap (λ b. b && nat_le (4096 + s.stop) e.start.state.cycle) e.start.at ∙ reached in
             absurd (cc (open_still, over))
       ] refl
 
 -- a run that goes on hasn't come far
-near_end : (e : Ending) (s : Story) (k : ℕ) (w : World Beside) → IsTimely e s → GoesOnTo e s k → state_at s k ≡ Some w → is_over e s w ≡ false
+near_end : (e : Ending) (s : Story) (k : ℕ) (w : World Beside)
+    → IsTimely e s → GoesOnTo e s k → state_at s k ≡ Some w → is_over e s w ≡ false
     → w.cycle < s.stop + 6152
 near_end TickStart s k w time on there open_now = still_near s time k w on there open_now
 near_end Stamp s k w time on there open_now = let l : w.cycle < 4096 + s.stop = grind (arith, nat_tests, open_now) in omega (arith, l)

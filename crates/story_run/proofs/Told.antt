@@ -45,7 +45,8 @@ module _ (u : Halt) (s : Story) (old new : Course) (before : List Watch) (g : Is
   -- or the processor is stuck
   pub held_now : (stuck : Stuck) → new.joint ≡ old.joint → new.ahead ≡ old.ahead
       → IsJointStep old.ahead.due old.joint (due_step old.ahead.due old.joint) (Err stuck) new.joint
-      → IsStepOfRun old.ahead.due old.joint (Err stuck) new.joint → IsHeldUp u s old new before (looked_behind old.joint.steps new before) stuck
+      → IsStepOfRun old.ahead.due old.joint (Err stuck) new.joint
+      → IsHeldUp u s old new before (looked_behind old.joint.steps new before) stuck
   held_now stuck joint ahead step run = record {
     last = old;
     onward = subst (λ (after : List Watch). IsOnward u s old old before after)

@@ -6,13 +6,13 @@ use Rattle.std.specs.declared.result.Result.{Result}
 use Rattle.board_lines.specs.declared.lines.Lines.{Lines}
 use Rattle.board_probes.specs.Looks.{looked_at, looks}
 use Rattle.board_probes.specs.Probes.{Watch, looked, sight_in, sight_of}
-use Rattle.fw_logic.specs.JointRun.{KeepsTime}
+use Rattle.fw_logic.specs.JointRun.{KeepsTimeFrom}
 use Rattle.joint_feed.specs.Course.{IsOnCourse}
 use Rattle.joint_feed.specs.Stories.{Story, state_at}
 use Rattle.joint_feed.specs.declared.course.Course.{Course}
 use Rattle.joint_run.specs.Due.{due_step, IsJointStep}
 use Rattle.joint_run.specs.History.{IsStepOfRun}
-use Rattle.joint_run.specs.Joint.{Beside}
+use Rattle.joint_run.specs.Joint.{Beside, joint_start_of}
 use Rattle.joint_run.specs.Run.{World}
 use Rattle.key_file.specs.Accepted.{IsAccepted}
 use Rattle.key_file.specs.Histories.{KeyHistory}
@@ -29,7 +29,7 @@ history_of s = record { edges = s.edges; host = s.events; end = s.stop }
 
 -- a program whose run is to end at a tick start keeps its time, so it comes to one; any program comes to its end stamp
 abbrev pub IsTimely : Ending → Story → Type 0
-IsTimely TickStart s = KeepsTime s.bytes s.edges s.events
+IsTimely TickStart s = KeepsTimeFrom (joint_start_of s.held) s.bytes s.edges s.events
 IsTimely Stamp s = Unit {0}
 
 -- the machine stands at the run's state after as many steps, and the run goes on at each state before it

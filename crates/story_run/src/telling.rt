@@ -3,7 +3,8 @@
 ghost use Rattle.std.specs.Prelude.{◌≡◌, ℕ, Bool, suc, map, IfOk, OnErr, OnOk};
 ghost use Rattle.board_probes.specs.Looks.{looks};
 ghost use Rattle.joint_feed.specs.Ahead.{HasTaken};
-ghost use Rattle.joint_feed.specs.Stories.{Story, story};
+ghost use Rattle.joint_feed.specs.Filled.{filled_story};
+ghost use Rattle.joint_feed.specs.Stories.{Story};
 ghost use Rattle.key_file.specs.Accepted.{IsAccepted};
 ghost use Rattle.key_file.specs.Feeds.{Fed};
 ghost use Rattle.story_run.specs.declared.ending.Ending.{Ending};
@@ -36,37 +37,41 @@ pub trait Teller<O, E> {
     fn tell(&mut self, out: &mut O, course: &Course) -> Result<(), E>
         requires told { (e : Ending) × (s : Story) × (first : O) × (k : ℕ) × IsBehind e WIRES s k course.now
             × has_told e s first k self.old out.old }
-        ensures told { (e : Ending) (s : Story) (first : O) (k : ℕ) → IsBehind e WIRES s k course.now → has_told e s first k self.old out.old
+        ensures told { (e : Ending) (s : Story) (first : O) (k : ℕ) → IsBehind e WIRES s k course.now
+            → has_told e s first k self.old out.old
             → OnOk result (has_told e s first course.now.joint.steps self.new out.new) }
         ensures broken { (e : Ending) (s : Story) (first : O) (k : ℕ) (b : IsBehind e WIRES s k course.now)
             → has_told e s first k self.old out.old → OnErr result (is_broken e s first b.last out.new) };
 }
 
 /// Makes the run from power-on to its end, and answers why it ended. After each step each probe looks, and then what is to
-/// be told of the step is told. `SITE`, from 4, is a number that no other place of the program gives.
+/// be told of the step is told. `fill` is the byte that memory held at power-on, by which the clauses
+/// name the run. `SITE`, from 4, is a number that no other place of the program gives.
 #[inline(always)]
 pub fn tell_run<F: Feed, O, E, T: Teller<O, E>, const SITE: u8>(
     course: &mut Course,
     feed: &mut F,
+    fill: u8,
     ending: Ending,
     teller: &mut T,
     out: &mut O,
     probes: &mut Vec<Box<dyn Probe>>,
 ) -> Result<End, E>
     requires accepted { IsAccepted (F.told feed.old).history }
-    requires timely { IsTimely ending (story course.old.joint.image.bytes (F.told feed.old).history) }
-    requires standing { IsStanding ending (story course.old.joint.image.bytes (F.told feed.old).history) course.old }
+    requires timely { IsTimely ending (filled_story fill course.old.joint.image.bytes (F.told feed.old).history) }
+    requires standing { IsStanding ending (filled_story fill course.old.joint.image.bytes (F.told feed.old).history) course.old }
     requires steps { course.old.joint.steps ≡ 0 }
     requires taken { HasTaken (F.told feed.old) course.old.ahead }
-    requires told { T.has_told ending (story course.old.joint.image.bytes (F.told feed.old).history) out.old 0 teller.old out.old }
-    ensures ended { let run = story course.old.joint.image.bytes (F.told feed.old).history in
+    requires told { let run = filled_story fill course.old.joint.image.bytes (F.told feed.old).history in
+        T.has_told ending run out.old 0 teller.old out.old }
+    ensures ended { let run = filled_story fill course.old.joint.image.bytes (F.told feed.old).history in
         IfOk result (λ end. IsEnding ending run course.new end) }
-    ensures told { let run = story course.old.joint.image.bytes (F.told feed.old).history in
+    ensures told { let run = filled_story fill course.old.joint.image.bytes (F.told feed.old).history in
         OnOk result (IsToldTo ending T.WIRES run (λ k. T.has_told ending run out.old k teller.new out.new) course.new.joint.steps) }
-    ensures looked { let run = story course.old.joint.image.bytes (F.told feed.old).history in
+    ensures looked { let run = filled_story fill course.old.joint.image.bytes (F.told feed.old).history in
         let before = map (λ b. watch b) probes.old.items in
         OnOk result (map (λ b. watch b) probes.new.items ≡ looks run course.new.joint.steps before) }
-    ensures broken { let run = story course.old.joint.image.bytes (F.told feed.old).history in
+    ensures broken { let run = filled_story fill course.old.joint.image.bytes (F.told feed.old).history in
         OnErr result (BrokeOff ending run (λ k. T.is_broken ending run out.old k out.new)
         (map (λ b. watch b) probes.old.items) (map (λ b. watch b) probes.new.items)) }
 {
@@ -77,7 +82,7 @@ pub fn tell_run<F: Feed, O, E, T: Teller<O, E>, const SITE: u8>(
         wires: T::WIRES,
     };
     'steps: while !is_over(ending, &course.joint, stop) {
-        match advance::<F, SITE>(course, feed, halt, probes) {
+        match advance::<F, SITE>(course, feed, fill, halt, probes) {
             Err(stuck) => return Ok(End::Stuck(stuck)),
             Ok(()) => {}
         }

@@ -6,13 +6,13 @@ use Rattle.std.specs.declared.option.Option.{Option}
 use Rattle.board_lines.specs.Cadence.{listed}
 use Rattle.fw_kernel.specs.declared.labels.TheConstants.{TICK}
 use Rattle.fw_logic.proofs.Numbers.{same_start}
-use Rattle.fw_logic.specs.JointRun.{KeepsTime}
+use Rattle.fw_logic.specs.JointRun.{KeepsTimeFrom}
 use Rattle.joint_feed.specs.Stories.{Story}
-use Rattle.joint_run.specs.Joint.{Beside, joint_board, joint_start}
+use Rattle.joint_run.specs.Joint.{Beside, joint_board, joint_start_of}
 use Rattle.joint_run.specs.Run.{Board, World}
 use Rattle.joint_run.specs.Starts.{IsStart}
 use Rattle.agreement.proofs.Upto.{whole_up_to}
-use Rattle.agreement.specs.Agreement.{Agrees}
+use Rattle.agreement.specs.Agreement.{AgreesFrom}
 use Rattle.link_model.specs.Expected.{Whole, expected}
 use Rattle.link_model.specs.Machine.{Machine}
 use Rattle.subsystem.specs.Running.{IsOutcome, lines_of, Outcome}
@@ -24,7 +24,8 @@ use Rattle.subsystem.proofs.Timekeeping.{numbered}
 one_stamp : (d : Board) (bytes : List ℕ) (from : World d.State) (n a b : ℕ) → IsStart d TICK bytes from n a
     → IsStart d TICK bytes from n b → a ≡ b
 one_stamp d bytes from n a b p q =
-    let same : p.state ≡ q.state = same_start d TICK bytes from p.steps q.steps p.state q.state p.reached q.reached p.at q.at (p.number ∙ sym q.number) in
+    let same : p.state ≡ q.state =
+    same_start d TICK bytes from p.steps q.steps p.state q.state p.reached q.reached p.at q.at (p.number ∙ sym q.number) in
     let cycle : 4096 + a ≡ 4096 + b = sym p.cycle ∙ ap (λ (w : World d.State). w.cycle) same ∙ q.cycle in
     omega (arith, cycle)
 
@@ -37,9 +38,9 @@ run_starts s run h =
 pub run_last : (s : Story) (run : Outcome) → IsOutcome s run → length run.starts ≡ suc (length (starts_among s run.steps))
 run_last s run h = ap length (run_starts s run h) ∙ one_longer (starts_among s run.steps) (h.world.cycle - 4096)
 
-module _ (s : Story) (t : KeepsTime s.bytes s.edges s.events) (run : Outcome) (h : IsOutcome s run) where
+module _ (s : Story) (t : KeepsTimeFrom (joint_start_of s.held) s.bytes s.edges s.events) (run : Outcome) (h : IsOutcome s run) where
   -- the run's last state is the tick start of the last number
-  ends_at : IsStart (joint_board s.edges s.events) TICK s.bytes joint_start (length run.starts - 1) (h.world.cycle - 4096)
+  ends_at : IsStart (joint_board s.edges s.events) TICK s.bytes (joint_start_of s.held) (length run.starts - 1) (h.world.cycle - 4096)
   ends_at =
       let count = (numbered s t run.steps).0 in
       let long = run_last s run h in
@@ -48,21 +49,25 @@ module _ (s : Story) (t : KeepsTime s.bytes s.edges s.events) (run : Outcome) (h
       record { steps = run.steps; state = h.world; reached = h.reached; at = h.at; number = sym count ∙ last; cycle = omega (arith, early) }
 
   -- its starts are those of the joint run
-  starts_at : (j : ℕ) → j ≤ length run.starts - 1 → IsStart (joint_board s.edges s.events) TICK s.bytes joint_start j (listed run.starts j)
+  starts_at : (j : ℕ) → j ≤ length run.starts - 1
+      → IsStart (joint_board s.edges s.events) TICK s.bytes (joint_start_of s.held) j (listed run.starts j)
   starts_at j l =
       let long = run_last s run h in
       let e : length run.starts ≡ length (starts_among s (suc run.steps)) = ap length h.starts in
       let below : j < length (starts_among s (suc run.steps)) = omega (arith, l, long, e) in
-      subst (λ (v : List ℕ). IsStart (joint_board s.edges s.events) TICK s.bytes joint_start j (listed v j)) (sym h.starts) ((numbered s t (suc run.steps)).1 j below)
+      subst (λ (v : List ℕ). IsStart (joint_board s.edges s.events) TICK s.bytes (joint_start_of s.held) j (listed v j))
+      (sym h.starts) ((numbered s t (suc run.steps)).1 j below)
 
 -- the log is that of the model at the run's own starts, for any keyboard with which the joint run agrees
-pub log_as_expected : {S : Type 0} (kb : Machine S) (s : Story) → KeepsTime s.bytes s.edges s.events → Agrees s.bytes kb s.edges s.events
+pub log_as_expected : {S : Type 0} (kb : Machine S) (s : Story) → KeepsTimeFrom (joint_start_of s.held) s.bytes s.edges s.events
+    → AgreesFrom (joint_start_of s.held) s.bytes kb s.edges s.events
     → (run : Outcome) → IsOutcome s run
     → run.log ≡ expected kb s.edges s.events (listed run.starts) (length run.starts - 1)
 unfolding ends_at
 log_as_expected {S = S} kb s t agrees run h =
     let n : ℕ = length run.starts - 1 in
     let same : (j : ℕ) → j ≤ n → agrees.starts j ≡ listed run.starts j =
-    λ j l. one_stamp (joint_board s.edges s.events) s.bytes joint_start j (agrees.starts j) (listed run.starts j) (agrees.each j) (starts_at s t run h j l) in
+    λ j l. one_stamp (joint_board s.edges s.events) s.bytes (joint_start_of s.held) j (agrees.starts j) (listed run.starts j)
+    (agrees.each j) (starts_at s t run h j l) in
     let whole = whole_up_to kb s.edges s.events agrees.starts (listed run.starts) n same in
     h.log ∙ ap (lines_of run.starts) (agrees.log n (h.world.cycle - 4096) (ends_at s t run h) ∙ ap (λ (w : Whole S). w.side.log) whole)

@@ -1,5 +1,6 @@
 -- What is run has one run.
-use Rattle.std.proofs.Common.{◌≡◌, ◌≤◌, ◌<◌, ℕ, zero, suc, ◌+◌, ◌-◌, true, false, List, [], ◌∷◌, ◌++◌, length, ltb, refl, ap, sym, subst, ◌∙◌, arith, length-append}
+use Rattle.std.proofs.Common.{◌≡◌, ◌≤◌, ◌<◌, ℕ, zero, suc, ◌+◌, ◌-◌, true, false, List, [], ◌∷◌, ◌++◌}
+use Rattle.std.proofs.Common.{length, ltb, refl, ap, sym, subst, ◌∙◌, arith, length-append}
 use Rattle.std.proofs.lemmas.Bool.Decides.{nat_tests}
 use Rattle.std.proofs.lemmas.List.{get_or_append_left}
 use Rattle.board_lines.specs.Cadence.{listed}
@@ -17,7 +18,8 @@ pub starts_stay : (s : Story) (k m : ℕ) → (length (starts_among s k) ≤ len
     × ((j : ℕ) → j < length (starts_among s k) → listed (starts_among s (m + k)) j ≡ listed (starts_among s k) j)
 starts_stay s k zero =
     let z : zero + k ≡ k = omega arith in
-    subst (λ (i : ℕ). (length (starts_among s k) ≤ length (starts_among s i)) × ((j : ℕ) → j < length (starts_among s k) → listed (starts_among s i) j ≡ listed (starts_among s k) j))
+    subst (λ (i : ℕ). (length (starts_among s k) ≤ length (starts_among s i))
+    × ((j : ℕ) → j < length (starts_among s k) → listed (starts_among s i) j ≡ listed (starts_among s k) j))
     (sym z) (omega arith, λ j l. refl)
 starts_stay s k (suc m) =
     let n : suc m + k ≡ suc (m + k) = omega arith in
@@ -26,7 +28,8 @@ starts_stay s k (suc m) =
     let more = start_stamp s (state_at s (m + k)) in
     let long : length (xs ++ more) ≡ length xs + length more = length-append xs more in
     let less = before.0 in
-    subst (λ (i : ℕ). (length (starts_among s k) ≤ length (starts_among s i)) × ((j : ℕ) → j < length (starts_among s k) → listed (starts_among s i) j ≡ listed (starts_among s k) j))
+    subst (λ (i : ℕ). (length (starts_among s k) ≤ length (starts_among s i))
+    × ((j : ℕ) → j < length (starts_among s k) → listed (starts_among s i) j ≡ listed (starts_among s k) j))
     (sym n)
     (omega (arith, long, less), λ j l. get_or_append_left xs more 0 j (omega (arith, l, less)) ∙ before.1 j l)
 
@@ -47,7 +50,8 @@ none_shorter s a b p q l =
     let here : listed (starts_among s b.steps) n ≡ listed (starts_among s (suc a.steps)) n =
     ap (λ (i : ℕ). listed (starts_among s i) n) (sym up) ∙ stay.1 n below in
     let in_b : listed b.starts n ≡ listed xs n =
-    ap (λ (v : List ℕ). listed v n) (run_starts s b q) ∙ get_or_append_left xs ((q.world.cycle - 4096) ∷ []) 0 n (omega (arith, below, within)) in
+    ap (λ (v : List ℕ). listed v n) (run_starts s b q)
+    ∙ get_or_append_left xs ((q.world.cycle - 4096) ∷ []) 0 n (omega (arith, below, within)) in
     let in_a : listed a.starts n ≡ listed (starts_among s (suc a.steps)) n = ap (λ (v : List ℕ). listed v n) p.starts in
     let reaches : s.stop ≤ listed a.starts n = p.last.reaches in
     let before : listed b.starts n < s.stop = q.last.before n earlier in

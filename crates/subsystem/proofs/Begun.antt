@@ -1,14 +1,15 @@
 -- The tick starts among the first states of a run.
-use Rattle.std.proofs.Common.{◌≡◌, ◌≤◌, ◌<◌, ℕ, zero, suc, ◌+◌, ◌-◌, ◌/◌, Bool, true, false, ◌&&◌, List, [], ◌∷◌, ◌++◌, length, leb, Some, refl, ap, sym, subst, ◌∙◌, arith}
+use Rattle.std.proofs.Common.{◌≡◌, ◌≤◌, ◌<◌, ℕ, zero, suc, ◌+◌, ◌-◌, ◌/◌, Bool, true, false, ◌&&◌, List, []}
+use Rattle.std.proofs.Common.{◌∷◌, ◌++◌, length, leb, Some, refl, ap, sym, subst, ◌∙◌, arith}
 use Rattle.std.specs.Prelude.{if◌then◌else◌, nat_le}
 use Rattle.std.proofs.lemmas.Bool.Decides.{nat_tests}
 use Rattle.std.proofs.lemmas.List.{append-nil, get_or_append_left}
 use Rattle.std.proofs.Math.Seq.{get_or-append_seam}
 use Rattle.std.specs.declared.option.Option.{Option}
 use Rattle.board_lines.specs.Cadence.{listed}
-use Rattle.fw_logic.specs.JointRun.{KeepsTime}
+use Rattle.fw_logic.specs.JointRun.{KeepsTimeFrom}
 use Rattle.joint_feed.specs.Stories.{Story, state_at, starts_tick}
-use Rattle.joint_run.specs.Joint.{Beside}
+use Rattle.joint_run.specs.Joint.{Beside, joint_start_of}
 use Rattle.joint_run.specs.Run.{World}
 use Rattle.story_run.specs.Starts.{start_stamp, starts_among}
 use Rattle.story_run.proofs.Steps.{before, step_later}
@@ -60,7 +61,7 @@ module _ (s : Story) where
       let one = one_at_most (starts_tick s w) (starts_among s (suc k)) (w.cycle - 4096) in
       omega (arith, e, one, so_far)
 
-module _ (s : Story) (t : KeepsTime s.bytes s.edges s.events) where
+module _ (s : Story) (t : KeepsTimeFrom (joint_start_of s.held) s.bytes s.edges s.events) where
   -- all up to the cycle of the last of these states
   pub begun_among : (k : ℕ) (w : World Beside) → state_at s k ≡ Some w → AreUpTo (starts_among s (suc k)) w.cycle
   begun_among zero w there =
@@ -88,16 +89,19 @@ module _ (s : Story) (t : KeepsTime s.bytes s.edges s.events) where
         | true ↦ λ f. elim (starts_tick s w) as (λ b. starts_tick s w ≡ b → listed (starts_among s (suc k)) j < s.stop) [
           | true ↦ λ g.
               let early = t.none_early k w on.2 g in
-              let as_put : starts_among s (suc k) ≡ xs ++ (w.cycle - 4096) ∷ [] = put ∙ ap (λ b. xs ++ (if b then (w.cycle - 4096) ∷ [] else [])) g in
+              let as_put : starts_among s (suc k) ≡ xs ++ (w.cycle - 4096) ∷ [] =
+              put ∙ ap (λ b. xs ++ (if b then (w.cycle - 4096) ∷ [] else [])) g in
               let one : length (starts_among s (suc k)) ≡ suc (length xs) = ap length as_put ∙ one_longer xs (w.cycle - 4096) in
               let e : j ≡ length xs = grind (arith, nat_tests, f, below, one) in
               let last : listed (starts_among s (suc k)) j ≡ w.cycle - 4096 =
-              ap (λ (v : List ℕ). listed v j) as_put ∙ ap (listed (xs ++ (w.cycle - 4096) ∷ [])) e ∙ get_or-append_seam xs (w.cycle - 4096) [] 0 in
+              ap (λ (v : List ℕ). listed v j) as_put ∙ ap (listed (xs ++ (w.cycle - 4096) ∷ [])) e
+              ∙ get_or-append_seam xs (w.cycle - 4096) [] 0 in
               let off : nat_le (4096 + s.stop) w.cycle ≡ false = sym (ap (λ b. b && nat_le (4096 + s.stop) w.cycle) g) ∙ on.3 in
               let open_still : w.cycle < 4096 + s.stop = grind (arith, nat_tests, off) in
               omega (arith, last, open_still, early)
           | false ↦ λ g.
-              let as_put : starts_among s (suc k) ≡ xs = put ∙ ap (λ b. xs ++ (if b then (w.cycle - 4096) ∷ [] else [])) g ∙ append-nil xs in
+              let as_put : starts_among s (suc k) ≡ xs =
+              put ∙ ap (λ b. xs ++ (if b then (w.cycle - 4096) ∷ [] else [])) g ∙ append-nil xs in
               let none : length (starts_among s (suc k)) ≡ length xs = ap length as_put in
               absurd (grind (arith, nat_tests, f, below, none))
         ] refl

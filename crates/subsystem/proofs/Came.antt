@@ -1,13 +1,14 @@
 -- What a run has come to that was told.
 use Rattle.std.proofs.Common.{◌≡◌, ℕ, suc, List, [], ◌++◌, ap, sym, subst, ◌∙◌, refl, length, ◌-◌}
 use Rattle.std.proofs.Common.{false}
-use Rattle.fw_logic.specs.JointRun.{KeepsTime}
+use Rattle.fw_logic.specs.JointRun.{KeepsTimeFrom}
 use Rattle.board_probes.specs.Looks.{looks}
 use Rattle.board_probes.specs.Probes.{Watch}
 use Rattle.io_edge.proofs.Pieces.{said_then_broken}
 use Rattle.io_edge.specs.Said.{IsBrokenOff, IsSaid, Shown}
 use Rattle.joint_feed.specs.Stories.{Story}
 use Rattle.joint_feed.specs.declared.course.Course.{Course}
+use Rattle.joint_run.specs.Joint.{joint_start_of}
 use Rattle.link_model.specs.declared.line.LogLine.{LogLine}
 use Rattle.story_run.specs.declared.ending.End.{End}
 use Rattle.story_run.specs.declared.ending.Ending.TheVariants.{TickStart}
@@ -33,11 +34,19 @@ use Rattle.subsystem.proofs.Ends.{ends, told_whole}
 use Rattle.subsystem.proofs.Room.{log_text-append}
 use Rattle.subsystem.proofs.Timekeeping.{keeps_cadence}
 use Rattle.subsystem.proofs.Told.{told_quiet, told_step}
-use Rattle.subsystem.proofs.Whole.{are_lines, broken_off}
+use Rattle.subsystem.proofs.FirstStepsBeginLog.{are_lines, broken_off}
 
-module _ (s : Story) (t : KeepsTime s.bytes s.edges s.events) (c : Course) (end : End) (h : IsEnding TickStart s c end) where
+-- the run has come to an outcome, whose log a sink has taken and which is counted
+pub record HasCome (s : Story) (ended : Ended) (x y : Shown) : Type 0 where
+  pub run : IsOutcome s (ending s ended)
+  pub said : IsSaid x y (log_text (ending s ended).log)
+  pub counts : ended.counts ≡ with_lines none_counted (ending s ended).log
+
+module _ (s : Story) (t : KeepsTimeFrom (joint_start_of s.held) s.bytes s.edges s.events) (c : Course) (end : End)
+    (h : IsEnding TickStart s c end) where
   -- into a sink
-  module _ (it : Putting) (x y : Shown) (told : IsToldTo TickStart false s (λ k. HasPut TickStart s k it × IsSaid x y (log_text (told_by s k))) c.joint.steps)
+  module _ (it : Putting) (x y : Shown)
+      (told : IsToldTo TickStart false s (λ k. HasPut TickStart s k it × IsSaid x y (log_text (told_by s k))) c.joint.steps)
       (ended : Ended) (starts : ended.starts ≡ it.starts.stamps) (mcu : ended.end ≡ c.joint.mcu) (steps : ended.steps ≡ c.joint.steps)
       (cycles : ended.cycles ≡ c.joint.cycle) (counts : ended.counts ≡ it.counts) where
     stamps : ended.starts.items ≡ starts_among s (suc c.joint.steps)
@@ -48,19 +57,18 @@ module _ (s : Story) (t : KeepsTime s.bytes s.edges s.events) (c : Course) (end 
         told_quiet s t told.steps c.joint.steps told.quiet ∙ told_whole s t c end h ended.starts.items stamps
         ∙ ap (λ (k : ℕ). lines_of ended.starts.items (log_at s k)) (sym steps)
 
-    pub came : IsOutcome s (ending s ended)
-    came = ends s t c end h (ending s ended) (ap (λ (k : ℕ). lines_of ended.starts.items (log_at s k)) steps) stamps mcu steps cycles
-
-    pub came_said : IsSaid x y (log_text (ending s ended).log)
-    came_said = subst (λ (l : List LogLine). IsSaid x y (log_text l)) lines told.told_so.1
-
-    pub came_counted : ended.counts ≡ with_lines none_counted (ending s ended).log
-    came_counted = counts ∙ told.told_so.0.counts ∙ ap (with_lines none_counted) lines
+    pub came : HasCome s ended x y
+    came = record {
+      run = ends s t c end h (ending s ended) (ap (λ (k : ℕ). lines_of ended.starts.items (log_at s k)) steps) stamps mcu steps cycles;
+      said = subst (λ (l : List LogLine). IsSaid x y (log_text l)) lines told.told_so.1;
+      counts = counts ∙ told.told_so.0.counts ∙ ap (with_lines none_counted) lines;
+    }
 
   -- into a list
   module _ (it : Starts) (first log : List LogLine) (none : first ≡ [])
       (told : IsToldTo TickStart false s (λ k. HasNoted TickStart s k it × (log ≡ first ++ told_by s k)) c.joint.steps)
-      (run : Outcome) (kept : run.log ≡ log) (starts : run.starts ≡ it.stamps.items) (mcu : run.end ≡ c.joint.mcu) (steps : run.steps ≡ c.joint.steps)
+      (run : Outcome) (kept : run.log ≡ log) (starts : run.starts ≡ it.stamps.items)
+      (mcu : run.end ≡ c.joint.mcu) (steps : run.steps ≡ c.joint.steps)
       (cycles : run.cycles ≡ c.joint.cycle) where
     noted : run.starts ≡ starts_among s (suc c.joint.steps)
     noted = starts ∙ told.told_so.0.starts ∙ sym told.quiet.starts
@@ -68,7 +76,8 @@ module _ (s : Story) (t : KeepsTime s.bytes s.edges s.events) (c : Course) (end 
     pub came_kept : IsOutcome s run
     came_kept =
         ends s t c end h run
-        (kept ∙ told.told_so.1 ∙ ap (λ v. v ++ told_by s told.steps) none ∙ told_quiet s t told.steps c.joint.steps told.quiet ∙ told_whole s t c end h run.starts noted)
+        (kept ∙ told.told_so.1 ∙ ap (λ v. v ++ told_by s told.steps) none
+        ∙ told_quiet s t told.steps c.joint.steps told.quiet ∙ told_whole s t c end h run.starts noted)
         noted mcu steps cycles
 
   -- or its starts alone are noted
@@ -88,10 +97,12 @@ module _ (s : Story) (t : KeepsTime s.bytes s.edges s.events) (c : Course) (end 
         record { run = run; is = ends s t c end h run refl alone refl refl refl; same = refl; looked = looked }
 
 -- or where its telling broke off
-pub looked_some_by : (s : Story) (broken : ℕ → Type 0) (before after : List Watch) → BrokeOff TickStart s broken before after → HaveLookedAtSome s before after
+pub looked_some_by : (s : Story) (broken : ℕ → Type 0) (before after : List Watch)
+    → BrokeOff TickStart s broken before after → HaveLookedAtSome s before after
 looked_some_by s broken before after b = record { steps = suc b.last; goes_on = b.goes_on; looked = b.looked }
 
-pub broken_whole : (s : Story) → KeepsTime s.bytes s.edges s.events → (x y : Shown) (before after : List Watch) → HaveLookedToBreak s x y before after → IsLogBrokenOff s x y
+pub broken_whole : (s : Story) → KeepsTimeFrom (joint_start_of s.held) s.bytes s.edges s.events
+    → (x y : Shown) (before after : List Watch) → HaveLookedToBreak s x y before after → IsLogBrokenOff s x y
 broken_whole s t x y before after b =
     let k = b.last in
     let part = b.broken_so in
@@ -99,13 +110,16 @@ broken_whole s t x y before after b =
     sym (log_text-append (told_by s k) (step_lines s k)) ∙ ap log_text (sym (told_step s t k)) in
     broken_off s t (suc k) x y b.goes_on
     (subst (λ v. IsBrokenOff x y v) text
-    (said_then_broken x part.between y (log_text (told_by s k)) (log_text (step_lines s k)) (are_lines (told_by s k)) part.said part.broken))
+    (said_then_broken x part.between y (log_text (told_by s k)) (log_text (step_lines s k))
+    (are_lines (told_by s k)) part.said part.broken))
 
 -- the starts are those of the same run by another name, and they are near their multiples of 2,048
-pub starts_by : (s t : Story) → s ≡ t → (starts : List ℕ) (before after : List Watch) → AreStartsOf s starts before after → AreStartsOf t starts before after
+pub starts_by : (s t : Story)
+    → s ≡ t → (starts : List ℕ) (before after : List Watch) → AreStartsOf s starts before after → AreStartsOf t starts before after
 starts_by s t same starts before after are = subst (λ (v : Story). AreStartsOf v starts before after) same are
 
-pub starts_near : (s : Story) → KeepsTime s.bytes s.edges s.events → (starts : List ℕ) (before after : List Watch) → AreStartsOf s starts before after
+pub starts_near : (s : Story) → KeepsTimeFrom (joint_start_of s.held) s.bytes s.edges s.events
+    → (starts : List ℕ) (before after : List Watch) → AreStartsOf s starts before after
     → KeepsCadenceTo (listed starts) (length starts - 1)
 starts_near s t starts before after are =
     subst (λ (v : List ℕ). KeepsCadenceTo (listed v) (length v - 1)) (sym are.same) (keeps_cadence s t are.run are.is)

@@ -1,16 +1,17 @@
 -- The run at its end.
-use Rattle.std.proofs.Common.{◌≡◌, ◌≤◌, ◌<◌, ℕ, suc, ◌+◌, ◌-◌, Bool, true, false, ◌&&◌, List, [], ◌∷◌, ◌++◌, length, map, Some, refl, ap, sym, subst, ◌∙◌, arith}
+use Rattle.std.proofs.Common.{◌≡◌, ◌≤◌, ◌<◌, ℕ, suc, ◌+◌, ◌-◌, Bool, true, false, ◌&&◌, List, [], ◌∷◌}
+use Rattle.std.proofs.Common.{◌++◌, length, map, Some, refl, ap, sym, subst, ◌∙◌, arith}
 use Rattle.std.specs.Prelude.{if◌then◌else◌, nat_le}
 use Rattle.std.proofs.lemmas.Bool.Decides.{nat_tests}
 use Rattle.std.proofs.lemmas.List.{get_or_append_left}
 use Rattle.std.proofs.Math.Seq.{get_or-append_seam}
 use Rattle.std.specs.declared.option.Option.{Option}
 use Rattle.board_lines.specs.Cadence.{listed}
-use Rattle.fw_logic.specs.JointRun.{KeepsTime}
+use Rattle.fw_logic.specs.JointRun.{KeepsTimeFrom}
 use Rattle.joint_feed.proofs.Going.{here}
 use Rattle.joint_feed.specs.Stories.{Story, state_at, starts_tick}
 use Rattle.joint_feed.specs.declared.course.Course.{Course}
-use Rattle.joint_run.specs.Joint.{Beside, log_of}
+use Rattle.joint_run.specs.Joint.{Beside, log_of, joint_start_of}
 use Rattle.joint_run.specs.Run.{World}
 use Rattle.story_run.specs.declared.ending.End.{End}
 use Rattle.story_run.specs.declared.ending.End.TheVariants.{Over, Stuck}
@@ -24,7 +25,7 @@ use Rattle.subsystem.proofs.Going.{is_over}
 use Rattle.subsystem.specs.Progress.{line_so_far, told_by}
 use Rattle.subsystem.proofs.Lines.{lines_whole, one_longer}
 use Rattle.subsystem.proofs.Begun.{before_end}
-use Rattle.subsystem.proofs.Whole.{still_told}
+use Rattle.subsystem.proofs.FirstStepsBeginLog.{still_told}
 
 -- the run is over at a tick start at or after the end stamp
 pub at_start : (b : Bool) (stop cycle : ℕ) → (b && nat_le (4096 + stop) cycle) ≡ true → (b ≡ true) × (4096 + stop ≤ cycle)
@@ -32,11 +33,13 @@ at_start false stop cycle h = absurd cc
 at_start true stop cycle h = (refl, grind (arith, nat_tests, h))
 
 -- a run that keeps its time isn't stuck
-pub is_at_end : (s : Story) (k : ℕ) (w : World Beside) (end : End) → KeepsTime s.bytes s.edges s.events → EndsAt TickStart s k w end → is_over s w ≡ true
+pub is_at_end : (s : Story) (k : ℕ) (w : World Beside) (end : End)
+    → KeepsTimeFrom (joint_start_of s.held) s.bytes s.edges s.events → EndsAt TickStart s k w end → is_over s w ≡ true
 is_at_end s k w Over time ends = ends
 is_at_end s k w (Stuck place) time ends = absurd (never_stuck s (suc k) time ends.none)
 
-module _ (s : Story) (t : KeepsTime s.bytes s.edges s.events) (c : Course) (end : End) (h : IsEnding TickStart s c end) where
+module _ (s : Story) (t : KeepsTimeFrom (joint_start_of s.held) s.bytes s.edges s.events) (c : Course) (end : End)
+    (h : IsEnding TickStart s c end) where
   abbrev w : World Beside
   w = h.standing.on.world
 
@@ -55,7 +58,8 @@ module _ (s : Story) (t : KeepsTime s.bytes s.edges s.events) (c : Course) (end 
   long = ap length among ∙ one_longer (starts_among s c.joint.steps) (w.cycle - 4096)
 
   -- once the run is over its lines are those of its starts
-  pub told_whole : (starts : List ℕ) → starts ≡ starts_among s (suc c.joint.steps) → told_by s c.joint.steps ≡ lines_of starts (log_at s c.joint.steps)
+  pub told_whole : (starts : List ℕ)
+      → starts ≡ starts_among s (suc c.joint.steps) → told_by s c.joint.steps ≡ lines_of starts (log_at s c.joint.steps)
   told_whole starts same =
       let all = starts_among s (suc c.joint.steps) in
       let length_now : 0 < length all = let l = long in omega (arith, l) in
@@ -82,11 +86,13 @@ module _ (s : Story) (t : KeepsTime s.bytes s.edges s.events) (c : Course) (end 
         last = record {
           reaches =
               let at : listed run.starts (length run.starts - 1) ≡ w.cycle - 4096 =
-              ap (listed run.starts) last_index ∙ ap (λ (v : List ℕ). listed v (length xs)) all ∙ get_or-append_seam xs (w.cycle - 4096) [] 0 in
+              ap (listed run.starts) last_index ∙ ap (λ (v : List ℕ). listed v (length xs)) all
+              ∙ get_or-append_seam xs (w.cycle - 4096) [] 0 in
               omega (arith, at, reached);
           before = λ j below.
               let l : j < length xs = omega (arith, below, last_index) in
-              let same : listed run.starts j ≡ listed xs j = ap (λ (v : List ℕ). listed v j) all ∙ get_or_append_left xs ((w.cycle - 4096) ∷ []) 0 j l in
+              let same : listed run.starts j ≡ listed xs j =
+              ap (λ (v : List ℕ). listed v j) all ∙ get_or_append_left xs ((w.cycle - 4096) ∷ []) 0 j l in
               let earlier = before_end s t c.joint.steps h.standing.goes_on j l in
               omega (arith, same, earlier);
         };

@@ -12,6 +12,6 @@ pub mod Told
 pub mod Tellers
 pub mod Ticks
 pub mod Timekeeping
-pub mod Whole
+pub mod FirstStepsBeginLog
 pub mod Sessions
 pub mod Outcomes

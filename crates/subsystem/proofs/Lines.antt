@@ -1,5 +1,6 @@
 -- The lines of the log, as starts and items come.
-use Rattle.std.proofs.Common.{◌≡◌, ◌≤◌, ◌<◌, ℕ, suc, ◌+◌, ◌-◌, List, [], ◌∷◌, ◌++◌, length, map, drop, get_or, drop-cons, refl, ap, sym, ◌∙◌, arith, add-one}
+use Rattle.std.proofs.Common.{◌≡◌, ◌≤◌, ◌<◌, ℕ, suc, ◌+◌, ◌-◌, List, [], ◌∷◌, ◌++◌, length, map, drop}
+use Rattle.std.proofs.Common.{get_or, drop-cons, refl, ap, sym, ◌∙◌, arith, add-one}
 use Rattle.std.proofs.lemmas.List.{length-append}
 use Rattle.board_lines.specs.Cadence.{begun, listed}
 use Rattle.host_turn.specs.declared.stamped.Stamped.{Stamped}
@@ -28,16 +29,19 @@ lines_later starts next to (s ∷ log) l h =
     ∙ ap (λ v. line_so_far starts s ∷ v) (lines_later starts next to log l h.1)
 
 -- where all starts are at or before the cycles of items, these are of the last tick
-line_now : (starts : List ℕ) (s : Stamped) → ((j : ℕ) → j < length starts → 4096 + listed starts j ≤ s.cycle) → line_so_far starts s ≡ in_tick (length starts - 1) s
+line_now : (starts : List ℕ) (s : Stamped)
+    → ((j : ℕ) → j < length starts → 4096 + listed starts j ≤ s.cycle) → line_so_far starts s ≡ in_tick (length starts - 1) s
 line_now starts s h = ap (λ (n : ℕ). record { tick = n - 1; item = s.item }) (all_begun starts s.cycle h)
 
-pub lines_now : (starts : List ℕ) (from to : ℕ) (items : List Stamped) → ((j : ℕ) → j < length starts → 4096 + listed starts j ≤ from) → AreIn from to items
+pub lines_now : (starts : List ℕ) (from to : ℕ) (items : List Stamped)
+    → ((j : ℕ) → j < length starts → 4096 + listed starts j ≤ from) → AreIn from to items
     → map (in_tick (length starts - 1)) items ≡ map (line_so_far starts) items
 lines_now starts from to [] h k = refl
 lines_now starts from to (s ∷ items) h k =
     let l = k.0.0 in
     let reached = line_now starts s (λ j below. let m = h j below in omega (arith, l, m)) in
-    ap (λ v. v ∷ map (in_tick (length starts - 1)) items) (sym reached) ∙ ap (λ v. line_so_far starts s ∷ v) (lines_now starts from to items h k.1)
+    ap (λ v. v ∷ map (in_tick (length starts - 1)) items) (sym reached)
+    ∙ ap (λ v. line_so_far starts s ∷ v) (lines_now starts from to items h k.1)
 
 -- once a tick has started the lines are those of the whole run's starts
 line_whole : (starts : List ℕ) (s : Stamped) → 0 < length starts → line_so_far starts s ≡ line_of starts s
@@ -47,7 +51,8 @@ line_whole starts s l =
 
 pub lines_whole : (starts : List ℕ) (log : List Stamped) → 0 < length starts → map (line_so_far starts) log ≡ lines_of starts log
 lines_whole starts [] l = refl
-lines_whole starts (s ∷ log) l = ap (λ v. v ∷ map (line_so_far starts) log) (line_whole starts s l) ∙ ap (λ v. line_of starts s ∷ v) (lines_whole starts log l)
+lines_whole starts (s ∷ log) l =
+    ap (λ v. v ∷ map (line_so_far starts) log) (line_whole starts s l) ∙ ap (λ v. line_of starts s ∷ v) (lines_whole starts log l)
 
 -- the lines of the items from one on
 pub lines_left : (tick : ℕ) (items : List Stamped) (i : ℕ) (d : Stamped) → i < length items

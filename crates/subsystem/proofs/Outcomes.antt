@@ -1,13 +1,14 @@
 -- What a run that is over comes to.
-use Rattle.std.proofs.Common.{◌≡◌, ◌≤◌, ◌<◌, ℕ, suc, ◌+◌, ◌-◌, Bool, true, false, ◌&&◌, List, [], ◌∷◌, ◌++◌, length, Some, refl, ap, ◌∙◌, arith}
+use Rattle.std.proofs.Common.{◌≡◌, ◌≤◌, ◌<◌, ℕ, suc, ◌+◌, ◌-◌, Bool, true, false, ◌&&◌, List}
+use Rattle.std.proofs.Common.{[], ◌∷◌, ◌++◌, length, Some, refl, ap, ◌∙◌, arith}
 use Rattle.std.specs.Prelude.{if◌then◌else◌}
 use Rattle.std.proofs.lemmas.List.{get_or_append_left}
 use Rattle.std.proofs.Math.Seq.{get_or-append_seam}
 use Rattle.std.specs.declared.option.Option.{Option}
 use Rattle.board_lines.specs.Cadence.{listed}
-use Rattle.fw_logic.specs.JointRun.{KeepsTime}
+use Rattle.fw_logic.specs.JointRun.{KeepsTimeFrom}
 use Rattle.joint_feed.specs.Stories.{Story, starts_tick}
-use Rattle.joint_run.specs.Joint.{Beside, log_of}
+use Rattle.joint_run.specs.Joint.{Beside, log_of, joint_start_of}
 use Rattle.joint_run.specs.Run.{World}
 use Rattle.story_run.specs.declared.ending.Ending.TheVariants.{TickStart}
 use Rattle.story_run.specs.Running.{IsOverBehind}
@@ -17,7 +18,7 @@ use Rattle.subsystem.proofs.Begun.{before_end}
 use Rattle.subsystem.proofs.Ends.{at_start}
 use Rattle.subsystem.proofs.Lines.{one_longer}
 
-module _ (s : Story) (t : KeepsTime s.bytes s.edges s.events) (k : ℕ) (h : IsOverBehind TickStart s k) where
+module _ (s : Story) (t : KeepsTimeFrom (joint_start_of s.held) s.bytes s.edges s.events) (k : ℕ) (h : IsOverBehind TickStart s k) where
   abbrev w : World Beside
   w = h.world
 
@@ -59,7 +60,8 @@ module _ (s : Story) (t : KeepsTime s.bytes s.edges s.events) (k : ℕ) (h : IsO
               omega (arith, at, reached);
           before = λ j below.
               let l : j < length xs = omega (arith, below, last_index) in
-              let same : listed all j ≡ listed xs j = ap (λ (v : List ℕ). listed v j) among ∙ get_or_append_left xs ((w.cycle - 4096) ∷ []) 0 j l in
+              let same : listed all j ≡ listed xs j =
+              ap (λ (v : List ℕ). listed v j) among ∙ get_or_append_left xs ((w.cycle - 4096) ∷ []) 0 j l in
               let earlier = before_end s t k h.goes_on j l in
               omega (arith, same, earlier);
         };

@@ -1,5 +1,6 @@
 -- A session over a program that keeps its time ends where its run does.
-use Rattle.std.proofs.Common.{◌≡◌, ◌≤◌, ◌<◌, ℕ, zero, suc, ◌+◌, ◌-◌, Bool, true, false, ◌&&◌, List, [], ◌∷◌, ◌++◌, length, ltb, Some, None, is_none, refl, ap, sym, ◌∙◌, arith}
+use Rattle.std.proofs.Common.{◌≡◌, ◌≤◌, ◌<◌, ℕ, zero, suc, ◌+◌, ◌-◌, Bool, true, false, ◌&&◌, List, [], ◌∷◌}
+use Rattle.std.proofs.Common.{◌++◌, length, ltb, Some, None, is_none, refl, ap, sym, ◌∙◌, arith}
 use Rattle.std.specs.Prelude.{if◌then◌else◌, nat_le, ◌||◌}
 use Rattle.std.proofs.lemmas.Bool.Decides.{nat_tests}
 use Rattle.std.proofs.lemmas.List.{get_or_append_left}
@@ -8,9 +9,9 @@ use Rattle.std.specs.declared.option.Option.{Option}
 use Rattle.board_lines.specs.Cadence.{listed}
 use Rattle.board_probes.specs.Probes.{Watch}
 use Rattle.fw_debug.specs.Sessions.{Debug, Debuggee, next_from, next_state, of_layout, session_is_over, stepped_to, walk}
-use Rattle.fw_logic.specs.JointRun.{KeepsTime}
+use Rattle.fw_logic.specs.JointRun.{KeepsTimeFrom}
 use Rattle.joint_feed.specs.Stories.{Story, state_at, starts_tick}
-use Rattle.joint_run.specs.Joint.{Beside}
+use Rattle.joint_run.specs.Joint.{Beside, joint_start_of}
 use Rattle.joint_run.specs.Run.{World}
 use Rattle.story_run.specs.Starts.{start_stamp, starts_among}
 use Rattle.subsystem.specs.Running.{IsOutcome, Outcome}
@@ -21,7 +22,7 @@ use Rattle.subsystem.proofs.Alike.{starts_stay}
 use Rattle.subsystem.proofs.Lines.{one_longer}
 use Rattle.story_run.proofs.Timekeeping.{still_near}
 
-module _ (s : Story) (t : KeepsTime s.bytes s.edges s.events) (run : Outcome) (h : IsOutcome s run) where
+module _ (s : Story) (t : KeepsTimeFrom (joint_start_of s.held) s.bytes s.edges s.events) (run : Outcome) (h : IsOutcome s run) where
   -- a tick that starts before the last state starts before the end stamp
   early_start : (k : ℕ) → k < run.steps → (w : World Beside) → state_at s k ≡ Some w → starts_tick s w ≡ true → w.cycle < 4096 + s.stop
   early_start k below w there on =
@@ -35,7 +36,8 @@ module _ (s : Story) (t : KeepsTime s.bytes s.edges s.events) (run : Outcome) (h
       let up : (run.steps - suc k) + suc k ≡ run.steps = omega (arith, below) in
       let stay = starts_stay s (suc k) (run.steps - suc k) in
       let few : length (starts_among s (suc k)) ≤ length (starts_among s ((run.steps - suc k) + suc k)) = stay.0 in
-      let same_length : length (starts_among s ((run.steps - suc k) + suc k)) ≡ length (starts_among s run.steps) = ap (λ (n : ℕ). length (starts_among s n)) up in
+      let same_length : length (starts_among s ((run.steps - suc k) + suc k)) ≡ length (starts_among s run.steps) =
+      ap (λ (n : ℕ). length (starts_among s n)) up in
       let last = run_last s run h in
       let same : listed (starts_among s run.steps) (length xs) ≡ listed (starts_among s (suc k)) (length xs) =
       ap (λ (n : ℕ). listed (starts_among s n) (length xs)) (sym up) ∙ stay.1 (length xs) (omega (arith, long)) in
@@ -88,7 +90,8 @@ module _ (s : Story) (t : KeepsTime s.bytes s.edges s.events) (run : Outcome) (h
       let long = run_last s run h in
       let last_index : length run.starts - 1 ≡ length xs = omega (arith, long) in
       let last : listed run.starts (length run.starts - 1) ≡ w.cycle - 4096 =
-      ap (listed run.starts) last_index ∙ ap (λ (v : List ℕ). listed v (length xs)) (run_starts s run h) ∙ get_or-append_seam xs (w.cycle - 4096) [] 0 in
+      ap (listed run.starts) last_index ∙ ap (λ (v : List ℕ). listed v (length xs)) (run_starts s run h)
+      ∙ get_or-append_seam xs (w.cycle - 4096) [] 0 in
       let early = t.none_early run.steps w h.reached h.at in
       let reaches = h.last.reaches in
       let at_end : 4096 + s.stop ≤ w.cycle = omega (arith, last, early, reaches) in
@@ -118,13 +121,19 @@ module _ (s : Story) (t : KeepsTime s.bytes s.edges s.events) (run : Outcome) (h
       ] refl
 
   -- steps that are made one after another lead there
-  walked_to : (n k : ℕ) (probes : List Watch) → k ≤ run.steps → run.steps ≤ n + k → (walk d n (record { steps = k; probes = probes })).steps ≡ run.steps
+  walked_to : (n k : ℕ) (probes : List Watch)
+      → k ≤ run.steps → run.steps ≤ n + k → (walk d n (record { steps = k; probes = probes })).steps ≡ run.steps
   walked_to zero k probes l m = omega (arith, l, m)
   walked_to (suc n) k probes l m =
       elim (next_state d k) as (λ o. next_state d k ≡ o
-      → (elim o as (λ x. Debug) [ None ↦ record { steps = k; probes = probes } | Some w ↦ walk d n (stepped_to w (record { steps = k; probes = probes })) ]).steps ≡ run.steps) [
+      → (elim o as (λ x. Debug) [
+        | None ↦ record { steps = k; probes = probes }
+        | Some w ↦
+            walk d n (stepped_to w (record { steps = k; probes = probes }))
+      ]).steps ≡ run.steps) [
         | None ↦ λ none. last_step k l none
-        | Some w ↦ λ next. walked_to n (suc k) (stepped_to w (record { steps = k; probes = probes })).probes (one_more k l w next) (omega (arith, m))
+        | Some w ↦ λ next.
+            walked_to n (suc k) (stepped_to w (record { steps = k; probes = probes })).probes (one_more k l w next) (omega (arith, m))
       ] refl
 
   pub ends_behind : EndsBehind d run.steps

@@ -1,5 +1,6 @@
 -- What is told of one step more, by whoever tells it.
-use Rattle.std.proofs.Common.{◌≡◌, ◌≤◌, ◌<◌, ◌^◌, ℕ, suc, ◌-◌, Bool, true, false, List, [], ◌∷◌, ◌++◌, length, map, vec_capacity, Some, refl, append_assoc, ap, sym, subst, ◌∙◌, arith}
+use Rattle.std.proofs.Common.{◌≡◌, ◌≤◌, ◌<◌, ◌^◌, ℕ, suc, ◌-◌, Bool, true, false, List, [], ◌∷◌, ◌++◌, length, map}
+use Rattle.std.proofs.Common.{vec_capacity, Some, refl, append_assoc, ap, sym, subst, ◌∙◌, arith}
 use Rattle.std.specs.Prelude.{if◌then◌else◌}
 use Rattle.std.proofs.lemmas.List.{append-nil}
 use Rattle.host_turn.specs.declared.stamped.Stamped.{Stamped}
@@ -24,7 +25,8 @@ use Rattle.subsystem.specs.declared.telling.Putting.{Putting}
 use Rattle.subsystem.proofs.Told.{broken_now, counts_more, few_starts, room_now, said_more, short_now, starts_more, told_more}
 
 -- a state at which no tick starts adds no stamp, and one at which a tick starts its own
-pub none_noted : (s : Story) (w : World Beside) (b : Bool) (xs : List ℕ) → b ≡ starts_tick s w → b ≡ false → xs ≡ xs ++ start_stamp s (Some w)
+pub none_noted : (s : Story) (w : World Beside) (b : Bool) (xs : List ℕ)
+    → b ≡ starts_tick s w → b ≡ false → xs ≡ xs ++ start_stamp s (Some w)
 none_noted s w b xs tells off = sym (append-nil xs) ∙ ap (λ v. xs ++ (if v then (w.cycle - 4096) ∷ [] else [])) (sym off ∙ tells)
 
 pub one_noted : (s : Story) (w : World Beside) (b : Bool) (xs : List ℕ) (cycle : ℕ) → b ≡ starts_tick s w → b ≡ true → w.cycle ≡ cycle
@@ -33,7 +35,8 @@ one_noted s w b xs cycle tells on same =
     ap (λ (n : ℕ). xs ++ (n - 4096) ∷ []) (sym same) ∙ ap (λ v. xs ++ (if v then (w.cycle - 4096) ∷ [] else [])) (sym on ∙ tells)
 
 -- there are few starts
-pub few_noted : (e : Ending) (s : Story) (k : ℕ) (c : Course) (it : Starts) → IsBehind e false s k c → HasNoted e s k it → length it.stamps.items < 2 ^ 32
+pub few_noted : (e : Ending) (s : Story) (k : ℕ) (c : Course) (it : Starts)
+    → IsBehind e false s k c → HasNoted e s k it → length it.stamps.items < 2 ^ 32
 few_noted TickStart s k c it b noted = subst (λ (v : List ℕ). length v < 2 ^ 32) (sym noted.starts) (few_starts s k c b)
 few_noted Stamp s k c it b noted = absurd (cc noted.ending)
 
@@ -55,7 +58,8 @@ pub lines_by : (c : Course) (it : Starts) (tick : ℕ) (items : List Stamped) �
 lines_by c it tick items last same = ap (λ n. map (in_tick n) items) last ∙ ap (map (in_tick (length it.stamps.items - 1))) same
 
 -- they are kept
-pub kept_on : (e : Ending) (s : Story) (k : ℕ) (c : Course) (it : Starts) (first before after : List LogLine) → IsBehind e false s k c → HasNoted e s k it
+pub kept_on : (e : Ending) (s : Story) (k : ℕ) (c : Course) (it : Starts) (first before after : List LogLine)
+    → IsBehind e false s k c → HasNoted e s k it
     → before ≡ first ++ told_by s k → after ≡ before ++ lines_of_step c it → after ≡ first ++ told_by s c.joint.steps
 kept_on TickStart s k c it first before after b noted kept is =
     let items = c.seen.items.items in
@@ -76,7 +80,8 @@ room_put TickStart s k c it b put =
 room_put Stamp s k c it b put = absurd (cc put.noted.ending)
 
 pub put_on : (e : Ending) (s : Story) (k : ℕ) (c : Course) (it next : Putting) (b : IsBehind e false s k c) → HasPut e s k it
-    → next.starts.stamps.items ≡ it.starts.stamps.items ++ start_stamp s (Some b.standing.on.world) → vec_capacity it.starts.stamps ≤ vec_capacity next.starts.stamps
+    → next.starts.stamps.items ≡ it.starts.stamps.items ++ start_stamp s (Some b.standing.on.world)
+    → vec_capacity it.starts.stamps ≤ vec_capacity next.starts.stamps
     → next.counts ≡ with_lines it.counts (lines_of_step c it.starts) → length c.seen.items.items ≤ 16 → HasPut e s c.joint.steps next
 put_on TickStart s k c it next b put more room counts few =
     let old = put.room in
@@ -89,15 +94,19 @@ put_on TickStart s k c it next b put more room counts few =
     }
 put_on Stamp s k c it next b put more room counts few = absurd (cc put.noted.ending)
 
-pub said_on : (e : Ending) (s : Story) (k : ℕ) (c : Course) (it : Putting) (first now next : Shown) → IsBehind e false s k c → HasPut e s k it
-    → IsSaid first now (log_text (told_by s k)) → IsSaid now next (log_text (lines_of_step c it.starts)) → IsSaid first next (log_text (told_by s c.joint.steps))
+pub said_on : (e : Ending) (s : Story) (k : ℕ) (c : Course) (it : Putting) (first now next : Shown)
+    → IsBehind e false s k c → HasPut e s k it
+    → IsSaid first now (log_text (told_by s k))
+    → IsSaid now next (log_text (lines_of_step c it.starts)) → IsSaid first next (log_text (told_by s c.joint.steps))
 said_on TickStart s k c it first now next b put said more =
     said_more s k c b first now next said
     (subst (λ (v : List ℕ). IsSaid now next (log_text (map (in_tick (length v - 1)) c.seen.items.items))) put.noted.starts more)
 said_on Stamp s k c it first now next b put said more = absurd (cc put.noted.ending)
 
-pub broken_on : (e : Ending) (s : Story) (k : ℕ) (c : Course) (it : Putting) (first now next : Shown) (b : IsBehind e false s k c) → HasPut e s k it
-    → IsSaid first now (log_text (told_by s k)) → IsBrokenOff now next (log_text (lines_of_step c it.starts)) → IsLogBrokenAt s first next b.last
+pub broken_on : (e : Ending) (s : Story) (k : ℕ) (c : Course) (it : Putting) (first now next : Shown) (b : IsBehind e false s k c)
+    → HasPut e s k it
+    → IsSaid first now (log_text (told_by s k))
+    → IsBrokenOff now next (log_text (lines_of_step c it.starts)) → IsLogBrokenAt s first next b.last
 broken_on TickStart s k c it first now next b put said broken =
     broken_now s k c b first now next said
     (subst (λ (v : List ℕ). IsBrokenOff now next (log_text (map (in_tick (length v - 1)) c.seen.items.items))) put.noted.starts broken)

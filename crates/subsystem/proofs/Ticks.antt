@@ -19,7 +19,9 @@ begun_alike f g cycle (suc n) h =
 pub begun_more : (starts : List ℕ) (next cycle : ℕ) → begun (listed (starts ++ next ∷ [])) cycle (suc (length starts))
     ≡ begun (listed starts) cycle (length starts) + (if nat_le (4096 + next) cycle then 1 else 0)
 begun_more starts next cycle =
-    let earlier = begun_alike (listed (starts ++ next ∷ [])) (listed starts) cycle (length starts) (λ j l. get_or_append_left starts (next ∷ []) 0 j l) in
+    let earlier =
+    begun_alike (listed (starts ++ next ∷ [])) (listed starts) cycle (length starts)
+    (λ j l. get_or_append_left starts (next ∷ []) 0 j l) in
     let last : listed (starts ++ next ∷ []) (length starts) ≡ next = get_or-append_seam starts next [] 0 in
     ap (λ b. b + (if nat_le (4096 + listed (starts ++ next ∷ []) (length starts)) cycle then 1 else 0)) earlier
     ∙ ap (λ s. begun (listed starts) cycle (length starts) + (if nat_le (4096 + s) cycle then 1 else 0)) last
@@ -42,5 +44,6 @@ begun_below f cycle (suc n) h =
     let on : nat_le (4096 + f n) cycle ≡ true = grind (arith, nat_tests, last) in
     ap (λ b. begun f cycle n + (if b then 1 else 0)) on ∙ ap (λ b. b + 1) earlier ∙ add-one n
 
-pub all_begun : (starts : List ℕ) (cycle : ℕ) → ((j : ℕ) → j < length starts → 4096 + listed starts j ≤ cycle) → begun (listed starts) cycle (length starts) ≡ length starts
+pub all_begun : (starts : List ℕ) (cycle : ℕ)
+    → ((j : ℕ) → j < length starts → 4096 + listed starts j ≤ cycle) → begun (listed starts) cycle (length starts) ≡ length starts
 all_begun starts cycle h = begun_below (listed starts) cycle (length starts) h

@@ -1,14 +1,15 @@
 -- What is told behind one stretch of steps.
-use Rattle.std.proofs.Common.{◌≡◌, ◌≤◌, ◌<◌, ◌^◌, ℕ, suc, ◌+◌, ◌-◌, ◌*◌, ◌/◌, false, List, ◌++◌, length, map, drop, Some, ap, sym, subst, ◌∙◌, arith}
+use Rattle.std.proofs.Common.{◌≡◌, ◌≤◌, ◌<◌, ◌^◌, ℕ, suc, ◌+◌, ◌-◌, ◌*◌, ◌/◌, false, List, ◌++◌}
+use Rattle.std.proofs.Common.{length, map, drop, Some, ap, sym, subst, ◌∙◌, arith}
 use Rattle.std.proofs.lemmas.List.{map-append}
 use Rattle.std.proofs.Math.Seq.{drop-append_seam}
 use Rattle.std.specs.declared.option.Option.{Option}
-use Rattle.fw_logic.specs.JointRun.{KeepsTime}
+use Rattle.fw_logic.specs.JointRun.{KeepsTimeFrom}
 use Rattle.host_turn.specs.declared.stamped.Stamped.{Stamped}
 use Rattle.joint_feed.proofs.Going.{here}
 use Rattle.joint_feed.specs.Stories.{Story, state_at}
 use Rattle.joint_feed.specs.declared.course.Course.{Course}
-use Rattle.joint_run.specs.Joint.{Beside, log_of}
+use Rattle.joint_run.specs.Joint.{Beside, log_of, joint_start_of}
 use Rattle.joint_run.specs.Run.{World}
 use Rattle.link_model.specs.declared.line.LogLine.{LogLine}
 use Rattle.story_run.specs.declared.ending.Ending.TheVariants.{TickStart}
@@ -29,10 +30,10 @@ use Rattle.subsystem.specs.declared.counts.Counts.{Counts}
 use Rattle.subsystem.proofs.Lines.{lines_now}
 use Rattle.subsystem.proofs.Room.{log_text-append, short_more, with_lines-append}
 use Rattle.subsystem.proofs.Begun.{begun_among, few_among, few_before}
-use Rattle.subsystem.proofs.Whole.{are_lines, still_told}
+use Rattle.subsystem.proofs.FirstStepsBeginLog.{are_lines, still_told}
 
 -- what is told is so by the starts among the states up to the present one too
-all_told : (s : Story) → KeepsTime s.bytes s.edges s.events → (k : ℕ) (w : World Beside) → state_at s k ≡ Some w
+all_told : (s : Story) → KeepsTimeFrom (joint_start_of s.held) s.bytes s.edges s.events → (k : ℕ) (w : World Beside) → state_at s k ≡ Some w
     → lines_to s (starts_among s (suc k)) k ≡ told_by s k
 all_told s t k w there =
     ap (λ (o : Option (World Beside)). map (line_so_far (starts_among s (suc k))) (logged o)) there
@@ -40,7 +41,8 @@ all_told s t k w there =
     ∙ ap (λ (o : Option (World Beside)). map (line_so_far (starts_among s k)) (logged o)) (sym there)
 
 -- and it stays so as long as nothing is to be told
-pub told_quiet : (s : Story) → KeepsTime s.bytes s.edges s.events → (k n : ℕ) → IsQuiet TickStart false s k n → told_by s k ≡ told_by s n
+pub told_quiet : (s : Story) → KeepsTimeFrom (joint_start_of s.held) s.bytes s.edges s.events → (k n : ℕ)
+    → IsQuiet TickStart false s k n → told_by s k ≡ told_by s n
 told_quiet s t k n quiet =
     let from = t.goes_on k in
     let to = t.goes_on n in
@@ -50,7 +52,8 @@ told_quiet s t k n quiet =
     ∙ all_told s t n to.0 to.1
 
 -- one step more puts its lines behind
-pub told_step : (s : Story) → KeepsTime s.bytes s.edges s.events → (k : ℕ) → told_by s (suc k) ≡ told_by s k ++ step_lines s k
+pub told_step : (s : Story) → KeepsTimeFrom (joint_start_of s.held) s.bytes s.edges s.events → (k : ℕ)
+    → told_by s (suc k) ≡ told_by s k ++ step_lines s k
 told_step s t k =
     let from = t.goes_on k in
     let to = t.goes_on (suc k) in
@@ -118,13 +121,15 @@ module _ (s : Story) (k : ℕ) (c : Course) (b : IsBehind TickStart false s k c)
   told_still = told_quiet s b.timely k b.last b.quiet
 
   -- a start at the present state is put behind
-  pub starts_more : (noted : List ℕ) → noted ≡ starts ++ start_stamp s (Some b.standing.on.world) → noted ≡ starts_among s (suc c.joint.steps)
+  pub starts_more : (noted : List ℕ)
+      → noted ≡ starts ++ start_stamp s (Some b.standing.on.world) → noted ≡ starts_among s (suc c.joint.steps)
   starts_more noted is =
       is ∙ ap (λ (v : List ℕ). v ++ start_stamp s (Some b.standing.on.world)) (sym starts_same ∙ ap (starts_among s) (sym b.steps))
       ∙ ap (λ (o : Option (World Beside)). starts_among s c.joint.steps ++ start_stamp s o) (sym (here s c b.standing.on))
 
   -- a put of its lines broke off
-  pub broken_now : (first now next : Shown) → IsSaid first now (log_text (told_by s k)) → IsBrokenOff now next (log_text (map (in_tick (length starts - 1)) items))
+  pub broken_now : (first now next : Shown)
+      → IsSaid first now (log_text (told_by s k)) → IsBrokenOff now next (log_text (map (in_tick (length starts - 1)) items))
       → IsLogBrokenAt s first next b.last
   broken_now first now next said broken = record {
     between = now;
@@ -133,20 +138,24 @@ module _ (s : Story) (k : ℕ) (c : Course) (b : IsBehind TickStart false s k c)
   }
 
   -- or they are said
-  pub said_more : (first now next : Shown) → IsSaid first now (log_text (told_by s k)) → IsSaid now next (log_text (map (in_tick (length starts - 1)) items))
+  pub said_more : (first now next : Shown)
+      → IsSaid first now (log_text (told_by s k)) → IsSaid now next (log_text (map (in_tick (length starts - 1)) items))
       → IsSaid first next (log_text (told_by s c.joint.steps))
   said_more first now next said put =
       let old = told_by s k in
       let new = map (in_tick (length starts - 1)) items in
       subst (λ (l : List LogLine). IsSaid first next (log_text l)) (sym told_more)
-      (subst (λ t. IsSaid first next t) (sym (log_text-append old new)) (said_then_said first now next (log_text old) (log_text new) (are_lines old) said put))
+      (subst (λ t. IsSaid first next t) (sym (log_text-append old new))
+      (said_then_said first now next (log_text old) (log_text new) (are_lines old) said put))
 
   -- counted
-  pub counts_more : (before after : Counts) → before ≡ with_lines none_counted (told_by s k) → after ≡ with_lines before (map (in_tick (length starts - 1)) items)
+  pub counts_more : (before after : Counts)
+      → before ≡ with_lines none_counted (told_by s k) → after ≡ with_lines before (map (in_tick (length starts - 1)) items)
       → after ≡ with_lines none_counted (told_by s c.joint.steps)
   counts_more before after so_far is =
       let new = map (in_tick (length starts - 1)) items in
-      is ∙ ap (λ v. with_lines v new) so_far ∙ with_lines-append none_counted (told_by s k) new ∙ ap (with_lines none_counted) (sym told_more)
+      is ∙ ap (λ v. with_lines v new) so_far ∙ with_lines-append none_counted (told_by s k) new
+      ∙ ap (with_lines none_counted) (sym told_more)
 
   pub short_now : length items ≤ 16 → length (told_by s k) ≤ 16 * k → length (told_by s c.joint.steps) ≤ 16 * c.joint.steps
   short_now few short =

@@ -4,7 +4,7 @@ ghost use Rattle.std.specs.Prelude.{◌≡◌, ◌-◌, length, map, IfOk, OnErr
 ghost use Rattle.board_lines.specs.Cadence.{KeepsCadenceTo, listed};
 ghost use Rattle.fw_compile.specs.Image.{image_of};
 ghost use Rattle.board_probes.specs.Looks.{looks};
-ghost use Rattle.io_edge.specs.Said.{IsSaid, shown};
+ghost use Rattle.io_edge.specs.Said.{IsSaid};
 ghost use Rattle.joint_feed.specs.Stories.{story};
 ghost use Rattle.key_file.specs.Accepted.{IsAccepted, IsAcceptedFor};
 ghost use Rattle.key_file.specs.Feeds.{Fed};
@@ -20,20 +20,18 @@ ghost use Rattle.subsystem.specs.Texts.{log_text};
 
 use crate::counts::Counts;
 use crate::ended::Ended;
-use crate::law::{keeps_time, runs_are_expected};
+use crate::law::runs_are_expected;
 use crate::outcome::copied;
 use crate::starts::Starts;
 use crate::telling::Putting;
 use board_probes::Probe;
-use fw_compile::compile;
-use int09::Bios;
 use io_edge::{Sink, SinkFault};
 use joint_feed::Course;
 use key_file::Feed;
 use layout_reader::Layout;
 use std::alloc::{AllocError, Global};
 use std::marker::Model;
-use story_run::{Ending, tell_run};
+use story_run::{Ending, begin_run, tell_run};
 
 /// The cycles of a tick.
 const TICK_CYCLES: u64 = 2_048;
@@ -90,13 +88,10 @@ impl<F: Feed> Engine<F> {
         ensures engine { IfOk result (λ engine. engine ≡ story (image_of layout.now) (F.told feed).history) }
         ensures accepted { IfOk result (λ engine. IsAccepted (history_of engine)) }
     {
-        keeps_time(layout);
-        let image = compile(layout);
-        let bios = Bios::new(alloc)?;
+        let mut feed = feed;
+        let course = begin_run(alloc, layout, &mut feed)?;
         let most = feed.end() / TICK_CYCLES + 2;
         let stamps = Vec::with_capacity(alloc, most as usize)?;
-        let mut feed = feed;
-        let course = Course::begin(&image, bios, &mut feed);
         Ok(Engine {
             feed,
             course,
@@ -119,20 +114,18 @@ impl<F: Feed> Engine<F> {
     ) -> Result<Ended, SinkFault>
         requires accepted { IsAccepted (history_of self) }
         ensures run { IfOk result (λ ended. IsOutcome self (ending self ended)) }
-        ensures said { IfOk result (λ ended. IsSaid (shown (K.taken out.old) (K.told out.old) (K.faults out.old))
-            (shown (K.taken out.new) (K.told out.new) (K.faults out.new))
+        ensures said { IfOk result (λ ended. IsSaid (K.shown out.old) (K.shown out.new)
             (log_text (ending self ended).log)) }
         ensures counts { IfOk result (λ ended. ended.counts ≡ with_lines none_counted (ending self ended).log) }
         ensures agrees { IfOk result (λ ended. (layout : KeyLayout) → IsKeyLayout layout → IsAcceptedFor layout (history_of self)
             → self.bytes ≡ image_of layout → IsAsExpected layout (history_of self) (ending self ended)) }
         ensures cadence { IfOk result (λ ended. KeepsCadenceTo (listed ended.starts.items) (length ended.starts.items - 1)) }
-        ensures broken { OnErr result (IsLogBrokenOff self (shown (K.taken out.old) (K.told out.old) (K.faults out.old))
-            (shown (K.taken out.new) (K.told out.new) (K.faults out.new))) }
+        ensures broken { OnErr result (IsLogBrokenOff self (K.shown out.old) (K.shown out.new)) }
         ensures looked { let before = map (λ b. watch b) probes.old.items in
             IfOk result (λ ended. map (λ b. watch b) probes.new.items ≡ looks self ended.steps before) }
         ensures looked_so_far { HaveLookedAtSome self (map (λ b. watch b) probes.old.items) (map (λ b. watch b) probes.new.items) }
-        ensures looked_to_break { OnErr result (HaveLookedToBreak self (shown (K.taken out.old) (K.told out.old) (K.faults out.old))
-            (shown (K.taken out.new) (K.told out.new) (K.faults out.new)) (map (λ b. watch b) probes.old.items) (map (λ b. watch b) probes.new.items)) }
+        ensures looked_to_break { OnErr result (HaveLookedToBreak self (K.shown out.old)
+            (K.shown out.new) (map (λ b. watch b) probes.old.items) (map (λ b. watch b) probes.new.items)) }
     {
         runs_are_expected();
         let mut feed = self.feed;
@@ -144,6 +137,7 @@ impl<F: Feed> Engine<F> {
         let _end = tell_run::<F, K, SinkFault, Putting, 9>(
             &mut course,
             &mut feed,
+            0,
             Ending::TickStart,
             &mut putting,
             out,

@@ -1,21 +1,15 @@
 //! Laws of every run, each the contract of a function that does nothing.
 
-ghost use Rattle.fw_compile.specs.Image.{image_of};
-ghost use Rattle.fw_logic.specs.JointRun.{KeepsTime};
-ghost use Rattle.key_file.specs.Accepted.{IsAcceptedFor};
-ghost use Rattle.key_file.specs.Histories.{KeyHistory};
-ghost use Rattle.layout_reader.specs.Layouts.{IsKeyLayout};
 ghost use Rattle.subsystem.specs.Agreement.{RunsAreAlike, RunsAsExpected};
 ghost use Rattle.subsystem.specs.Outcomes.{RunsComeToOutcomes};
 ghost use Rattle.subsystem.specs.Sessions.{SessionsEndWithRuns};
 
 use agreement::run_and_model_agree;
-use layout_reader::Layout;
 use quiet_log::{logs_are_limited, quiet_histories};
 
-/// Every run of a layout's compiled image under a history that is accepted for it gives the log that the model expects where its ticks
-/// start when the run's do, and these starts keep the cadence; for a quiet history it is a function of layout and history
-/// alone. The log has fewer than 800,000 items. Nothing is done when it is called; the law is its contract.
+/// Every run of a layout's compiled image under a history that is accepted for it gives the log that the model expects where
+/// its ticks start when the run's do, and these starts keep the cadence; for a quiet history it is a function of layout and
+/// history alone. The log has fewer than 800,000 items. Nothing is done when it is called; the law is its contract.
 pub fn runs_are_expected()
     ensures expected { RunsAsExpected }
 {
@@ -24,8 +18,8 @@ pub fn runs_are_expected()
     logs_are_limited();
 }
 
-/// A program, edges of keys, events of the host and an end stamp have one run: two runs of them tell the same. Nothing is
-/// done when it is called; the law is its contract.
+/// A program, edges of keys, events of the host, an end stamp and what the part held at power-on have one run: two runs of
+/// them tell the same. Nothing is done when it is called; the law is its contract.
 pub fn runs_are_alike()
     ensures alike { RunsAreAlike }
 {}
@@ -44,15 +38,5 @@ pub fn runs_come_to_outcomes()
 pub fn sessions_end_with_runs()
     ensures ends { SessionsEndWithRuns }
 {
-    run_and_model_agree();
-}
-
-/// The image of a layout keeps its time under each history that is accepted for it. Each layout is one of which the laws speak.
-pub(crate) fn keeps_time(layout: &Layout)
-    ensures layout { IsKeyLayout layout.now }
-    ensures time { (history : KeyHistory) → IsAcceptedFor layout.now history → KeepsTime (image_of layout.now) history.edges history.host }
-{
-    let _ = layout.rate();
-    let _ = layout.entries();
     run_and_model_agree();
 }

@@ -1,7 +1,7 @@
 //! Lines of the log, put as they arise.
 
 ghost use Rattle.std.specs.Prelude.{◌≡◌, ◌<◌, ◌^◌, ◌≤◌, length, map, OnErr, OnOk};
-ghost use Rattle.io_edge.specs.Said.{IsBrokenOff, IsSaid, shown};
+ghost use Rattle.io_edge.specs.Said.{IsBrokenOff, IsSaid};
 ghost use Rattle.subsystem.specs.Account.{in_tick};
 ghost use Rattle.subsystem.specs.Counts.{with_lines};
 ghost use Rattle.subsystem.specs.Texts.{line_text, log_text};
@@ -14,10 +14,8 @@ use pc_tables::item_line;
 
 /// Puts the line of an item whole, and what wasn't taken of it again.
 fn put_line<K: Sink>(out: &mut K, line: LogLine) -> Result<(), SinkFault>
-    ensures said { OnOk result (IsSaid (shown (K.taken out.old) (K.told out.old) (K.faults out.old))
-        (shown (K.taken out.new) (K.told out.new) (K.faults out.new)) (line_text line)) }
-    ensures broken { OnErr result (IsBrokenOff (shown (K.taken out.old) (K.told out.old) (K.faults out.old))
-        (shown (K.taken out.new) (K.told out.new) (K.faults out.new)) (line_text line)) }
+    ensures said { OnOk result (IsSaid (K.shown out.old) (K.shown out.new) (line_text line)) }
+    ensures broken { OnErr result (IsBrokenOff (K.shown out.old) (K.shown out.new) (line_text line)) }
 {
     let text = item_line(line.tick, line.item);
     say(out, text.as_slice())
@@ -34,10 +32,9 @@ pub fn put_items<K: Sink>(
     requires words { counts.old.words < 2 ^ 40 }
     requires beeps { counts.old.beeps < 2 ^ 40 }
     requires few { length items.now ≤ 16 }
-    ensures said { OnOk result (IsSaid (shown (K.taken out.old) (K.told out.old) (K.faults out.old))
-        (shown (K.taken out.new) (K.told out.new) (K.faults out.new)) (log_text (map (in_tick tick) items.now))) }
-    ensures broken { OnErr result (IsBrokenOff (shown (K.taken out.old) (K.told out.old) (K.faults out.old))
-        (shown (K.taken out.new) (K.told out.new) (K.faults out.new)) (log_text (map (in_tick tick) items.now))) }
+    ensures said { OnOk result (IsSaid (K.shown out.old) (K.shown out.new) (log_text (map (in_tick tick) items.now))) }
+    ensures broken { OnErr result (IsBrokenOff (K.shown out.old)
+        (K.shown out.new) (log_text (map (in_tick tick) items.now))) }
     ensures counts { OnOk result (counts.new ≡ with_lines counts.old (map (in_tick tick) items.now)) }
 {
     for stamped in items {

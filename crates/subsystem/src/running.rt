@@ -11,19 +11,17 @@ ghost use Rattle.quiet_log.specs.Quiet.{IsQuiet, quiet_log};
 ghost use Rattle.subsystem.specs.Looking.{HaveLookedAtSome};
 ghost use Rattle.subsystem.specs.Running.{IsRun};
 
-use crate::law::{keeps_time, runs_are_expected};
+use crate::law::runs_are_expected;
 use crate::outcome::{Run, copied};
 use crate::starts::Starts;
 use crate::telling::Keeping;
 use board_probes::Probe;
-use fw_compile::compile;
-use int09::Bios;
 use joint_feed::Course;
 use key_file::{History, ListFeed};
 use layout_reader::Layout;
 use link_model::LogLine;
 use std::alloc::{AllocError, Global};
-use story_run::{Ending, tell_run};
+use story_run::{Ending, begin_run, tell_run};
 
 /// What a run that is over comes to.
 fn outcome_of(course: &Course, starts: Starts, log: Vec<LogLine>) -> Run
@@ -45,8 +43,9 @@ fn outcome_of(course: &Course, starts: Starts, log: Vec<LogLine>) -> Run
     }
 }
 
-/// The joint run of a layout's compiled image under a history that is accepted for it, from power-on to the first tick start at or after the end
-/// stamp, before the step that begins there. After each step each probe looks at the state that it led to.
+/// The joint run of a layout's compiled image under a history that is accepted for it, from power-on to the first tick start
+/// at or after the end stamp, before the step that begins there. After each step each probe looks at the state that it led
+/// to.
 ///
 /// It always comes to its end: the image keeps its time, and meets no byte without an instruction. Its log is the one that
 /// the model expects at the run's own tick starts; for a quiet history it is a function of layout and history alone. It has
@@ -73,13 +72,9 @@ pub fn run(
     ensures looked_so_far { let s = story (image_of layout.now) history.now in
         HaveLookedAtSome s (map (λ b. watch b) probes.old.items) (map (λ b. watch b) probes.new.items) }
 {
-    let image = compile(layout);
-    keeps_time(layout);
     runs_are_expected();
-    let _ = history.end();
-    let bios = Bios::new(alloc)?;
     let mut feed = ListFeed::new(history);
-    let mut course = Course::begin(&image, bios, &mut feed);
+    let mut course = begin_run(alloc, layout, &mut feed)?;
     let mut log = Vec::new(alloc);
     let stamps = Vec::new(alloc);
     let mut keeping = Keeping {
@@ -88,6 +83,7 @@ pub fn run(
     let _end = tell_run::<ListFeed, Vec<LogLine>, AllocError, Keeping, 4>(
         &mut course,
         &mut feed,
+        0,
         Ending::TickStart,
         &mut keeping,
         &mut log,

@@ -1,7 +1,7 @@
 //! What is told of a run: its tick starts, and each item of its log with its tick.
 
 ghost use Rattle.std.specs.Prelude.{◌≡◌, ◌++◌, false};
-ghost use Rattle.io_edge.specs.Said.{IsSaid, shown};
+ghost use Rattle.io_edge.specs.Said.{IsSaid};
 ghost use Rattle.subsystem.specs.Progress.{told_by};
 ghost use Rattle.subsystem.specs.Putting.{IsLogBrokenAt};
 ghost use Rattle.subsystem.specs.Telling.{HasNoted, HasPut};
@@ -62,11 +62,11 @@ pub struct Putting {
 impl<K: Sink> Teller<K, SinkFault> for Putting {
     ghost WIRES = { false };
 
-    ghost has_told = { λ e s first k it out. HasPut e s k it × IsSaid (shown (K.taken first) (K.told first) (K.faults first))
-        (shown (K.taken out) (K.told out) (K.faults out)) (log_text (told_by s k)) };
+    ghost has_told = { λ e s first k it out. HasPut e s k it × IsSaid (K.shown first)
+        (K.shown out) (log_text (told_by s k)) };
 
-    ghost is_broken = { λ e s first k out. IsLogBrokenAt s (shown (K.taken first) (K.told first) (K.faults first))
-        (shown (K.taken out) (K.told out) (K.faults out)) k };
+    ghost is_broken = { λ e s first k out. IsLogBrokenAt s (K.shown first)
+        (K.shown out) k };
 
     const WIRES: bool = false;
 

@@ -9,16 +9,12 @@ ghost use Rattle.layout_reader.specs.Layouts.{IsKeyLayout};
 ghost use Rattle.subsystem.specs.Looking.{HaveLookedAtSome};
 ghost use Rattle.subsystem.specs.Starts.{AreStartsOf};
 
-use crate::law::keeps_time;
 use crate::starts::Starts;
 use board_probes::Probe;
-use fw_compile::compile;
-use int09::Bios;
-use joint_feed::Course;
 use key_file::{History, ListFeed};
 use layout_reader::Layout;
 use std::alloc::{AllocError, Global};
-use story_run::{Ending, tell_run};
+use story_run::{Ending, begin_run, tell_run};
 
 /// The stamps of the tick starts in the run that `run` makes, whose log isn't kept. After each step each probe looks at the
 /// state that it led to. Each start is at its multiple of 2,048 or at most five cycles past it. Only memory may be wanting:
@@ -37,17 +33,14 @@ pub fn tick_starts(
     ensures looked_so_far { let s = story (image_of layout.now) history.now in
         HaveLookedAtSome s (map (λ b. watch b) probes.old.items) (map (λ b. watch b) probes.new.items) }
 {
-    let image = compile(layout);
-    keeps_time(layout);
-    let _ = history.end();
-    let bios = Bios::new(alloc)?;
     let mut feed = ListFeed::new(history);
-    let mut course = Course::begin(&image, bios, &mut feed);
+    let mut course = begin_run(alloc, layout, &mut feed)?;
     let stamps = Vec::new(alloc);
     let mut starts = Starts { stamps };
     let _end = tell_run::<ListFeed, (), AllocError, Starts, 10>(
         &mut course,
         &mut feed,
+        0,
         Ending::TickStart,
         &mut starts,
         &mut (),

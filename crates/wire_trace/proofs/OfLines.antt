@@ -37,7 +37,8 @@ nine a b c d e f g h i =
 
 pub header_is_lines : AreLines header
 header_is_lines =
-    nine (codes "$timescale 100 ns $end") (codes "$scope module kbd $end") (codes "$var wire 1 c clock $end") (codes "$var wire 1 d data $end")
+    nine (codes "$timescale 100 ns $end") (codes "$scope module kbd $end") (codes "$var wire 1 c clock $end")
+    (codes "$var wire 1 d data $end")
     (codes "$upscope $end") (codes "$enddefinitions $end") (codes "#0") (codes "1c") (codes "1d")
 
 or_none : (b : Bool) (text : List ℕ) → AreLines text → AreLines (if b then text else [])
@@ -75,4 +76,5 @@ added_is_lines (Some w) ear = sample_is_lines (sample_in w) ear
 pub changes_are_lines : (s : Story) (k : ℕ) → AreLines (changes_to s k)
 changes_are_lines s zero = inl refl
 changes_are_lines s (suc k) =
-    lines_behind (changes_to s k) (text_in (state_at s (suc k)) (heard_to s k)) (changes_are_lines s k) (added_is_lines (state_at s (suc k)) (heard_to s k))
+    lines_behind (changes_to s k) (text_in (state_at s (suc k)) (heard_to s k)) (changes_are_lines s k)
+    (added_is_lines (state_at s (suc k)) (heard_to s k))

@@ -78,7 +78,8 @@ module _ (e : Ending) (s : Story) (k : ℕ) (c : Course) (b : IsBehind e true s 
     same : sample cycle lines ≡ sample_in w
     same =
         ap (λ (n : ℕ). sample n lines) now ∙ ap (λ (l : Lines). sample c.joint.cycle l) level
-        ∙ ap (λ (v : Sight). sample v.cycle v.lines) (same_sight c.joint w b.standing.on.in_run.mcu b.standing.on.in_run.outside b.standing.on.in_run.cycle)
+        ∙ ap (λ (v : Sight). sample v.cycle v.lines)
+        (same_sight c.joint w b.standing.on.in_run.mcu b.standing.on.in_run.outside b.standing.on.in_run.cycle)
 
     -- what is kept
     pub heard_now : (new : Ear) → new ≡ heard (sample cycle lines) old → HasHeard s c.joint.steps new
@@ -86,7 +87,8 @@ module _ (e : Ending) (s : Story) (k : ℕ) (c : Course) (b : IsBehind e true s 
       all = is ∙ ap (λ (x : Sample). heard x old) same ∙ ap (heard (sample_in w)) h.all
           ∙ sym (alike_heard (sample_in w) (heard_to s b.last) (heard_to s k) still.0)
           ∙ sym (ap (λ (o : Option (World Beside)). heard_in o (heard_to s b.last)) there) ∙ sym (ap (heard_to s) b.steps);
-      levels = ap lines_in (here s c b.standing.on) ∙ ap (λ (x : Sample). Some x.lines) (sym same) ∙ sym (ap (λ (a : Ear). Some (wires_at a.last)) is);
+      levels = ap lines_in (here s c b.standing.on) ∙ ap (λ (x : Sample). Some x.lines) (sym same)
+          ∙ sym (ap (λ (a : Ear). Some (wires_at a.last)) is);
     }
 
     -- what it adds
@@ -103,7 +105,8 @@ module _ (e : Ending) (s : Story) (k : ℕ) (c : Course) (b : IsBehind e true s 
       pub said_now : IsSaid between after (sample_text (sample cycle lines) old) → IsSaid first after (changes_to s c.joint.steps)
       said_now added =
           subst (λ v. IsSaid first after v) (sym (ap (changes_to s) b.steps))
-          (said_then_said first between after (changes_to s b.last) (text_in (state_at s (suc b.last)) (heard_to s b.last)) (changes_are_lines s b.last) said_still
+          (said_then_said first between after (changes_to s b.last) (text_in (state_at s (suc b.last)) (heard_to s b.last))
+          (changes_are_lines s b.last) said_still
           (subst (λ v. IsSaid between after v) text_now added))
 
       pub broken_now : IsBrokenOff between after (sample_text (sample cycle lines) old) → AreChangesBrokenAt s first after b.last

@@ -1,5 +1,6 @@
 -- Samples of wires that keep their levels: they add nothing, and are heard as if they weren't.
-use Rattle.std.proofs.Common.{◌≡◌, ◌≤◌, ℕ, zero, suc, ◌+◌, ◌-◌, Bool, true, false, not, ◌&&◌, ◌||◌, List, [], ◌++◌, Some, None, refl, ap, sym, subst, ◌∙◌, arith}
+use Rattle.std.proofs.Common.{◌≡◌, ◌≤◌, ℕ, zero, suc, ◌+◌, ◌-◌, Bool, true, false, not, ◌&&◌, ◌||◌}
+use Rattle.std.proofs.Common.{List, [], ◌++◌, Some, None, refl, ap, sym, subst, ◌∙◌, arith}
 use Rattle.std.specs.Prelude.{if◌then◌else◌}
 use Rattle.std.proofs.lemmas.List.{append-nil}
 use Rattle.std.specs.declared.option.Option.{Option}
@@ -58,7 +59,8 @@ same_lines a b h = cc h
 module _ (w : World Beside) (ear : Ear) (level : (sample_in w).lines ≡ wires_at ear.last) where
   adds_nothing : sample_text (sample_in w) ear ≡ []
   adds_nothing =
-      let still : differ (wires_at ear.last) (sample_in w).lines ≡ false = ap (differ (wires_at ear.last)) level ∙ no_change (wires_at ear.last) in
+      let still : differ (wires_at ear.last) (sample_in w).lines ≡ false =
+      ap (differ (wires_at ear.last)) level ∙ no_change (wires_at ear.last) in
       ap (λ (b : Bool). if b then change_text w.cycle (wires_at ear.last) (sample_in w).lines (completed (sample_in w) ear) else []) still
 
   heard_still : HearAlike (heard (sample_in w) ear) ear

@@ -2,7 +2,7 @@
 
 ghost use Rattle.std.specs.Prelude.{◌≡◌, true, OnErr, OnOk};
 ghost use Rattle.board_probes.specs.Transfers.{heard, is_behind, sample};
-ghost use Rattle.io_edge.specs.Said.{IsBrokenOff, IsSaid, shown};
+ghost use Rattle.io_edge.specs.Said.{IsBrokenOff, IsSaid};
 ghost use Rattle.wire_trace.specs.Text.{sample_text};
 
 use crate::change::{change, differ};
@@ -21,10 +21,10 @@ pub fn put_sample<K: Sink>(
 ) -> Result<(), SinkFault>
     requires rises { is_behind cycle decoder.old.last ≡ true }
     ensures heard { decoder.new ≡ heard (sample cycle lines) decoder.old }
-    ensures said { OnOk result (IsSaid (shown (K.taken out.old) (K.told out.old) (K.faults out.old))
-        (shown (K.taken out.new) (K.told out.new) (K.faults out.new)) (sample_text (sample cycle lines) decoder.old)) }
-    ensures broken { OnErr result (IsBrokenOff (shown (K.taken out.old) (K.told out.old) (K.faults out.old))
-        (shown (K.taken out.new) (K.told out.new) (K.faults out.new)) (sample_text (sample cycle lines) decoder.old)) }
+    ensures said { OnOk result (IsSaid (K.shown out.old)
+        (K.shown out.new) (sample_text (sample cycle lines) decoder.old)) }
+    ensures broken { OnErr result (IsBrokenOff (K.shown out.old)
+        (K.shown out.new) (sample_text (sample cycle lines) decoder.old)) }
 {
     let before = decoder.lines();
     let transfer = decoder.sample(cycle, lines);

@@ -2,7 +2,7 @@
 
 ghost use Rattle.std.specs.Prelude.{◌≡◌, true};
 ghost use Rattle.board_probes.specs.Transfers.{silence};
-ghost use Rattle.io_edge.specs.Said.{IsSaid, shown};
+ghost use Rattle.io_edge.specs.Said.{IsSaid};
 ghost use Rattle.wire_trace.specs.Ending.{AreChangesBrokenAt};
 ghost use Rattle.wire_trace.specs.Telling.{HasHeard};
 ghost use Rattle.wire_trace.specs.Trace.{changes_to};
@@ -33,11 +33,11 @@ impl Changes {
 impl<K: Sink> Teller<K, SinkFault> for Changes {
     ghost WIRES = { true };
 
-    ghost has_told = { λ e s first k it out. HasHeard s k it.decoder × IsSaid (shown (K.taken first) (K.told first) (K.faults first))
-        (shown (K.taken out) (K.told out) (K.faults out)) (changes_to s k) };
+    ghost has_told = { λ e s first k it out. HasHeard s k it.decoder × IsSaid (K.shown first)
+        (K.shown out) (changes_to s k) };
 
-    ghost is_broken = { λ e s first k out. AreChangesBrokenAt s (shown (K.taken first) (K.told first) (K.faults first))
-        (shown (K.taken out) (K.told out) (K.faults out)) k };
+    ghost is_broken = { λ e s first k out. AreChangesBrokenAt s (K.shown first)
+        (K.shown out) k };
 
     const WIRES: bool = true;
 

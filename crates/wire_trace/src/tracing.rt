@@ -1,8 +1,8 @@
 //! The trace of a run.
 
-ghost use Rattle.std.specs.Prelude.{◌≡◌, true, Err, IfOk, OnErr, OnOk};
+ghost use Rattle.std.specs.Prelude.{◌≡◌, Err, OnErr, OnOk};
 ghost use Rattle.fw_compile.specs.Image.{image_of};
-ghost use Rattle.io_edge.specs.Said.{IsBrokenOff, IsSaid, shown};
+ghost use Rattle.io_edge.specs.Said.{IsBrokenOff, IsSaid};
 ghost use Rattle.joint_feed.specs.Ahead.{HasTaken};
 ghost use Rattle.joint_feed.specs.Stories.{story};
 ghost use Rattle.key_file.specs.Accepted.{IsAccepted, IsAcceptedFor};
@@ -17,15 +17,12 @@ ghost use Rattle.wires_heard.specs.Hearing.{HearsAll};
 
 use crate::fault::TraceFault;
 use crate::telling::Changes;
-use agreement::run_and_model_agree;
-use fw_compile::compile;
-use int09::Bios;
 use io_edge::{Sink, SinkFault, say};
 use joint_feed::Course;
 use key_file::Feed;
 use layout_reader::Layout;
-use std::alloc::{AllocError, Global};
-use story_run::{Ending, tell_run};
+use std::alloc::Global;
+use story_run::{Ending, begin_run, tell_run};
 use wires_heard::wires_are_heard;
 
 /// What stands before the first sample.
@@ -35,35 +32,10 @@ const HEADER: &[u8] =
 /// Puts what stands before the first sample: the unit of time, the two wires with their letters, and that both are high
 /// at time 0.
 pub fn put_header<K: Sink>(out: &mut K) -> Result<(), SinkFault>
-    ensures said { OnOk result (IsSaid (shown (K.taken out.old) (K.told out.old) (K.faults out.old))
-        (shown (K.taken out.new) (K.told out.new) (K.faults out.new)) header) }
-    ensures broken { OnErr result (IsBrokenOff (shown (K.taken out.old) (K.told out.old) (K.faults out.old))
-        (shown (K.taken out.new) (K.told out.new) (K.faults out.new)) header) }
+    ensures said { OnOk result (IsSaid (K.shown out.old) (K.shown out.new) header) }
+    ensures broken { OnErr result (IsBrokenOff (K.shown out.old) (K.shown out.new) header) }
 {
     say(out, HEADER)
-}
-
-/// The run of a layout's compiled image under the history of a feed of which nothing was taken and which is accepted for
-/// this layout, at power-on, with all the memory that it takes: the buffer of INT 09h.
-fn begun<F: Feed>(alloc: Global, layout: &Layout, feed: &mut F) -> Result<Course, AllocError>
-    requires no_edge { (F.told feed.old).edges ≡ 0 }
-    requires no_host { (F.told feed.old).host ≡ 0 }
-    requires accepted { IsAcceptedFor layout.now (F.told feed.old).history }
-    ensures layout { IsKeyLayout layout.now }
-    ensures accepted { IsAccepted (F.told feed.new).history }
-    ensures run { IfOk result (λ course. story course.joint.image.bytes (F.told feed.new).history
-        ≡ story (image_of layout.now) (F.told feed.old).history) }
-    ensures timely { IfOk result (λ course. IsTimely TickStart (story course.joint.image.bytes (F.told feed.new).history)) }
-    ensures standing { IfOk result (λ course. IsStanding TickStart (story course.joint.image.bytes (F.told feed.new).history) course) }
-    ensures steps { IfOk result (λ course. course.joint.steps ≡ 0) }
-    ensures taken { IfOk result (λ course. HasTaken (F.told feed.new) course.ahead) }
-{
-    let _ = layout.rate();
-    let _ = layout.entries();
-    run_and_model_agree();
-    let image = compile(layout);
-    let bios = Bios::new(alloc)?;
-    Ok(Course::begin(&image, bios, feed))
 }
 
 /// Puts the text of a run that is at power-on.
@@ -79,11 +51,9 @@ fn put_trace<F: Feed, K: Sink>(
     requires steps { course.old.joint.steps ≡ 0 }
     requires taken { HasTaken (F.told feed.old) course.old.ahead }
     ensures said { let run = story course.old.joint.image.bytes (F.told feed.old).history in
-        OnOk result (IsTraceSaid run (shown (K.taken out.old) (K.told out.old) (K.faults out.old))
-        (shown (K.taken out.new) (K.told out.new) (K.faults out.new))) }
+        OnOk result (IsTraceSaid run (K.shown out.old) (K.shown out.new)) }
     ensures broken { let run = story course.old.joint.image.bytes (F.told feed.old).history in
-        OnErr result (IsTraceBrokenOff run (shown (K.taken out.old) (K.told out.old) (K.faults out.old))
-        (shown (K.taken out.new) (K.told out.new) (K.faults out.new))) }
+        OnErr result (IsTraceBrokenOff run (K.shown out.old) (K.shown out.new)) }
 {
     let mut changes = Changes::new();
     let mut probes = Vec::new(alloc);
@@ -91,6 +61,7 @@ fn put_trace<F: Feed, K: Sink>(
     let _end = tell_run::<F, K, SinkFault, Changes, 11>(
         course,
         feed,
+        0,
         Ending::TickStart,
         &mut changes,
         out,
@@ -121,18 +92,15 @@ pub fn trace<F: Feed, K: Sink>(
     requires accepted { IsAcceptedFor layout.now (F.told feed).history }
     ensures layout { IsKeyLayout layout.now }
     ensures said { let run = story (image_of layout.now) (F.told feed).history in
-        OnOk result (IsTraceSaid run (shown (K.taken out.old) (K.told out.old) (K.faults out.old))
-        (shown (K.taken out.new) (K.told out.new) (K.faults out.new))) }
+        OnOk result (IsTraceSaid run (K.shown out.old) (K.shown out.new)) }
     ensures heard { HearsAll (story (image_of layout.now) (F.told feed).history) }
     ensures broken { let run = story (image_of layout.now) (F.told feed).history in
-        result ≡ Err Write → IsTraceBrokenOff run (shown (K.taken out.old) (K.told out.old) (K.faults out.old))
-        (shown (K.taken out.new) (K.told out.new) (K.faults out.new)) }
-    ensures nothing { result ≡ Err Memory → shown (K.taken out.new) (K.told out.new) (K.faults out.new)
-        ≡ shown (K.taken out.old) (K.told out.old) (K.faults out.old) }
+        result ≡ Err Write → IsTraceBrokenOff run (K.shown out.old) (K.shown out.new) }
+    ensures nothing { result ≡ Err Memory → K.shown out.new ≡ K.shown out.old }
 {
     wires_are_heard();
     let mut feed = feed;
-    match begun(alloc, layout, &mut feed) {
+    match begin_run(alloc, layout, &mut feed) {
         Err(_error) => Err(TraceFault::Memory),
         Ok(course) => {
             let mut course = course;

@@ -30,7 +30,7 @@ use Rattle.wires_agree.proofs.Between.{between, stays_free}
 use Rattle.wires_agree.proofs.Same.{received_same}
 use Rattle.wires_agree.proofs.Frames.{fall_cycle, event_by}
 use Rattle.wires_agree.proofs.Ways.{sent_way, behind_first}
-use Rattle.wires_agree.proofs.Whole.{IsThrough, IsBehind, all_cells, quiet_cells, cycles_more}
+use Rattle.wires_agree.proofs.CellByCell.{IsThrough, IsBehind, all_cells, quiet_cells, cycles_more}
 
 busy_seen : (l : Link Wire) → is_busy l ≡ false → is_busy (link_by without_bits l) ≡ false
 busy_seen Free h = refl

@@ -23,7 +23,7 @@ use Rattle.wires_agree.proofs.Spans.{IsAt, On}
 use Rattle.wires_agree.proofs.Between.{stays_free}
 use Rattle.wires_agree.proofs.Frames.{fall_cycle, cell}
 use Rattle.wires_agree.proofs.Ways.{IsWay, got_way}
-use Rattle.wires_agree.proofs.Whole.{IsThrough, IsBehind, stands, cycles_more}
+use Rattle.wires_agree.proofs.CellByCell.{IsThrough, IsBehind, stands, cycles_more}
 
 module _ (events : List HostEvent) (latch : ℕ → Lines) (now byte : ℕ) (bits : ℕ → Bool) (b : Pc)
     (is : IsFrame latch now bits) (at : IsAt b (Request byte) true) where

@@ -23,7 +23,7 @@ use Rattle.wires_agree.proofs.Broken.{whole}
 use Rattle.wires_agree.proofs.Got.{through, got_frame}
 use Rattle.wires_agree.proofs.Turned.{flips_seen}
 use Rattle.wires_agree.proofs.Ways.{sent_way, behind_first}
-use Rattle.wires_agree.proofs.Whole.{IsBroken, IsBehind, stands, cycles_more}
+use Rattle.wires_agree.proofs.CellByCell.{IsBroken, IsBehind, stands, cycles_more}
 
 module _ (events : List HostEvent) (latch : ℕ → Lines) (now : ℕ) (bits : ℕ → Bool) (b : Pc)
     (is : IsFrame latch now bits) (at : IsAt b Free true) where

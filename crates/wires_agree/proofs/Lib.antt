@@ -18,4 +18,4 @@ pub mod Start
 pub mod Turned
 pub mod Under
 pub mod Ways
-pub mod Whole
+pub mod CellByCell

@@ -27,7 +27,7 @@ use Rattle.wires_agree.proofs.Broken.{whole}
 use Rattle.wires_agree.proofs.Got.{got_frame}
 use Rattle.wires_agree.proofs.Turned.{flips_seen}
 use Rattle.wires_agree.proofs.Ways.{sent_way, behind_first}
-use Rattle.wires_agree.proofs.Whole.{cycles_more, stands, IsBehind}
+use Rattle.wires_agree.proofs.CellByCell.{cycles_more, stands, IsBehind}
 use Rattle.wires_agree.proofs.Meetings.{free_at, request_at, free_or_pulls, not_busy, cut_of, none_passes, none_ends}
 
 module _ (events : List HostEvent) (latch : ℕ → Lines) (start rest : ℕ) (at256 : Pc) where

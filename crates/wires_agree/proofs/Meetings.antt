@@ -26,7 +26,7 @@ use Rattle.wires_agree.proofs.Spans.{IsAt, board_by, clock_by}
 use Rattle.wires_agree.proofs.Between.{looks_still}
 use Rattle.wires_agree.proofs.Pulls.{free_begins, pulled_span}
 use Rattle.ctl_link.specs.Pulls.{pulled}
-use Rattle.wires_agree.proofs.Whole.{cycles_more}
+use Rattle.wires_agree.proofs.CellByCell.{cycles_more}
 use Rattle.ctl_link.proofs.Breaks.{unbroken}
 use Rattle.wires_agree.proofs.Breaks.{Pulls}
 

@@ -27,7 +27,7 @@ use Rattle.wires_agree.proofs.Lines.{same_lines}
 use Rattle.wires_agree.proofs.Looked.{joins, begins, up288}
 use Rattle.wires_agree.proofs.Meetings.{free_at, not_busy}
 use Rattle.wires_agree.proofs.Ways.{sent_way, behind_first}
-use Rattle.wires_agree.proofs.Whole.{IsBroken, stands}
+use Rattle.wires_agree.proofs.CellByCell.{IsBroken, stands}
 
 -- a byte that is under way no more was cut
 cut_where : (byte : ℕ) (l : Link UnderWay) → is_busy l ≡ false → sent_or_cut byte l ≡ Cut

@@ -7,7 +7,7 @@ use Rattle.fw_kernel.specs.declared.labels.TheConstants.{TICK}
 use Rattle.fw_link.specs.Drives.{Drives, DrivesTick}
 use Rattle.fw_logic.proofs.Numbers.{calm_reaches}
 use Rattle.joint_feed.specs.Stories.{Story, state_at}
-use Rattle.joint_run.specs.Joint.{Beside, joint_board, joint_start}
+use Rattle.joint_run.specs.Joint.{Beside, joint_board, joint_start_of}
 use Rattle.joint_run.specs.Run.{Board, World, joint_step, step_on}
 use Rattle.joint_run.specs.Starts.{calm, calm_step, starts_before, start_in}
 use Rattle.mcs48_core.specs.Status.{digit}
@@ -22,7 +22,8 @@ module _ (d : Board) (tick : ℕ) (bytes : List ℕ) where
   prefix_by m n e (Some t) f h = f t h
 
   -- a run has its first steps
-  pub has_first : (m n : ℕ) (w e : World d.State) → m ≤ n → calm d tick bytes n w ≡ Some e → (u : World d.State) × (calm d tick bytes m w ≡ Some u)
+  pub has_first : (m n : ℕ) (w e : World d.State)
+      → m ≤ n → calm d tick bytes n w ≡ Some e → (u : World d.State) × (calm d tick bytes m w ≡ Some u)
   has_first zero n w e l h = (w, refl)
   has_first (suc m) zero w e l h = absurd (omega (arith, l))
   has_first (suc m) (suc n) w e l h =
@@ -38,7 +39,8 @@ module _ (s : Story) where
   Latches k0 k1 latch = (j : ℕ) (one next : World Beside) → k0 ≤ j → j < k1 → state_at s j ≡ Some one → state_at s (suc j) ≡ Some next
       → (c : ℕ) → one.cycle ≤ c → c < next.cycle → next.cpu.p2 ≡ latch c
 
-  step_is : (j : ℕ) (one next : World Beside) → state_at s j ≡ Some one → state_at s (suc j) ≡ Some next → joint_step d s.bytes one ≡ Some next
+  step_is : (j : ℕ) (one next : World Beside)
+      → state_at s j ≡ Some one → state_at s (suc j) ≡ Some next → joint_step d s.bytes one ≡ Some next
   step_is j one next a b = sym (ap (λ o. step_on d s.bytes o) a) ∙ b
 
   -- steps that meet no tick start
@@ -50,14 +52,14 @@ module _ (s : Story) where
       let h = has_first d TICK s.bytes m r.steps w r.end (omega (arith, few)) r.run in
       let z : k + m ≡ j = omega (arith, a) in
       let there : state_at s j ≡ Some h.0 =
-      ap (λ i. state_at s i) (sym z) ∙ (calm_reaches d TICK s.bytes joint_start m k w h.0 at h.1).0 in
+      ap (λ i. state_at s i) (sym z) ∙ (calm_reaches d TICK s.bytes (joint_start_of s.held) m k w h.0 at h.1).0 in
       let same : h.0 ≡ one = same_state s j h.0 one there from in
       r.latches m c one next few (h.1 ∙ ap (λ v. Some v) same) (step_is j one next from to) l u
 
   pub calm_ends : (k : ℕ) (w : World Beside) (latch : ℕ → ℕ) (Q : World Beside → Type 0) → state_at s k ≡ Some w
       → (r : Drives d TICK s.bytes w latch Q) → (state_at s (k + r.steps) ≡ Some r.end)
-      × (starts_before d TICK s.bytes joint_start (k + r.steps) ≡ starts_before d TICK s.bytes joint_start k)
-  calm_ends k w latch Q at r = calm_reaches d TICK s.bytes joint_start r.steps k w r.end at r.run
+      × (starts_before d TICK s.bytes (joint_start_of s.held) (k + r.steps) ≡ starts_before d TICK s.bytes (joint_start_of s.held) k)
+  calm_ends k w latch Q at r = calm_reaches d TICK s.bytes (joint_start_of s.held) r.steps k w r.end at r.run
 
   -- from a tick start
   pub tick_at : (k : ℕ) (w : World Beside) (latch : ℕ → ℕ) (Q : World Beside → Type 0) → state_at s k ≡ Some w
@@ -72,7 +74,8 @@ module _ (s : Story) where
       by true e =
           let is : j ≡ k = grind (arith, nat_tests, e) in
           let here : one ≡ w = same_state s k one w (ap (λ i. state_at s i) (sym is) ∙ from) at in
-          let first : next ≡ t.first = same_state s (suc k) next t.first (ap (λ i. state_at s (suc i)) (sym is) ∙ to) (tick_at k w latch Q at t) in
+          let first : next ≡ t.first =
+          same_state s (suc k) next t.first (ap (λ i. state_at s (suc i)) (sym is) ∙ to) (tick_at k w latch Q at t) in
           let low : w.cycle ≤ c = subst (λ (v : World Beside). v.cycle ≤ c) here l in
           let high : c < t.first.cycle = subst (λ (v : World Beside). c < v.cycle) first u in
           ap (λ (v : World Beside). v.cpu.p2) first ∙ t.put c low high
@@ -82,10 +85,11 @@ module _ (s : Story) where
 
   pub tick_ends : (k : ℕ) (w : World Beside) (latch : ℕ → ℕ) (Q : World Beside → Type 0) → state_at s k ≡ Some w
       → (t : DrivesTick d TICK s.bytes w latch Q) → (state_at s (suc k + t.rest.steps) ≡ Some t.rest.end)
-      × (starts_before d TICK s.bytes joint_start (suc k + t.rest.steps) ≡ starts_before d TICK s.bytes joint_start k + 1)
+      × (starts_before d TICK s.bytes (joint_start_of s.held) (suc k + t.rest.steps)
+      ≡ starts_before d TICK s.bytes (joint_start_of s.held) k + 1)
   tick_ends k w latch Q at t =
       let r = calm_ends (suc k) t.first latch Q (tick_at k w latch Q at t) t.rest in
-      let one : starts_before d TICK s.bytes joint_start (suc k) ≡ starts_before d TICK s.bytes joint_start k + 1 =
-      ap (λ o. starts_before d TICK s.bytes joint_start k + start_in d TICK o) at
-      ∙ ap (λ b. starts_before d TICK s.bytes joint_start k + digit b) t.at in
+      let one : starts_before d TICK s.bytes (joint_start_of s.held) (suc k) ≡ starts_before d TICK s.bytes (joint_start_of s.held) k + 1 =
+      ap (λ o. starts_before d TICK s.bytes (joint_start_of s.held) k + start_in d TICK o) at
+      ∙ ap (λ b. starts_before d TICK s.bytes (joint_start_of s.held) k + digit b) t.at in
       (r.0, r.1 ∙ one)

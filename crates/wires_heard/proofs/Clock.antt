@@ -137,7 +137,8 @@ module _ (old v : ℕ) (was : IsReleased old) (is : IsReleased v) where
           let m : 28 ≤ i = grind (arith, nat_tests, f) in
           ap (λ c. bit 0 (if c then v else if nat_lt i 28 then wired v true false else sent_cell v byte ((i - 28) / 32) ((i - 28) % 32))) e
           ∙ ap (λ c. bit 0 (if c then wired v true false else sent_cell v byte ((i - 28) / 32) ((i - 28) % 32))) f
-          ∙ clock_of_latch (nat_le 16 ((i - 28) % 32)) (frame_bit byte (if nat_lt ((i - 28) % 32) 20 then (i - 28) / 32 else suc ((i - 28) / 32))) v is
+          ∙ clock_of_latch (nat_le 16 ((i - 28) % 32))
+          (frame_bit byte (if nat_lt ((i - 28) % 32) 20 then (i - 28) / 32 else suc ((i - 28) / 32))) v is
           ∙ eleven i 0 m l
 
   received_clock : (i : ℕ) → i < 366 → bit 0 (received_latch v i) ≡ clock_in 11 (260 + i)
@@ -183,13 +184,15 @@ module _ (old v : ℕ) (was : IsReleased old) (is : IsReleased v) where
   Fits (CutFrame byte cell) = cell < 10
   Fits ReceivedFrame = Unit {0}
 
-  frame_clock : (frame : Frame) → Fits frame → (i : ℕ) → i < frame_cycles frame → bit 0 (frame_latch frame v i) ≡ clock_in (cells frame) (260 + i)
+  frame_clock : (frame : Frame)
+      → Fits frame → (i : ℕ) → i < frame_cycles frame → bit 0 (frame_latch frame v i) ≡ clock_in (cells frame) (260 + i)
   frame_clock NoFrame fits i l = absurd (omega (arith, l))
   frame_clock (SentFrame byte) fits i l = sent_clock byte i l
   frame_clock (CutFrame byte cell) fits i l = cut_clock byte cell i fits l
   frame_clock ReceivedFrame fits i l = received_clock i l
 
-  behind_by : (n c i : ℕ) → 28 ≤ c → (n ≤ (c - 28) / 32) ⊎ ((n ≡ suc ((c - 28) / 32)) × (16 ≤ (c - 28) % 32)) → clock_in n (260 + c + i) ≡ true
+  behind_by : (n c i : ℕ)
+      → 28 ≤ c → (n ≤ (c - 28) / 32) ⊎ ((n ≡ suc ((c - 28) / 32)) × (16 ≤ (c - 28) % 32)) → clock_in n (260 + c + i) ≡ true
   behind_by n c i long (inl few) = past_cells n (260 + c + i) (omega (arith, long)) (omega (arith, few, long))
   behind_by n c i long (inr last) = by (nat_le n ((260 + c + i - 288) / 32)) refl
     where

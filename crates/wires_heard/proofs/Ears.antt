@@ -1,6 +1,7 @@
 -- What an ear keeps of a run: its last sample is the state's, its falls are steps at whose end the clock fell; and eleven
 -- falls that are a transfer are 32 cycles apart.
-use Rattle.std.proofs.Common.{◌≡◌, ◌≤◌, ◌<◌, ℕ, suc, zero, ◌+◌, ◌-◌, ◌*◌, List, [], ◌∷◌, ◌++◌, length, drop, Bool, true, false, not, ◌&&◌, ◌==◌}
+use Rattle.std.proofs.Common.{◌≡◌, ◌≤◌, ◌<◌, ℕ, suc, zero, ◌+◌, ◌-◌, ◌*◌, List, [], ◌∷◌, ◌++◌}
+use Rattle.std.proofs.Common.{length, drop, Bool, true, false, not, ◌&&◌, ◌==◌}
 use Rattle.std.proofs.Common.{Some, None, All, if◌then◌else◌, refl, ap, sym, ◌∙◌, arith, length-append}
 use Rattle.std.proofs.lemmas.Bool.Decides.{nat_tests}
 use Rattle.std.proofs.lemmas.List.Elements.{All-append, All-drop, All-weaker, All-nil, All-cons, All-head, All-tail}
@@ -12,7 +13,7 @@ use Rattle.board_probes.specs.Transfers.{transfer_by, transfer_in, wires_at, wit
 use Rattle.board_probes.specs.declared.heard.Fall.{Fall}
 use Rattle.board_probes.specs.declared.heard.Transfer.{Transfer}
 use Rattle.joint_feed.specs.Stories.{Story, state_at}
-use Rattle.joint_run.specs.Joint.{Beside, joint_start}
+use Rattle.joint_run.specs.Joint.{Beside, joint_start_of}
 use Rattle.joint_run.specs.Run.{World}
 use Rattle.wires_heard.proofs.Pulls.{Falls, comes_from, shown_at}
 use Rattle.wires_heard.specs.Hearing.{heard_in, heard_to, sample_in}
@@ -28,7 +29,7 @@ high_low false b h = absurd cc
 module _ (s : Story) where
   -- the last sample is the state's; before the first one both wires are high, as they are at power-on
   pub last_is : (k : ℕ) (w : World Beside) → state_at s k ≡ Some w → wires_at (heard_to s k).last ≡ shown_at s w
-  last_is zero w h = ap (shown_at s) (same_world joint_start w h)
+  last_is zero w h = ap (shown_at s) (same_world (joint_start_of s.held) w h)
   last_is (suc k) w h = ap (λ o. wires_at (heard_in o (heard_to s k)).last) h
 
   -- one of the first k steps at whose end the clock fell, in this cycle
@@ -155,7 +156,8 @@ module _ (s : Story) (k : ℕ) (one next : World Beside) (from : state_at s k �
 
   ten : length ys ≡ 10
   ten =
-      let e : length (ys ++ f ∷ []) ≡ 11 = same_of (length (ys ++ f ∷ [])) 11 (and-left (length (ys ++ f ∷ []) == 11) (are_spaced (ys ++ f ∷ [])) spaced) in
+      let e : length (ys ++ f ∷ []) ≡ 11 =
+      same_of (length (ys ++ f ∷ [])) 11 (and-left (length (ys ++ f ∷ []) == 11) (are_spaced (ys ++ f ∷ [])) spaced) in
       let n : length (ys ++ f ∷ []) ≡ length ys + 1 = length-append ys (f ∷ []) in
       omega (arith, e, n)
 

@@ -79,14 +79,16 @@ settle_waits now p w =
       awaits = awaits;
     }
 
-goes_by : (events : List HostEvent) (now : ℕ) (s : Side Wire) → (p : Port Wire) → p ≡ port_by (turn_of events now s) s.port → is_busy p.link ≡ false
+goes_by : (events : List HostEvent) (now : ℕ) (s : Side Wire)
+    → (p : Port Wire) → p ≡ port_by (turn_of events now s) s.port → is_busy p.link ≡ false
     → (goes_on is_breakable events now s).port.link ≡ (settled now p).port.link
 unfolding goes_on
 goes_by events now s p e h =
     ap (λ q. (settled now (Rattle.ctl_link.specs.Link.broken_off is_breakable now q)).port.link) (sym e)
     ∙ ap (λ q. (settled now q).port.link) (unbroken is_breakable now p h)
 
-awaits_by : (events : List HostEvent) (now : ℕ) (s : Side Wire) → (p : Port Wire) → p ≡ port_by (turn_of events now s) s.port → is_busy p.link ≡ false
+awaits_by : (events : List HostEvent) (now : ℕ) (s : Side Wire)
+    → (p : Port Wire) → p ≡ port_by (turn_of events now s) s.port → is_busy p.link ≡ false
     → (goes_on is_breakable events now s).port.awaits ≡ (settled now p).port.awaits
 unfolding goes_on
 awaits_by events now s p e h =

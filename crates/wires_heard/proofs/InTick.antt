@@ -16,7 +16,7 @@ use Rattle.wires_heard.proofs.Pulls.{link_of, comes_from, later}
 use Rattle.wires_heard.proofs.Silent.{IsTick, placed, silent}
 use Rattle.wires_heard.proofs.Stepping.{ends_last, ends_nothing, IsLast}
 use Rattle.wires_heard.proofs.Ticks.{last_latch, drives, eleven_at_most, IsIn, Goes}
-use Rattle.wires_heard.proofs.Whole.{IsWhole}
+use Rattle.wires_heard.proofs.HeardAtLastCell.{IsWhole}
 use Rattle.wires_heard.specs.Hearing.{heard_to, listed, sample_in, transfer_at, transfer_in}
 use Rattle.wires_heard.specs.Passing.{passed_at, passed_between, passed_in}
 
@@ -44,7 +44,8 @@ module _ (s : Story) (k0 k1 x : ℕ) (start : Beside) (old v : ℕ) (was : IsRel
         ap listed (completes_last s k0 k1 x start old v was is frame fits idle t all w.opens k one next a b from to i g)
         ∙ w.so ∙ sym (ends_last s.events x start old v was is frame fits idle one next 608 i g refl)
 
-    elsewhere : (o : ℕ) (i : In one o) → On one next → (Last o → ⊥) → listed (completed (sample_in next) (heard_to s k)) ≡ passed_in s.events one next
+    elsewhere : (o : ℕ) (i : In one o)
+        → On one next → (Last o → ⊥) → listed (completed (sample_in next) (heard_to s k)) ≡ passed_in s.events one next
     elsewhere o i g not_last =
         ap listed (silent s k0 k1 x start old v was is frame fits idle t k one next o a b from to i g not_last)
         ∙ sym (ends_nothing s.events x start old v was is frame fits idle one next o i g not_last)

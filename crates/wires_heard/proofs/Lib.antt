@@ -7,13 +7,14 @@ pub mod Ears
 pub mod Ticks
 pub mod Stepping
 pub mod Silent
+pub mod CellFalls
 pub mod Gathering
 pub mod Spans
 pub mod Edges
 pub mod Sent
 pub mod Received
 pub mod Cut
-pub mod Whole
+pub mod HeardAtLastCell
 pub mod InTick
 pub mod Chain
 pub mod Run

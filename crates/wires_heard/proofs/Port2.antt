@@ -128,7 +128,15 @@ entered_timed at pins m k next same e =
     (record { least = omega arith; most = omega arith; slow = inl same })
 
 stepped_by : (bytes : List ℕ) (pins : Pins) (m : Cpu) (next : Stepped) (x y : Bool)
-    → (elim x as (λ v. Option Stepped) [ true ↦ Some (entered 3 pins m) | false ↦ elim y as (λ v. Option Stepped) [ true ↦ Some (entered 7 pins (record m { rq = false })) | false ↦ executed (row_at bytes m.pc) bytes pins m ] ]) ≡ Some next
+    → (elim x as (λ v. Option Stepped) [
+      | true ↦ Some (entered 3 pins m)
+      | false ↦
+          elim y as (λ v. Option Stepped) [
+            | true ↦ Some (entered 7 pins (record m { rq = false }))
+            | false ↦
+                executed (row_at bytes m.pc) bytes pins m
+          ]
+    ]) ≡ Some next
     → IsTimed m next
 stepped_by bytes pins m next true y e = entered_timed 3 pins m m next refl e
 stepped_by bytes pins m next false true e = entered_timed 7 pins m (record m { rq = false }) next refl e

@@ -27,11 +27,13 @@ link_of s = s.pc.side.port.link
 abbrev pub lets : Beside → Bool
 lets s = (drive (link_of s)).clk
 
-goes_once : (events : List HostEvent) (now : ℕ) (s : Side Wire) → OrNow now s.port.link → OrNow now (goes_on is_breakable events now s).port.link
+goes_once : (events : List HostEvent) (now : ℕ) (s : Side Wire)
+    → OrNow now s.port.link → OrNow now (goes_on is_breakable events now s).port.link
 unfolding goes_on
 goes_once events now s h = breaks_once now (port_by (turn_of events now s) s.port) s.port.link refl h
 
-board_once : (events : List HostEvent) (now : ℕ) (latch : Lines) (b : Pc) → pulled b.side.port.link ≡ None → OrNow now (board_cycle events now latch b).side.port.link
+board_once : (events : List HostEvent) (now : ℕ) (latch : Lines) (b : Pc)
+    → pulled b.side.port.link ≡ None → OrNow now (board_cycle events now latch b).side.port.link
 unfolding board_cycle
 board_once events now latch b h =
     let line : Lines = wires latch b in

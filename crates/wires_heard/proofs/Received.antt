@@ -22,12 +22,12 @@ use Rattle.joint_run.specs.Joint.{Beside, latch_of}
 use Rattle.pc_wires.specs.Wires.{Pc, board_cycle, wires}
 use Rattle.wires_agree.proofs.Got.{through, frame_shown}
 use Rattle.wires_agree.proofs.Spans.{IsAt}
-use Rattle.wires_agree.proofs.Whole.{cycles_more}
+use Rattle.wires_agree.proofs.CellByCell.{cycles_more}
 use Rattle.wires_agree.specs.Cells.{IsFrame}
 use Rattle.wires_agree.specs.Cycles.{board_cycles}
 use Rattle.wires_heard.proofs.Clock.{clock_in}
 use Rattle.wires_heard.proofs.Edges.{Waits, cycle_waits, edge_cycle, goes_waits}
-use Rattle.wires_heard.proofs.Gathering.{eleven_of}
+use Rattle.wires_heard.proofs.CellFalls.{eleven_of}
 use Rattle.wires_heard.proofs.Pulls.{link_of, lets}
 use Rattle.wires_heard.proofs.Sent.{same_eleven}
 use Rattle.wires_heard.proofs.Spans.{at_edge, lines, open_frame}
@@ -54,7 +54,8 @@ host_heard byte l =
     let f : List Bool = eleven_of (acknowledged byte) in
     let h : is_heard byte ≡ true = at_each is_heard 256 every_heard byte l in
     let rest = and-right (not (is_keyboards f)) (is_hosts f && (value (take 8 f) == byte)) h in
-    let none : is_keyboards f ≡ false = no (is_keyboards f) (and-left (not (is_keyboards f)) (is_hosts f && (value (take 8 f) == byte)) h) in
+    let none : is_keyboards f ≡ false =
+    no (is_keyboards f) (and-left (not (is_keyboards f)) (is_hosts f && (value (take 8 f) == byte)) h) in
     let some : is_hosts f ≡ true = and-left (is_hosts f) (value (take 8 f) == byte) rest in
     let same : value (take 8 f) ≡ byte = same_of (value (take 8 f)) byte (and-right (is_hosts f) (value (take 8 f) == byte) rest) in
     ap (λ c. listed (if c then Some (record { from_host = false; byte = value (take 8 (drop 1 f)) })
@@ -134,8 +135,10 @@ module _ (events : List HostEvent) (x : ℕ) (start : Beside) (old v : ℕ) (was
     ends =
         let l : Lines = latch_of (L 608) in
         let c : Pc = (B 608).pc in
-        ap (λ h. if h && not (l.clk && (drive c.side.port.link).clk) then ended_at (l.dat && (drive c.side.port.link).dat) c.side.port.link else []) last.clock_is
-        ∙ ap (λ k. if not (k && (drive c.side.port.link).clk) then ended_at (l.dat && (drive c.side.port.link).dat) c.side.port.link else []) low_in
+        ap (λ h. if h && not (l.clk && (drive c.side.port.link).clk) then ended_at (l.dat && (drive c.side.port.link).dat) c.side.port.link
+        else []) last.clock_is
+        ∙ ap (λ k. if not (k && (drive c.side.port.link).clk) then ended_at (l.dat && (drive c.side.port.link).dat) c.side.port.link
+        else []) low_in
         ∙ ap (λ k. ended_at (l.dat && (drive k).dat) k) last.link_is
 
     -- and its link is free from then on, while it awaits the reply
@@ -145,7 +148,8 @@ module _ (events : List HostEvent) (x : ℕ) (start : Beside) (old v : ℕ) (was
         let t = (through events drives_ now byte received_bit b is_frame at 9 (omega arith)).there in
         let more : pc_at 321 ≡ board_cycle events (320 + now) (drives_ (320 + now)) b' = cycles_more events drives_ 320 1 321 now b refl in
         let edge = edge_cycle events (320 + now) (drives_ (320 + now)) b' (Busy (Send byte 10)) t.link_is t.clock_is is_frame.ends in
-        let after = goes_waits events (320 + now) (record b'.side { port = handed_over b'.side.port }) (record { free = refl; awaits = refl }) in
+        let after = goes_waits events (320 + now) (record b'.side { port = handed_over b'.side.port })
+        (record { free = refl; awaits = refl }) in
         record {
           free = ap (λ (c : Pc). c.side.port.link) (there 321) ∙ ap (λ (c : Pc). c.side.port.link) more
               ∙ ap (λ s. s.port.link) edge ∙ after.free;
@@ -191,7 +195,8 @@ module _ (events : List HostEvent) (x : ℕ) (start : Beside) (old v : ℕ) (was
     pub data_are : (k : ℕ) → k ≤ 10 → (wires (latch_of (L (289 + 32 * k))) (B (290 + 32 * k)).pc).dat ≡ acknowledged byte k
     data_are k few = by (nat_lt k 10) refl
       where
-        by : (c : Bool) → nat_lt k 10 ≡ c → ((latch_of (L (289 + 32 * k))).dat && (drive (link_of (B (290 + 32 * k)))).dat) ≡ acknowledged byte k
+        by : (c : Bool)
+            → nat_lt k 10 ≡ c → ((latch_of (L (289 + 32 * k))).dat && (drive (link_of (B (290 + 32 * k)))).dat) ≡ acknowledged byte k
         by true e =
             let less : k < 10 = grind (arith, nat_tests, e) in
             let z : 290 + 32 * k ≡ 288 + (32 * k + suc 1) = omega arith in
@@ -199,7 +204,8 @@ module _ (events : List HostEvent) (x : ℕ) (start : Beside) (old v : ℕ) (was
             let bit_is : (drive (link_of (B (290 + 32 * k)))).dat ≡ frame_bit byte (k + 1) =
             ap (λ o. (drive (link_of (B o))).dat) z ∙ ap (λ (c : Pc). (drive c.side.port.link).dat) (there (32 * k + suc 1))
             ∙ frame_shown events drives_ now byte received_bit b is_frame asks high k 1 less (omega arith) in
-            ap (λ d. d && (drive (link_of (B (290 + 32 * k)))).dat) up ∙ bit_is ∙ sym (ap (λ c. if c then frame_bit byte (k + 1) else false) e)
+            ap (λ d. d && (drive (link_of (B (290 + 32 * k)))).dat) up ∙ bit_is
+            ∙ sym (ap (λ c. if c then frame_bit byte (k + 1) else false) e)
         by false e =
             let down : (latch_of (L (289 + 32 * k))).dat ≡ false = level_in k few ∙ ap (λ c. if c then true else nat_le 16 1) e in
             ap (λ d. d && (drive (link_of (B (290 + 32 * k)))).dat) down ∙ sym (ap (λ c. if c then frame_bit byte (k + 1) else false) e)

@@ -12,9 +12,9 @@ use Rattle.fw_kernel.specs.declared.labels.TheConstants.{TICK}
 use Rattle.fw_link.proofs.TickLatch.{before_lights, without_frame}
 use Rattle.fw_link.proofs.Wired.{IsReleased}
 use Rattle.fw_link.specs.Latch.{Frame, NoFrame, SentFrame, CutFrame, ReceivedFrame, tick_latch}
-use Rattle.fw_logic.specs.JointRun.{KeepsTime}
+use Rattle.fw_logic.specs.JointRun.{KeepsTimeFrom}
 use Rattle.joint_feed.specs.Stories.{Story, story, state_at}
-use Rattle.joint_run.specs.Joint.{Beside, beside_at_start, joint_board, joint_start}
+use Rattle.joint_run.specs.Joint.{Beside, beside_at_start, joint_board, joint_start_of}
 use Rattle.joint_run.specs.Run.{Board, World, step_on}
 use Rattle.joint_run.specs.Starts.{at_tick, IsStart, starts_before}
 use Rattle.link_model.specs.Expected.{meeting_from, whole_at}
@@ -30,7 +30,7 @@ use Rattle.wires_heard.proofs.InTick.{heard_at, high_next}
 use Rattle.wires_heard.proofs.Pulls.{same_state}
 use Rattle.wires_heard.proofs.Silent.{IsTick}
 use Rattle.wires_heard.proofs.Steps.{step_of}
-use Rattle.wires_heard.proofs.Whole.{whole}
+use Rattle.wires_heard.proofs.HeardAtLastCell.{whole}
 use Rattle.wires_heard.specs.Hearing.{HeardLaw, transfer_at, transfers_to}
 use Rattle.wires_heard.specs.Passing.{passed_at, passed_to}
 
@@ -49,7 +49,7 @@ fits_of old v was is offered Inhibited (CutFrame byte cell) h = absurd cc
 fits_of old v was is offered Idle (CutFrame byte cell) h = absurd cc
 fits_of old v was is offered meeting ReceivedFrame h = tt
 
-module _ (s : Story) (time : KeepsTime s.bytes s.edges s.events) where
+module _ (s : Story) (time : KeepsTimeFrom (joint_start_of s.held) s.bytes s.edges s.events) where
   abbrev d : Board
   d = joint_board s.edges s.events
 
@@ -60,18 +60,18 @@ module _ (s : Story) (time : KeepsTime s.bytes s.edges s.events) where
     pub w : World Beside
     pub at : state_at s steps ≡ Some w
     pub starts : at_tick d TICK w ≡ true
-    pub number : starts_before d TICK s.bytes joint_start steps ≡ n
+    pub number : starts_before d TICK s.bytes (joint_start_of s.held) steps ≡ n
     pub high : (j : ℕ) (u : World Beside) → j ≤ steps → state_at s j ≡ Some u → w.cycle < u.cycle + 330 → bit 0 u.cpu.p2 ≡ true
     pub law : (k : ℕ) → k < steps → transfer_at s k ≡ passed_at s k
 
-  start_of : (n : ℕ) (t : Stands n) → IsStart d TICK s.bytes joint_start n (t.w.cycle - 4096)
+  start_of : (n : ℕ) (t : Stands n) → IsStart d TICK s.bytes (joint_start_of s.held) n (t.w.cycle - 4096)
   start_of n t =
       let early : 4096 ≤ t.w.cycle = time.none_early t.steps t.w t.at t.starts in
       record { steps = t.steps; state = t.w; reached = t.at; at = t.starts; number = t.number; cycle = omega (arith, early) }
 
   -- how late a start is
   bounds : (k n : ℕ) (w : World Beside) → state_at s k ≡ Some w → at_tick d TICK w ≡ true
-      → starts_before d TICK s.bytes joint_start k ≡ n → (4096 + 2048 * n ≤ w.cycle) × (w.cycle ≤ 4096 + 2048 * n + 5)
+      → starts_before d TICK s.bytes (joint_start_of s.held) k ≡ n → (4096 + 2048 * n ≤ w.cycle) × (w.cycle ≤ 4096 + 2048 * n + 5)
   bounds k n w at starts number =
       let early : 4096 ≤ w.cycle = time.none_early k w at starts in
       let near = time.near n (w.cycle - 4096)
@@ -93,7 +93,7 @@ module _ (s : Story) (time : KeepsTime s.bytes s.edges s.events) where
 
   begin : (k1 : ℕ) → Latches s 0 k1 (λ c. 255) → IsTick s 0 k1 0 beside_at_start 255 255 high_latch high_latch NoFrame tt refl
   begin k1 latches = record {
-    w = joint_start;
+    w = joint_start_of s.held;
     at = refl;
     begins = record { cycle = refl; board = refl; p2 = refl; between = λ i few at. absurd (omega (arith, few)) };
     goes = λ j one next a b from to. record {
@@ -102,7 +102,7 @@ module _ (s : Story) (time : KeepsTime s.bytes s.edges s.events) where
     };
     high = λ j u l at near.
         let z : j ≡ 0 = omega (arith, l) in
-        ap (λ (v : World Beside). bit 0 v.cpu.p2) (same_state s 0 u joint_start (ap (λ i. state_at s i) (sym z) ∙ at) refl);
+        ap (λ (v : World Beside). bit 0 v.cpu.p2) (same_state s 0 u (joint_start_of s.held) (ap (λ i. state_at s i) (sym z) ∙ at) refl);
     broken = λ ten. absurd (omega (arith, ten));
     steady = λ all. absurd (omega (arith, all));
   }
@@ -110,14 +110,15 @@ module _ (s : Story) (time : KeepsTime s.bytes s.edges s.events) where
   some_state : (k : ℕ) → (w : World Beside) × (state_at s k ≡ Some w)
   some_state k = time.goes_on k
 
-  module _ {S : Type 0} (kb : Rattle.link_model.specs.Machine.Machine S) (wires : DrivesWires joint_start s.bytes kb s.edges s.events) where
+  module _ {S : Type 0} (kb : Rattle.link_model.specs.Machine.Machine S)
+      (wires : DrivesWires (joint_start_of s.held) s.bytes kb s.edges s.events) where
     first : Stands 0
     first =
         let r = wires.first in
         let k1 : ℕ = 0 + r.steps in
         let Q : World Beside → Type 0 = λ e. at_tick d TICK e ≡ true in
-        let t = begin k1 (calm_latches s 0 joint_start (λ c. 255) Q refl r) in
-        let e = calm_ends s 0 joint_start (λ c. 255) Q refl r in
+        let t = begin k1 (calm_latches s 0 (joint_start_of s.held) (λ c. 255) Q refl r) in
+        let e = calm_ends s 0 (joint_start_of s.held) (λ c. 255) Q refl r in
         let b = bounds k1 0 r.end e.0 r.goal e.1 in
         let far : 4096 + 2048 * 0 ≤ r.end.cycle = b.0 in
         record {
@@ -127,7 +128,8 @@ module _ (s : Story) (time : KeepsTime s.bytes s.edges s.events) where
           at = e.0;
           starts = r.goal;
           number = e.1;
-          high = high_next s 0 k1 0 beside_at_start 255 255 high_latch high_latch NoFrame tt refl t (λ all. absurd (omega (arith, all))) r.end.cycle
+          high = high_next s 0 k1 0 beside_at_start 255 255 high_latch high_latch NoFrame tt refl t
+              (λ all. absurd (omega (arith, all))) r.end.cycle
               (omega (arith, far)) (omega arith);
           law = λ k l.
               let u = some_state (suc k) in
@@ -154,9 +156,10 @@ module _ (s : Story) (time : KeepsTime s.bytes s.edges s.events) where
         let e = tick_ends s k0 w latch Q t0.at f.drives in
         let end : World Beside = f.drives.rest.end in
         let goal = f.drives.rest.goal in
-        let z : starts_before d TICK s.bytes joint_start k0 ≡ n = t0.number in
-        let one : starts_before d TICK s.bytes joint_start k1 ≡ starts_before d TICK s.bytes joint_start k0 + 1 = e.1 in
-        let number : starts_before d TICK s.bytes joint_start k1 ≡ suc n = omega (arith, one, z) in
+        let z : starts_before d TICK s.bytes (joint_start_of s.held) k0 ≡ n = t0.number in
+        let one : starts_before d TICK s.bytes (joint_start_of s.held) k1
+        ≡ starts_before d TICK s.bytes (joint_start_of s.held) k0 + 1 = e.1 in
+        let number : starts_before d TICK s.bytes (joint_start_of s.held) k1 ≡ suc n = omega (arith, one, z) in
         let here = bounds k0 n w t0.at t0.starts t0.number in
         let there = bounds k1 (suc n) end e.0 goal.0 number in
         let most : x ≤ 4096 + 2048 * n + 5 = here.1 in
@@ -183,14 +186,16 @@ module _ (s : Story) (time : KeepsTime s.bytes s.edges s.events) where
           at = e.0;
           starts = goal.0;
           number = number;
-          high = high_next s k0 k1 x w.board w.cpu.p2 f.lit was is f.frame fits f.idle t all end.cycle (omega (arith, most, least)) (omega arith);
+          high = high_next s k0 k1 x w.board w.cpu.p2 f.lit was is f.frame fits f.idle t all end.cycle
+              (omega (arith, most, least)) (omega arith);
           law = λ k l. before_or_in k (t0.law k) (λ a b.
               let u = some_state (suc k) in
               heard_at s k0 k1 x w.board w.cpu.p2 f.lit was is f.frame fits f.idle t all k u.0 a b u.1) l (nat_lt k k0) refl;
         }
       where
         before_or_in : (k : ℕ) → (k < t0.steps → transfer_at s k ≡ passed_at s k)
-            → (t0.steps ≤ k → k < suc t0.steps + (wires.frames n (t0.w.cycle - 4096) (start_of n t0)).drives.rest.steps → transfer_at s k ≡ passed_at s k)
+            → (t0.steps ≤ k → k < suc t0.steps + (wires.frames n (t0.w.cycle - 4096) (start_of n t0)).drives.rest.steps
+            → transfer_at s k ≡ passed_at s k)
             → k < suc t0.steps + (wires.frames n (t0.w.cycle - 4096) (start_of n t0)).drives.rest.steps
             → (c : Bool) → nat_lt k t0.steps ≡ c → transfer_at s k ≡ passed_at s k
         before_or_in k f g l true e = f (grind (arith, nat_tests, e))

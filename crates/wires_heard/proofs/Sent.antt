@@ -1,5 +1,6 @@
 -- A byte that is sent: what ends at the last edge, and what the data at the falls are.
-use Rattle.std.proofs.Common.{◌≡◌, ◌≤◌, ◌<◌, inl, inr, ℕ, suc, zero, ◌+◌, ◌-◌, ◌*◌, List, [], ◌∷◌, ◌++◌, Bool, true, false, not, ◌&&◌, ◌==◌, Some, None}
+use Rattle.std.proofs.Common.{◌≡◌, ◌≤◌, ◌<◌, inl, inr, ℕ, suc, zero, ◌+◌, ◌-◌, ◌*◌, List, [], ◌∷◌}
+use Rattle.std.proofs.Common.{◌++◌, Bool, true, false, not, ◌&&◌, ◌==◌, Some, None}
 use Rattle.std.proofs.Common.{if◌then◌else◌, refl, ap, sym, ◌∙◌, arith}
 use Rattle.std.proofs.lemmas.Bool.Decides.{nat_tests}
 use Rattle.std.specs.Prelude.{take, drop}
@@ -30,12 +31,12 @@ use Rattle.pc_wires.specs.Wires.{Pc, board_cycle, wires}
 use Rattle.wires_agree.proofs.Frames.{cell}
 use Rattle.wires_agree.proofs.Spans.{IsAt, On, and-true}
 use Rattle.wires_agree.proofs.Ways.{IsWay, sent_way, behind_first}
-use Rattle.wires_agree.proofs.Whole.{IsThrough, stands, cycles_more}
+use Rattle.wires_agree.proofs.CellByCell.{IsThrough, stands, cycles_more}
 use Rattle.wires_agree.specs.Cells.{IsFrame, bits_to}
 use Rattle.wires_agree.specs.Cycles.{board_cycles}
 use Rattle.wires_agree.specs.InFrame.{at_edge as edge_of}
 use Rattle.wires_heard.proofs.Edges.{edge_cycle, received_pulls}
-use Rattle.wires_heard.proofs.Gathering.{eleven_of}
+use Rattle.wires_heard.proofs.CellFalls.{eleven_of}
 use Rattle.wires_heard.proofs.Pulls.{link_of, lets}
 use Rattle.wires_heard.proofs.Spans.{at_edge, lines, low_stays, open_frame, pull_stays}
 use Rattle.wires_heard.proofs.Ticks.{latch, beside}
@@ -166,7 +167,8 @@ module _ (events : List HostEvent) (x : ℕ) (start : Beside) (old v : ℕ) (was
     levels_in : (k i : ℕ) → k ≤ 10 → i < 16 → (latch_of (L (288 + 32 * k + i))).dat ≡ bits k
     levels_in k i few l =
         let z : 288 + 32 * k + i ≡ 260 + (28 + 32 * k + i) = omega arith in
-        ap (λ o. (latch_of (L o)).dat) z ∙ ap (λ p. (latch_of p).dat) (in_frame (28 + 32 * k + i) (omega (arith, few, l)) ∙ cell_low v byte k i l)
+        ap (λ o. (latch_of (L o)).dat) z
+        ∙ ap (λ p. (latch_of p).dat) (in_frame (28 + 32 * k + i) (omega (arith, few, l)) ∙ cell_low v byte k i l)
         ∙ data_of_latch false (bits k) v is
 
     low_in : (latch_of (L 608)).clk ≡ false
@@ -181,8 +183,10 @@ module _ (events : List HostEvent) (x : ℕ) (start : Beside) (old v : ℕ) (was
         let l : Lines = latch_of (L 608) in
         let c : Pc = (B 608).pc in
         let dat : l.dat ≡ bits 10 = levels_in 10 0 (omega arith) (omega arith) in
-        ap (λ h. if h && not (l.clk && (drive c.side.port.link).clk) then ended_at (l.dat && (drive c.side.port.link).dat) c.side.port.link else []) last.clock_is
-        ∙ ap (λ k. if not (k && (drive c.side.port.link).clk) then ended_at (l.dat && (drive c.side.port.link).dat) c.side.port.link else []) low_in
+        ap (λ h. if h && not (l.clk && (drive c.side.port.link).clk) then ended_at (l.dat && (drive c.side.port.link).dat) c.side.port.link
+        else []) last.clock_is
+        ∙ ap (λ k. if not (k && (drive c.side.port.link).clk) then ended_at (l.dat && (drive c.side.port.link).dat) c.side.port.link
+        else []) low_in
         ∙ ap (λ k. ended_at (l.dat && (drive k).dat) k) last.link_is
         ∙ ap (λ d. ended_at d (Busy (w 9))) (and-true l.dat ∙ dat)
 
@@ -195,12 +199,14 @@ module _ (events : List HostEvent) (x : ℕ) (start : Beside) (old v : ℕ) (was
         let b' : Pc = pc_at 320 in
         let t = (through 9 (omega arith)).there in
         let more : pc_at 321 ≡ board_cycle events (320 + now) (drives (320 + now)) b' = cycles_more events drives 320 1 321 now b refl in
-        let edge : edge_at (320 + now) ((drives (320 + now)).dat && true) (Busy (w 9)) b'.side.port ≡ received (320 + now) came b'.side.port =
+        let edge : edge_at (320 + now) ((drives (320 + now)).dat && true) (Busy (w 9)) b'.side.port
+        ≡ received (320 + now) came b'.side.port =
         ap (λ d. received (320 + now) (byte_of (turned b.side.port.flip (bits_to bits 10 ++ d ∷ []))) b'.side.port)
         (and-true (drives (320 + now)).dat ∙ is_frame.last) in
         ap (λ (c : Pc). pulled c.side.port.link) (there 321)
         ∙ ap (λ (c : Pc). pulled c.side.port.link) more
-        ∙ ap (λ s. pulled s.port.link) (edge_cycle events (320 + now) (drives (320 + now)) b' (Busy (w 9)) t.link_is t.clock_is is_frame.ends)
+        ∙ ap (λ s. pulled s.port.link)
+        (edge_cycle events (320 + now) (drives (320 + now)) b' (Busy (w 9)) t.link_is t.clock_is is_frame.ends)
         ∙ ap (λ p. pulled (goes_on is_breakable events (320 + now) (record b'.side { port = p })).port.link) edge
         ∙ received_pulls events (320 + now) b'.side came b'.side.port
 
@@ -214,7 +220,8 @@ module _ (events : List HostEvent) (x : ℕ) (start : Beside) (old v : ℕ) (was
     cell_data : (k : ℕ) → k < 10 → (drive (pc_at (32 * k + 2)).side.port.link).dat ≡ true
     cell_data zero below =
         let y : ℕ = 32 * 0 + now in
-        let c = cell events drives y (bits 0) b Free (w 0) q (Begins true) (is_frame.cells 0 below) at (way.first y) way.begins (way.starts y) 1 (omega arith) in
+        let c = cell events drives y (bits 0) b Free (w 0) q (Begins true) (is_frame.cells 0 below) at
+        (way.first y) way.begins (way.starts y) 1 (omega arith) in
         let more : pc_at (32 * 0 + 2) ≡ board_cycles events drives 2 y b = cycles_more events drives (32 * 0) 2 (32 * 0 + 2) now b refl in
         ap (λ (v : Pc). (drive v.side.port.link).dat) more
         ∙ on_data (board_cycles events drives 2 y b) b.side.port.flip (bits_to bits 1) (drives (1 + y)).clk y c.1
@@ -222,9 +229,12 @@ module _ (events : List HostEvent) (x : ℕ) (start : Beside) (old v : ℕ) (was
         let y : ℕ = 32 * suc k + now in
         let b' : Pc = pc_at (32 * suc k) in
         let t = through k (omega (arith, below)) in
-        let c = cell events drives y (bits (suc k)) b' (Busy (w k)) (w (suc k)) (record b'.side.port { link = Busy (w (suc k)) }) (edge_of true (suc k)) (is_frame.cells (suc k) below) t.there
-        (way.next k y b'.side.port (omega (arith, below))) refl (way.kind k y b'.side.port (omega (arith, below)) t.there.link_is) 1 (omega arith) in
-        let more : pc_at (32 * suc k + 2) ≡ board_cycles events drives 2 y b' = cycles_more events drives (32 * suc k) 2 (32 * suc k + 2) now b refl in
+        let c = cell events drives y (bits (suc k)) b' (Busy (w k)) (w (suc k)) (record b'.side.port { link = Busy (w (suc k)) })
+        (edge_of true (suc k)) (is_frame.cells (suc k) below) t.there
+        (way.next k y b'.side.port (omega (arith, below))) refl (way.kind k y b'.side.port (omega (arith, below)) t.there.link_is)
+        1 (omega arith) in
+        let more : pc_at (32 * suc k + 2) ≡ board_cycles events drives 2 y b' =
+        cycles_more events drives (32 * suc k) 2 (32 * suc k + 2) now b refl in
         ap (λ (v : Pc). (drive v.side.port.link).dat) more
         ∙ on_data (board_cycles events drives 2 y b') b.side.port.flip (bits_to bits (suc (suc k))) (drives (1 + y)).clk y c.1
 

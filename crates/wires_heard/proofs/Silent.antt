@@ -115,7 +115,8 @@ module _ (s : Story) (k0 k1 x : ℕ) (start : Beside) (old v : ℕ) (was : IsRel
             }
 
     module _ (k : ℕ) (one next : World Beside) (o : ℕ) (a : k0 ≤ k) (b : k < k1) (from : state_at s k ≡ Some one)
-        (to : state_at s (suc k) ≡ Some next) (i : In one o) (g : On one next) (not_last : IsLast s.events x start old v was is frame fits idle o → ⊥) where
+        (to : state_at s (suc k) ≡ Some next) (i : In one o) (g : On one next)
+        (not_last : IsLast s.events x start old v was is frame fits idle o → ⊥) where
       latch_at : (m : ℕ) → bit 0 (latch s.events x start old v was is frame fits idle m) ≡ clock_in n m
       latch_at = drives s.events x start old v was is frame fits idle
 
@@ -156,7 +157,8 @@ module _ (s : Story) (k0 k1 x : ℕ) (start : Beside) (old v : ℕ) (was : IsRel
             let alone : lets next.board ≡ true = there ∙ sym here ∙ up.1 in
             let latch_is : (latch_of next.cpu.p2).clk ≡ clock_in n o =
             ap (bit 0) (first_latch s.events x start old v was is frame fits idle one next o i g) ∙ latch_at o in
-            by (omega (arith, l, most)) (omega (arith, u, least)) (clock_in n o) refl (ap (λ b. b && lets next.board) (sym latch_is) ∙ f.low) alone
+            by (omega (arith, l, most)) (omega (arith, u, least)) (clock_in n o) refl
+            (ap (λ b. b && lets next.board) (sym latch_is) ∙ f.low) alone
           where
             by : 639 ≤ o → o ≤ 641 → (q : Bool) → clock_in n o ≡ q → (clock_in n o && lets next.board) ≡ false → lets next.board ≡ true → ⊥
             by a b true e low alone =
@@ -208,7 +210,8 @@ module _ (s : Story) (k0 k1 x : ℕ) (start : Beside) (old v : ℕ) (was : IsRel
           let here : one.cycle ≡ x + o = i.cycle in
           let there : next.cycle ≡ one.cycle + c = g.step.cycle in
           let least : 1 ≤ c = g.step.least in
-          let low10 = by_latch s k f10.0 f10.2 f9.2.step f9.2.one f9.2.next f9.2.falls (omega (arith, e10, e9, at9)) (omega (arith, e10, e9, at9)) in
+          let low10 = by_latch s k f10.0 f10.2 f9.2.step f9.2.one f9.2.next f9.2.falls
+          (omega (arith, e10, e9, at9)) (omega (arith, e10, e9, at9)) in
           let low1 = by_latch s k f1.0 f1.2 k one next f (omega (arith, e1)) (omega (arith, e1)) in
           let c10 = at_cell k f10.0 (omega (arith, b)) f10.2 low10 (omega (arith, e10, here, there, least)) in
           let c1 = at_cell k f1.0 (omega (arith, b)) f1.2 low1 (omega (arith, e1, here, there, least)) in

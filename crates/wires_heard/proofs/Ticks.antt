@@ -1,5 +1,6 @@
 -- A tick of the joint run, cycle by cycle: where a falling edge ends a byte; and step by step: where states are.
-use Rattle.std.proofs.Common.{◌≡◌, ◌≤◌, ◌<◌, ◌⊎◌, inl, inr, ℕ, suc, zero, ◌+◌, ◌-◌, ◌*◌, List, [], ◌∷◌, ◌++◌, length, Bool, true, false, not, ◌&&◌}
+use Rattle.std.proofs.Common.{◌≡◌, ◌≤◌, ◌<◌, ◌⊎◌, inl, inr, ℕ, suc, zero, ◌+◌, ◌-◌, ◌*◌, List}
+use Rattle.std.proofs.Common.{[], ◌∷◌, ◌++◌, length, Bool, true, false, not, ◌&&◌}
 use Rattle.std.proofs.Common.{if◌then◌else◌, ◌==◌, refl, ap, sym, ◌∙◌, subst, arith}
 use Rattle.std.specs.Prelude.{take, drop}
 use Rattle.bits.proofs.Every.{same_of}
@@ -124,7 +125,8 @@ module _ (events : List HostEvent) (x : ℕ) (start : Beside) (old v : ℕ) (was
 
   by_wire : (o : ℕ) (dat : Bool) (w : Wire) → (edges_in (Busy w) ≡ 10 → Last o) → Ends o (ended_by dat w)
   by_wire o dat (Recv flip bits) h =
-      either o (length bits == 10) (record { from_host = false; byte = value (take 8 (drop 1 (bits ++ dat ∷ []))) } ∷ []) (λ e. h (same_of (length bits) 10 e))
+      either o (length bits == 10) (record { from_host = false; byte = value (take 8 (drop 1 (bits ++ dat ∷ []))) } ∷ [])
+      (λ e. h (same_of (length bits) 10 e))
   by_wire o dat (Send byte edges) h =
       either o (edges == 10) (record { from_host = true; byte = byte } ∷ []) (λ e. h (same_of edges 10 e))
 

@@ -7,7 +7,9 @@ invariant-loop-probe g l = record {
   number : l.number ≡ l.probe-index;
   so_far :
       map (λ b. (goal.Probe-dyn g (b.vtable, b.value)).watch b.value) l.probe-items
-      ≡ map (looked l.step (sight_of l.joint)) (take l.probe-index (map (λ b. (goal.Probe-dyn g (b.vtable, b.value)).watch b.value) l.fn.probes.items))
+      ≡ map (looked l.step (sight_of l.joint))
+      (take l.probe-index (map (λ b. (goal.Probe-dyn g (b.vtable, b.value)).watch b.value) l.fn.probes.items))
       ++ drop l.probe-index (map (λ b. (goal.Probe-dyn g (b.vtable, b.value)).watch b.value) l.fn.probes.items);
-  hit : l.hit ≡ first_met 0 (sight_of l.joint) (take l.probe-index (map (λ b. (goal.Probe-dyn g (b.vtable, b.value)).watch b.value) l.fn.probes.items));
+  hit : l.hit ≡ first_met 0 (sight_of l.joint)
+      (take l.probe-index (map (λ b. (goal.Probe-dyn g (b.vtable, b.value)).watch b.value) l.fn.probes.items));
 }

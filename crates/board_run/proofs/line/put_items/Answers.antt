@@ -2,7 +2,7 @@ use Rattle.std.proofs.Common.{◌≡◌, ◌<◌, ◌^◌, ◌+◌, [], inr, len
 use Rattle.std.proofs.lemmas.List.{drop_all}
 use Rattle.board_run.specs.Texts.{line_text, log_text}
 use Rattle.host_turn.specs.declared.stamped.Stamped.{Stamped}
-use Rattle.io_edge.specs.Said.{IsBrokenOff, IsSaid, shown}
+use Rattle.io_edge.specs.Said.{IsBrokenOff, IsSaid}
 use Rattle.io_edge.proofs.Pieces.{broken_before, none_said, said_then_broken, said_then_said}
 use Rattle.pc_tables.specs.declared.item.Item.TheVariants.{Port}
 use Rattle.board_run.proofs.Lines.{line_ends, one_in, text_left}
@@ -25,11 +25,12 @@ returns-in_err-put_line-clause-broken g c =
     let left = text_left items i d within in
     let others = drop (i + 1) items in
     let line = get_or items i d in
-    let before = shown (g.K.Sink.taken c.loop-stamped.out) (g.K.Sink.told c.loop-stamped.out) (g.K.Sink.faults c.loop-stamped.out) in
-    let after = shown (g.K.Sink.taken c.put_line.new.out) (g.K.Sink.told c.put_line.new.out) (g.K.Sink.faults c.put_line.new.out) in
+    let before = g.K.Sink.shown c.loop-stamped.out in
+    let after = g.K.Sink.shown c.put_line.new.out in
     on_err c.from_residual.result _
     (c.loop-stamped.invariant.broken after
-    (subst (λ t. IsBrokenOff before after t) (sym left) (broken_before before after (line_text line) (log_text others) (inr (line_ends line)) c.in_err-put_line.ensures.broken)))
+    (subst (λ t. IsBrokenOff before after t) (sym left)
+    (broken_before before after (line_text line) (log_text others) (inr (line_ends line)) c.in_err-put_line.ensures.broken)))
 
 pub loop-stamped-preserved : goal.loop-stamped-preserved
 loop-stamped-preserved g c =
@@ -41,18 +42,23 @@ loop-stamped-preserved g c =
     let left = text_left items i d within in
     let others = drop (i + 1) items in
     let line = get_or items i d in
-    let before = shown (g.K.Sink.taken c.loop-stamped.out) (g.K.Sink.told c.loop-stamped.out) (g.K.Sink.faults c.loop-stamped.out) in
-    let after = shown (g.K.Sink.taken c.put_line.new.out) (g.K.Sink.told c.put_line.new.out) (g.K.Sink.faults c.put_line.new.out) in
+    let before = g.K.Sink.shown c.loop-stamped.out in
+    let after = g.K.Sink.shown c.put_line.new.out in
     let put = c.in_ok-put_line.ensures in
     record {
-      said = λ z h. inv.said z (subst (λ t. IsSaid before z t) (sym left) (said_then_said before after z (line_text line) (log_text others) (inr (line_ends line)) put.said h));
-      broken = λ z h. inv.broken z (subst (λ t. IsBrokenOff before z t) (sym left) (said_then_broken before after z (line_text line) (log_text others) (inr (line_ends line)) put.said h));
+      said = λ z h.
+          inv.said z (subst (λ t. IsSaid before z t) (sym left)
+          (said_then_said before after z (line_text line) (log_text others) (inr (line_ends line)) put.said h));
+      broken = λ z h.
+          inv.broken z
+          (subst (λ t. IsBrokenOff before z t) (sym left)
+          (said_then_broken before after z (line_text line) (log_text others) (inr (line_ends line)) put.said h));
     }
 
 pub returns-clause-said : goal.returns-clause-said
 returns-clause-said g c =
     let items = c.args.items.now in
     let i = c.loop-stamped.stamped-index in
-    let now = shown (g.K.Sink.taken c.loop-stamped.out) (g.K.Sink.told c.loop-stamped.out) (g.K.Sink.faults c.loop-stamped.out) in
+    let now = g.K.Sink.shown c.loop-stamped.out in
     let none : drop i items ≡ [] = drop_all i items (omega (arith, c.loop-stamped-test.false, c.loop-stamped.auto.stamped-index-end)) in
     c.loop-stamped.invariant.said now (subst (λ v. IsSaid now now (log_text v)) (sym none) (none_said now))

@@ -10,7 +10,8 @@ abbrev pub invariant-loop-line : goal.invariant-loop-line
 invariant-loop-line g l = record {
   debuggee : l.session.debuggee ≡ l.fn.session.debuggee;
   so_far :
-      AreDone l.fn.session.debuggee (lines l.script) (begun (map (λ b. (goal.Probe-dyn g (b.vtable, b.value)).watch b.value) l.fn.probes.items)) (lines l.rest)
+      AreDone l.fn.session.debuggee (lines l.script)
+      (begun (map (λ b. (goal.Probe-dyn g (b.vtable, b.value)).watch b.value) l.fn.probes.items)) (lines l.rest)
       (debug l.session (map (λ b. (goal.Probe-dyn g (b.vtable, b.value)).watch b.value) l.probes.items)) l.text.items;
 }
 

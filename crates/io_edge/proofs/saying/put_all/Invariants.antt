@@ -6,9 +6,9 @@ use Rattle.io_edge.proofs.saying.put_all.Given as goal
 abbrev pub invariant-loop-done : goal.invariant-loop-done
 invariant-loop-done g l = record {
   within : l.done ≤ length l.piece;
-  steady : g.K.Sink.faults l.out ≡ g.K.Sink.faults l.initial.out;
-  taken : Takes (g.K.Sink.taken l.initial.out) (g.K.Sink.taken l.out) l.piece l.done;
-  offering : Offering (g.K.Sink.told l.initial.out) (g.K.Sink.told l.out) l.piece l.done;
+  steady : (g.K.Sink.shown l.out).faults ≡ (g.K.Sink.shown l.initial.out).faults;
+  taken : Takes (g.K.Sink.shown l.initial.out).taken (g.K.Sink.shown l.out).taken l.piece l.done;
+  offering : Offering (g.K.Sink.shown l.initial.out).told (g.K.Sink.shown l.out).told l.piece l.done;
 }
 
 abbrev pub decreases-loop-done : goal.decreases-loop-done

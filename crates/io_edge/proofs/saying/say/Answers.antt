@@ -1,6 +1,5 @@
 use Rattle.std.proofs.Common.{◌≡◌, length, subst, arith}
 use Rattle.io_edge.specs.Faults.{Rose}
-use Rattle.io_edge.specs.Said.{shown}
 use Rattle.io_edge.specs.Sink.{Takes}
 use Rattle.io_edge.proofs.Pieces.{is_broken, is_said}
 use Rattle.io_edge.proofs.Puts.{failed_after, failed_said, saying_first, saying_on, whole_after, whole_said}
@@ -12,7 +11,7 @@ loop-start-init g c = record {
   within = grind (arith);
   steady = grind (arith);
   taken = takes_none _ _;
-  saying = saying_first (g.K.Sink.told c.args.out.now) c.args.text.now;
+  saying = saying_first (g.K.Sink.shown c.args.out.now).told c.args.text.now;
 }
 
 pub loop-start-preserved : goal.loop-start-preserved
@@ -25,32 +24,10 @@ loop-start-preserved g c = record {
       c.in_ok-put_all.ensures.none_failed c.in_ok-put_all.ensures.after;
 }
 
-pub returns-in_err-put_all-clause-part : goal.returns-in_err-put_all-clause-part
-returns-in_err-put_all-clause-part g c =
-    on_err _ _ (takes_part _ _ _ _ _ _
-    (grind (arith, c.line_end-end.ensures.more)) c.line_end-end.ensures.within c.loop-start.invariant.taken
-    c.in_err-put_all.ensures.part)
-
-pub returns-in_err-put_all-clause-one_failed : goal.returns-in_err-put_all-clause-one_failed
-returns-in_err-put_all-clause-one_failed g c =
-    on_err _ _ (failed_said _ _ _ _ _ c.loop-start-test.true c.line_end-end.ensures.first
-    c.loop-start.invariant.saying c.in_err-put_all.ensures.one_failed)
-
-pub returns-in_err-put_all-clause-after : goal.returns-in_err-put_all-clause-after
-returns-in_err-put_all-clause-after g c =
-    failed_after _ _ _ _ _ _ c.loop-start-test.true c.line_end-end.ensures.first c.loop-start.invariant.saying
-    c.in_err-put_all.ensures.one_failed c.in_err-put_all.ensures.after
-
-pub returns-clause-none_failed : goal.returns-clause-none_failed
-returns-clause-none_failed g c = whole_said _ _ _ _ c.loop-start-test.false c.loop-start.invariant.saying
-
-pub returns-clause-after : goal.returns-clause-after
-returns-clause-after g c = whole_after _ _ _ _ c.loop-start-test.false c.loop-start.invariant.saying
-
 pub returns-in_err-put_all-clause-broken : goal.returns-in_err-put_all-clause-broken
 returns-in_err-put_all-clause-broken g c =
-    let before = shown (g.K.Sink.taken c.args.out.now) (g.K.Sink.told c.args.out.now) (g.K.Sink.faults c.args.out.now) in
-    let after = shown (g.K.Sink.taken c.put_all.new.out) (g.K.Sink.told c.put_all.new.out) (g.K.Sink.faults c.put_all.new.out) in
+    let before = g.K.Sink.shown c.args.out.now in
+    let after = g.K.Sink.shown c.put_all.new.out in
     on_err _ _ (is_broken before after c.args.text.now
     (takes_part _ _ _ _ _ _
     (grind (arith, c.line_end-end.ensures.more)) c.line_end-end.ensures.within c.loop-start.invariant.taken
@@ -63,8 +40,8 @@ returns-in_err-put_all-clause-broken g c =
 
 pub returns-clause-said : goal.returns-clause-said
 returns-clause-said g c =
-    let before = shown (g.K.Sink.taken c.args.out.now) (g.K.Sink.told c.args.out.now) (g.K.Sink.faults c.args.out.now) in
-    let after = shown (g.K.Sink.taken c.loop-start.out) (g.K.Sink.told c.loop-start.out) (g.K.Sink.faults c.loop-start.out) in
+    let before = g.K.Sink.shown c.args.out.now in
+    let after = g.K.Sink.shown c.loop-start.out in
     let within = c.loop-start.invariant.within in
     let past = c.loop-start-test.false in
     let whole : c.loop-start.start ≡ length c.args.text.now = grind (arith, within, past) in

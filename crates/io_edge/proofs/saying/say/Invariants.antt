@@ -6,9 +6,9 @@ use Rattle.io_edge.proofs.saying.say.Given as goal
 abbrev pub invariant-loop-start : goal.invariant-loop-start
 invariant-loop-start g l = record {
   within : l.start ≤ length l.text;
-  steady : g.K.Sink.faults l.out ≡ g.K.Sink.faults l.initial.out;
-  taken : Takes (g.K.Sink.taken l.initial.out) (g.K.Sink.taken l.out) l.text l.start;
-  saying : Saying (g.K.Sink.told l.initial.out) (g.K.Sink.told l.out) l.text l.start;
+  steady : (g.K.Sink.shown l.out).faults ≡ (g.K.Sink.shown l.initial.out).faults;
+  taken : Takes (g.K.Sink.shown l.initial.out).taken (g.K.Sink.shown l.out).taken l.text l.start;
+  saying : Saying (g.K.Sink.shown l.initial.out).told (g.K.Sink.shown l.out).told l.text l.start;
 }
 
 abbrev pub decreases-loop-start : goal.decreases-loop-start

@@ -1,5 +1,4 @@
 use Rattle.std.proofs.Common.{ap, sym, ◌∙◌}
-use Rattle.io_edge.specs.Said.{shown}
 use Rattle.layout_reader.specs.Documents.{layout_of_document}
 use Rattle.kbd48_app.proofs.AnswersAreSpoken.{ran_spoken}
 use Rattle.kbd48_app.proofs.answering.over_run.Goals as goal
@@ -11,5 +10,5 @@ returns-clause-ends g c =
     c.in_ok-document.ensures.gives c.in_ok-document.ensures.fetched
     (ap layout_of_document (sym c.deref.ensures.value) ∙ c.in_ok-layout.ensures)
     c.in_ok-text.ensures.gives c.in_ok-text.ensures.fetched c.deref-2.ensures.value _ _ c.told.result
-    (shown (g.K.Sink.taken c.args.out.now) (g.K.Sink.told c.args.out.now) (g.K.Sink.faults c.args.out.now))
-    (shown (g.K.Sink.taken c.told.new.out) (g.K.Sink.told c.told.new.out) (g.K.Sink.faults c.told.new.out)) c.told.ensures.says
+    (g.K.Sink.shown c.args.out.now)
+    (g.K.Sink.shown c.told.new.out) c.told.ensures.says

@@ -1,4 +1,3 @@
-use Rattle.io_edge.specs.Said.{shown}
 use Rattle.kbd48_app.specs.declared.words.RunCommand.TheVariants.{Log, Expect}
 use Rattle.kbd48_app.proofs.AnswersAreSpoken.{told_by, told_unsaid}
 use Rattle.kbd48_app.proofs.answering.told.Goals as goal
@@ -6,12 +5,12 @@ use Rattle.kbd48_app.proofs.answering.told.Goals as goal
 pub returns-in-Expect-clause-says : goal.returns-in-Expect-clause-says
 returns-in-Expect-clause-says g c =
     told_unsaid c.args.command Expect c.args.layout.now c.args.text.now _ _ c.expected.result c.to_say.result
-    (shown (g.K.Sink.taken c.args.out.now) (g.K.Sink.told c.args.out.now) (g.K.Sink.faults c.args.out.now))
+    (g.K.Sink.shown c.args.out.now)
     c.in-Expect.is c.to_say.ensures c.expected.ensures.says
 
 pub returns-in-Log-clause-says : goal.returns-in-Log-clause-says
 returns-in-Log-clause-says g c =
     told_by c.args.command (Log c.in-Log.ticks c.in-Log.steps) c.args.layout.now c.args.text.now _ _ c.stream.result
-    (shown (g.K.Sink.taken c.args.out.now) (g.K.Sink.told c.args.out.now) (g.K.Sink.faults c.args.out.now))
-    (shown (g.K.Sink.taken c.stream.new.out) (g.K.Sink.told c.stream.new.out) (g.K.Sink.faults c.stream.new.out))
+    (g.K.Sink.shown c.args.out.now)
+    (g.K.Sink.shown c.stream.new.out)
     c.in-Log.is c.stream.ensures.says

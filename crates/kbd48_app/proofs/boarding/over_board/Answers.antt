@@ -1,5 +1,4 @@
 use Rattle.std.proofs.Common.{ap, sym, ◌∙◌}
-use Rattle.io_edge.specs.Said.{shown}
 use Rattle.hexfile.specs.Hex.{hex_of}
 use Rattle.layout_reader.specs.Documents.{layout_of_document}
 use Rattle.kbd48_app.proofs.BoardsAreSaid.{keys_unread, three_spoken}
@@ -14,8 +13,8 @@ returns-clause-ends g c =
     c.in_ok-document.ensures.gives c.in_ok-document.ensures.fetched
     (ap layout_of_document (sym c.deref-2.ensures.value) ∙ c.in_ok-layout.ensures)
     c.in_ok-text.ensures.gives c.in_ok-text.ensures.fetched c.deref-3.ensures.value _ _ c.run_board.result
-    (shown (g.K.Sink.taken c.args.out.now) (g.K.Sink.told c.args.out.now) (g.K.Sink.faults c.args.out.now))
-    (shown (g.K.Sink.taken c.run_board.new.out) (g.K.Sink.told c.run_board.new.out) (g.K.Sink.faults c.run_board.new.out))
+    (g.K.Sink.shown c.args.out.now)
+    (g.K.Sink.shown c.run_board.new.out)
     c.run_board.ensures.says
 
 pub returns-in_err-text-clause-ends : goal.returns-in_err-text-clause-ends
@@ -27,5 +26,5 @@ returns-in_err-text-clause-ends g c =
     c.in_ok-document.ensures.gives c.in_ok-document.ensures.fetched
     (ap layout_of_document (sym c.deref-2.ensures.value) ∙ c.in_ok-layout.ensures)
     c.in_err-text.field-0.0 c.in_err-text.ensures.gives c.in_err-text.ensures.fetched _ c.from_residual-in_err-text.result
-    (shown (g.K.Sink.taken c.args.out.now) (g.K.Sink.told c.args.out.now) (g.K.Sink.faults c.args.out.now))
+    (g.K.Sink.shown c.args.out.now)
     c.from_residual-in_err-text.ensures.1

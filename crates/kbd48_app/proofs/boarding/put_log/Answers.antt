@@ -1,7 +1,7 @@
 use Rattle.std.proofs.Common.{sym, subst, ◌∙◌}
 use Rattle.std.specs.Prelude.{OnErr, OnOk}
 use Rattle.board_run.specs.Ending.{ending}
-use Rattle.io_edge.specs.Said.{IsBrokenOff, IsSaid, shown}
+use Rattle.io_edge.specs.Said.{IsBrokenOff, IsSaid}
 use Rattle.kbd48_app.specs.declared.words.BoardCommand.TheVariants.{Log}
 use Rattle.kbd48_app.proofs.BoardsAreSaid.{cut, over_behind, stuck_behind}
 use Rattle.kbd48_app.proofs.StartsAreLines.{same_state}
@@ -9,15 +9,15 @@ use Rattle.kbd48_app.proofs.boarding.put_log.Goals as goal
 
 pub returns-in-Err : goal.returns-in-Err
 returns-in-Err g c =
-    let x = shown (g.K.Sink.taken c.args.out.now) (g.K.Sink.told c.args.out.now) (g.K.Sink.faults c.args.out.now) in
-    let z = shown (g.K.Sink.taken c.run_to.new.out) (g.K.Sink.told c.run_to.new.out) (g.K.Sink.faults c.run_to.new.out) in
+    let x = g.K.Sink.shown c.args.out.now in
+    let z = g.K.Sink.shown c.run_to.new.out in
     let part = c.in-Err.ensures.broken in
     record { says = cut (Log c.args.steps) c.args.board _ _ part.run part.is c.in-Err.fault x z c.in-Err.ensures.looked_to_break part.part }
 
 pub returns : goal.returns
 returns g c =
-    let x = shown (g.K.Sink.taken c.args.out.now) (g.K.Sink.told c.args.out.now) (g.K.Sink.faults c.args.out.now) in
-    let y = shown (g.K.Sink.taken c.run_to.new.out) (g.K.Sink.told c.run_to.new.out) (g.K.Sink.faults c.run_to.new.out) in
+    let x = g.K.Sink.shown c.args.out.now in
+    let y = g.K.Sink.shown c.run_to.new.out in
     record {
       says = stuck_behind (Log c.args.steps) c.args.board _ _ (ending c.args.board c.in-Ok.ended) c.in-Ok.ensures.run c.in-Ok.ensures.looked
           c.in-Stuck.stuck x y (sym c.end.ensures.end ∙ c.in-Stuck.is) c.in-Ok.ensures.said;
@@ -25,9 +25,9 @@ returns g c =
 
 pub returns-in-Over : goal.returns-in-Over
 returns-in-Over g c =
-    let x = shown (g.K.Sink.taken c.args.out.now) (g.K.Sink.told c.args.out.now) (g.K.Sink.faults c.args.out.now) in
-    let y = shown (g.K.Sink.taken c.run_to.new.out) (g.K.Sink.told c.run_to.new.out) (g.K.Sink.faults c.run_to.new.out) in
-    let z = shown (g.K.Sink.taken c.put_end.new.out) (g.K.Sink.told c.put_end.new.out) (g.K.Sink.faults c.put_end.new.out) in
+    let x = g.K.Sink.shown c.args.out.now in
+    let y = g.K.Sink.shown c.run_to.new.out in
+    let z = g.K.Sink.shown c.put_end.new.out in
     let run = ending c.args.board c.in-Ok.ended in
     let same = same_state c.args.steps c.mcu.result.now run.mcu c.steps.result run.steps c.cycles.result run.cycles
     c.mcu.ensures.processor c.steps.ensures.steps c.cycles.ensures.cycles in

@@ -1,18 +1,17 @@
 use Rattle.std.proofs.Common.{Ok}
-use Rattle.io_edge.specs.Said.{shown}
 use Rattle.kbd48_app.proofs.BoardsAreSaid.{board_keys_refused, boarded}
 use Rattle.kbd48_app.proofs.boarding.run_board.Goals as goal
 
 pub returns-in_err-feed-clause-says : goal.returns-in_err-feed-clause-says
 returns-in_err-feed-clause-says g c =
     board_keys_refused c.args.wanted c.args.image.now.bytes c.args.layout.now c.args.text.now _ _ c.from_residual.result
-    (shown (g.K.Sink.taken c.args.out.now) (g.K.Sink.told c.args.out.now) (g.K.Sink.faults c.args.out.now))
+    (g.K.Sink.shown c.args.out.now)
     c.in_err-feed.ensures.history c.from_residual.ensures.1
 
 pub returns-in-Ok-clause-says : goal.returns-in-Ok-clause-says
 returns-in-Ok-clause-says g c =
     boarded c.args.wanted c.args.image.now.bytes c.args.layout.now c.args.text.now c.in_ok-feed.feed.history
     c.in_ok-feed.ensures.history c.in-Ok.board _ _ (Ok c.put_board.result)
-    (shown (g.K.Sink.taken c.args.out.now) (g.K.Sink.told c.args.out.now) (g.K.Sink.faults c.args.out.now))
-    (shown (g.K.Sink.taken c.put_board.new.out) (g.K.Sink.told c.put_board.new.out) (g.K.Sink.faults c.put_board.new.out))
+    (g.K.Sink.shown c.args.out.now)
+    (g.K.Sink.shown c.put_board.new.out)
     c.in-Ok.ensures.board c.put_board.ensures.says

@@ -1,13 +1,13 @@
 use Rattle.std.proofs.Common.{◌≡◌, true, sym, ◌∙◌, ap, subst}
 use Rattle.std.specs.Prelude.{[], OnErr, OnOk, if◌then◌else◌}
-use Rattle.io_edge.specs.Said.{IsBrokenOff, IsSaid, shown}
+use Rattle.io_edge.specs.Said.{IsBrokenOff, IsSaid}
 use Rattle.mcs48_core.specs.StateText.{state_text_of}
 use Rattle.kbd48_app.proofs.end_state.put_end.Goals as goal
 
 pub returns-clause-said : goal.returns-clause-said
 returns-clause-said g c =
-    let x = shown (g.K.Sink.taken c.args.out.now) (g.K.Sink.told c.args.out.now) (g.K.Sink.faults c.args.out.now) in
-    let z = shown (g.K.Sink.taken c.say.new.out) (g.K.Sink.told c.say.new.out) (g.K.Sink.faults c.say.new.out) in
+    let x = g.K.Sink.shown c.args.out.now in
+    let z = g.K.Sink.shown c.say.new.out in
     let wanted : c.args.wanted ≡ true = cc c.if-not-wanted.false in
     subst (λ t. OnOk c.say.result (IsSaid x z t))
     (c.deref.ensures.0 ∙ c.end_lines.ensures
@@ -15,8 +15,8 @@ returns-clause-said g c =
 
 pub returns-clause-broken : goal.returns-clause-broken
 returns-clause-broken g c =
-    let x = shown (g.K.Sink.taken c.args.out.now) (g.K.Sink.told c.args.out.now) (g.K.Sink.faults c.args.out.now) in
-    let z = shown (g.K.Sink.taken c.say.new.out) (g.K.Sink.told c.say.new.out) (g.K.Sink.faults c.say.new.out) in
+    let x = g.K.Sink.shown c.args.out.now in
+    let z = g.K.Sink.shown c.say.new.out in
     let wanted : c.args.wanted ≡ true = cc c.if-not-wanted.false in
     subst (λ t. OnErr c.say.result (IsBrokenOff x z t))
     (c.deref.ensures.0 ∙ c.end_lines.ensures

@@ -1,6 +1,6 @@
 use Rattle.std.proofs.Common.{◌≡◌, ap, ◌∙◌, subst}
 use Rattle.fw_compile.specs.Image.{image_of}
-use Rattle.io_edge.specs.Said.{IsBrokenOff, IsSaid, shown}
+use Rattle.io_edge.specs.Said.{IsBrokenOff, IsSaid}
 use Rattle.joint_feed.specs.Stories.{story}
 use Rattle.layout_reader.specs.Layouts.{IsKeyLayout, us84}
 use Rattle.std.specs.Prelude.{IfOk, OnErr, OnOk}
@@ -10,8 +10,8 @@ use Rattle.kbd48_app.proofs.sampling.sample.Goals as goal
 
 pub returns-clause-says : goal.returns-clause-says
 returns-clause-says g c =
-    let x = shown (g.K.Sink.taken c.args.out.now) (g.K.Sink.told c.args.out.now) (g.K.Sink.faults c.args.out.now) in
-    let y = shown (g.K.Sink.taken c.say.new.out) (g.K.Sink.told c.say.new.out) (g.K.Sink.faults c.say.new.out) in
+    let x = g.K.Sink.shown c.args.out.now in
+    let y = g.K.Sink.shown c.say.new.out in
     let layout : c.in_ok-layout.layout ≡ us84 = subst (λ r. IfOk r (λ l. l ≡ us84)) c.in_ok-layout.ensures c.us84_layout.ensures.layout in
     let history : c.in_ok-history.history ≡ sample_history c.args.count =
     subst (λ r. IfOk r (λ h. h ≡ sample_history c.args.count)) c.in_ok-history.ensures c.sample_history.ensures.history in

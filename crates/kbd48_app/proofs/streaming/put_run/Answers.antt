@@ -1,6 +1,6 @@
 use Rattle.std.proofs.Common.{subst, inl, inr}
 use Rattle.std.specs.Prelude.{[], if◌then◌else◌}
-use Rattle.io_edge.specs.Said.{IsBrokenOff, IsSaid, shown}
+use Rattle.io_edge.specs.Said.{IsBrokenOff, IsSaid}
 use Rattle.subsystem.specs.Ending.{ending}
 use Rattle.subsystem.proofs.Looking.{on_err}
 use Rattle.kbd48_app.specs.RunTexts.{start_lines}
@@ -11,17 +11,17 @@ use Rattle.kbd48_app.proofs.streaming.put_run.Goals as goal
 
 pub returns-in_err-ended-clause-broken : goal.returns-in_err-ended-clause-broken
 returns-in_err-ended-clause-broken g c =
-    let x = shown (g.K.Sink.taken c.args.out.now) (g.K.Sink.told c.args.out.now) (g.K.Sink.faults c.args.out.now) in
-    let z = shown (g.K.Sink.taken c.run_to.new.out) (g.K.Sink.told c.run_to.new.out) (g.K.Sink.faults c.run_to.new.out) in
+    let x = g.K.Sink.shown c.args.out.now in
+    let z = g.K.Sink.shown c.run_to.new.out in
     let h = c.in_err-ended.ensures.broken in
     on_err c.from_residual.result
     (h.run, h.is, cut_in_log c.args.ticks c.args.steps h.run x z h.part, inl c.in_err-ended.ensures.looked_to_break)
 
 pub returns-in_err-put_ticks-clause-broken : goal.returns-in_err-put_ticks-clause-broken
 returns-in_err-put_ticks-clause-broken g c =
-    let x = shown (g.K.Sink.taken c.args.out.now) (g.K.Sink.told c.args.out.now) (g.K.Sink.faults c.args.out.now) in
-    let a = shown (g.K.Sink.taken c.run_to.new.out) (g.K.Sink.told c.run_to.new.out) (g.K.Sink.faults c.run_to.new.out) in
-    let z = shown (g.K.Sink.taken c.put_ticks.new.out) (g.K.Sink.told c.put_ticks.new.out) (g.K.Sink.faults c.put_ticks.new.out) in
+    let x = g.K.Sink.shown c.args.out.now in
+    let a = g.K.Sink.shown c.run_to.new.out in
+    let z = g.K.Sink.shown c.put_ticks.new.out in
     let run = ending c.args.engine c.in_ok-ended.ended in
     let broken = subst (λ s. IsBrokenOff a z (if c.args.ticks then start_lines 0 s else [])) c.starts.ensures.starts
     c.in_err-put_ticks.ensures.broken in
@@ -34,10 +34,10 @@ returns-in_err-put_ticks-clause-broken g c =
 
 pub returns-clause-said : goal.returns-clause-said
 returns-clause-said g c =
-    let x = shown (g.K.Sink.taken c.args.out.now) (g.K.Sink.told c.args.out.now) (g.K.Sink.faults c.args.out.now) in
-    let a = shown (g.K.Sink.taken c.run_to.new.out) (g.K.Sink.told c.run_to.new.out) (g.K.Sink.faults c.run_to.new.out) in
-    let b = shown (g.K.Sink.taken c.put_ticks.new.out) (g.K.Sink.told c.put_ticks.new.out) (g.K.Sink.faults c.put_ticks.new.out) in
-    let z = shown (g.K.Sink.taken c.put_end.new.out) (g.K.Sink.told c.put_end.new.out) (g.K.Sink.faults c.put_end.new.out) in
+    let x = g.K.Sink.shown c.args.out.now in
+    let a = g.K.Sink.shown c.run_to.new.out in
+    let b = g.K.Sink.shown c.put_ticks.new.out in
+    let z = g.K.Sink.shown c.put_end.new.out in
     let run = ending c.args.engine c.in_ok-ended.ended in
     let ticks = subst (λ s. IsSaid a b (if c.args.ticks then start_lines 0 s else []))
     c.starts.ensures.starts c.in_ok-put_ticks.ensures.said in
@@ -54,10 +54,10 @@ returns-clause-said g c =
 
 pub returns-clause-broken : goal.returns-clause-broken
 returns-clause-broken g c =
-    let x = shown (g.K.Sink.taken c.args.out.now) (g.K.Sink.told c.args.out.now) (g.K.Sink.faults c.args.out.now) in
-    let a = shown (g.K.Sink.taken c.run_to.new.out) (g.K.Sink.told c.run_to.new.out) (g.K.Sink.faults c.run_to.new.out) in
-    let b = shown (g.K.Sink.taken c.put_ticks.new.out) (g.K.Sink.told c.put_ticks.new.out) (g.K.Sink.faults c.put_ticks.new.out) in
-    let z = shown (g.K.Sink.taken c.put_end.new.out) (g.K.Sink.told c.put_end.new.out) (g.K.Sink.faults c.put_end.new.out) in
+    let x = g.K.Sink.shown c.args.out.now in
+    let a = g.K.Sink.shown c.run_to.new.out in
+    let b = g.K.Sink.shown c.put_ticks.new.out in
+    let z = g.K.Sink.shown c.put_end.new.out in
     let run = ending c.args.engine c.in_ok-ended.ended in
     let ticks = subst (λ s. IsSaid a b (if c.args.ticks then start_lines 0 s else []))
     c.starts.ensures.starts c.in_ok-put_ticks.ensures.said in

@@ -1,4 +1,3 @@
-use Rattle.io_edge.specs.Said.{shown}
 use Rattle.kbd48_app.specs.declared.words.RunCommand.TheVariants.{Log}
 use Rattle.kbd48_app.proofs.RunsAreSaid.{keys_refused, streamed}
 use Rattle.kbd48_app.proofs.streaming.stream.Goals as goal
@@ -6,7 +5,7 @@ use Rattle.kbd48_app.proofs.streaming.stream.Goals as goal
 pub returns-in_err-feed-clause-says : goal.returns-in_err-feed-clause-says
 returns-in_err-feed-clause-says g c =
     keys_refused (Log c.args.ticks c.args.steps) c.args.layout.now c.args.text.now _ _ c.from_residual.result
-    (shown (g.K.Sink.taken c.args.out.now) (g.K.Sink.told c.args.out.now) (g.K.Sink.faults c.args.out.now))
+    (g.K.Sink.shown c.args.out.now)
     c.in_err-feed.ensures.history c.from_residual.ensures.1
 
 pub returns-in-Ok-clause-says : goal.returns-in-Ok-clause-says
@@ -14,6 +13,6 @@ returns-in-Ok-clause-says g c =
     streamed c.args.ticks c.args.steps c.args.layout.now c.args.text.now c.in_ok-feed.feed.history
     c.in_ok-feed.ensures.history c.runs_are_expected.ensures.expected
     c.new.ensures.layout c.in_ok-feed.ensures.accepted c.in-Ok.engine c.in-Ok.ensures.engine c.put_run.result
-    (shown (g.K.Sink.taken c.args.out.now) (g.K.Sink.told c.args.out.now) (g.K.Sink.faults c.args.out.now))
-    (shown (g.K.Sink.taken c.put_run.new.out) (g.K.Sink.told c.put_run.new.out) (g.K.Sink.faults c.put_run.new.out)) _ _
+    (g.K.Sink.shown c.args.out.now)
+    (g.K.Sink.shown c.put_run.new.out) _ _
     c.put_run.ensures.said c.put_run.ensures.broken

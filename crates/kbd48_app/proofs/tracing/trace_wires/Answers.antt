@@ -1,4 +1,3 @@
-use Rattle.io_edge.specs.Said.{shown}
 use Rattle.io_edge.specs.declared.sink.SinkFault.TheVariants.{Failed}
 use Rattle.kbd48_app.specs.declared.words.RunCommand.TheVariants.{Trace}
 use Rattle.kbd48_app.proofs.RunsAreSaid.{keys_refused, trace_stopped, traced}
@@ -7,27 +6,25 @@ use Rattle.kbd48_app.proofs.tracing.trace_wires.Goals as goal
 pub returns-in_err-feed-clause-says : goal.returns-in_err-feed-clause-says
 returns-in_err-feed-clause-says g c = λ probes.
     keys_refused Trace c.args.layout.now c.args.text.now _ probes c.from_residual.result
-    (shown (g.K.Sink.taken c.args.out.now) (g.K.Sink.told c.args.out.now) (g.K.Sink.faults c.args.out.now))
+    (g.K.Sink.shown c.args.out.now)
     c.in_err-feed.ensures.history c.from_residual.ensures.1
 
 pub returns-in-Err-Write-clause-says : goal.returns-in-Err-Write-clause-says
 returns-in-Err-Write-clause-says g c = λ probes.
     trace_stopped c.args.layout.now c.args.text.now c.in_ok-feed.feed.history c.in_ok-feed.ensures.history probes
     c.runs_are_expected.ensures.expected
-    (c.run_and_model_agree.ensures.agreement c.args.layout.now c.in_ok-feed.feed.history c.trace.ensures.layout
-    c.in_ok-feed.ensures.accepted).0
+    c.runs_come_to_outcomes.ensures.outcomes
     c.trace.ensures.heard c.trace.ensures.layout c.in_ok-feed.ensures.accepted
-    (shown (g.K.Sink.taken c.args.out.now) (g.K.Sink.told c.args.out.now) (g.K.Sink.faults c.args.out.now))
-    (shown (g.K.Sink.taken c.trace.new.out) (g.K.Sink.told c.trace.new.out) (g.K.Sink.faults c.trace.new.out)) Failed
+    (g.K.Sink.shown c.args.out.now)
+    (g.K.Sink.shown c.trace.new.out) Failed
     (c.in-Err-Write.ensures.broken (cc (c.in-Err-Write.field-0-is)))
 
 pub returns-in-Ok-clause-says : goal.returns-in-Ok-clause-says
 returns-in-Ok-clause-says g c = λ probes.
     traced c.args.layout.now c.args.text.now c.in_ok-feed.feed.history c.in_ok-feed.ensures.history probes
     c.runs_are_expected.ensures.expected
-    (c.run_and_model_agree.ensures.agreement c.args.layout.now c.in_ok-feed.feed.history c.trace.ensures.layout
-    c.in_ok-feed.ensures.accepted).0
+    c.runs_come_to_outcomes.ensures.outcomes
     c.trace.ensures.heard c.trace.ensures.layout c.in_ok-feed.ensures.accepted
-    (shown (g.K.Sink.taken c.args.out.now) (g.K.Sink.told c.args.out.now) (g.K.Sink.faults c.args.out.now))
-    (shown (g.K.Sink.taken c.trace.new.out) (g.K.Sink.told c.trace.new.out) (g.K.Sink.faults c.trace.new.out)) _
+    (g.K.Sink.shown c.args.out.now)
+    (g.K.Sink.shown c.trace.new.out) _
     c.in-Ok.ensures.said

@@ -8,5 +8,7 @@ use Rattle.kbd48_c.proofs.views.kbd48_lights.Goals as goal
 pub returns-in-Some-clause-lights : goal.returns-in-Some-clause-lights
 returns-in-Some-clause-lights c =
     through_look (HasShownLights c.lights.result) c.args.handle.now.keyboard c.holding.result.keyboard (pos 0) c.in-Some.keyboard.value
-    c.in-Some.ensures.taken c.holding.ensures
-    ((refl, refl), subst (λ k. (p : Past) → (s : Stands p k) → c.lights.result ≡ s.world.board.shown) c.deref.ensures c.lights.ensures.state)
+    c.in-Some.ensures.taken c.holding.ensures (
+      (refl, refl),
+      subst (λ k. (p : Past) → (s : Stands p k) → c.lights.result ≡ s.world.board.shown) c.deref.ensures c.lights.ensures.state,
+    )

@@ -1,5 +1,5 @@
 use Rattle.kbd_model.proofs.Order.{in_order, at_most_sixteen}
-use Rattle.kbd_model.proofs.Whole.{stays_whole}
+use Rattle.kbd_model.proofs.CodesAreWhole.{stays_whole}
 use Rattle.kbd_model.proofs.laws.queue_is_in_order.Goals as goal
 
 pub returns-clause-order : goal.returns-clause-order

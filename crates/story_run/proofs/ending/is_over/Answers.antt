@@ -6,7 +6,8 @@ use Rattle.story_run.proofs.ending.is_over.Goals as goal
 pub returns-then-at_tick : goal.returns-then-at_tick
 returns-then-at_tick c = λ s w stop cpu cycle.
     subst (λ e. c.has_reached.result ≡ is_over e s w) (sym c.in-TickStart.is)
-    (over_at_tick s w c.args.stop c.cycle.result c.at_tick.result c.has_reached.result (c.at_tick.ensures.tells s.edges s.events w cpu) c.if-at_tick.true
+    (over_at_tick s w c.args.stop c.cycle.result c.at_tick.result c.has_reached.result
+    (c.at_tick.ensures.tells s.edges s.events w cpu) c.if-at_tick.true
     c.has_reached.ensures.reached stop (cycle ∙ sym c.cycle.ensures.cycle))
 
 pub returns-else-at_tick : goal.returns-else-at_tick

@@ -7,8 +7,10 @@ use Rattle.story_run.proofs.ending.must_halt.Goals as goal
 
 pub returns-in-TickStart-clause-open : goal.returns-in-TickStart-clause-open
 returns-in-TickStart-clause-open c = λ off s w stop cpu cycle.
-    subst (λ e. false ≡ is_over e s w) (sym c.in-TickStart.is) (open_off_tick s w c.at_tick.result (c.at_tick.ensures.tells s.edges s.events w cpu) off)
+    subst (λ e. false ≡ is_over e s w) (sym c.in-TickStart.is)
+    (open_off_tick s w c.at_tick.result (c.at_tick.ensures.tells s.edges s.events w cpu) off)
 
 pub returns-in-TickStart-clause-no_tick : goal.returns-in-TickStart-clause-no_tick
 returns-in-TickStart-clause-no_tick c = λ off.
-    subst (λ e. MeetsNoTick e c.args.joint.now) (sym c.in-TickStart.is) (subst (λ b. TellsTick c.args.joint.now b) off c.at_tick.ensures.tells)
+    subst (λ e. MeetsNoTick e c.args.joint.now) (sym c.in-TickStart.is)
+    (subst (λ b. TellsTick c.args.joint.now b) off c.at_tick.ensures.tells)

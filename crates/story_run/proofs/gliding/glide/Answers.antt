@@ -23,7 +23,8 @@ pub returns-in-Err : goal.returns-in-Err
 returns-in-Err g c = record {
   glide = λ s is.
       let so_far = c.stretches.invariant s is in
-      then_held c.args.halt s c.args.course.now c.stretches.course c.goes_on.new.course _ _ _ c.in-Err.stuck so_far (c.in-Err.ensures.stretch s so_far.going);
+      then_held c.args.halt s c.args.course.now c.stretches.course c.goes_on.new.course _ _ _ c.in-Err.stuck
+      so_far (c.in-Err.ensures.stretch s so_far.going);
 }
 
 pub stretches-smaller : goal.stretches-smaller

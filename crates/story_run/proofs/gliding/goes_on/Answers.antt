@@ -34,7 +34,8 @@ returns-clause-stretch g c = λ s is.
     let new = c.goes_unseen-onward.new.course in
     stretch_as c.args.halt s old new (map (λ b. (given.Probe-dyn g (b.vtable, b.value)).watch b.value) c.args.probes.now.items)
     (map (λ b. (given.Probe-dyn g (b.vtable, b.value)).watch b.value) c.look_all.new.probes.items) c.goes_unseen-onward.result
-    (as_seen c.args.probes.now.items (λ b. (given.Probe-dyn g (b.vtable, b.value)).watch b.value) new c.steps-steps.result _ c.steps-steps.ensures.steps c.look_all.ensures.looked
+    (as_seen c.args.probes.now.items (λ b. (given.Probe-dyn g (b.vtable, b.value)).watch b.value) new
+    c.steps-steps.result _ c.steps-steps.ensures.steps c.look_all.ensures.looked
     ∙ sym (looks_since old.joint.steps new (map (λ b. (given.Probe-dyn g (b.vtable, b.value)).watch b.value) c.args.probes.now.items)
     (λ same. c.if-steps-first.false (c.steps-steps.ensures.steps ∙ same ∙ sym c.steps-first.ensures.steps))))
     (c.goes_unseen-onward.ensures.stretch s is _ (λ on. sym c.all_rest-rest.ensures ∙ on))

@@ -1,20 +1,21 @@
 use Rattle.std.proofs.Common.{◌≡◌, ◌<◌, ◌^◌, ◌-◌, map}
 use Rattle.board_probes.specs.Looks.{looks}
 use Rattle.joint_feed.specs.Ahead.{HasTaken}
-use Rattle.joint_feed.specs.Stories.{story}
+use Rattle.joint_feed.specs.Filled.{filled_story}
 use Rattle.story_run.specs.Gliding.{IsStanding}
 use Rattle.story_run.proofs.telling.tell_run.Given as goal
 
 abbrev pub invariant-steps : goal.invariant-steps
 invariant-steps g l = record {
   history : (g.F.Feed.told l.feed).history ≡ (g.F.Feed.told l.fn.feed).history;
-  standing : IsStanding l.ending (story l.fn.course.joint.image.bytes (g.F.Feed.told l.fn.feed).history) l.course;
+  standing : IsStanding l.ending (filled_story l.fill l.fn.course.joint.image.bytes (g.F.Feed.told l.fn.feed).history) l.course;
   taken : HasTaken (g.F.Feed.told l.feed) l.course.ahead;
   near : l.course.joint.cycle < 2 ^ 31;
-  told : g.T.Teller.has_told l.ending (story l.fn.course.joint.image.bytes (g.F.Feed.told l.fn.feed).history) l.fn.out l.course.joint.steps l.teller l.out;
+  told : g.T.Teller.has_told l.ending (filled_story l.fill l.fn.course.joint.image.bytes (g.F.Feed.told l.fn.feed).history)
+      l.fn.out l.course.joint.steps l.teller l.out;
   looked :
       map (λ b. (goal.Probe-dyn g (b.vtable, b.value)).watch b.value) l.probes.items
-      ≡ looks (story l.fn.course.joint.image.bytes (g.F.Feed.told l.fn.feed).history) l.course.joint.steps
+      ≡ looks (filled_story l.fill l.fn.course.joint.image.bytes (g.F.Feed.told l.fn.feed).history) l.course.joint.steps
       (map (λ b. (goal.Probe-dyn g (b.vtable, b.value)).watch b.value) l.fn.probes.items);
 }
 

@@ -18,6 +18,7 @@ returns c = record {
         log = log;
         cadence = cadence;
         quiet = λ quiet. log ∙ c.quiet_histories.ensures.listed layout history run.starts quiet cadence is.last;
-        few = subst (λ items. length items < 800000) (sym log) (c.logs_are_limited.ensures.limit layout history run.starts accepted.accepted cadence is.last);
+        few = subst (λ items. length items < 800000) (sym log)
+            (c.logs_are_limited.ensures.limit layout history run.starts accepted.accepted cadence is.last);
       };
 }

@@ -1,13 +1,7 @@
 use Rattle.std.proofs.Common.{ap, subst, sym, ◌∙◌}
 use Rattle.std.proofs.lemmas.List.{append-nil}
 use Rattle.fw_compile.specs.Image.{image_of}
-use Rattle.fw_logic.specs.JointRun.{KeepsTime}
-use Rattle.joint_feed.specs.Course.{IsOnCourse}
 use Rattle.joint_feed.specs.Stories.{Story, story}
-use Rattle.key_file.specs.Accepted.{IsAccepted}
-use Rattle.story_run.specs.declared.ending.Ending.TheVariants.{TickStart}
-use Rattle.story_run.specs.Running.{GoesOnTo}
-use Rattle.story_run.proofs.Loop.{same_story}
 use Rattle.subsystem.specs.Running.{IsOutcome, outcome}
 use Rattle.subsystem.proofs.Beginning.{begins}
 use Rattle.subsystem.proofs.Came.{came_kept, looked_some_by}
@@ -15,53 +9,29 @@ use Rattle.subsystem.proofs.Looking.{looked_some, looked_whole}
 use Rattle.subsystem.proofs.Timekeeping.{serves_at_end}
 use Rattle.subsystem.proofs.running.run.Goals as goal
 
-pub tell_run-requires-clause-accepted : goal.tell_run-requires-clause-accepted
-tell_run-requires-clause-accepted g c = subst IsAccepted (sym (c.begin-course.ensures.history ∙ ap (λ f. f.history) c.new-feed.ensures)) c.end.ensures.accepted
-
-pub tell_run-requires-clause-timely : goal.tell_run-requires-clause-timely
-tell_run-requires-clause-timely g c =
-    let to =
-    same_story c.begin-course.result.joint.image.bytes (image_of c.args.layout.now) c.begin-course.new.feed.history c.args.history.now
-    (c.begin-course.ensures.on.image ∙ c.compile-image.ensures.image) (c.begin-course.ensures.history ∙ ap (λ f. f.history) c.new-feed.ensures) in
-    subst (λ (t : Story). KeepsTime t.bytes t.edges t.events) (sym to) (c.keeps_time.ensures.time c.args.history.now c.requires)
-
-pub tell_run-requires-clause-standing : goal.tell_run-requires-clause-standing
-tell_run-requires-clause-standing g c =
-    let it = c.begin-course.result in
-    let h = c.begin-course.new.feed.history in
-    record {
-      on = subst (λ b. IsOnCourse (story b h) it) (sym c.begin-course.ensures.on.image)
-          (subst (λ k. IsOnCourse (story c.compile-image.result.bytes k) it) (sym c.begin-course.ensures.history) c.begin-course.ensures.on);
-      goes_on = subst (GoesOnTo TickStart (story it.joint.image.bytes h)) (sym c.begin-course.ensures.steps) tt;
-    }
-
 pub tell_run-requires-clause-told : goal.tell_run-requires-clause-told
 tell_run-requires-clause-told g c =
-    let s = story c.begin-course.result.joint.image.bytes c.begin-course.new.feed.history in
-    let to =
-    same_story c.begin-course.result.joint.image.bytes (image_of c.args.layout.now) c.begin-course.new.feed.history c.args.history.now
-    (c.begin-course.ensures.on.image ∙ c.compile-image.ensures.image) (c.begin-course.ensures.history ∙ ap (λ f. f.history) c.new-feed.ensures) in
-    let time = subst (λ (t : Story). KeepsTime t.bytes t.edges t.events) (sym to) (c.keeps_time.ensures.time c.args.history.now c.requires) in
-    (begins s time (record { stamps = c.new-stamps.result }) c.new-stamps.ensures.items, sym (append-nil c.new-log.result.items))
+    let s = story c.in_ok-course.course.joint.image.bytes c.begin_run.new.feed.history in (
+      begins s c.in_ok-course.ensures.timely (record { stamps = c.new-stamps.result }) c.new-stamps.ensures.items,
+      sym (append-nil c.new-log.result.items),
+    )
 
 pub returns : goal.returns
 returns g c =
+    let begun = c.in_ok-course.ensures in
     let e = c.outcome_of.ensures in
     let r = c.in_ok-_end.ensures in
     let run = outcome c.outcome_of.result in
-    let s = story c.begin-course.result.joint.image.bytes c.begin-course.new.feed.history in
-    let made = story (image_of c.args.layout.now) c.args.history.now in
-    let to =
-    same_story c.begin-course.result.joint.image.bytes (image_of c.args.layout.now) c.begin-course.new.feed.history c.args.history.now
-    (c.begin-course.ensures.on.image ∙ c.compile-image.ensures.image) (c.begin-course.ensures.history ∙ ap (λ f. f.history) c.new-feed.ensures) in
-    let time = c.keeps_time.ensures.time c.args.history.now c.requires in
-    let timely = subst (λ (t : Story). KeepsTime t.bytes t.edges t.events) (sym to) time in
-    let ran =
-    subst (λ (t : Story). IsOutcome t run) to
-    (came_kept s timely c.tell_run.new.course c.in_ok-_end._end r.ended c.tell_run.new.teller.starts c.new-log.result.items c.tell_run.new.out.items c.new-log.ensures.items
-    r.told run (ap (λ v. v.items) e.log) (ap (λ v. v.items) e.starts) e.end e.steps e.cycles) in
-    let expected = c.runs_are_expected.ensures.expected c.args.layout.now c.args.history.now run c.keeps_time.ensures.layout c.requires ran in
-    let serving = serves_at_end made time run ran in
+    let s = story c.in_ok-course.course.joint.image.bytes c.begin_run.new.feed.history in
+    let to = begun.run ∙ ap (λ f. story (image_of c.args.layout.now) f.history) c.new-feed.ensures in
+    let came =
+    came_kept s begun.timely c.tell_run.new.course c.in_ok-_end._end r.ended c.tell_run.new.teller.starts
+    c.new-log.result.items c.tell_run.new.out.items c.new-log.ensures.items
+    r.told run (ap (λ v. v.items) e.log) (ap (λ v. v.items) e.starts) e.end e.steps e.cycles in
+    let ran = subst (λ (t : Story). IsOutcome t run) to came in
+    let expected =
+    c.runs_are_expected.ensures.expected c.args.layout.now c.args.history.now run c.begin_run.ensures.layout c.requires ran in
+    let serving = serves_at_end s begun.timely run came in
     record {
       run = ran;
       agrees = expected.log;
@@ -71,12 +41,12 @@ returns g c =
       serves = serving.0;
       bank = serving.1;
       looked = looked_whole _ _ _ _ _ _ to e.steps r.looked;
-      looked_so_far = looked_some _ _ _ _ to (record { steps = c.tell_run.new.course.joint.steps; goes_on = r.ended.standing.goes_on; looked = r.looked });
+      looked_so_far =
+          looked_some _ _ _ _ to
+          (record { steps = c.tell_run.new.course.joint.steps; goes_on = r.ended.standing.goes_on; looked = r.looked });
     }
 
 pub returns-in_err-_end-clause-looked_so_far : goal.returns-in_err-_end-clause-looked_so_far
 returns-in_err-_end-clause-looked_so_far g c =
-    let to =
-    same_story c.begin-course.result.joint.image.bytes (image_of c.args.layout.now) c.begin-course.new.feed.history c.args.history.now
-    (c.begin-course.ensures.on.image ∙ c.compile-image.ensures.image) (c.begin-course.ensures.history ∙ ap (λ f. f.history) c.new-feed.ensures) in
+    let to = c.in_ok-course.ensures.run ∙ ap (λ f. story (image_of c.args.layout.now) f.history) c.new-feed.ensures in
     looked_some _ _ _ _ to (looked_some_by _ _ _ _ c.in_err-_end.ensures.broken)

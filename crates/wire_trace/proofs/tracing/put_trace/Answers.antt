@@ -1,5 +1,4 @@
 use Rattle.io_edge.proofs.Pieces.{none_said}
-use Rattle.io_edge.specs.Said.{shown}
 use Rattle.joint_feed.specs.Stories.{story}
 use Rattle.wire_trace.proofs.SampleIsOfState.{on_err_so}
 use Rattle.wire_trace.proofs.TraceIsSaid.{broken_in_changes, broken_in_header, heard_none, trace_said}
@@ -9,30 +8,31 @@ pub tell_run-requires-clause-told : goal.tell_run-requires-clause-told
 tell_run-requires-clause-told g c =
     let s = story c.args.course.now.joint.image.bytes (g.F.Feed.told c.args.feed.now).history in (
       heard_none s c.new-changes.result.decoder c.new-changes.ensures.silent,
-      none_said (shown (g.K.Sink.taken c.put_header.new.out) (g.K.Sink.told c.put_header.new.out) (g.K.Sink.faults c.put_header.new.out)),
+      none_said (g.K.Sink.shown c.put_header.new.out),
     )
 
 pub returns-in_err-put_header-clause-broken : goal.returns-in_err-put_header-clause-broken
 returns-in_err-put_header-clause-broken g c =
     on_err_so c.from_residual.result
     (broken_in_header (story c.args.course.now.joint.image.bytes (g.F.Feed.told c.args.feed.now).history) c.requires.timely
-    (shown (g.K.Sink.taken c.args.out.now) (g.K.Sink.told c.args.out.now) (g.K.Sink.faults c.args.out.now))
-    (shown (g.K.Sink.taken c.put_header.new.out) (g.K.Sink.told c.put_header.new.out) (g.K.Sink.faults c.put_header.new.out))
+    (g.K.Sink.shown c.args.out.now)
+    (g.K.Sink.shown c.put_header.new.out)
     c.in_err-put_header.ensures.broken)
 
 pub returns-in_err-_end-clause-broken : goal.returns-in_err-_end-clause-broken
 returns-in_err-_end-clause-broken g c =
     on_err_so c.from_residual-in_err-_end.result
     (broken_in_changes (story c.args.course.now.joint.image.bytes (g.F.Feed.told c.args.feed.now).history) c.requires.timely
-    (shown (g.K.Sink.taken c.args.out.now) (g.K.Sink.told c.args.out.now) (g.K.Sink.faults c.args.out.now))
-    (shown (g.K.Sink.taken c.put_header.new.out) (g.K.Sink.told c.put_header.new.out) (g.K.Sink.faults c.put_header.new.out))
-    (shown (g.K.Sink.taken c.tell_run.new.out) (g.K.Sink.told c.tell_run.new.out) (g.K.Sink.faults c.tell_run.new.out))
+    (g.K.Sink.shown c.args.out.now)
+    (g.K.Sink.shown c.put_header.new.out)
+    (g.K.Sink.shown c.tell_run.new.out)
     _ _ c.in_ok-put_header.ensures.said c.in_err-_end.ensures.broken)
 
 pub returns-clause-said : goal.returns-clause-said
 returns-clause-said g c =
     trace_said (story c.args.course.now.joint.image.bytes (g.F.Feed.told c.args.feed.now).history) c.requires.timely
-    (shown (g.K.Sink.taken c.args.out.now) (g.K.Sink.told c.args.out.now) (g.K.Sink.faults c.args.out.now))
-    (shown (g.K.Sink.taken c.put_header.new.out) (g.K.Sink.told c.put_header.new.out) (g.K.Sink.faults c.put_header.new.out))
-    (shown (g.K.Sink.taken c.tell_run.new.out) (g.K.Sink.told c.tell_run.new.out) (g.K.Sink.faults c.tell_run.new.out))
-    c.tell_run.new.course c.in_ok-_end._end c.tell_run.new.teller.decoder c.in_ok-_end.ensures.ended c.in_ok-put_header.ensures.said c.in_ok-_end.ensures.told
+    (g.K.Sink.shown c.args.out.now)
+    (g.K.Sink.shown c.put_header.new.out)
+    (g.K.Sink.shown c.tell_run.new.out)
+    c.tell_run.new.course c.in_ok-_end._end c.tell_run.new.teller.decoder c.in_ok-_end.ensures.ended
+    c.in_ok-put_header.ensures.said c.in_ok-_end.ensures.told

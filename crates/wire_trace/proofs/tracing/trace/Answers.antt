@@ -1,13 +1,30 @@
 use Rattle.std.proofs.Common.{subst}
-use Rattle.io_edge.specs.Said.{shown}
 use Rattle.joint_feed.specs.Stories.{Story}
 use Rattle.wire_trace.specs.Ending.{IsTraceBrokenOff, IsTraceSaid}
 use Rattle.wire_trace.proofs.tracing.trace.Goals as goal
 
 pub returns-in-Err-put_trace-clause-broken : goal.returns-in-Err-put_trace-clause-broken
 returns-in-Err-put_trace-clause-broken g c = λ _.
-    subst (λ (t : Story). IsTraceBrokenOff t (shown (g.K.Sink.taken c.args.out.now) (g.K.Sink.told c.args.out.now) (g.K.Sink.faults c.args.out.now)) (shown (g.K.Sink.taken c.put_trace.new.out) (g.K.Sink.told c.put_trace.new.out) (g.K.Sink.faults c.put_trace.new.out))) c.in-Ok.ensures.run c.in-Err-put_trace.ensures.broken
+    subst (λ (t : Story).
+    IsTraceBrokenOff t (g.K.Sink.shown c.args.out.now)
+    (g.K.Sink.shown c.put_trace.new.out))
+    c.in-Ok.ensures.run c.in-Err-put_trace.ensures.broken
 
 pub returns-clause-said : goal.returns-clause-said
 returns-clause-said g c =
-    subst (λ (t : Story). IsTraceSaid t (shown (g.K.Sink.taken c.args.out.now) (g.K.Sink.told c.args.out.now) (g.K.Sink.faults c.args.out.now)) (shown (g.K.Sink.taken c.put_trace.new.out) (g.K.Sink.told c.put_trace.new.out) (g.K.Sink.faults c.put_trace.new.out))) c.in-Ok.ensures.run c.in-Ok-put_trace.ensures.said
+    subst (λ (t : Story).
+    IsTraceSaid t (g.K.Sink.shown c.args.out.now)
+    (g.K.Sink.shown c.put_trace.new.out))
+    c.in-Ok.ensures.run c.in-Ok-put_trace.ensures.said
+
+pub returns-clause-heard : goal.returns-clause-heard
+returns-clause-heard g c =
+    c.wires_are_heard.ensures.heard c.args.layout.now (g.F.Feed.told c.args.feed).history c.begin_run.ensures.layout c.requires.accepted
+
+pub returns-in-Err-clause-heard : goal.returns-in-Err-clause-heard
+returns-in-Err-clause-heard g c =
+    c.wires_are_heard.ensures.heard c.args.layout.now (g.F.Feed.told c.args.feed).history c.begin_run.ensures.layout c.requires.accepted
+
+pub returns-in-Err-put_trace-clause-heard : goal.returns-in-Err-put_trace-clause-heard
+returns-in-Err-put_trace-clause-heard g c =
+    c.wires_are_heard.ensures.heard c.args.layout.now (g.F.Feed.told c.args.feed).history c.begin_run.ensures.layout c.requires.accepted

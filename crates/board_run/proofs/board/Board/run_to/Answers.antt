@@ -1,8 +1,9 @@
 use Rattle.std.proofs.Common.{subst}
 use Rattle.io_edge.proofs.Pieces.{none_said}
 use Rattle.io_edge.proofs.Taken.{on_err}
-use Rattle.io_edge.specs.Said.{IsSaid, shown}
-use Rattle.joint_feed.specs.Stories.{Story, story}
+use Rattle.io_edge.specs.Said.{IsSaid}
+use Rattle.joint_feed.specs.Filled.{run_of}
+use Rattle.joint_feed.specs.Stories.{Story}
 use Rattle.board_run.specs.Ending.{ending}
 use Rattle.board_run.specs.Putting.{IsLogBrokenOff}
 use Rattle.board_run.specs.Running.{IsOutcome}
@@ -32,20 +33,20 @@ tell_run-requires-clause-taken g c = c.self.invariant.taken
 
 pub tell_run-requires-clause-told : goal.tell_run-requires-clause-told
 tell_run-requires-clause-told g c =
-    none_said (shown (g.K.Sink.taken c.args.out.now) (g.K.Sink.told c.args.out.now) (g.K.Sink.faults c.args.out.now))
+    none_said (g.K.Sink.shown c.args.out.now)
 
 pub returns-clause-run : goal.returns-clause-run
 returns-clause-run g c =
-    let s = story c.self.inside.course.joint.image.bytes (g.F.Feed.told c.self.inside.feed).history in
+    let s = run_of c.self.inside.course (g.F.Feed.told c.self.inside.feed).history in
     let new = c.tell_run.new.course in
     subst (λ (t : Story). IsOutcome t (ending t (record { end = c.in_ok-end.end; joint = new.joint }))) c.self.view_is
     (ends s new c.in_ok-end.end c.in_ok-end.ensures.ended)
 
 pub returns-clause-said : goal.returns-clause-said
 returns-clause-said g c =
-    let s = story c.self.inside.course.joint.image.bytes (g.F.Feed.told c.self.inside.feed).history in
-    let x = shown (g.K.Sink.taken c.args.out.now) (g.K.Sink.told c.args.out.now) (g.K.Sink.faults c.args.out.now) in
-    let y = shown (g.K.Sink.taken c.tell_run.new.out) (g.K.Sink.told c.tell_run.new.out) (g.K.Sink.faults c.tell_run.new.out) in
+    let s = run_of c.self.inside.course (g.F.Feed.told c.self.inside.feed).history in
+    let x = g.K.Sink.shown c.args.out.now in
+    let y = g.K.Sink.shown c.tell_run.new.out in
     let k = c.tell_run.new.course.joint.steps in
     subst (λ (t : Story). IsSaid x y (log_text (log_at t k))) c.self.view_is (said_to Stamp s k x y c.in_ok-end.ensures.told)
 
@@ -62,9 +63,9 @@ returns-clause-looked_so_far g c =
 
 pub returns-in_err-end-clause-broken : goal.returns-in_err-end-clause-broken
 returns-in_err-end-clause-broken g c =
-    let s = story c.self.inside.course.joint.image.bytes (g.F.Feed.told c.self.inside.feed).history in
-    let x = shown (g.K.Sink.taken c.args.out.now) (g.K.Sink.told c.args.out.now) (g.K.Sink.faults c.args.out.now) in
-    let y = shown (g.K.Sink.taken c.tell_run.new.out) (g.K.Sink.told c.tell_run.new.out) (g.K.Sink.faults c.tell_run.new.out) in
+    let s = run_of c.self.inside.course (g.F.Feed.told c.self.inside.feed).history in
+    let x = g.K.Sink.shown c.args.out.now in
+    let y = g.K.Sink.shown c.tell_run.new.out in
     on_err c.from_residual.result _ (subst (λ (t : Story). IsLogBrokenOff t x y) c.self.view_is
     (log_broken_off s x y _ _ c.in_err-end.ensures.broken))
 
@@ -73,6 +74,6 @@ returns-in_err-end-clause-looked_so_far g c = some_looked_by _ _ c.self.view_is 
 
 pub returns-in_err-end-clause-looked_to_break : goal.returns-in_err-end-clause-looked_to_break
 returns-in_err-end-clause-looked_to_break g c =
-    let x = shown (g.K.Sink.taken c.args.out.now) (g.K.Sink.told c.args.out.now) (g.K.Sink.faults c.args.out.now) in
-    let y = shown (g.K.Sink.taken c.tell_run.new.out) (g.K.Sink.told c.tell_run.new.out) (g.K.Sink.faults c.tell_run.new.out) in
+    let x = g.K.Sink.shown c.args.out.now in
+    let y = g.K.Sink.shown c.tell_run.new.out in
     on_err c.from_residual.result _ (to_break_by _ _ c.self.view_is _ _ x y c.in_err-end.ensures.broken)

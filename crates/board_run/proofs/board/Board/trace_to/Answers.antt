@@ -1,8 +1,9 @@
 use Rattle.std.proofs.Common.{refl, subst, inl}
 use Rattle.io_edge.proofs.Pieces.{none_said, said_then_said}
 use Rattle.io_edge.proofs.Taken.{on_err}
-use Rattle.io_edge.specs.Said.{IsSaid, shown}
-use Rattle.joint_feed.specs.Stories.{Story, story}
+use Rattle.io_edge.specs.Said.{IsSaid}
+use Rattle.joint_feed.specs.Filled.{run_of}
+use Rattle.joint_feed.specs.Stories.{Story}
 use Rattle.board_run.specs.Ending.{ending}
 use Rattle.board_run.specs.Running.{IsOutcome}
 use Rattle.board_run.specs.Tracing.{IsTraceBrokenOff}
@@ -19,9 +20,9 @@ use Rattle.wire_trace.specs.Trace.{changes_to, trace_to}
 
 pub returns-in_err-put_header-clause-broken : goal.returns-in_err-put_header-clause-broken
 returns-in_err-put_header-clause-broken g c =
-    let s = story c.self.inside.course.joint.image.bytes (g.F.Feed.told c.self.inside.feed).history in
-    let x = shown (g.K.Sink.taken c.args.out.now) (g.K.Sink.told c.args.out.now) (g.K.Sink.faults c.args.out.now) in
-    let y = shown (g.K.Sink.taken c.put_header.new.out) (g.K.Sink.told c.put_header.new.out) (g.K.Sink.faults c.put_header.new.out) in
+    let s = run_of c.self.inside.course (g.F.Feed.told c.self.inside.feed).history in
+    let x = g.K.Sink.shown c.args.out.now in
+    let y = g.K.Sink.shown c.put_header.new.out in
     on_err c.from_residual.result _ (subst (λ (t : Story). IsTraceBrokenOff t x y) c.self.view_is
     (header_broken_off s x y c.in_err-put_header.ensures.broken))
 
@@ -49,14 +50,14 @@ tell_run-requires-clause-taken g c = c.self.invariant.taken
 
 pub tell_run-requires-clause-told : goal.tell_run-requires-clause-told
 tell_run-requires-clause-told g c =
-    let s = story c.self.inside.course.joint.image.bytes (g.F.Feed.told c.self.inside.feed).history in (
+    let s = run_of c.self.inside.course (g.F.Feed.told c.self.inside.feed).history in (
       heard_none s c.new-changes.result.decoder c.new-changes.ensures.silent,
-      none_said (shown (g.K.Sink.taken c.put_header.new.out) (g.K.Sink.told c.put_header.new.out) (g.K.Sink.faults c.put_header.new.out)),
+      none_said (g.K.Sink.shown c.put_header.new.out),
     )
 
 pub returns-clause-run : goal.returns-clause-run
 returns-clause-run g c =
-    let s = story c.self.inside.course.joint.image.bytes (g.F.Feed.told c.self.inside.feed).history in
+    let s = run_of c.self.inside.course (g.F.Feed.told c.self.inside.feed).history in
     let new = c.tell_run.new.course in
     subst (λ (t : Story). IsOutcome t (ending t (record { end = c.in_ok-end.end; joint = new.joint }))) c.self.view_is
     (ends s new c.in_ok-end.end c.in_ok-end.ensures.ended)
@@ -74,10 +75,10 @@ returns-clause-looked_so_far g c =
 
 pub returns-in_err-end-clause-broken : goal.returns-in_err-end-clause-broken
 returns-in_err-end-clause-broken g c =
-    let s = story c.self.inside.course.joint.image.bytes (g.F.Feed.told c.self.inside.feed).history in
-    let x = shown (g.K.Sink.taken c.args.out.now) (g.K.Sink.told c.args.out.now) (g.K.Sink.faults c.args.out.now) in
-    let y = shown (g.K.Sink.taken c.put_header.new.out) (g.K.Sink.told c.put_header.new.out) (g.K.Sink.faults c.put_header.new.out) in
-    let z = shown (g.K.Sink.taken c.tell_run.new.out) (g.K.Sink.told c.tell_run.new.out) (g.K.Sink.faults c.tell_run.new.out) in
+    let s = run_of c.self.inside.course (g.F.Feed.told c.self.inside.feed).history in
+    let x = g.K.Sink.shown c.args.out.now in
+    let y = g.K.Sink.shown c.put_header.new.out in
+    let z = g.K.Sink.shown c.tell_run.new.out in
     on_err c.from_residual-in_err-end.result _ (subst (λ (t : Story). IsTraceBrokenOff t x z) c.self.view_is
     (trace_broken_off s x y z _ _ c.in_ok-put_header.ensures.said c.in_err-end.ensures.broken))
 
@@ -86,18 +87,18 @@ returns-in_err-end-clause-looked_so_far g c = some_looked_by _ _ c.self.view_is 
 
 pub returns-in_err-end-clause-looked_to_break : goal.returns-in_err-end-clause-looked_to_break
 returns-in_err-end-clause-looked_to_break g c =
-    let x = shown (g.K.Sink.taken c.args.out.now) (g.K.Sink.told c.args.out.now) (g.K.Sink.faults c.args.out.now) in
-    let y = shown (g.K.Sink.taken c.put_header.new.out) (g.K.Sink.told c.put_header.new.out) (g.K.Sink.faults c.put_header.new.out) in
-    let z = shown (g.K.Sink.taken c.tell_run.new.out) (g.K.Sink.told c.tell_run.new.out) (g.K.Sink.faults c.tell_run.new.out) in
+    let x = g.K.Sink.shown c.args.out.now in
+    let y = g.K.Sink.shown c.put_header.new.out in
+    let z = g.K.Sink.shown c.tell_run.new.out in
     on_err c.from_residual-in_err-end.result _
     (broke_behind_header _ _ c.self.view_is x y z _ _ c.in_ok-put_header.ensures.said c.in_err-end.ensures.broken)
 
 pub returns-clause-said : goal.returns-clause-said
 returns-clause-said g c =
-    let s = story c.self.inside.course.joint.image.bytes (g.F.Feed.told c.self.inside.feed).history in
-    let x = shown (g.K.Sink.taken c.args.out.now) (g.K.Sink.told c.args.out.now) (g.K.Sink.faults c.args.out.now) in
-    let y = shown (g.K.Sink.taken c.put_header.new.out) (g.K.Sink.told c.put_header.new.out) (g.K.Sink.faults c.put_header.new.out) in
-    let z = shown (g.K.Sink.taken c.tell_run.new.out) (g.K.Sink.told c.tell_run.new.out) (g.K.Sink.faults c.tell_run.new.out) in
+    let s = run_of c.self.inside.course (g.F.Feed.told c.self.inside.feed).history in
+    let x = g.K.Sink.shown c.args.out.now in
+    let y = g.K.Sink.shown c.put_header.new.out in
+    let z = g.K.Sink.shown c.tell_run.new.out in
     let k = c.tell_run.new.course.joint.steps in
     subst (λ (t : Story). IsSaid x z (trace_to t k)) c.self.view_is
     (said_then_said x y z header (changes_to s k) header_is_lines c.in_ok-put_header.ensures.said

@@ -1,4 +1,3 @@
-use Rattle.io_edge.specs.Said.{shown}
 use Rattle.board_run.proofs.ToldByStamp.{broken_more, given_near, said_more}
 use Rattle.board_run.proofs.telling.ByStampTellerSinkFault.tell.Goals as goal
 
@@ -10,15 +9,15 @@ put_items-requires g c =
 pub returns-clause-told : goal.returns-clause-told
 returns-clause-told g c = λ e s first k behind told.
     said_more e s k c.args.course.now behind c.as_slice.result.now c.as_slice.ensures.value
-    (shown (g.K.Sink.taken first) (g.K.Sink.told first) (g.K.Sink.faults first))
-    (shown (g.K.Sink.taken c.args.out.now) (g.K.Sink.told c.args.out.now) (g.K.Sink.faults c.args.out.now))
-    (shown (g.K.Sink.taken c.put_items.new.out) (g.K.Sink.told c.put_items.new.out) (g.K.Sink.faults c.put_items.new.out))
+    (g.K.Sink.shown first)
+    (g.K.Sink.shown c.args.out.now)
+    (g.K.Sink.shown c.put_items.new.out)
     told c.put_items.result c.put_items.ensures.said
 
 pub returns-clause-broken : goal.returns-clause-broken
 returns-clause-broken g c = λ e s first k behind told.
     broken_more e s k c.args.course.now behind c.as_slice.result.now c.as_slice.ensures.value
-    (shown (g.K.Sink.taken first) (g.K.Sink.told first) (g.K.Sink.faults first))
-    (shown (g.K.Sink.taken c.args.out.now) (g.K.Sink.told c.args.out.now) (g.K.Sink.faults c.args.out.now))
-    (shown (g.K.Sink.taken c.put_items.new.out) (g.K.Sink.told c.put_items.new.out) (g.K.Sink.faults c.put_items.new.out))
+    (g.K.Sink.shown first)
+    (g.K.Sink.shown c.args.out.now)
+    (g.K.Sink.shown c.put_items.new.out)
     told c.put_items.result c.put_items.ensures.broken

@@ -8,13 +8,15 @@ pub returns-then-made-eq0-clause-hunted : goal.returns-then-made-eq0-clause-hunt
 returns-then-made-eq0-clause-hunted g c =
     let m = led_so _ c.args.self.now.debuggee _ _ _ _ c.make-made.new.self c.steps.invariant.debuggee c.make-made.ensures in
     ap (λ (h : Hunted). h.debug)
-    (sym (hunt_end c.args.self.now.debuggee c.steps.left c.make-made.result.steps _ _ _ m.within m.led _ c.steps.invariant.so_far (λ none. m.ended c.if-made-eq0.true)))
+    (sym (hunt_end c.args.self.now.debuggee c.steps.left c.make-made.result.steps _ _ _ m.within m.led
+    _ c.steps.invariant.so_far (λ none. m.ended c.if-made-eq0.true)))
 
 pub returns-then-made-eq0-clause-hit : goal.returns-then-made-eq0-clause-hit
 returns-then-made-eq0-clause-hit g c =
     let m = led_so _ c.args.self.now.debuggee _ _ _ _ c.make-made.new.self c.steps.invariant.debuggee c.make-made.ensures in
     ap (λ (h : Hunted). h.hit)
-    (sym (hunt_end c.args.self.now.debuggee c.steps.left c.make-made.result.steps _ _ _ m.within m.led _ c.steps.invariant.so_far (λ none. m.ended c.if-made-eq0.true)))
+    (sym (hunt_end c.args.self.now.debuggee c.steps.left c.make-made.result.steps _ _ _ m.within m.led
+    _ c.steps.invariant.so_far (λ none. m.ended c.if-made-eq0.true)))
 
 pub returns-then-is_some-clause-hunted : goal.returns-then-is_some-clause-hunted
 returns-then-is_some-clause-hunted g c =

@@ -8,8 +8,10 @@ pub returns-then-steps-first : goal.returns-then-steps-first
 returns-then-steps-first g c =
     let before : List Watch = map (λ b. (goal.Probe-dyn g (b.vtable, b.value)).watch b.value) c.args.probes.now.items in
     let advanced = c.advance.ensures before
-    (resting c.args.self.now c.joint.result.now c.lines.result before c.all_rest-rest.result c.joint.ensures.state c.lines.ensures.wires c.all_rest-rest.ensures) in
-    made_none c.args.left c.args.self.now c.advance.new.self before _ advanced (sym c.steps-steps.ensures ∙ c.if-steps-first.true ∙ c.steps-first.ensures) refl refl
+    (resting c.args.self.now c.joint.result.now c.lines.result before c.all_rest-rest.result c.joint.ensures.state
+    c.lines.ensures.wires c.all_rest-rest.ensures) in
+    made_none c.args.left c.args.self.now c.advance.new.self before _ advanced
+    (sym c.steps-steps.ensures ∙ c.if-steps-first.true ∙ c.steps-first.ensures) refl refl
 
 pub overflow_sub-result : goal.overflow_sub-result
 overflow_sub-result g c =
@@ -23,7 +25,8 @@ returns g c =
     let before : List Watch = map (λ b. (goal.Probe-dyn g (b.vtable, b.value)).watch b.value) c.args.probes.now.items in
     let after : List Watch = map (λ b. (goal.Probe-dyn g (b.vtable, b.value)).watch b.value) c.look_all-hit.new.probes.items in
     let advanced = c.advance.ensures before
-    (resting c.args.self.now c.joint.result.now c.lines.result before c.all_rest-rest.result c.joint.ensures.state c.lines.ensures.wires c.all_rest-rest.ensures) in
+    (resting c.args.self.now c.joint.result.now c.lines.result before c.all_rest-rest.result c.joint.ensures.state
+    c.lines.ensures.wires c.all_rest-rest.ensures) in
     let later = advanced.later in
     let first = c.steps-first.ensures in
     let steps = c.steps-steps.ensures in

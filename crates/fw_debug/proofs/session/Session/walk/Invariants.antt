@@ -7,7 +7,8 @@ invariant-steps g l = record {
   debuggee : l.self.debuggee ≡ l.fn.self.debuggee;
   so_far :
       walk l.fn.self.debuggee l.left (debug l.self (map (λ b. (goal.Probe-dyn g (b.vtable, b.value)).watch b.value) l.probes.items))
-      ≡ walk l.fn.self.debuggee l.count (debug l.fn.self (map (λ b. (goal.Probe-dyn g (b.vtable, b.value)).watch b.value) l.fn.probes.items));
+      ≡ walk l.fn.self.debuggee l.count
+      (debug l.fn.self (map (λ b. (goal.Probe-dyn g (b.vtable, b.value)).watch b.value) l.fn.probes.items));
 }
 
 abbrev pub decreases-steps : goal.decreases-steps

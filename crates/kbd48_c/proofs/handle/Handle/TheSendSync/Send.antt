@@ -23,7 +23,8 @@ held : (a : Global) (p : Ptr) (m : Option Keyboard) → Keyless (held_at a p m)
 held a null_ptr None = tt
 held a null_ptr (Some s) = tt
 held a (block_ptr b o) None = tt
-held a (block_ptr b o) (Some s) = (lies keyboard.the_row the_send (block_ptr b o) s, frees.frees a (bare (lone (keyboard.the_row).mir)) (block_ptr b o))
+held a (block_ptr b o) (Some s) =
+    (lies keyboard.the_row the_send (block_ptr b o) s, frees.frees a (bare (lone (keyboard.the_row).mir)) (block_ptr b o))
 
 ps : IsSend RawPtr
 ps = search sendable
@@ -32,4 +33,5 @@ zs : IsSend (heap.the_field).row
 zs = search sendable
 
 pub send : IsSend the_row
-send = owning_send the_type (ps, (zs, tt)) (λ d. held d.alloc d.at d.keyboard) (λ k. quiet (to the_type) (exits_of k (fields the_type)) ((struct_send (shape the_type) (ps, (zs, tt))).leaving k))
+send = owning_send the_type (ps, (zs, tt)) (λ d. held d.alloc d.at d.keyboard)
+    (λ k. quiet (to the_type) (exits_of k (fields the_type)) ((struct_send (shape the_type) (ps, (zs, tt))).leaving k))

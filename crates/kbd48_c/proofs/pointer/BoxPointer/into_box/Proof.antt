@@ -6,7 +6,8 @@ use mir.MapTy.{inst_fn}
 use base.Logic.{SProp, emp, id⊢}
 use base.Fml.{ftrue, flft}
 use prog.Wp.{WpFn}
-use types.Kit.{‵, raw, ◌⊛◌, some, later, at_ret, ◌$◌, ◌∵◌, !, qed, done, move, keep, drop, split, split3, join, fsplit, fjoin, fjoin3, pick, suffices, use0, use1, await, rewrite, feq_i}
+use types.Kit.{‵, raw, ◌⊛◌, some, later, at_ret, ◌$◌, ◌∵◌, !, qed, done, move, keep, drop, split, split3}
+use types.Kit.{join, fsplit, fjoin, fjoin3, pick, suffices, use0, use1, await, rewrite, feq_i}
 use types.Run.{stop, fld, of_opd, no_more, and_then, first, blocks, exec, returns, enter}
 use types.ByLocal.{alloc_all, pass_all, free_all, look_at, get, get_in, sets, lands_last, env}
 use types.Part.{sub, whole}
@@ -63,7 +64,8 @@ into_box_spec 𝓤 𝓛 𝓜 𝓡 wired T A LT LA g d dx dd heap glue glued =
     let good = box.box_typed E h b o fits in
     let y : Boxing.Ghost = ((κs, qs, tt, (a, (block_ptr b o, tt)), (h ∷ [], (vptr b o ∷ [], tt))), v.value) in
     -- [the value; the right to free; the handle; nothing; the tokens] becomes what the call asks for
-    fjoin ! $ use0 𝓛 (raw (fact 𝓤 in_A)) (fact_i 𝓤 in_A (emp 𝓤) A_lives) $ join ! $ use0 𝓛 (raw (fact 𝓤 in_T)) (fact_i 𝓤 in_T (emp 𝓤) T_lives) $ join ! $
+    fjoin ! $ use0 𝓛 (raw (fact 𝓤 in_A)) (fact_i 𝓤 in_A (emp 𝓤) A_lives) $ join ! $
+    use0 𝓛 (raw (fact 𝓤 in_T)) (fact_i 𝓤 in_T (emp 𝓤) T_lives) $ join ! $
     nothing ! $ feq_i ! (List Val) (vptr b o ∷ []) (vptr b o ∷ []) refl $ move ! (3 ∷ 0 ∷ 1 ∷ []) $ fjoin3 ! $
     move ! (3 ∷ 0 ∷ 1 ∷ []) $ join ! $ join ! $ use1 𝓛 (raw (Boxing.pre y)) (id⊢ 𝓤 _) $
     suffices ! (Run (w ∷ [])) (at_word 𝓤 Run z.0.4.0 w ws) $
@@ -77,7 +79,8 @@ into_box_spec 𝓤 𝓛 𝓜 𝓡 wired T A LT LA g d dx dd heap glue glued =
     use1 𝓛 (later (some (λ (r : B.Denot). (tokens ⊛ ‵ (B.own_val r (u ∷ []))) ⊛
     some (λ (left : Lasts (boxing.ended T A g d dd) κs y.0.3). ‵ (lasts (boxing.ended T A g d dd) κs y.0.3 left) ⊛
     (raw (fact 𝓤 (r.value ≡ v.value)) ⊛ raw (fact 𝓤 (r.alloc ≡ a))))))) (id⊢ 𝓤 _) $
-    await ! tt $ pick ! (λ r. split ! $ move ! (1 ∷ []) $ pick ! (λ _. split3 ! $ drop ! $ heard ! (r.value ≡ v.value) (λ same. drop ! $ split ! $ move ! (1 ∷ []) $
+    await ! tt $ pick ! (λ r. split ! $ move ! (1 ∷ []) $ pick ! (λ _. split3 ! $ drop ! $
+    heard ! (r.value ≡ v.value) (λ same. drop ! $ split ! $ move ! (1 ∷ []) $
     -- the box's machine value again
     box_out E ! r (u ∷ []) (λ b' o' h' at' us fits'. box_in E ! r b' o' r.value at' refl $
     let good' : Good (box.box_ty E) u = subst (Good (box.box_ty E)) (sym (ap only us)) (box.box_typed E h' b' o' fits') in

@@ -8,7 +8,8 @@ use base.Logic.{SProp, never, id⊢, fst∗}
 use base.Fml.{ftrue, flft}
 use prog.Wp.{WpFn}
 use types.Logic.{sem}
-use types.Kit.{‵, raw, ◌⊛◌, some, later, ◌$◌, ◌∵◌, !, qed, done, move, keep, drop, split, split3, join, fsplit, fjoin, fpick, pick, suffices, use1, await, rewrite, feq_l}
+use types.Kit.{‵, raw, ◌⊛◌, some, later, ◌$◌, ◌∵◌, !, qed, done, move, keep, drop, split, split3}
+use types.Kit.{join, fsplit, fjoin, fpick, pick, suffices, use1, await, rewrite, feq_l}
 use types.Run.{stop, fld, of_opd, no_more, and_then, returns, enter}
 use types.ByLocal.{alloc_all, pass_all, free_all, look_at, get, get_in, sets, lands_as}
 use types.Part.{agg, sub, whole}
@@ -67,13 +68,15 @@ of_spec 𝓤 𝓛 𝓜 𝓡 wired T A LT LA g d dx dd heap glue glued =
     suffices ! (Run (w ∷ [])) (at_word 𝓤 Run z.0.4.0 w ws) $
     enter ! 𝓣.C 𝓣.Λ fn (w ∷ []) Post $ alloc_all ! (λ ls. pass_all ! refl (good, tt) $ sets ! (of_opd ! (get ! refl)) refl good $
     -- the call
-    calls_at ! (fm 𝓛 𝓜 𝓡) Apart (met 𝓤 𝓛 𝓜 𝓡 (code.calls-std_alloc::boxed::Box::into_raw_with_allocator 𝓡.env wired) T A LT LA g d dd dx heap glued glue) y
+    calls_at ! (fm 𝓛 𝓜 𝓡) Apart
+    (met 𝓤 𝓛 𝓜 𝓡 (code.calls-std_alloc::boxed::Box::into_raw_with_allocator 𝓡.env wired) T A LT LA g d dd dx heap glued glue) y
     (and_then ! (get ! refl) (no_more !)) (λ u.
     use1 𝓛 (later (some (λ (r : Ptr × A.Denot). (tokens ⊛ ‵ (Pair.own_val r (u ∷ []))) ⊛
     some (λ (left : Lasts (parts.ended T A g d dd dx) κs y.0.3). ‵ (lasts (parts.ended T A g d dd dx) κs y.0.3 left) ⊛
     (raw (fact 𝓤 (r.1 ≡ a)) ⊛ ‵ (box_owns (token a) (box.R E) r.0 v.value)))))) (id⊢ 𝓤 _) $
     await ! tt $ pick ! (λ r. split ! $ move ! (1 ∷ []) $ pick ! (λ _. split3 ! $ drop ! $ heard ! (r.1 ≡ a) (λ same.
-    in_a_block ! r.0 (λ p. box_owns (token a) (box.R E) p v.value) (fst∗ 𝓤 (never 𝓤) (sem 𝓛 (token a (bare (layout T)) null_ptr))) (λ b' o' at'. fsplit ! $
+    in_a_block ! r.0 (λ p. box_owns (token a) (box.R E) p v.value) (fst∗ 𝓤 (never 𝓤) (sem 𝓛 (token a (bare (layout T)) null_ptr)))
+    (λ b' o' at'. fsplit ! $
     -- [the value; the right to free; the tokens with the pair], and then the pair's own parts
     move ! (2 ∷ []) $ split ! $ move ! (1 ∷ []) $ fpick ! (λ vss. fsplit ! $ feq_l ! (λ pair. fsplit ! $ feq_l ! (λ is_ptr. fsplit ! $
     rewrite ! 0 (λ (s : A.Denot). ‵ (A.own_val s vss.1.0)) same refl $ handle_tells E.al ! a vss.1.0 (λ h' is_handle fits'.

@@ -7,4 +7,5 @@ use Rattle.live_board.proofs.keyboard.Keyboard.run.Goals as goal
 
 pub returns-clause-run : goal.returns-clause-run
 returns-clause-run c =
-    subst (λ (k : Parts). (p : Past) → Stands p k → HasRun p k c.args.cycles c.args.watched c.run.result.end c.run.new.self) c.self.view_is c.run.ensures.run
+    subst (λ (k : Parts). (p : Past) → Stands p k → HasRun p k c.args.cycles c.args.watched c.run.result.end c.run.new.self)
+    c.self.view_is c.run.ensures.run

@@ -16,10 +16,12 @@ returns-in-Ok-clause-acted c =
     let near : k.joint.cycle < 2 ^ 62 = omega (arith, cycle, not_over) in
     let room : waits act k.joint.outside.desk.port.core ≡ false = sym c.waits.ensures ∙ c.if-waits.false in
     let due : Due = record { edges = k.due.edges; host = c.one_event-self.result } in
-    let only : due.host.items ≡ record { stamp = k.joint.cycle - 4096; act = act } ∷ [] = c.one_event-self.ensures ∙ ap (λ n. record { stamp = n - 4096; act = act } ∷ []) cycle in
+    let only : due.host.items ≡ record { stamp = k.joint.cycle - 4096; act = act } ∷ [] =
+    c.one_event-self.ensures ∙ ap (λ n. record { stamp = n - 4096; act = act } ∷ []) cycle in
     let e = c.in-Ok.ensures in (
       record { late = late; near = near; room = room },
-      λ p s. acted_on k act late room due c.step.new.self.joint c.step.new.self.seen only e.some e.step p s refl e.run _ refl e.edges c.new-self.ensures,
+      λ p s. acted_on k act late room due c.step.new.self.joint c.step.new.self.seen only e.some
+          e.step p s refl e.run _ refl e.edges c.new-self.ensures,
     )
 
 pub returns-in-Ok-clause-said : goal.returns-in-Ok-clause-said
@@ -31,7 +33,8 @@ returns-in-Ok-clause-said c =
     let late : 4096 ≤ k.joint.cycle = omega (arith, cycle, not_early) in
     let room : waits act k.joint.outside.desk.port.core ≡ false = sym c.waits.ensures ∙ c.if-waits.false in
     let due : Due = record { edges = k.due.edges; host = c.one_event-self.result } in
-    let only : due.host.items ≡ record { stamp = k.joint.cycle - 4096; act = act } ∷ [] = c.one_event-self.ensures ∙ ap (λ n. record { stamp = n - 4096; act = act } ∷ []) cycle in
+    let only : due.host.items ≡ record { stamp = k.joint.cycle - 4096; act = act } ∷ [] =
+    c.one_event-self.ensures ∙ ap (λ n. record { stamp = n - 4096; act = act } ∷ []) cycle in
     let e = c.in-Ok.ensures in
     λ p s. says_on k act late room due c.step.new.self.joint c.step.new.self.seen only e.some e.step p s refl e.run
 
@@ -44,7 +47,8 @@ returns-in-Ok-clause-answered c =
     let late : 4096 ≤ k.joint.cycle = omega (arith, cycle, not_early) in
     let room : waits act k.joint.outside.desk.port.core ≡ false = sym c.waits.ensures ∙ c.if-waits.false in
     let due : Due = record { edges = k.due.edges; host = c.one_event-self.result } in
-    let only : due.host.items ≡ record { stamp = k.joint.cycle - 4096; act = act } ∷ [] = c.one_event-self.ensures ∙ ap (λ n. record { stamp = n - 4096; act = act } ∷ []) cycle in
+    let only : due.host.items ≡ record { stamp = k.joint.cycle - 4096; act = act } ∷ [] =
+    c.one_event-self.ensures ∙ ap (λ n. record { stamp = n - 4096; act = act } ∷ []) cycle in
     let e = c.in-Ok.ensures in
     answered_here k act late room due c.step.new.self.joint c.step.new.self.seen only e.some e.step
 
@@ -59,7 +63,8 @@ returns-in-Err-clause-acted c =
     let near : k.joint.cycle < 2 ^ 62 = omega (arith, cycle, not_over) in
     let room : waits act k.joint.outside.desk.port.core ≡ false = sym c.waits.ensures ∙ c.if-waits.false in
     let due : Due = record { edges = k.due.edges; host = c.one_event-self.result } in
-    let only : due.host.items ≡ record { stamp = k.joint.cycle - 4096; act = act } ∷ [] = c.one_event-self.ensures ∙ ap (λ n. record { stamp = n - 4096; act = act } ∷ []) cycle in
+    let only : due.host.items ≡ record { stamp = k.joint.cycle - 4096; act = act } ∷ [] =
+    c.one_event-self.ensures ∙ ap (λ n. record { stamp = n - 4096; act = act } ∷ []) cycle in
     let e = c.in-Err.ensures in (
       (
         record { late = late; near = near; room = room },

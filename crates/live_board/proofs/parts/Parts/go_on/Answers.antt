@@ -28,8 +28,10 @@ steps-preserved c =
       later = omega (arith, later, more);
       line = c.interrupt-now.ensures.line;
       so_far = λ p s.
-          goes_all k new c.room.result e.gone p old c.args.cycles c.args.watched (inv.so_far p s) (omega (arith, within, now, start, later)) e.edges e.host
-          (flat_of c.args.watched c.steps.up c.interrupt-now.result c.has_risen.result _ _ c.has_risen.ensures c.if-has_risen.false inv.line c.interrupt-now.ensures.line);
+          goes_all k new c.room.result e.gone p old c.args.cycles c.args.watched (inv.so_far p s)
+          (omega (arith, within, now, start, later)) e.edges e.host
+          (flat_of c.args.watched c.steps.up c.interrupt-now.result c.has_risen.result _ _ c.has_risen.ensures
+          c.if-has_risen.false inv.line c.interrupt-now.ensures.line);
     }
 
 pub steps-smaller : goal.steps-smaller
@@ -68,7 +70,8 @@ returns-in-Err-clause-run c =
     let now = c.cycle.ensures.cycle in
     let within = c.room.ensures.within in
     λ p s.
-    has_stuck c.steps.self c.glide.new.self c.room.result c.in-Err.stuck e.gone e.unchanged p c.args.self.now c.args.cycles c.args.watched (inv.so_far p s)
+    has_stuck c.steps.self c.glide.new.self c.room.result c.in-Err.stuck e.gone e.unchanged p
+    c.args.self.now c.args.cycles c.args.watched (inv.so_far p s)
     (omega (arith, within, now, start, later))
 
 pub returns-then-has_risen-clause-later : goal.returns-then-has_risen-clause-later

@@ -12,5 +12,6 @@ returns c =
     let long = c.len.ensures.value in
     let room = c.if-len-ge-EDGES.false in
     let e : Edge = record { stamp = k.joint.cycle - 4096; place = c.args.place; down = c.args.down } in
-    let items = c.push.ensures.items ∙ ap (λ n. k.due.edges.items ++ record { stamp = n - 4096; place = c.args.place; down = c.args.down } ∷ []) cycle in
+    let items = c.push.ensures.items
+    ∙ ap (λ n. k.due.edges.items ++ record { stamp = n - 4096; place = c.args.place; down = c.args.down } ∷ []) cycle in
     record { keyed = (late, omega (arith, long, room), λ p s. keyed_on p k _ e late refl refl items refl s) }

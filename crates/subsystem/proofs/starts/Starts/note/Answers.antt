@@ -14,7 +14,8 @@ overflow_sub-cycle c =
 pub returns-in_ok-push-clause-noted : goal.returns-in_ok-push-clause-noted
 returns-in_ok-push-clause-noted c = λ s w cpu cycle.
     c.in_ok-push.ensures.items
-    ∙ one_noted s w c.at_tick.result c.args.self.now.stamps.items c.cycle.result (c.at_tick.ensures.tells s.edges s.events w cpu) c.if-at_tick.true
+    ∙ one_noted s w c.at_tick.result c.args.self.now.stamps.items c.cycle.result
+    (c.at_tick.ensures.tells s.edges s.events w cpu) c.if-at_tick.true
     (cycle ∙ sym c.cycle.ensures.cycle)
 
 pub returns-else-at_tick-clause-noted : goal.returns-else-at_tick-clause-noted

@@ -15,7 +15,11 @@ returns-clause-told c = λ e s first k b told.
     let on = b.standing.on in
     let lines =
     c.in_ok-push_lines.ensures.lines
-    ∙ ap (λ v. c.args.out.now.items ++ v) (lines_by course it c.tick.result c.as_slice.result.now c.tick.ensures c.as_slice.ensures.value) in
+    ∙ ap (λ v. c.args.out.now.items ++ v)
+    (lines_by course it c.tick.result c.as_slice.result.now c.tick.ensures c.as_slice.ensures.value) in
     on_ok_by c.note.result
-    (λ more. (noted_on e s k course it c.note.new.self b told.0 more, kept_on e s k course it first.items c.args.out.now.items c.push_lines.new.log.items b told.0 told.1 lines))
+    (λ more. (
+      noted_on e s k course it c.note.new.self b told.0 more,
+      kept_on e s k course it first.items c.args.out.now.items c.push_lines.new.log.items b told.0 told.1 lines,
+    ))
     (c.note.ensures.noted s on.world (sym on.in_run.mcu) (sym on.in_run.cycle))

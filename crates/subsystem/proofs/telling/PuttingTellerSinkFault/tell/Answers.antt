@@ -1,5 +1,5 @@
 use Rattle.std.proofs.Common.{◌≤◌, length, ap, sym, subst, ◌∙◌}
-use Rattle.io_edge.specs.Said.{IsBrokenOff, IsSaid, shown}
+use Rattle.io_edge.specs.Said.{IsBrokenOff, IsSaid}
 use Rattle.subsystem.specs.Counts.{with_lines}
 use Rattle.subsystem.specs.Texts.{log_text}
 use Rattle.subsystem.proofs.Looking.{on_err}
@@ -20,9 +20,9 @@ pub returns-in_err-put_items-clause-broken : goal.returns-in_err-put_items-claus
 returns-in_err-put_items-clause-broken g c = λ e s first k b told.
     let it = c.args.self.now in
     let course = c.args.course.now in
-    let x = shown (g.K.Sink.taken first) (g.K.Sink.told first) (g.K.Sink.faults first) in
-    let y = shown (g.K.Sink.taken c.args.out.now) (g.K.Sink.told c.args.out.now) (g.K.Sink.faults c.args.out.now) in
-    let z = shown (g.K.Sink.taken c.put_items.new.out) (g.K.Sink.told c.put_items.new.out) (g.K.Sink.faults c.put_items.new.out) in
+    let x = g.K.Sink.shown first in
+    let y = g.K.Sink.shown c.args.out.now in
+    let z = g.K.Sink.shown c.put_items.new.out in
     let lines = lines_by course it.starts c.tick-tick.result c.as_slice.result.now c.tick-tick.ensures c.as_slice.ensures.value in
     on_err c.from_residual.result
     (broken_on e s k course it x y z b told.0 told.1 (subst (λ l. IsBrokenOff y z (log_text l)) lines c.in_err-put_items.ensures.broken))
@@ -33,9 +33,9 @@ returns-clause-told g c = λ e s first k b told.
     let course = c.args.course.now in
     let on = b.standing.on in
     let put = c.in_ok-put_items.ensures in
-    let x = shown (g.K.Sink.taken first) (g.K.Sink.told first) (g.K.Sink.faults first) in
-    let y = shown (g.K.Sink.taken c.args.out.now) (g.K.Sink.told c.args.out.now) (g.K.Sink.faults c.args.out.now) in
-    let z = shown (g.K.Sink.taken c.put_items.new.out) (g.K.Sink.told c.put_items.new.out) (g.K.Sink.faults c.put_items.new.out) in
+    let x = g.K.Sink.shown first in
+    let y = g.K.Sink.shown c.args.out.now in
+    let z = g.K.Sink.shown c.put_items.new.out in
     let lines = lines_by course it.starts c.tick-tick.result c.as_slice.result.now c.tick-tick.ensures c.as_slice.ensures.value in
     let few = subst (λ v. length v ≤ 16) c.as_slice.ensures.value c.as_slice.ensures.fits in (
       put_on e s k course it (record { starts = c.note_within.new.self; counts = c.put_items.new.counts }) b told.0

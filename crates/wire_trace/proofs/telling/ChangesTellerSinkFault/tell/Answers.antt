@@ -1,11 +1,12 @@
-use Rattle.io_edge.specs.Said.{shown}
 use Rattle.wire_trace.proofs.SampleIsOfState.{broken_now, heard_now, on_err, on_ok, rises_now, said_now}
 use Rattle.wire_trace.proofs.telling.ChangesTellerSinkFault.tell.Goals as goal
 
 pub put_sample-requires : goal.put_sample-requires
 put_sample-requires g c =
     let t = c.requires.told in
-    record { rises = rises_now t.0 t.1 t.3 c.args.course.now t.4 c.args.self.now.decoder t.5.0 c.cycle-cycle.result c.cycle-cycle.ensures.cycle }
+    record {
+      rises = rises_now t.0 t.1 t.3 c.args.course.now t.4 c.args.self.now.decoder t.5.0 c.cycle-cycle.result c.cycle-cycle.ensures.cycle;
+    }
 
 pub returns-clause-told : goal.returns-clause-told
 returns-clause-told g c = λ e s first k b h.
@@ -14,19 +15,22 @@ returns-clause-told g c = λ e s first k b h.
     let cycle = c.cycle-cycle.result in
     let lines = c.lines-lines.result in
     on_ok c.put_sample.result (λ said. (
-      heard_now e s k it b old h.0 cycle lines c.cycle-cycle.ensures.cycle c.lines-lines.ensures.wires c.put_sample.new.decoder c.put_sample.ensures.heard,
+      heard_now e s k it b old h.0 cycle lines c.cycle-cycle.ensures.cycle c.lines-lines.ensures.wires
+          c.put_sample.new.decoder c.put_sample.ensures.heard,
       said_now e s k it b old h.0 cycle lines c.cycle-cycle.ensures.cycle c.lines-lines.ensures.wires
-          (shown (g.K.Sink.taken first) (g.K.Sink.told first) (g.K.Sink.faults first))
-          (shown (g.K.Sink.taken c.args.out.now) (g.K.Sink.told c.args.out.now) (g.K.Sink.faults c.args.out.now))
-          (shown (g.K.Sink.taken c.put_sample.new.out) (g.K.Sink.told c.put_sample.new.out) (g.K.Sink.faults c.put_sample.new.out)) h.1 said,
+          (g.K.Sink.shown first)
+          (g.K.Sink.shown c.args.out.now)
+          (g.K.Sink.shown c.put_sample.new.out)
+          h.1 said,
     )) c.put_sample.ensures.said
 
 pub returns-clause-broken : goal.returns-clause-broken
 returns-clause-broken g c = λ e s first k b h.
     let old = c.args.self.now.decoder in
     on_err c.put_sample.result
-    (broken_now e s k c.args.course.now b old h.0 c.cycle-cycle.result c.lines-lines.result c.cycle-cycle.ensures.cycle c.lines-lines.ensures.wires
-    (shown (g.K.Sink.taken first) (g.K.Sink.told first) (g.K.Sink.faults first))
-    (shown (g.K.Sink.taken c.args.out.now) (g.K.Sink.told c.args.out.now) (g.K.Sink.faults c.args.out.now))
-    (shown (g.K.Sink.taken c.put_sample.new.out) (g.K.Sink.told c.put_sample.new.out) (g.K.Sink.faults c.put_sample.new.out)) h.1)
+    (broken_now e s k c.args.course.now b old h.0 c.cycle-cycle.result c.lines-lines.result
+    c.cycle-cycle.ensures.cycle c.lines-lines.ensures.wires
+    (g.K.Sink.shown first)
+    (g.K.Sink.shown c.args.out.now)
+    (g.K.Sink.shown c.put_sample.new.out) h.1)
     c.put_sample.ensures.broken

@@ -1,0 +1,22 @@
+use Rattle.std.proofs.Common.{rules, sym, subst, ◌∙◌}
+use Rattle.fw_compile.specs.Image.{image_of}
+use Rattle.fw_logic.specs.JointRun.{KeepsTime}
+use Rattle.layout_reader.specs.Layouts.{IsKeyLayout}
+use Rattle.story_run.proofs.Loop.{same_story}
+use Rattle.story_run.proofs.beginning.begin_run.Goals as goal
+
+pub returns-clause-run : goal.returns-clause-run
+returns-clause-run g c =
+    same_story 0 c.begin.result.joint.image.bytes (image_of c.args.layout.now)
+    (g.F.Feed.told c.begin.new.feed).history (g.F.Feed.told c.args.feed.now).history
+    (c.begin.ensures.on.image ∙ c.compile-image.ensures.image) c.begin.ensures.history
+
+pub returns-clause-timely : goal.returns-clause-timely
+returns-clause-timely g c =
+    let h = (g.F.Feed.told c.args.feed.now).history in
+    let now = (g.F.Feed.told c.begin.new.feed).history in
+    let sound : IsKeyLayout c.args.layout.now = search rules in
+    let image = image_of c.args.layout.now in
+    subst (λ b. KeepsTime b now.edges now.host) (sym (c.begin.ensures.on.image ∙ c.compile-image.ensures.image))
+    (subst (λ k. KeepsTime image k.edges k.host) (sym c.begin.ensures.history)
+    (c.run_and_model_agree.ensures.agreement c.args.layout.now h sound c.requires.accepted).0)

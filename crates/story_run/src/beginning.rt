@@ -1,0 +1,48 @@
+//! The run of a layout at power-on.
+
+ghost use Rattle.std.specs.Prelude.{◌≡◌, IfOk};
+ghost use Rattle.fw_compile.specs.Image.{image_of};
+ghost use Rattle.joint_feed.specs.Ahead.{HasTaken};
+ghost use Rattle.joint_feed.specs.Stories.{story};
+ghost use Rattle.key_file.specs.Accepted.{IsAccepted, IsAcceptedFor};
+ghost use Rattle.key_file.specs.Feeds.{Fed};
+ghost use Rattle.layout_reader.specs.Layouts.{IsKeyLayout, KeyLayout};
+ghost use Rattle.story_run.specs.declared.ending.Ending.TheVariants.{TickStart};
+ghost use Rattle.story_run.specs.Gliding.{IsStanding, IsTimely};
+
+use agreement::run_and_model_agree;
+use fw_compile::compile;
+use int09::Bios;
+use joint_feed::Course;
+use key_file::Feed;
+use layout_reader::Layout;
+use std::alloc::{AllocError, Global};
+
+/// The run of a layout's compiled image under the history of a feed of which nothing was taken and which is accepted for
+/// this layout, at power-on, with all the memory that it takes: the buffer of INT 09h. It keeps its time, so it may be told
+/// up to a tick start.
+pub fn begin_run<F: Feed>(
+    alloc: Global,
+    layout: &Layout,
+    feed: &mut F,
+) -> Result<Course, AllocError>
+    requires no_edge { (F.told feed.old).edges ≡ 0 }
+    requires no_host { (F.told feed.old).host ≡ 0 }
+    requires accepted { IsAcceptedFor layout.now (F.told feed.old).history }
+    ensures layout { IsKeyLayout layout.now }
+    ensures history { (F.told feed.new).history ≡ (F.told feed.old).history }
+    ensures accepted { IsAccepted (F.told feed.new).history }
+    ensures run { IfOk result (λ course. story course.joint.image.bytes (F.told feed.new).history
+        ≡ story (image_of layout.now) (F.told feed.old).history) }
+    ensures timely { IfOk result (λ course. IsTimely TickStart (story course.joint.image.bytes (F.told feed.new).history)) }
+    ensures standing { IfOk result (λ course. IsStanding TickStart (story course.joint.image.bytes (F.told feed.new).history) course) }
+    ensures steps { IfOk result (λ course. course.joint.steps ≡ 0) }
+    ensures taken { IfOk result (λ course. HasTaken (F.told feed.new) course.ahead) }
+{
+    let _ = layout.rate();
+    let _ = layout.entries();
+    run_and_model_agree();
+    let image = compile(layout);
+    let bios = Bios::new(alloc)?;
+    Ok(Course::begin(&image, bios, feed))
+}
