@@ -14,7 +14,8 @@ use Rattle.layout_reader.specs.Layouts.{entry_at, sample_entry, us84}
 use Rattle.typed_log.specs.Typing.{Stroke, Plain, edges_from, planned, stroke_start, takes_from}
 use Rattle.typed_log.proofs.Played.{playable}
 use Rattle.typed_log.proofs.Struck.{AllFit}
-use Rattle.kbd48_app.specs.Sampling.{sample_history, stroke_edges, stroke_key, stroke_take, stroke_stamp}
+use Rattle.kbd48_app.specs.Sampling.{sample_history, stroke_edges, stroke_key, stroke_take}
+use Rattle.typed_log.specs.Typing.{stroke_start}
 
 -- so many strokes, the first of which has this number
 abbrev strokes_from : ℕ → ℕ → List Stroke
@@ -82,21 +83,21 @@ sample_accepted count few =
 
 -- one stroke more, whose edges are pushed one after the other
 edges_more : (a n j : ℕ) → a + n ≡ j → flat_map stroke_edges (range_with_len a (n + 1)) ≡ (flat_map stroke_edges (range_with_len a n)
-    ++ record { stamp = stroke_stamp j; place = stroke_key j; down = true } ∷ [])
-    ++ record { stamp = stroke_stamp j + 10240; place = stroke_key j; down = false } ∷ []
+    ++ record { stamp = stroke_start j; place = stroke_key j; down = true } ∷ [])
+    ++ record { stamp = stroke_start j + 10240; place = stroke_key j; down = false } ∷ []
 edges_more a zero j h = let same : a ≡ j = omega (arith, h) in ap stroke_edges same
 edges_more a (suc n) j h =
     let later : suc n + 1 ≡ suc (n + 1) = omega arith in
     ap (λ m. flat_map stroke_edges (range_with_len a m)) later ∙ ap (λ es. stroke_edges a ++ es) (edges_more (a + 1) n j (omega (arith, h)))
 
 pub edges_pushed : (k t u place : ℕ) (xs ys zs : List Edge)
-    → xs ≡ flat_map stroke_edges (range_with_len 0 k) → t ≡ stroke_stamp k → u ≡ t + 10240 → place ≡ stroke_key k
+    → xs ≡ flat_map stroke_edges (range_with_len 0 k) → t ≡ stroke_start k → u ≡ t + 10240 → place ≡ stroke_key k
     → ys ≡ xs ++ record { stamp = t; place = place; down = true } ∷ [] → zs ≡ ys ++ record { stamp = u; place = place; down = false } ∷ []
     → zs ≡ flat_map stroke_edges (range_with_len 0 (k + 1))
 edges_pushed k t u place xs ys zs was begins ends at first second =
-    let up : u ≡ stroke_stamp k + 10240 = ends ∙ ap (λ n. n + 10240) begins in
+    let up : u ≡ stroke_start k + 10240 = ends ∙ ap (λ n. n + 10240) begins in
     second ∙ rw (first, was, up, begins, at) (sym (edges_more 0 k k (omega arith)))
 
-pub takes_pushed : (k t : ℕ) (xs ys : List HostEvent) → xs ≡ map stroke_take (range_with_len 0 k) → t ≡ stroke_stamp k + 14336
+pub takes_pushed : (k t : ℕ) (xs ys : List HostEvent) → xs ≡ map stroke_take (range_with_len 0 k) → t ≡ stroke_start k + 14336
     → ys ≡ xs ++ record { stamp = t; act = Take } ∷ [] → ys ≡ map stroke_take (range_with_len 0 (k + 1))
 takes_pushed k t xs ys was stands more = more ∙ rw (was, stands) (sym (map-range_with_len_more stroke_take 0 k k (omega arith)))

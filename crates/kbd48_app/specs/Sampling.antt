@@ -2,7 +2,6 @@
 use Rattle.std.specs.Prelude.{◌≡◌, ℕ, ◌+◌, ◌-◌, ◌*◌, ◌%◌, true, false, List, [], ◌∷◌, ◌++◌, length, map, codes, decimal}
 use Rattle.std.specs.List.{flat_map, range_with_len}
 use Rattle.board_lines.specs.declared.event.Edge.{Edge}
-use Rattle.board_lines.specs.declared.event.HostAct.TheVariants.{Take}
 use Rattle.board_lines.specs.declared.event.HostEvent.{HostEvent}
 use Rattle.fw_compile.specs.Image.{image_of}
 use Rattle.joint_feed.specs.Stories.{Story, story}
@@ -12,31 +11,29 @@ use Rattle.subsystem.specs.Agreement.{IsAsExpected}
 use Rattle.subsystem.specs.Counts.{none_counted, with_lines}
 use Rattle.subsystem.specs.Running.{IsOutcome, Outcome}
 use Rattle.subsystem.specs.declared.counts.Counts.{Counts}
+use Rattle.typed_log.specs.Typing.{first_up, stroke_start, take_of}
 
--- the stamp at which a stroke begins; strokes are counted from 0
-abbrev pub stroke_stamp : ℕ → ℕ
-stroke_stamp k = 162816 + 20480 * k
-
--- the number of its key, which is also the key's place on the sample layout
+-- the number of a stroke's key, which is also the key's place on the sample layout; strokes are counted from 0, and begin
+-- when those of a text that is typed do
 abbrev pub stroke_key : ℕ → ℕ
 stroke_key k = (29 + 25 * k) % 84
 
--- the key goes down, and up 10,240 cycles later
+-- the key goes down, and up
 abbrev pub stroke_edges : ℕ → List Edge
 stroke_edges k =
-    record { stamp = stroke_stamp k; place = stroke_key k; down = true }
-    ∷ record { stamp = stroke_stamp k + 10240; place = stroke_key k; down = false } ∷ []
+    record { stamp = stroke_start k; place = stroke_key k; down = true }
+    ∷ record { stamp = first_up (stroke_start k); place = stroke_key k; down = false } ∷ []
 
--- 14,336 cycles after the press the host takes a word from the buffer
+-- the host takes a word from the buffer
 abbrev pub stroke_take : ℕ → HostEvent
-stroke_take k = record { stamp = stroke_stamp k + 14336; act = Take }
+stroke_take k = take_of (stroke_start k)
 
 -- so many strokes; the end stands where the next one would begin
 abbrev pub sample_history : ℕ → KeyHistory
 sample_history count = record {
   edges = flat_map stroke_edges (range_with_len 0 count);
   host = map stroke_take (range_with_len 0 count);
-  end = stroke_stamp count;
+  end = stroke_start count;
 }
 
 abbrev pub sample_story : ℕ → Story

@@ -7,9 +7,10 @@ ghost use Rattle.layout_reader.specs.Layouts.{us84};
 ghost use Rattle.subsystem.specs.Ending.{ending};
 ghost use Rattle.story_run.specs.Gliding.{history_of};
 ghost use Rattle.subsystem.specs.Running.{IsOutcome, Outcome};
+ghost use Rattle.typed_log.specs.Typing.{stroke_start};
 ghost use Rattle.kbd48_app.specs.Answers.{MayAnswerSample};
 ghost use Rattle.kbd48_app.specs.RunTexts.{HaveLookedAtAll};
-ghost use Rattle.kbd48_app.specs.Sampling.{counts_line, sample_history, sample_text, stroke_key, stroke_stamp};
+ghost use Rattle.kbd48_app.specs.Sampling.{counts_line, sample_history, sample_text, stroke_key};
 ghost use Rattle.kbd48_app.specs.Spoken.{IsSpoken};
 
 use crate::refusal::Refusal;
@@ -24,11 +25,22 @@ use short_text::{append, begun};
 use std::alloc::{AllocError, Global};
 use subsystem::{Counts, Ended, Engine, runs_are_expected};
 
+/// The stamp at which the first stroke begins, and the cycles from one stroke to the next.
+const FIRST_STROKE: u64 = 162_816;
+
+const STROKE: u64 = 20_480;
+
+/// For how many cycles its key is down.
+const HELD: u64 = 10_240;
+
+/// After how many cycles from its beginning its word is taken.
+const TAKEN: u64 = 14_336;
+
 /// The stamp at which a stroke begins, counted from 0, in cycles.
-fn stroke_stamp(k: u32) -> u64
-    ensures { result ≡ stroke_stamp k }
+fn stroke_start(k: u32) -> u64
+    ensures { result ≡ stroke_start k }
 {
-    162_816 + 20_480 * u64::from(k)
+    FIRST_STROKE + STROKE * u64::from(k)
 }
 
 /// The place of its key.
@@ -49,7 +61,7 @@ fn sample_history(alloc: Global, count: u32) -> Result<History, AllocError>
     let mut edges = Vec::new(alloc);
     let mut host = Vec::new(alloc);
     for k in 0..count {
-        let stamp = stroke_stamp(k);
+        let stamp = stroke_start(k);
         let place = stroke_place(k);
         edges.push(Edge {
             stamp,
@@ -57,16 +69,16 @@ fn sample_history(alloc: Global, count: u32) -> Result<History, AllocError>
             down: true,
         })?;
         edges.push(Edge {
-            stamp: stamp + 10_240,
+            stamp: stamp + HELD,
             place,
             down: false,
         })?;
         host.push(HostEvent {
-            stamp: stamp + 14_336,
+            stamp: stamp + TAKEN,
             act: HostAct::Take,
         })?;
     }
-    Ok(History::new(edges, host, stroke_stamp(count)))
+    Ok(History::new(edges, host, stroke_start(count)))
 }
 
 /// How many events the history of so many strokes has, how many bytes, words and beeps there were in its run, and the

@@ -1,5 +1,5 @@
 -- The text of a plan: the key file in which the strokes of a text are made, its lines in the order of their stamps.
-use Rattle.std.specs.Prelude.{ℕ, ◌+◌, List, [], ◌∷◌, ◌++◌, codes}
+use Rattle.std.specs.Prelude.{ℕ, List, [], ◌∷◌, ◌++◌, codes}
 use Rattle.std.proofs.Common.{suc}
 use Rattle.std.specs.Fmt.{decimal}
 use Rattle.std.specs.Option.{option_map}
@@ -8,6 +8,7 @@ use Rattle.pc_tables.specs.Keys.{name_at}
 use Rattle.layout_reader.specs.declared.entry.Entry.{Entry}
 use Rattle.layout_reader.specs.Layouts.{KeyLayout}
 use Rattle.typed_log.specs.Typing.{Stroke, Plain, Shifted, stroke_start, strokes_of}
+use Rattle.typed_log.specs.Typing.{first_up, second_down, second_up, word_taken}
 
 -- a line: its stamp in decimal, a word and, where the word speaks of a key, that key's name, parted by one space each;
 -- it ends with LF
@@ -33,14 +34,14 @@ end_line stamp = word_line stamp (codes "end")
 
 -- the lines of the keys of a stroke that begins at a stamp
 abbrev pub key_lines : ℕ → Stroke → List ℕ
-key_lines start (Plain key) = press_line start key ++ release_line (start + 10240) key
+key_lines start (Plain key) = press_line start key ++ release_line (first_up start) key
 key_lines start (Shifted shift key) =
-    press_line start shift ++ press_line (start + 2048) key
-    ++ release_line (start + 8192) key ++ release_line (start + 10240) shift
+    press_line start shift ++ press_line (second_down start) key
+    ++ release_line (second_up start) key ++ release_line (first_up start) shift
 
 -- the lines of a stroke: a character is typed, and its word is taken
 abbrev pub stroke_lines : ℕ → Stroke → List ℕ
-stroke_lines start stroke = key_lines start stroke ++ take_line (start + 14336)
+stroke_lines start stroke = key_lines start stroke ++ take_line (word_taken start)
 
 -- the lines of strokes, the first of which has this number; the end is where one stroke more would begin
 abbrev pub lines_from : ℕ → List Stroke → List ℕ

@@ -112,16 +112,30 @@ presses entry stamp = record { stamp = stamp; place = entry.place; down = true }
 abbrev pub releases : Entry → ℕ → Edge
 releases entry stamp = record { stamp = stamp; place = entry.place; down = false }
 
--- the edges of a stroke that begins at a stamp: the key is down for five ticks; under shift, for three of shift's five
-abbrev pub edges_of : ℕ → Stroke → List Edge
-edges_of start (Plain key) = presses key start ∷ releases key (start + 10240) ∷ []
-edges_of start (Shifted shift key) =
-    presses shift start ∷ presses key (start + 2048)
-    ∷ releases key (start + 8192) ∷ releases shift (start + 10240) ∷ []
+-- the stamps of what a stroke is made of, by the one at which it begins: under shift its second key goes down one tick
+-- later, and up four; the key that went down first goes up five ticks later; and seven ticks later the word is taken
+abbrev pub second_down : ℕ → ℕ
+second_down start = start + 2048
 
--- the host takes the word seven ticks after the stroke began
+abbrev pub second_up : ℕ → ℕ
+second_up start = start + 8192
+
+abbrev pub first_up : ℕ → ℕ
+first_up start = start + 10240
+
+abbrev pub word_taken : ℕ → ℕ
+word_taken start = start + 14336
+
+-- its edges
+abbrev pub edges_of : ℕ → Stroke → List Edge
+edges_of start (Plain key) = presses key start ∷ releases key (first_up start) ∷ []
+edges_of start (Shifted shift key) =
+    presses shift start ∷ presses key (second_down start)
+    ∷ releases key (second_up start) ∷ releases shift (first_up start) ∷ []
+
+-- the host takes its word
 abbrev pub take_of : ℕ → HostEvent
-take_of start = record { stamp = start + 14336; act = Take }
+take_of start = record { stamp = word_taken start; act = Take }
 
 -- the edges and the takes of strokes, the first of which has this number
 abbrev pub edges_from : ℕ → List Stroke → List Edge
