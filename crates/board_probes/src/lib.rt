@@ -13,8 +13,6 @@ mod listening;
 mod probe;
 mod resting;
 mod tally;
-#[cfg(test)]
-mod tests;
 
 pub use decoder::LineDecoder;
 pub use heard::Transfer;

@@ -13,8 +13,6 @@ mod ended;
 mod law;
 mod line;
 mod telling;
-#[cfg(test)]
-mod tests;
 
 pub use board::Board;
 pub use ended::Ended;

@@ -16,8 +16,6 @@ mod scripted;
 mod session;
 mod stepping;
 mod striding;
-#[cfg(test)]
-mod tests;
 mod texts;
 
 pub use board_probes::{

@@ -86,6 +86,3 @@ pub fn read_hex(bytes: &[u8]) -> Result<Image, HexFault>
         Err(fault_at(number, Rule::NoEnd))
     }
 }
-
-#[cfg(test)]
-mod tests;

@@ -86,6 +86,3 @@ pub fn write_hex(alloc: Global, image: &Image) -> Result<Vec<u8>, AllocError>
     text.extend_from_slice(b":00000001FF\n")?;
     Ok(text)
 }
-
-#[cfg(test)]
-mod tests;

@@ -12,8 +12,6 @@ mod going;
 mod law;
 mod still;
 mod stretch;
-#[cfg(test)]
-mod tests;
 
 pub use going::go_on;
 pub use law::calls_are_joint_steps;

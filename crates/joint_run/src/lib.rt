@@ -12,8 +12,6 @@ mod joint;
 mod law;
 mod machine;
 mod outside;
-#[cfg(test)]
-mod tests;
 
 pub use due::{Due, Seen};
 pub use host_turn::Stamped;

@@ -29,6 +29,3 @@ pub use history::History;
 pub use laws::told_histories;
 pub use list_feed::ListFeed;
 pub use reading::read_history;
-
-#[cfg(test)]
-mod tests;

@@ -14,6 +14,3 @@ mod stroke;
 
 pub use fault::PlanFault;
 pub use planning::plan;
-
-#[cfg(test)]
-mod tests;

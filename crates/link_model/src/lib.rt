@@ -19,6 +19,3 @@ mod whole;
 pub use expecting::expect;
 pub use laws::{cycle_by_cycle, each_seen_once, edges_shown, layers_follow};
 pub use line::LogLine;
-
-#[cfg(test)]
-mod tests;

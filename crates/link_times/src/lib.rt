@@ -11,9 +11,6 @@ ghost use Rattle.link_times.specs.Flowing.{OneByteATick, QuietByteATick, QuietSe
 ghost use Rattle.link_times.specs.Holding.{GoesAtLast, NothingElseHolds};
 ghost use Rattle.link_times.specs.Latency.{EdgesAreAmong, KeysComeInTime, LatencyIsMet, ReadsWhatArrives};
 
-#[cfg(test)]
-mod tests;
-
 /// Nothing comes twice. After a tick there waits what comes first (the reply to a byte from the system; AA in the
 /// test's last tick), then the rest of what waited, and then what the tick's codes added: those of the key that repeats
 /// and of the edges, in the order of their places, as far as the queue has room. So over any ticks; and from power-on

@@ -1,7 +1,7 @@
 //! A text by hand, and reading what was written.
 
-use super::*;
-use crate::reading::read_hex;
+use hexfile::{read_hex, write_hex};
+use mcs48_isa::Image;
 use std::test::Fail;
 
 #[test]

@@ -1,9 +1,9 @@
 //! Steps made at once beside single steps, state by state.
 
-use crate::go_on;
 use arrayvec::ArrayVec;
 use board_lines::{Edge, HostAct, HostEvent, Place};
 use int09::Bios;
+use joint_glide::go_on;
 use joint_run::{Due, Joint, Seen};
 use mcs48_isa::Image;
 use std::process::Abort;

@@ -2,7 +2,7 @@
 
 ghost use Rattle.std.specs.Prelude.{◌≤◌, length};
 
-use super::*;
+use hexfile::{HexFault, read_hex};
 use std::process::Abort;
 use std::test::Fail;
 

@@ -1,6 +1,6 @@
 //! Plans over the sample layout.
 
-use super::*;
+use key_planner::{PlanFault, plan};
 use layout_reader::{read_layout, us84_layout};
 use std::test::Fail;
 

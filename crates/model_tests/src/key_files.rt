@@ -2,9 +2,8 @@
 
 ghost use Rattle.std.specs.Prelude.{◌≤◌, length};
 
-use super::{Feed, History, KeyFault, ListFeed, check_history, read_history};
-use crate::fault::key_fault;
 use board_lines::{Edge, HostAct, HostEvent, Place};
+use key_file::{Feed, FileFault, History, KeyFault, ListFeed, check_history, read_history};
 use layout_reader::{Layout, us84_layout};
 use std::alloc::{AllocError, Global};
 use std::process::Abort;
@@ -138,13 +137,21 @@ fn two_faults() -> [Refused; 19] {
     ]
 }
 
+/// The fault of a reader that takes memory.
+fn with_memory(fault: FileFault) -> KeyFault {
+    match fault {
+        FileFault::Input { line, number } => KeyFault::Input { line, number },
+        FileFault::Timing { line, number, a, b } => KeyFault::Timing { line, number, a, b },
+    }
+}
+
 /// Asserts that a file is refused with this fault.
 fn refuses(rt: &impl Abort, alloc: Global, layout: &Layout, text: &[u8], fault: KeyFault) {
     assert!(rt; text.len() <= LIMIT);
     let read = read_history(alloc, text, layout);
     assert!(rt; read.err() == Some(fault), "{text:?}");
     let checked = check_history(text, layout);
-    assert!(rt; checked.err().map(key_fault) == Some(fault), "{text:?}");
+    assert!(rt; checked.err().map(with_memory) == Some(fault), "{text:?}");
 }
 
 /// Asserts that a feed hands out the events of a history, and then none.

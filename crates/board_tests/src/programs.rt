@@ -3,8 +3,8 @@
 
 ghost use Rattle.std.specs.Prelude.{◌≤◌, length};
 
-use super::{Board, End, Ended};
 use board_probes::{AddressProbe, Probe};
+use board_run::{Board, End, Ended};
 use fw_compile::compile;
 use io_edge::MemSink;
 use key_file::{History, ListFeed, read_history};

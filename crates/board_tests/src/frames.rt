@@ -1,7 +1,7 @@
 //! Frames on the wires, as the decoder reads them.
 
-use super::{LineDecoder, Transfer};
 use board_lines::{Lines, frame_of};
+use board_probes::{LineDecoder, Transfer};
 use std::test::Fail;
 
 /// What the decoder answers to a sample; None where it isn't behind the last one.

@@ -1,9 +1,9 @@
 //! Small programs on the board, worked out by hand.
 
-use crate::{Due, Joint, Seen, Stamped};
 use arrayvec::ArrayVec;
 use board_lines::{Edge, HostAct, HostEvent, Lines, Place};
 use int09::Bios;
+use joint_run::{Due, Joint, Seen, Stamped};
 use mcs48_isa::Image;
 use pc_tables::Item;
 use std::process::Abort;
