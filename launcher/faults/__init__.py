@@ -1,0 +1,103 @@
+"""A fault that the program has found, in words: which file and line it is, what is wrong, and what would be right.
+
+The program's own line has the last word; nothing here is proved. `docs/faults.tsv` has a sentence for each fault, and the
+module of a kind of file looks at the faulty line for the mistake that people make there. It says nothing if it isn't sure.
+"""
+from __future__ import annotations
+
+import re
+from dataclasses import dataclass, field
+from pathlib import Path
+
+from . import asm, cert, hexfile, keys, layout, script, typed
+
+KINDS = {"asm": asm, "cert": cert, "hex": hexfile, "keys": keys, "layout": layout, "script": script, "text": typed}
+# The most bytes that a file of each kind may have.
+LIMITS = {"hex": 16384, "asm": 262144, "layout": 65536, "keys": 4194304, "script": 65536, "cert": 65536, "text": 10000}
+# The kinds of the files that a command names, in the order of its words.
+FILES = {
+    "step": ["hex"],
+    "list": ["hex"],
+    "asm": ["asm"],
+    "compile": ["layout"],
+    "run": ["layout", "keys"],
+    "expect": ["layout", "keys"],
+    "trace": ["layout", "keys"],
+    "debug": ["layout", "keys", "script"],
+    "board": ["hex", "layout", "keys"],
+    "probe": ["hex", "layout", "keys", "script"],
+    "cert": ["hex", "cert"],
+    "type": ["layout", "text"],
+}
+TABLE = Path(__file__).resolve().parent.parent.parent / "docs/faults.tsv"
+SAID = re.compile(
+    r"input: (?P<kind>\w+) (?:line|entry|byte) (?P<at>\d+) fault (?P<number>\d+)"
+    r"|timing: line (?P<line>\d+) fault (?P<late>\d+) stamps (?P<first>\d+) (?P<second>\d+)"
+    r"|input: (?P<long>\w+) too long"
+)
+
+
+@dataclass
+class Fault:
+    """A fault as the program has named it, with the bytes of the files that are before it in the words, by their kinds."""
+
+    kind: str
+    number: int
+    at: int
+    stamps: tuple[int, int] = (0, 0)
+    files: dict[str, bytes] = field(default_factory=dict)
+
+    @property
+    def data(self):
+        return self.files[self.kind]
+
+    @property
+    def lines(self):
+        """The lines of the file, as the program splits it."""
+        return [it.removesuffix(b"\r").decode(errors="replace") for it in self.data.split(b"\n")]
+
+    @property
+    def text(self):
+        """The faulty line; empty if the file has none with this number."""
+        return self.lines[self.at - 1] if 0 < self.at <= len(self.lines) else ""
+
+
+def table():
+    """What `docs/faults.tsv` says of each kind and number: the rule, and the sentence in words."""
+    rows = (line.split("\t") for line in TABLE.read_text(encoding="utf-8").splitlines()[1:])
+    return {(kind, int(number)): (rule, words) for kind, number, rule, words in rows}
+
+
+def shown(text):
+    """A line as it is shown: not longer than a screen, and nothing in it that would move the cursor."""
+    text = "".join(it if it.isprintable() or it == " " else " " if it == "\t" else f"\\x{ord(it):02X}" for it in text.strip())
+    return text if len(text) <= 100 else text[:97] + "..."
+
+
+def explained(said, words):
+    """The lines that explain what the program said of a call with these words; none if it said something else."""
+    found = SAID.fullmatch(said.strip())
+    if not found or words[0] not in FILES:
+        return []
+    named = dict(zip(FILES[words[0]], words[1:]))
+    kind = found["kind"] or found["long"] or "keys"
+    kind = "layout" if said.startswith("input: layout") else kind
+    if kind not in named:
+        return []
+    if found["long"]:
+        return [f"{named[kind]} has more than {LIMITS[kind]:,} bytes, the most that such a file may have"]
+    files = {it: Path(name).read_bytes() for it, name in named.items() if Path(name).is_file()}
+    if kind not in files:
+        return []
+    stamps = (int(found["first"] or 0), int(found["second"] or 0))
+    fault = Fault(kind, int(found["number"] or found["late"]), int(found["at"] or found["line"]), stamps, files)
+    place, text = KINDS[kind].place(fault) if hasattr(KINDS[kind], "place") else (f"line {fault.at}", fault.text)
+    head = f"{named[kind]}, {place}: {shown(text)}" if text else f"{named[kind]}, {place}"
+    return [head, table()[kind, fault.number][1], *(mark(fault) or KINDS[kind].hints(fault))]
+
+
+def mark(fault):
+    """A byte order mark, which a layout alone may begin with."""
+    if fault.kind != "layout" and fault.at == 1 and fault.data.startswith(b"\xef\xbb\xbf"):
+        return ["the file begins with a byte order mark (EF BB BF): save it as UTF-8 without one"]
+    return []

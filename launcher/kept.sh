@@ -1,0 +1,47 @@
+# shellcheck shell=sh
+# Whether a program that was built earlier is still of these sources. The launcher and ./try read this file; `here` must be
+# the top of the repository. A folder with a program has `kbd48`, and `sources.sum`, the checksum of what it was built of.
+: "${here:?}"
+
+# Makes `file` a file's own place, through any symbolic links.
+follow() {
+    file=$1
+    while [ -h "$file" ]; do
+        to=$(readlink "$file") || return 1
+        case $to in /*) file=$to ;; *) file=${file%/*}/$to ;; esac
+    done
+}
+
+# The toolchain's command, and the file beside it that names its version; empty if it isn't on the path.
+rt=$(command -v rt) && follow "$rt" && rt=$file && kit=${rt%/*}/../KIT-ID
+
+# untouched FILE: whether nothing was touched since this file was written: no source, no folder of them, not the toolchain.
+# The times of change tell it, which no copying sets back. Any doubt, one of `find` itself included, is a no.
+untouched() {
+    [ -e "$1" ] || return 1
+    looked=$1
+    set -- "$here/crates.txt" "$here/HANDLES" "$here/crates"
+    if [ -n "$rt" ]; then
+        read -r by <"$looked" && [ "$rt" = "$by" ] || return 1
+        set -- "$@" "$rt" "$kit"
+    fi
+    touched=$(find "$@" -name out -prune -o -name must-fail -prune -o -name 'rows_*' -prune -o -cnewer "$looked" -print 2>&1) &&
+        [ -z "$touched" ]
+}
+
+# stands FOLDER: whether the program in it is built of these sources, by this toolchain if there is one. If the checksum
+# had to be counted and is right, the time before the counting is kept, so that the next call needs none.
+stands() {
+    [ -x "$1/kbd48" ] && [ -f "$1/sources.sum" ] || return 1
+    untouched "$1/sources.looked" && return
+    { echo "$rt" >"$1/sources.looked.$$"; } 2>/dev/null
+    now=$("$here/.ci/sources") || exit 1
+    kept=$(cat "$1/sources.sum")
+    [ -n "$rt" ] || kept=$(echo "$kept" | head -n 1)
+    if [ "$now" = "$kept" ]; then
+        mv "$1/sources.looked.$$" "$1/sources.looked" 2>/dev/null || true
+    else
+        rm -f "$1/sources.looked.$$"
+        return 1
+    fi
+}
