@@ -96,6 +96,9 @@ def judge_kind(data: Any) -> None:
 def board_of(data: Any, choices: Choices, of_keymap: Optional[str]) -> Board:
     """The board of a file of any of the three tools, with the name of the layout that its keymap is for."""
     judge_kind(data)
+    # QMK's service hands out boards by their folders.
+    if isinstance(data, dict) and isinstance(data.get("keyboards"), dict) and len(data["keyboards"]) == 1:
+        data = next(iter(data["keyboards"].values()))
     if isinstance(data, list):
         board = of_editor(data, choices)
     else:

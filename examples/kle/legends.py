@@ -3,6 +3,7 @@ from __future__ import annotations
 
 import html
 import re
+import unicodedata
 from dataclasses import dataclass, field
 from typing import Iterable, Optional
 
@@ -20,6 +21,8 @@ FRONT = (4, 5, 11)
 # How many keys must be another country's than the US's before a board is read as that country's; fewer do if the board has
 # so many keys with signs, and they are all of that country.
 FEW, MANY = 3, 6
+# How many keys that can't be read a refusal names.
+AT_ONCE = 6
 
 
 @dataclass(frozen=True)
@@ -166,11 +169,18 @@ class Legends:
             except Unclear as why:
                 unclear.append((at, str(why)))
         if unclear and "unknown" not in without:
-            at = unclear[0][0]
-            raise Refused("%s; --without %s leaves %s out, --without unknown every such key; a keymap can say what they are" % (
-                "; ".join("%s: %s" % (self.keys[at].where, why) for at, why in sorted(unclear)), self.keys[at].number,
-                "it" if len(unclear) == 1 else "the first"))
+            raise Refused(self.of_unclear(sorted(unclear)))
         return readings
+
+    def of_unclear(self, unclear: list[tuple[int, str]]) -> str:
+        """Why a board is refused some of whose keys can't be read."""
+        keys = ["%s: %s" % (self.keys[at].where, why) for at, why in unclear[:AT_ONCE]]
+        if len(unclear) > AT_ONCE:
+            keys.append("and so on, %d keys" % len(unclear))
+        if 2 * len(unclear) > len(self.keys):
+            return "; ".join(keys) + "; a keymap says what keys send that have no such legends"
+        return "%s; --without %s leaves %s out, --without unknown every such key; a keymap can say what they are" % (
+            "; ".join(keys), self.keys[unclear[0][0]].number, "it" if len(unclear) == 1 else "the first")
 
     def reading(self, at: int) -> Reading:
         """What a key is."""
@@ -190,11 +200,14 @@ class Legends:
         if key.width >= 3:
             return Reading("space")
         if key.width >= 2 and key.y == self.bottom and not any(key.legends):
-            return Reading("space", "it has no legend, and is taken as Space")
+            return Reading("space", "is taken as Space")
         return Reading("")
 
     def of_both(self, key: Key, said: Said) -> Reading:
-        """A key with a character and a word, which is the keypad's: a digit or point with its move."""
+        """A key with a character and a word, which is the keypad's: a digit or point with its move. A picture beside a word
+        means nothing."""
+        if all(unicodedata.category(character) == "So" for character in said.characters):
+            return self.of_words(key, said)
         mark = said.characters[0]
         moves = {word.key for word in said.words}
         if len(said.characters) == 1 and KEYPAD.get(mark) in moves | {"kp5"} and all(word.is_move for word in said.words):
@@ -206,6 +219,8 @@ class Legends:
         words = said.words
         if any(word.key in WITH_ARROWS for word in words):
             words = [word for word in words if word.text not in ARROWS]
+        # A picture beside a key's name is what the machine that the board was made for does with it.
+        words = [word for word in words if word.key or len(word.text) > 1] or words
         names = {word.key for word in words}
         if names == {"prtsc", "sysreq"}:
             names = {"prtsc"}
@@ -216,6 +231,8 @@ class Legends:
         name = names.pop()
         if name == "shift":
             name = "rshift" if "lshift" in self.taken else "lshift"
+        if key.width >= 1.5 and name == "kpdot" and not self.has_backspace:
+            return Reading("backspace", "is taken as Backspace, since the key is wide and no other is")
         if said.sign() and key.width >= 1.5 and words[0].is_move:
             return self.of_wide_arrow(key, name)
         if words[0].is_move:
@@ -226,7 +243,7 @@ class Legends:
     def of_wide_arrow(self, key: Key, name: str) -> Reading:
         """A wide key with an arrow alone: Backspace mostly, Shift or Tab where the arrow shows up or right."""
         if name == "kp4" and not self.has_backspace:
-            return Reading("backspace", "is taken as Backspace, since the key is wide")
+            return Reading("backspace", "is taken as Backspace, since the key is wide and no other is")
         raise Unclear("its legend %s is on a wide key, which may be Shift, Tab or another" % shown(key))
 
     def of_characters(self, at: int, characters: list[str]) -> str:

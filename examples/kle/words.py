@@ -2,10 +2,11 @@
 from __future__ import annotations
 
 import re
+import unicodedata
 from dataclasses import dataclass
 from typing import Optional
 
-# As `plain_form` writes them. The keys of the 84 that a board has once or at either end.
+# In lower case and without the marks that `plain_form` passes over. The keys of the 84 that a board has once or at either end.
 KEYS = {
     "backspace": "backspace bksp bkspc bkspace bspc bs back backsp rück rücktaste löschen retourarrière retroceso ⌫ ⟵",
     "tab": "tab tabulator tabulador tabulation ↹ ⇥ ⇤ ⭾ →| |→ ←| |← |←→|",
@@ -18,10 +19,10 @@ KEYS = {
     "esc": "esc escape échap ⎋",
     "num": "num numlock nmlk numlk numlck verrnum bloqnum blocnum ⇭",
     "scroll": "scroll scrolllock scrlk scrlock scrlck scrolllk rollen défil arrêtdéfil bloqdespl blocscorr",
-    "sysreq": "sysreq sysrq sabf systabf",
+    "sysreq": "sysreq sysrq sabf systabf syst petsis petsist",
     "prtsc": "prtsc prtscn prtscr prntscrn printscreen printscrn print prntscr druck imprécran imprécr imppant imprpant stamp "
              "⎙",
-    "grave": "半角全角 全角半角 半全",
+    "grave": "半角全角 全角半角 半全 ej",
     **{"f%d" % number: "f%d" % number for number in range(1, 11)}}
 # Keys that the 84 have on the keypad alone.
 MOVES = {
@@ -37,17 +38,17 @@ MOVES = {
     "kpdot": "del delete entf suppr supr canc ⌦"}
 # Shift: its side is said, or its place on the board says it.
 SHIFTS = {
-    "shift": "shift shft sft ⇧ umschalt maj mayús maiusc skift",
+    "shift": "shift shft sft ⇧ umschalt umschalttaste maj mayús maiusc skift",
     "lshift": "lshift leftshift shiftl shiftleft lsft",
     "rshift": "rshift rightshift shiftr shiftright rsft"}
 # Keys that the 84 don't have.
 OTHERS = (
     "win lwin rwin leftwin rightwin windows super lsuper rsuper gui lgui rgui meta cmd command lcmd rcmd os hyper code logo logowindows8 logowindows7 ⌘ ❖ "
     "⊞ menu app apps application kontextmenü menü menú ≣ ☰ ▤ fn fn1 fn2 fn3 function layer lower raise adjust pause break pausebreak brk "
-    "pauseattn pauseunterbr unterbr attn pausa pausainterr pausainter interr mute vol vol+ vol↑ vol↓ volup voldown voldn "
+    "pauseattn pauseunterbr unterbr pauseuntbr untbr attn pausa pausainterr pausainter interr mute vol vol+ vol↑ vol↓ volup voldown voldn "
     "volumeup volumedown volume play pauseplay playpause next prev previous stop media mail calc power sleep wake eject help "
     "undo redo copy cut paste 00 000 無変換 変換 かな カタカナひらがな カタカナひらがなローマ字 ひらがな ローマ字 muhenkan henkan "
-    "kana 한영 한자 encoder knob ⏯ ⏭ ⏮ ⏹ 🔇 🔊 🔉 led rgb reset boot " + " ".join("f%d" % number for number in range(11, 25)))
+    "kana 한영 한자 encoder knob ⏏ ⇓ ⇑ mouse keypad program progrm prog ⏯ ⏭ ⏮ ⏹ 🔇 🔊 🔉 led rgb reset boot " + " ".join("f%d" % number for number in range(11, 25)))
 # Signs that mean nothing beside the words of some keys: the arrow of Backspace, Tab, Enter, Shift or a lock.
 ARROWS = frozenset("↑←→↓⬆⬅➡⬇⇩")
 WITH_ARROWS = frozenset(["backspace", "tab", "enter", "caps", "num", "scroll", "shift", "lshift", "rshift"])
@@ -64,21 +65,22 @@ class Word:
 
 def _vocabulary() -> dict[str, tuple[str, bool]]:
     """Every word and sign with its key and whether that is a move."""
-    known = {word: ("", False) for word in OTHERS.split()}
+    known = {plain_form(word): ("", False) for word in OTHERS.split()}
     for table, moves in ((KEYS, False), (SHIFTS, False), (MOVES, True)):
-        known.update({word: (key, moves) for key, words in table.items() for word in words.split()})
+        known.update({plain_form(word): (key, moves) for key, words in table.items() for word in words.split()})
     return known
 
 
-VOCABULARY = _vocabulary()
-
-
 def plain_form(token: str) -> str:
-    """A piece of a legend as the tables write it: in lower case; marks within a word are passed over."""
+    """A piece of a legend in lower case; marks in and on the letters of a word are passed over."""
     token = token.replace("\ufe0f", "")
     if len(token) > 1 and any(character.isalnum() for character in token):
         token = re.sub(r"[._\-/]", "", token) or token
+        token = "".join(part for part in unicodedata.normalize("NFD", token) if not unicodedata.combining(part))
     return token.lower()
+
+
+VOCABULARY = _vocabulary()
 
 
 def longest(tokens: list[str]) -> Optional[tuple[Word, int]]:
