@@ -4,7 +4,7 @@ from __future__ import annotations
 import re
 from dataclasses import dataclass, field
 from enum import Enum
-from typing import Optional
+from typing import Any, Optional
 
 
 class Refused(Exception):
@@ -39,38 +39,73 @@ class Place:
 
 @dataclass(frozen=True)
 class Key:
-    """A key of a board: where the file has it, its legends in the editor's order, its width in keys, its place."""
+    """A key of a board: where the file has it, in words and as the command line names it; its legends in the editor's
+    order; its width, and its left upper corner, in keys; its place."""
 
     where: str
+    number: str
     legends: tuple[str, ...]
     width: float
     place: Optional[Place]
+    x: float = 0.0
+    y: float = 0.0
 
 
 @dataclass
 class Board:
-    """A board: its keys in the file's order, the size of its matrix and its diodes where the file says them."""
+    """A board: its keys in the file's order; what the file says of its matrix' size, of its diodes, whether it has two
+    halves, and which board it is: its number on USB, QMK's folder of it, its name."""
 
     tool: Tool
     keys: list[Key]
     rows: Optional[int] = None
     columns: Optional[int] = None
     diodes: Optional[Diodes] = None
+    split: bool = False
+    usb: Optional[int] = None
+    folder: Optional[str] = None
+    name: str = ""
     told: list[str] = field(default_factory=list)
 
 
 @dataclass(frozen=True)
 class Choices:
     """What the command line chooses: a layout of QMK's by its name, choices of VIA's options by their numbers, the
-    diodes, and whether keys are counted."""
+    diodes, whether keys are counted, which keys are left out, the numbers of layers with names, whether a keymap may be
+    of another board, and what is printed."""
 
     layout: Optional[str] = None
     options: tuple[tuple[int, int], ...] = ()
     diodes: Optional[Diodes] = None
     counted: bool = False
+    without: frozenset[str] = frozenset()
+    layers: tuple[tuple[str, int], ...] = ()
+    any_keyboard: bool = False
+    prints: str = "layout"
+
+
+def usb_number(vendor: Any, product: Any) -> Optional[int]:
+    """A board's number on USB as VIA has it, of vendor and product, which files write as text or numbers."""
+    try:
+        return (int(str(vendor), 0) << 16) + int(str(product), 0)
+    except ValueError:
+        return None
 
 
 def pair_of(text: str) -> Optional[tuple[int, int]]:
     """Two numbers as VIA writes them into a legend, or None."""
     found = re.fullmatch(r"(\d+),(\d+)", text.strip())
     return (int(found.group(1)), int(found.group(2))) if found else None
+
+
+def left_out_by(key: Key, without: frozenset[str]) -> bool:
+    """Whether the command line leaves this key out."""
+    return key.number in without
+
+
+def judge_left_out(keys: list[Key], without: frozenset[str]) -> None:
+    """Each key that is to be left out is there."""
+    strange = sorted(without - {"unknown"} - {key.number for key in keys})
+    if strange:
+        raise Refused("it has no key %s to leave out; keys are named as messages have them, %s for %s"
+                      % (strange[0], keys[0].number, keys[0].where))

@@ -2,30 +2,79 @@
 from __future__ import annotations
 
 import re
+from dataclasses import dataclass
 from typing import Any, Iterator
 
-from .board import Board, Choices, Key, Place, Refused, Tool, pair_of
+from .board import Board, Choices, Key, Place, Refused, Tool, pair_of, usb_number
 
 
-def drawn(rows: list[Any]) -> Iterator[tuple[str, list[str], float]]:
-    """Each key that isn't a decal: where it stands, its legends, its width. Rotation and height change nothing here."""
+@dataclass(frozen=True)
+class Drawn:
+    """A key as it is drawn: its row and its number in it, its legends, its width, and where its left upper corner is."""
+
+    row: int
+    number: int
+    legends: list[str]
+    width: float
+    x: float
+    y: float
+
+
+class Pen:
+    """Where the next key is drawn, and how wide: what the properties before it say. The angle of turned keys changes nothing
+    here, and their height neither."""
+
+    def __init__(self) -> None:
+        self.x = self.y = self.left = self.top = 0.0
+        self.width, self.decal = 1.0, False
+
+    def take(self, said: dict[str, Any]) -> None:
+        """Properties before a key."""
+        if "rx" in said:
+            self.left = self.x = float(said["rx"])
+        if "ry" in said:
+            self.top = float(said["ry"])
+        if "rx" in said or "ry" in said:
+            self.x, self.y = self.left, self.top
+        self.x += float(said.get("x", 0))
+        self.y += float(said.get("y", 0))
+        self.width, self.decal = float(said.get("w", self.width)), bool(said.get("d", self.decal))
+
+    def pass_key(self) -> None:
+        """A key was drawn."""
+        self.x += self.width
+        self.width, self.decal = 1.0, False
+
+    def pass_row(self) -> None:
+        """A row was drawn."""
+        self.x, self.y = self.left, self.y + 1
+        self.width, self.decal = 1.0, False
+
+
+def drawn(rows: list[Any]) -> Iterator[Drawn]:
+    """Each key that isn't a decal."""
+    if not any(isinstance(row, list) for row in rows) and any(isinstance(item, str) for item in rows):
+        # A file of one row has no brackets around its rows.
+        rows = [rows]
     # What is said of the board as a whole may stand before the rows.
     if rows and isinstance(rows[0], dict):
         rows = rows[1:]
+    pen = Pen()
     for down, row in enumerate(rows, 1):
         if not isinstance(row, list):
             raise Refused("row %d is no row of keys" % down)
-        width, decal, number = 1.0, False, 0
+        number = 0
         for item in row:
             if isinstance(item, dict):
-                width, decal = float(item.get("w", width)), bool(item.get("d", decal))
+                pen.take(item)
             elif isinstance(item, str):
                 number += 1
-                if not decal:
-                    yield "row %d, key %d" % (down, number), [part.strip() for part in item.split("\n")], width
-                width, decal = 1.0, False
+                if not pen.decal:
+                    yield Drawn(down, number, [part.strip() for part in item.split("\n")], pen.width, pen.x, pen.y)
+                pen.pass_key()
             else:
                 raise Refused("row %d holds what is neither a key nor its properties" % down)
+        pen.pass_row()
 
 
 class Options:
@@ -76,7 +125,8 @@ def left_of(legends: list[str]) -> tuple[str, ...]:
 
 def read_keys(board: Board, rows: list[Any], options: Options) -> None:
     """Fills a board with the keys of rows. A place in the matrix is a key's first legend, as VIA has it."""
-    for where, legends, width in drawn(rows):
+    for key in drawn(rows):
+        where, legends = "row %d, key %d" % (key.row, key.number), key.legends
         pair = pair_of(legends[0])
         option = pair_of(legends[3]) if len(legends) > 3 else None
         if pair and option and not options.takes(option):
@@ -89,7 +139,8 @@ def read_keys(board: Board, rows: list[Any], options: Options) -> None:
             board.told.append("a wheel (%s): its turns are left out, its switch is a key" % where)
         place = Place(*pair) if pair else None
         rest = left_of(legends) if pair else tuple(legends)
-        board.keys.append(Key("matrix %s" % place if place else where, rest, width, place))
+        name = str(place) if place else "%d,%d" % (key.row, key.number)
+        board.keys.append(Key("matrix %s" % place if place else where, name, rest, key.width, place, key.x, key.y))
     board.told += options.told()
 
 
@@ -107,7 +158,8 @@ def of_via(data: dict[str, Any], choices: Choices) -> Board:
     if choices.layout:
         raise Refused("a definition of VIA's has no named layouts, but options: --option N,M")
     matrix = data.get("matrix", {})
-    board = Board(Tool.VIA, [], matrix.get("rows"), matrix.get("cols"))
+    board = Board(Tool.VIA, [], matrix.get("rows"), matrix.get("cols"), name=str(data.get("name", "")),
+                  usb=usb_number(data.get("vendorId"), data.get("productId")))
     layouts = data["layouts"]
     read_keys(board, layouts["keymap"], Options(choices.options, layouts.get("labels") or []))
     return board

@@ -42,6 +42,7 @@ class Unsaid:
 
 Meaning = Union[Sends, Momentary, Nothing, Below, Unsaid]
 
+STAR = "the keypad's * key, which types * without Shift, and prints the screen with it"
 NUM_OFF = "the keypad's key, which means this while Num Lock is off"
 CHORD = "since one key sends one code, not several together"
 STRANGE = "since it is none of the 84 keys"
@@ -56,7 +57,7 @@ PLAIN = {
     "comma": "COMM COMMA", "period": "DOT", "slash": "SLSH SLASH",
     "alt": "LALT LEFT_ALT LOPT RALT RIGHT_ALT ROPT ALGR", "space": "SPC SPACE", "caps": "CAPS CAPS_LOCK CAPSLOCK CLCK",
     "esc": "ESC ESCAPE", "num": "NUM NUM_LOCK NUMLOCK NLCK", "scroll": "SCRL SCROLL_LOCK SCROLLLOCK SLCK",
-    "sysreq": "SYRQ SYSTEM_REQUEST", "prtsc": "PSCR PRINT_SCREEN PSCREEN PAST KP_ASTERISK",
+    "sysreq": "SYRQ SYSTEM_REQUEST", "prtsc": "PAST KP_ASTERISK",
     "kpminus": "PMNS KP_MINUS", "kpplus": "PPLS KP_PLUS", "kpdot": "PDOT KP_DOT"}
 # The same of arrows and the like, which the 84 have on the keypad.
 MOVES = {
@@ -93,6 +94,7 @@ def _plain_codes() -> dict[str, Sends]:
     for digit in "0123456789":
         codes["P" + digit] = codes["KP_" + digit] = Sends("kp" + digit)
     codes.update({word: Sends(key) for key, words in PLAIN.items() for word in words.split()})
+    codes.update({word: Sends("prtsc", STAR) for word in ("PSCR", "PRINT_SCREEN", "PSCREEN")})
     codes.update({word: Sends(key, NUM_OFF) for key, words in MOVES.items() for word in words.split()})
     return codes
 
@@ -102,6 +104,8 @@ CODES = _plain_codes()
 
 def call_of(code: str) -> tuple[str, list[str]]:
     """A code's name and what stands in its parentheses, parted at the commas that no further parentheses enclose."""
+    # Vial has the layer before the parentheses.
+    code = re.sub(r"^\s*LT(\d+)\(", r"LT(\1,", code)
     found = re.fullmatch(r"\s*(\w+)\s*(?:\((.*)\))?\s*", code)
     if not found:
         return "", []
@@ -123,6 +127,8 @@ def plain(code: str) -> Meaning:
         return Below()
     if code in KEPT:
         return KEPT[code]
+    if re.fullmatch(r"SPC_FN\d", code):
+        return Momentary(int(code[-1]), "its tap is lost", Sends("space"))
     if code in TOGETHER:
         return Momentary(TOGETHER[code], "the layer of both Fn keys together is lost")
     word = code[3:] if code.startswith("KC_") else ""
@@ -161,6 +167,8 @@ def meaning(code: str) -> Meaning:
         return meaning(words[0])
     if name in CHORDS:
         return Unsaid(CHORD)
+    if name == "TD":
+        return Unsaid("since a tap dance is a program of the keyboard's own, and the keymap doesn't have it")
     if name == "MT" and len(words) == 2:
         return within(words[1], "its modifier when it is held is lost")
     if name.endswith("_T") and len(words) == 1:

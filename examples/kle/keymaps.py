@@ -9,16 +9,34 @@ from .board import Board, Refused, Tool
 
 @dataclass(frozen=True)
 class Keymap:
-    """A keymap: the name of the layout that it is for, its layers of codes, and whether it is in the matrix' order."""
+    """A keymap: the name of the layout that it is for, its layers of codes, whether it is in the matrix' order and has codes
+    of wheels, and the board that it is of, as VIA and as QMK name it."""
 
     layout: Optional[str]
     layers: list[list[str]]
     by_matrix: bool
     wheels: bool
+    usb: Optional[int] = None
+    keyboard: Optional[str] = None
+
+
+def of_vial(data: dict[str, Any]) -> Keymap:
+    """The keymap that Vial has saved: a list of layers, each of rows; a place without a key has a number for a code."""
+    layers = [[code if isinstance(code, str) else "KC_NO" for row in layer for code in row] for layer in data["layout"]]
+    if not layers:
+        raise Refused("the keymap has no layers")
+    return Keymap(None, layers, True, any(data.get("encoder_layout") or []))
+
+
+def is_of_vial(data: Any) -> bool:
+    """Whether a file is what Vial has saved."""
+    return isinstance(data, dict) and isinstance(data.get("layout"), list) and "layers" not in data and "layouts" not in data
 
 
 def keymap_of(data: Any) -> Keymap:
     """The keymap that a file's JSON says."""
+    if is_of_vial(data):
+        return of_vial(data)
     layers = data.get("layers") if isinstance(data, dict) else None
     if not isinstance(layers, list) or not layers or not all(isinstance(layer, list) for layer in layers):
         raise Refused("the keymap has no layers")
@@ -27,7 +45,45 @@ def keymap_of(data: Any) -> Keymap:
             if not isinstance(code, str):
                 raise Refused("layer %d of the keymap, code %d, is no text" % (number, at + 1))
     by_matrix = "vendorProductId" in data or ("layout" not in data and "keyboard" not in data and "macros" in data)
-    return Keymap(data.get("layout"), layers, by_matrix, any(data.get("encoders") or []))
+    layout, keyboard, usb = data.get("layout"), data.get("keyboard"), data.get("vendorProductId")
+    if not isinstance(layout, (str, type(None))):
+        raise Refused("the name of the keymap's layout is no text")
+    return Keymap(layout, layers, by_matrix, any(data.get("encoders") or []), usb if isinstance(usb, int) else None,
+                  keyboard if isinstance(keyboard, str) else None)
+
+
+def letters_of(name: str) -> str:
+    """A name's letters and digits."""
+    return "".join(filter(str.isalnum, name.lower()))
+
+
+def has_name(board: Board, keyboard: str, path: str) -> bool:
+    """Whether a board goes by a name of QMK's, its own or that of its file's folder."""
+    if keyboard in path.replace("\\", "/"):
+        return True
+    own = letters_of(board.name)
+    parts = [part for part in map(letters_of, keyboard.split("/")) if len(part) > 2 and not part.startswith("rev")]
+    return any(part in own or (own and own in part) for part in parts)
+
+
+def judge_board(board: Board, keymap: Keymap, path: str, any_keyboard: bool) -> list[str]:
+    """Refuses a keymap of another board; what is told where that may be. Layouts with names that many boards share fit all of
+    them."""
+    other = None
+    if keymap.usb is not None and board.usb is not None and keymap.usb != board.usb:
+        other = "the keymap is of the board with vendorProductId %d, and this one has %d" % (keymap.usb, board.usb)
+    elif keymap.keyboard and board.folder:
+        if board.folder != keymap.keyboard:
+            other = "the keymap is of the board %s, and this one is %s" % (keymap.keyboard, board.folder)
+    elif keymap.keyboard and board.name and not has_name(board, keymap.keyboard, path):
+        other = "the keymap is of the board %s, and this one is called %s" % (keymap.keyboard, board.name)
+        if keymap.layout and keymap.layout.startswith("LAYOUT_") and keymap.layout != "LAYOUT_all":
+            return [other + "; see that they have the same keys"]
+    if other is None:
+        return []
+    if not any_keyboard:
+        raise Refused(other + "; --any-keyboard takes it all the same")
+    return [other]
 
 
 def codes_of(board: Board, keymap: Keymap) -> list[list[str]]:

@@ -1,149 +1,278 @@
-"""What the legends of keys mean: those of the US, and of the UK and Germany where the US keyboard hasn't them."""
+"""From the legends of a board's keys to the keys of the 84 that they name."""
 from __future__ import annotations
 
+import html
 import re
-from dataclasses import dataclass
-from typing import Optional
+import unicodedata
+from dataclasses import dataclass, field
+from typing import Iterable, Optional
 
-from .board import Key, Refused
+from .board import Key, Refused, left_out_by
+from .countries import COUNTRIES, ROW_OF_LETTERS, Country
+from .words import ARROWS, WITH_ARROWS, Word, longest
 
-# The countries' keys with their two legends, the shifted first. A key that none of the 84 is has the name "".
-US = {"grave": "~`", "1": "!1", "2": "@2", "3": "#3", "4": "$4", "5": "%5", "6": "^6", "7": "&7", "8": "*8", "9": "(9",
-      "0": ")0", "minus": "_-", "equal": "+=", "lbracket": "{[", "rbracket": "}]", "backslash": "|\\", "semicolon": ":;",
-      "quote": "\"'", "comma": "<,", "period": ">.", "slash": "?/"}
-UK = {**US, "grave": "\u00ac`", "2": "\"2", "3": "\u00a33", "quote": "@'", "backslash": "~#", "": "|\\"}
-GERMANY = {"grave": "\u00b0^", "1": "!1", "2": "\"2", "3": "\u00a73", "4": "$4", "5": "%5", "6": "&6", "7": "/7", "8": "(8",
-           "9": ")9", "0": "=0", "minus": "?\u00df", "equal": "`\u00b4", "rbracket": "*+", "backslash": "'#",
-           "comma": ";,", "period": ":.", "slash": "_-", "": "><"}
-GERMAN_LETTERS = {"\u00fc": "lbracket", "\u00f6": "semicolon", "\u00e4": "quote", "z": "y", "y": "z"}
-LETTERS = {letter: letter for letter in "abcdefghijklmnopqrstuvwxyz"}
-
-# Legends of more than a character, in lower case, by the key that they are of.
-WORDS = {word: key for key, words in {
-    "backspace": "backspace|back space|bksp|bs|back|\u232b|r\u00fcck|l\u00f6schen", "tab": "tab|\u21b9",
-    "ctrl": "ctrl|control|lctrl|rctrl|left ctrl|right ctrl|strg", "enter": "enter|return|eingabe|\u23ce",
-    "lshift": "lshift|left shift", "rshift": "rshift|right shift",
-    "alt": "alt|lalt|ralt|left alt|right alt|altgr|alt gr", "space": "space|spacebar|leertaste",
-    "caps": "caps|caps lock|capslock|feststell", "esc": "esc|escape", "num": "num|num lock|numlock|nmlk|numlk",
-    "scroll": "scroll|scroll lock|scrolllock|scrlk|rollen", "sysreq": "sysreq|sys req|s-abf",
-    "prtsc": "prtsc|prtscn|print screen|printscreen|druck"}.items() for word in words.split("|")}
-WORDS.update({"f%d" % number: "f%d" % number for number in range(1, 11)})
-# What stands on a key of the keypad beside its digit or point, or on a key of its own.
-MOVES = {word: key for key, words in {
-    "kp7": "home|pos1|pos 1", "kp8": "up|\u2191", "kp9": "pgup|pg up|page up|pageup|bild\u2191|bild auf", "kp4": "left|\u2190",
-    "kp6": "right|\u2192", "kp1": "end|ende", "kp2": "down|\u2193", "kp3": "pgdn|pg dn|page down|pagedown|bild\u2193|bild ab",
-    "kp0": "ins|insert|einfg", "kpdot": "del|delete|entf"}.items() for word in words.split("|")}
-SHIFTS = {"shift", "\u21e7", "umschalt"}
-# Keys of the keypad whose legend another key has too.
-KEYPAD = {"-": "kpminus", "+": "kpplus", ".": "kpdot", "*": "prtsc", "/": "",
-          **{digit: "kp" + digit for digit in "0123456789"}}
+NUM_OFF = "means this while Num Lock is off"
+STAR = "types * without Shift, and prints the screen with it"
+# The keypad's keys by the character on them; "" where the 84 haven't it.
+KEYPAD = {"-": "kpminus", "\u2212": "kpminus", "\u2013": "kpminus", "+": "kpplus", ".": "kpdot", ",": "kpdot", "*": "prtsc",
+          "\u00d7": "prtsc", "/": "", "\u00f7": "", "=": "", **{digit: "kp" + digit for digit in "0123456789"}}
+# Positions of the editor's legends on a key's front.
+FRONT = (4, 5, 11)
+# How many keys must be another country's than the US's before a board is read as that country's; fewer do if the board has
+# so many keys with signs, and they are all of that country.
+FEW, MANY = 3, 6
+# How many keys that can't be read a refusal names.
+AT_ONCE = 6
 
 
 @dataclass(frozen=True)
-class Country:
-    """A country's keys by their legends."""
+class Reading:
+    """The key of the 84 that a key's legends name, "" where none; and what is told of it."""
 
     name: str
-    keys: dict[str, str]
-    letters: dict[str, str]
-
-    def key_of(self, characters: list[str]) -> Optional[str]:
-        """The key with these one or two legends, "" where none of the 84 has them, or None where no key does."""
-        if len(characters) == 2 and characters[0] != characters[1]:
-            return next((key for key, both in self.keys.items() if set(both) == set(characters)), None)
-        alone = characters[0].lower()
-        if alone in self.letters:
-            return self.letters[alone]
-        below = [key for key, both in self.keys.items() if key and both[1] == alone]
-        above = [key for key, both in self.keys.items() if key and both[0] == alone]
-        return next(iter(below + above), None)
+    note: str = ""
 
 
-COUNTRIES = [Country("the US", US, LETTERS), Country("the UK", UK, LETTERS),
-             Country("Germany", GERMANY, {**LETTERS, **GERMAN_LETTERS})]
+class Unclear(Exception):
+    """Why the legends of a key can't be read."""
+
+
+@dataclass
+class Said:
+    """What the legends of a key say: words and signs that name a key, characters, and what is neither."""
+
+    words: list[Word] = field(default_factory=list)
+    characters: list[str] = field(default_factory=list)
+    unknown: list[str] = field(default_factory=list)
+
+    def sign(self) -> str:
+        """The only arrow or like sign that the key has, or nothing."""
+        return self.words[0].text if len(self.words) == 1 and not self.characters and len(self.words[0].text) == 1 else ""
+
+    def digit(self) -> bool:
+        """Whether a digit alone, or beside a move, is on the key."""
+        return len(self.characters) == 1 and self.characters[0] in "0123456789" and all(word.is_move for word in self.words)
+
+
+def cleaned(legend: str) -> str:
+    """A legend as it is seen: without HTML; of an icon its name."""
+    legend = re.sub(r"<i class=['\"](?:fa|kb) (?:fa|kb)-([\w-]+)['\"]>", r" \1 ", legend)
+    return " ".join(html.unescape(re.sub(r"</?[A-Za-z][^<>]*>", " ", legend)).split())
 
 
 def main_legends(key: Key) -> list[str]:
     """The two legends that say what a key is: the first and the second, or the only one that it has elsewhere."""
-    first = [legend for legend in key.legends[:2] if legend]
-    rest = [legend for legend in key.legends if legend]
-    return first or (rest if len(rest) == 1 else [])
+    seen = [cleaned(legend) for legend in key.legends]
+    return [legend for legend in seen[:2] if legend] or (rest if len(rest := [part for part in seen if part]) == 1 else [])
 
 
-def parted(key: Key) -> tuple[list[str], list[str]]:
-    """The legends of one character, and those of more, arrows among them."""
-    words = [legend.lower() for legend in main_legends(key)]
-    long = [word for word in words if len(word) > 1 or word in MOVES or word in WORDS or word in SHIFTS]
-    return [word for word in words if word not in long], long
+def shown(key: Key) -> str:
+    """The legends of a key, in a line."""
+    return " ".join(filter(None, map(cleaned, key.legends)))
 
 
-def is_symbols(key: Key) -> bool:
-    """Whether a key has nothing but characters for legends."""
-    characters, words = parted(key)
-    return bool(characters) and not words
-
-
-def is_move(key: Key) -> bool:
-    """Whether a key is one of arrows and the like that the 84 have on the keypad alone."""
-    characters, words = parted(key)
-    return not characters and any(word in MOVES for word in words)
-
-
-def country_of(keys: list[Key]) -> Country:
-    """The first country that has all the keys with characters."""
-    best: Optional[Key] = None
-    fewest = len(keys) + 1
-    for country in COUNTRIES:
-        strange = [key for key in keys if is_symbols(key) and country.key_of(parted(key)[0]) is None]
-        if not strange:
-            return country
-        if len(strange) < fewest:
-            best, fewest = strange[0], len(strange)
-    assert best
-    raise Refused("%s: its legends %s are those of no key of the US, the UK or Germany; a keymap can say what it is"
-                  % (best.where, " ".join(main_legends(best))))
-
-
-def of_words(country: Country, key: Key, taken: set[str]) -> Optional[str]:
-    """The key that legends give of which one at least is a word, or None where none of the 84 has them."""
-    characters, words = parted(key)
-    digit = next((character for character in characters if re.match(r"[0-9.,]$", character)), None)
-    if digit and any(word in MOVES for word in words):
-        return KEYPAD["." if digit == "," else digit]
-    if any(word in SHIFTS for word in words):
-        return "rshift" if "lshift" in taken else "lshift"
-    if words == ["\u2190"] and key.width >= 1.5:
-        return "backspace"
-    found = {WORDS.get(word, MOVES.get(word, "")) for word in words}
-    found = (found | {country.key_of([character]) or "" for character in characters}) - {""}
-    if len(found) > 1:
-        raise Refused("%s: its legends %s are of two keys; a keymap can say which it is"
-                      % (key.where, " and ".join(main_legends(key))))
-    return next(iter(found), None)
-
-
-def of_symbols(country: Country, characters: list[str], taken: set[str]) -> Optional[str]:
-    """The key that characters give; a second one with a character that the keypad has is the keypad's."""
-    name = country.key_of(characters) or None
-    if len(characters) == 1 and name in taken and characters[0] in KEYPAD:
-        return KEYPAD[characters[0]] or None
-    return name
-
-
-def names_of(keys: list[Key]) -> tuple[list[Optional[str]], str]:
-    """The name of each key, None where none of the 84 has its legends, and the country whose legends they are."""
-    country = country_of(keys)
-    names: list[Optional[str]] = [None] * len(keys)
-    taken: set[str] = set()
-    # Keys with two legends first, so that a lone character can be told to be the keypad's.
-    for at in sorted(range(len(keys)), key=lambda at: len(main_legends(keys[at])) < 2):
-        characters, words = parted(keys[at])
-        if words:
-            name = of_words(country, keys[at], taken)
-        elif characters:
-            name = of_symbols(country, characters, taken)
+def said_by(lines: Iterable[str]) -> Said:
+    """What lines say: the longest words that their pieces make together, and else characters."""
+    said, tokens = Said(), [token for line in lines for token in line.split()]
+    while tokens:
+        found = longest(tokens)
+        if found:
+            said.words.append(found[0])
+        elif len(tokens[0]) == 1 or (len(tokens[0]) <= 3 and sum(map(str.isalnum, tokens[0])) < 2):
+            said.characters += tokens[0]
         else:
-            name = "space" if keys[at].width >= 3 else None
-        names[at] = name
-        taken.add(name or "")
-    return names, country.name
+            said.unknown.append(tokens[0])
+        tokens = tokens[found[1] if found else 1:]
+    return said
+
+
+def saying(key: Key) -> Said:
+    """What a key says: its main legends, or where they make no sense alone all that aren't at its front."""
+    said = said_by(main_legends(key))
+    if said.unknown:
+        every = said_by(cleaned(legend) for at, legend in enumerate(key.legends) if at not in FRONT)
+        said = said if every.unknown else every
+    return said
+
+
+def keypad_of(keys: list[Key], said: list[Said]) -> set[int]:
+    """Which keys are the keypad: all where the board has no letter, and else those below and beside Num Lock."""
+    digits = [at for at, say in enumerate(said) if say.digit()]
+    if not any(character.isalpha() for say in said for character in say.characters):
+        return set(range(len(keys))) if digits else set()
+    for at, say in enumerate(said):
+        if [word.key for word in say.words] == ["num"]:
+            block = {other for other, key in enumerate(keys) if -0.6 <= key.x - keys[at].x <= 3.6 and key.y >= keys[at].y - 0.1}
+            if len(block.intersection(digits)) >= 6:
+                return block
+    return set()
+
+
+def in_order(country: Country, said: list[Said]) -> bool:
+    """Whether the upper row of letters comes in the order in which this country has it."""
+    letters = [country.letter(say.characters[0]) for say in said if len(say.characters) == 1]
+    row = [key for key in letters if key and key in ROW_OF_LETTERS]
+    return "".join(row) in ROW_OF_LETTERS and len(row) > 3
+
+
+class Choosing:
+    """Which country's the legends with characters are."""
+
+    def __init__(self, said: list[Said], keypad: set[int]):
+        self.said = [say for say in said if say.characters and not say.words and not say.unknown]
+        main = [say for at, say in enumerate(said) if at not in keypad or len(say.characters) > 1]
+        self.main = [say for say in main if say.characters and not say.words and not say.unknown]
+
+    def strange(self, country: Country) -> list[Said]:
+        """The keys that this country hasn't."""
+        return [say for say in self.main if country.key_of(say.characters[:2]) is None]
+
+    def is_shown(self, country: Country) -> bool:
+        """Whether the legends show that it is this country, and not the US."""
+        if country is COUNTRIES[0]:
+            return True
+        own = [say for say in self.strange(COUNTRIES[0]) if country.key_of(say.characters[:2]) is not None]
+        foreign = any(ord(character) > 126 for say in own for character in say.characters)
+        turned = in_order(country, self.said) and not in_order(COUNTRIES[0], self.said)
+        signs = [say for say in self.main if not any(map(str.isalnum, say.characters))]
+        alone = bool(own) and len(signs) >= MANY and in_order(country, self.said) and not self.strange(country)
+        return foreign or turned or alone or len(own) >= FEW
+
+    def country(self) -> Country:
+        """The country that has the most of the keys; of those the one with the letters in this order."""
+        shown_here = [country for country in COUNTRIES if self.is_shown(country)]
+        return min(shown_here, key=lambda country: (len(self.strange(country)), not in_order(country, self.said)))
+
+
+class Legends:
+    """The keys of a board, read one by one."""
+
+    def __init__(self, keys: list[Key]):
+        self.keys, self.said = keys, [saying(key) for key in keys]
+        self.keypad = keypad_of(keys, self.said)
+        self.country = Choosing(self.said, self.keypad).country()
+        self.taken: set[str] = set()
+        named = [word.key for say in self.said for word in say.words]
+        self.has_backspace = "backspace" in named
+        self.bottom = max(key.y for key in keys)
+
+    def all(self, without: frozenset[str]) -> list[Reading]:
+        """What each key is. Keys that can't be read are refused together, but for those that may be left out."""
+        readings, unclear = [Reading("")] * len(self.keys), []
+        # Keys with two characters first, so that a lone one can be seen to be the keypad's.
+        for at in sorted(range(len(self.keys)), key=lambda at: len(self.said[at].characters) == 1):
+            if left_out_by(self.keys[at], without):
+                continue
+            try:
+                readings[at] = self.reading(at)
+                self.taken.add(readings[at].name)
+            except Unclear as why:
+                unclear.append((at, str(why)))
+        if unclear and "unknown" not in without:
+            raise Refused(self.of_unclear(sorted(unclear)))
+        return readings
+
+    def of_unclear(self, unclear: list[tuple[int, str]]) -> str:
+        """Why a board is refused some of whose keys can't be read."""
+        keys = ["%s: %s" % (self.keys[at].where, why) for at, why in unclear[:AT_ONCE]]
+        if len(unclear) > AT_ONCE:
+            keys.append("and so on, %d keys" % len(unclear))
+        if 2 * len(unclear) > len(self.keys):
+            return "; ".join(keys) + "; a keymap says what keys send that have no such legends"
+        return "%s; --without %s leaves %s out, --without unknown every such key; a keymap can say what they are" % (
+            "; ".join(keys), self.keys[unclear[0][0]].number, "it" if len(unclear) == 1 else "the first")
+
+    def reading(self, at: int) -> Reading:
+        """What a key is."""
+        key, said = self.keys[at], self.said[at]
+        if said.unknown:
+            raise Unclear("its legend %s isn't known" % shown(key))
+        if said.words and said.characters:
+            return self.of_both(key, said)
+        if said.words:
+            return self.of_words(key, said)
+        if said.characters:
+            return Reading(self.of_characters(at, said.characters[:2]))
+        return self.of_blank(key)
+
+    def of_blank(self, key: Key) -> Reading:
+        """A key without legends, which is Space where it is wide."""
+        if key.width >= 3:
+            return Reading("space")
+        if key.width >= 2 and key.y == self.bottom and not any(key.legends):
+            return Reading("space", "is taken as Space")
+        return Reading("")
+
+    def of_both(self, key: Key, said: Said) -> Reading:
+        """A key with a character and a word, which is the keypad's: a digit or point with its move. A picture beside a word
+        means nothing."""
+        if all(unicodedata.category(character) == "So" for character in said.characters):
+            return self.of_words(key, said)
+        mark = said.characters[0]
+        moves = {word.key for word in said.words}
+        if len(said.characters) == 1 and KEYPAD.get(mark) in moves | {"kp5"} and all(word.is_move for word in said.words):
+            return Reading(KEYPAD[mark])
+        raise Unclear("its legends %s are of two keys" % shown(key))
+
+    def of_words(self, key: Key, said: Said) -> Reading:
+        """A key with words alone. An arrow beside Tab and the like says the same once more."""
+        words = said.words
+        if any(word.key in WITH_ARROWS for word in words):
+            words = [word for word in words if word.text not in ARROWS]
+        # A picture beside a key's name is what the machine that the board was made for does with it.
+        words = [word for word in words if word.key or len(word.text) > 1] or words
+        names = {word.key for word in words}
+        if names == {"prtsc", "sysreq"}:
+            names = {"prtsc"}
+        if len(names) > 1 and names <= {"shift", "lshift", "rshift"}:
+            names.discard("shift")
+        if len(names) > 1:
+            raise Unclear("its legends %s are of two keys" % shown(key))
+        name = names.pop()
+        if name == "shift":
+            name = "rshift" if "lshift" in self.taken else "lshift"
+        if key.width >= 1.5 and name == "kpdot" and not self.has_backspace:
+            return Reading("backspace", "is taken as Backspace, since the key is wide and no other is")
+        if said.sign() and key.width >= 1.5 and words[0].is_move:
+            return self.of_wide_arrow(key, name)
+        if words[0].is_move:
+            return Reading(name, NUM_OFF)
+        notes = {"prtsc": STAR, "caps": "is taken as Caps Lock" if "shift" in words[0].text.lower() else ""}
+        return Reading(name, notes.get(name, ""))
+
+    def of_wide_arrow(self, key: Key, name: str) -> Reading:
+        """A wide key with an arrow alone: Backspace mostly, Shift or Tab where the arrow shows up or right."""
+        if name == "kp4" and not self.has_backspace:
+            return Reading("backspace", "is taken as Backspace, since the key is wide and no other is")
+        raise Unclear("its legend %s is on a wide key, which may be Shift, Tab or another" % shown(key))
+
+    def of_characters(self, at: int, characters: list[str]) -> str:
+        """A key with one or two characters. A lone one that was there before is the keypad's."""
+        alone = len(characters) == 1
+        if alone and at in self.keypad and characters[0] in KEYPAD:
+            return KEYPAD[characters[0]]
+        name = self.country.key_of(characters)
+        if alone and characters[0] in KEYPAD and not self.keypad and name in self.taken:
+            return KEYPAD[characters[0]]
+        if name is None and alone and self.country.shifted(characters[0]):
+            raise Unclear("its only legend %s is typed with Shift in %s" % (characters[0], self.country.name))
+        if name is None:
+            raise Unclear("its legends %s are on no key of %s" % (shown(self.keys[at]), self.country.name))
+        return name
+
+    def unread(self) -> list[str]:
+        """A line of the legends that may be a second layer's: those at the front, and words beside a character."""
+        found = ["%s (%s)" % (" ".join(front), key.where) for key in self.keys
+                 if (front := [cleaned(legend) for at, legend in enumerate(key.legends) if at in FRONT and cleaned(legend)])]
+        return ["legends at the front aren't read, and there is no second layer; a keymap can say it: %s" % ", ".join(found)
+                ] if found else []
+
+
+def names_of(keys: list[Key], without: frozenset[str]) -> tuple[list[Reading], list[str]]:
+    """What each key is, and what is told of the board's legends as a whole."""
+    if not any(map(main_legends, keys)):
+        raise Refused("none of its keys has a legend; a keymap says what they send")
+    legends = Legends(keys)
+    readings = legends.all(without)
+    told = [] if legends.country is COUNTRIES[0] else ["the legends are read as those of %s" % legends.country.name]
+    return readings, told + legends.unread()

@@ -3,7 +3,7 @@ from __future__ import annotations
 
 from typing import Any, Optional
 
-from .board import Board, Choices, Diodes, Key, Place, Refused, Tool
+from .board import Board, Choices, Diodes, Key, Place, Refused, Tool, usb_number
 
 
 def layout_named(data: dict[str, Any], wanted: set[str]) -> tuple[str, list[Any]]:
@@ -51,12 +51,15 @@ def of_qmk(data: dict[str, Any], choices: Choices, of_keymap: Optional[str]) -> 
         place = place_of(key)
         legends = [part.strip() for part in str(key.get("label", "")).split("\n")]
         where = "matrix %s" % place if place else "key %d of %s" % (number, name)
-        keys.append(Key(where, tuple(legends), float(key.get("w", 1)), place))
+        keys.append(Key(where, str(place or number), tuple(legends), float(key.get("w", 1)), place, float(key.get("x", 0)),
+                        float(key.get("y", 0))))
     said = data.get("diode_direction")
     if said is not None and said not in Diodes.__members__:
         raise Refused("its diode_direction is %s" % said)
     rows, columns = size_of(data)
-    board = Board(Tool.QMK, keys, rows, columns, Diodes[said] if said else None)
+    usb = data.get("usb", {})
+    board = Board(Tool.QMK, keys, rows, columns, Diodes[said] if said else None, bool(data.get("split", {}).get("enabled")),
+                  usb_number(usb.get("vid"), usb.get("pid")), data.get("keyboard_folder"), str(data.get("keyboard_name", "")))
     if any("encoder" in key for key in layout) or data.get("encoder", {}).get("rotary"):
         board.told.append("left out: the turns of its wheels, which are no keys")
     return board
