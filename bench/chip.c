@@ -373,8 +373,8 @@ static void adjust(void) {
     chip.a = (uint8_t)sum;
 }
 static void put_port(unsigned which, uint8_t value, Time at) {
+    run_to(x); // earlier writes are done, but for one of the instruction before
     chip.latch[which] = value;
-    if (pending == 4) return;
     int place = pending++;
     for (; place && writes[place - 1].at > at; place--) writes[place] = writes[place - 1];
     writes[place] = (Write){at, (uint8_t)which, value};
@@ -661,6 +661,7 @@ int main(int argc, char **argv) {
         asked.requests = asked.inhibits = asked.noise = asked.keys = 0; // then what is still on its way comes
         host.next_request = host.next_inhibit = FOREVER;
         whole &= run_chip(250 * MS);
+        if (asked.watch) return whole ? 0 : 1;
         counted.lost += last_due - first_due;
         printf("ran=%d started=%d requests=%ld collided=%ld garbled=%ld codes=%ld lost=%ld extra=%ld resets=%ld refused=%ld echoes=%ld "
                "resent=%ld\n", whole, started, counted.requests, counted.collided, counted.garbled, counted.codes, counted.lost,
