@@ -658,10 +658,10 @@ int main(int argc, char **argv) {
     next_key = 500 * MS;
     if (!asked.upset) {
         bool whole = run_chip(asked.length * MS);
+        if (asked.watch) return whole ? 0 : 1;
         asked.requests = asked.inhibits = asked.noise = asked.keys = 0; // then what is still on its way comes
         host.next_request = host.next_inhibit = FOREVER;
         whole &= run_chip(250 * MS);
-        if (asked.watch) return whole ? 0 : 1;
         counted.lost += last_due - first_due;
         printf("ran=%d started=%d requests=%ld collided=%ld garbled=%ld codes=%ld lost=%ld extra=%ld resets=%ld refused=%ld echoes=%ld "
                "resent=%ld\n", whole, started, counted.requests, counted.collided, counted.garbled, counted.codes, counted.lost,
