@@ -1,0 +1,162 @@
+"""KiCad's schematic (of version 6) and netlist of the board, and what a schematic says of its nets."""
+import re
+import uuid
+from typing import Any, Dict, List, Set, Tuple
+
+from drawing import SHEET, Line, Placed, Shape, ends, placed, shape
+from tables import Key, Nets, Node, Part, Type, nets_of
+
+KINDS = {"in": "input", "out": "output", "io": "bidirectional", "oc": "open_collector", "power": "power_in", "passive": "passive"}
+SPACE = uuid.UUID("6b626434-3800-4000-8000-000000000000")
+SMALL = "(effects (font (size 1 1)))"
+HIDDEN = "(effects (font (size 1 1)) hide)"
+
+
+def _id(*words: object) -> str:
+    """A name for a thing, the same in each run."""
+    return str(uuid.uuid5(SPACE, " ".join(map(str, words))))
+
+
+def _polyline(line: Line) -> str:
+    points = " ".join("(xy %g %g)" % (x, -y) for x, y in line)
+    return "(polyline (pts %s) (stroke (width 0.15) (type default) (color 0 0 0 0)) (fill (type none)))" % points
+
+
+def _symbol(part_type: Type, drawn: Shape) -> str:
+    """A type's symbol. A lead is part of its pin."""
+    tips = set(drawn.ends.values())
+    bodies = [_polyline(line) for line in drawn.lines if not (len(line) == 2 and tips & set(line))]
+    leads = {tip: line for line in drawn.lines if len(line) == 2 for tip in line if tip in tips}
+    pins = []
+    for pin in part_type.pins.values():
+        (x, y), side = drawn.ends[pin.name], drawn.sides[pin.name]
+        length = abs(leads[x, y][0][0] - leads[x, y][1][0])
+        pins.append('(pin %s line (at %g %g %d) (length %g) (name "%s" %s) (number "%s" %s))' % (
+            KINDS[pin.kind], x, -y, 0 if side < 0 else 180, length, pin.name, SMALL, pin.number, SMALL))
+    names = "(pin_numbers hide) (pin_names (offset 0) hide)" if len(part_type.pins) == 2 else "(pin_names (offset 0.5))"
+    return '(symbol "kbd48:%s" %s (in_bom yes) (on_board yes)\n  %s\n  (symbol "%s_1_1"\n   %s))' % (
+        part_type.name, names, _properties("U", part_type.name, "", "", 0, 0), part_type.name, "\n   ".join(bodies + pins))
+
+
+def _properties(reference: str, value: str, footprint: str, order: str, x: float, y: float, above: float = 2.54) -> str:
+    fields = [("Reference", reference, y - above, SMALL), ("Value", value, y + above, SMALL), ("Footprint", footprint, y, HIDDEN),
+              ("Datasheet", "", y, HIDDEN)] + [("Order", order, y, HIDDEN)] * bool(order)
+    return "\n  ".join('(property "%s" "%s" (id %d) (at %g %g 0) %s)' % (name, text, number, x, at, effects)
+                       for number, (name, text, at, effects) in enumerate(fields))
+
+
+FLAG = ('(symbol "kbd48:flag" (power) (pin_numbers hide) (pin_names (offset 0) hide) (in_bom no) (on_board no)\n  %s\n  (symbol "flag_1_1"\n   '
+        '(pin power_out line (at 0 0 90) (length 2.54) (name "flag" %s) (number "1" %s))))')
+
+
+def _label(net: str, x: float, y: float, side: int) -> str:
+    angle, justify = (180, "right") if side < 0 else (0, "left")
+    return '(global_label "%s" (shape passive) (at %g %g %d) (effects (font (size 1 1)) (justify %s)) (uuid %s))' % (
+        net, x, y, angle, justify, _id("label", x, y))
+
+
+def _instance(item: Placed) -> List[str]:
+    part, drawn = item.part, shape(item.part.type)
+    above = 2.54 if len(part.type.pins) == 2 else max(abs(y) for line in drawn.lines for _, y in line) + 2.54
+    pins = " ".join('(pin "%s" (uuid %s))' % (pin.number, _id(part.reference, pin.number)) for pin in part.type.pins.values())
+    lines = ['(symbol (lib_id "kbd48:%s") (at %g %g 0) (unit 1) (in_bom yes) (on_board yes) (uuid %s)\n  %s\n  %s)' % (
+        part.type.name, item.x, item.y, _id(part.reference),
+        _properties(part.reference, part.value, part.type.footprint, part.order, item.x, item.y, above), pins)]
+    for pin, (x, y) in ends(item).items():
+        if pin not in part.nets:
+            lines.append("(no_connect (at %g %g) (uuid %s))" % (x, y, _id("open", x, y)))
+        elif not part.nets[pin].startswith("KEY"):  # a key's switch and diode touch
+            lines.append(_label(part.nets[pin], x, y, drawn.sides[pin]))
+    return lines
+
+
+def _flags() -> Tuple[List[str], List[str]]:
+    """KiCad wants to know that the plug supplies the board."""
+    body, paths = [], []
+    for number, net in enumerate(("+5V", "GND"), 1):
+        x, y, name = 25.4 * number, 25.4, "#FLG%d" % number
+        body.append('(symbol (lib_id "kbd48:flag") (at %g %g 0) (unit 1) (in_bom no) (on_board no) (uuid %s)\n  %s (pin "1" (uuid %s)))' % (
+            x, y, _id(name), _properties(name, "flag", "", "", x, y), _id(name, 1)))
+        body.append(_label(net, x, y, 1))
+        paths.append('(path "/%s" (reference "%s") (unit 1) (value "flag") (footprint ""))' % (_id(name), name))
+    return body, paths
+
+
+def schematic(parts: List[Part], keys: List[Key]) -> str:
+    """The schematic."""
+    items = placed(parts, keys)
+    types = {part.type.name: part.type for part in parts}
+    body, paths = _flags()
+    for item in items:
+        body += _instance(item)
+        part = item.part
+        paths.append('(path "/%s" (reference "%s") (unit 1) (value "%s") (footprint "%s"))' % (
+            _id(part.reference), part.reference, part.value, part.type.footprint))
+    symbols = [_symbol(part_type, shape(part_type)) for part_type in types.values()] + [
+        FLAG % (_properties("#FLG", "flag", "", "", 0, 0), SMALL, SMALL)]
+    return '\n'.join(['(kicad_sch (version 20211123) (generator kbd48) (uuid %s) (paper "%s")' % (_id("sheet"), SHEET),
+                      '(title_block (title "kbd48: the board"))', "(lib_symbols", *symbols, ")", *body,
+                      '(sheet_instances (path "/" (page "1")))', "(symbol_instances", *paths, "))", ""])
+
+
+def netlist(parts: List[Part]) -> str:
+    """The netlist."""
+    numbers = {part.reference: part.type.pins for part in parts}
+    lines = ['(export (version "E")', " (components"]
+    lines += ['  (comp (ref "%s") (value "%s") (footprint "%s"))' % (part.reference, part.value, part.type.footprint) for part in parts]
+    lines += [" )", " (nets"]
+    for code, (net, nodes) in enumerate(sorted(nets_of(parts).items()), 1):
+        pins = "".join(' (node (ref "%s") (pin "%s"))' % (reference, numbers[reference][pin].number) for reference, pin in sorted(nodes))
+        lines.append('  (net (code "%d") (name "%s")%s)' % (code, net, pins))
+    return "\n".join(lines + [" ))", ""])
+
+
+# --- reading ---
+
+Tree = Any  # a text, or a list of trees
+
+
+def read_tree(text: str) -> Tree:
+    """A text in brackets as lists."""
+    stack: List[Tree] = [[]]
+    for word in re.findall(r'"(?:[^"\\]|\\.)*"|[()]|[^\s()]+', text):
+        if word == "(":
+            stack.append([])
+        elif word == ")":
+            inner = stack.pop()
+            stack[-1].append(inner)
+        else:
+            stack[-1].append(word.strip('"'))
+    return stack[0][0]
+
+
+def named(tree: Tree, name: str) -> List[Tree]:
+    """The lists in a list that begin with a name."""
+    return [inner for inner in tree if isinstance(inner, list) and inner and inner[0] == name]
+
+
+def symbol_pins(symbol: Tree) -> Dict[str, Tree]:
+    """The pins of a symbol by their numbers."""
+    return {named(pin, "number")[0][1]: pin for unit in named(symbol, "symbol") for pin in named(unit, "pin")}
+
+
+def drawn_nets(text: str) -> Tuple[Nets, Set[Node]]:
+    """The nets of a schematic, found from where its pins and labels are, and the open pins. Pins are given by their numbers."""
+    tree = read_tree(text)
+    symbols = {symbol[1]: symbol_pins(symbol) for symbol in named(named(tree, "lib_symbols")[0], "symbol")}
+    at: Dict[Tuple[float, float], Set[Node]] = {}
+    for item in named(tree, "symbol"):
+        x, y = map(float, named(item, "at")[0][1:3])
+        reference = next(prop[2] for prop in named(item, "property") if prop[1] == "Reference")
+        for number, pin in symbols[named(item, "lib_id")[0][1]].items():
+            dx, dy = map(float, named(pin, "at")[0][1:3])
+            if not reference.startswith("#"):
+                at.setdefault((round(x + dx, 2), round(y - dy, 2)), set()).add((reference, number))
+    opened = {node for mark in named(tree, "no_connect") for node in at.pop(tuple(map(float, named(mark, "at")[0][1:3])))}
+    nets: Nets = {}
+    for label in named(tree, "global_label"):
+        place = tuple(map(float, named(label, "at")[0][1:3]))
+        nets.setdefault(label[1], set()).update(at.pop(place, set()))
+    for nodes in at.values():
+        nets["touching " + " ".join(map("/".join, sorted(nodes)))] = nodes
+    return nets, opened

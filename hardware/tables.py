@@ -1,0 +1,147 @@
+"""The board's table and a layout as the scripts have them: parts, pins and nets."""
+import re
+import shlex
+from dataclasses import dataclass, field
+from pathlib import Path
+from typing import Dict, List, NamedTuple, Set, Tuple
+
+HERE = Path(__file__).resolve().parent
+TABLE = HERE / "board.txt"
+SAMPLE = HERE.parent / "examples" / "us84.toml"
+KINDS = ("in", "out", "io", "oc", "power", "passive")
+COLUMNS, ROWS = 12, 8
+
+
+class Refused(Exception):
+    """A file that can't be used, and why."""
+
+
+class Pin(NamedTuple):
+    """A pin of a type."""
+    number: str
+    name: str
+    kind: str
+
+
+class Type(NamedTuple):
+    """A type of part: KiCad's symbol and footprint, and its pins by name."""
+    name: str
+    symbol: str
+    footprint: str
+    pins: Dict[str, Pin]
+
+
+@dataclass
+class Part:
+    """A part: the net of each pin that isn't open, by the pin's name."""
+    reference: str
+    type: Type
+    value: str
+    order: str
+    nets: Dict[str, str] = field(default_factory=dict)
+
+
+class Key(NamedTuple):
+    """A key of the layout."""
+    name: str
+    column: int
+    row: int
+
+
+Node = Tuple[str, str]  # a part's reference and a pin's name
+Nets = Dict[str, Set[Node]]
+
+
+def _paragraphs(path: Path) -> List[Tuple[int, List[str]]]:
+    """The words of each line with those of the indented lines under it, and the line's number."""
+    paragraphs: List[Tuple[int, List[str]]] = []
+    for number, line in enumerate(path.read_text(encoding="utf-8").splitlines(), 1):
+        words = shlex.split(line, comments=True)
+        if words and line[0] == " " and paragraphs:
+            paragraphs[-1][1].extend(words)
+        elif words:
+            paragraphs.append((number, words))
+    return paragraphs
+
+
+def _type(words: List[str]) -> Type:
+    name, symbol, footprint = words[:3]
+    pins = [Pin(*word.split(":")) for word in words[3:]]
+    if len({pin.name for pin in pins}) < len(pins) or len({pin.number for pin in pins}) < len(pins):
+        raise ValueError("a pin stands twice")
+    if any(pin.kind not in KINDS for pin in pins):
+        raise ValueError("a pin's kind is one of " + ", ".join(KINDS))
+    return Type(name, symbol, footprint, {pin.name: pin for pin in pins})
+
+
+def _part(types: Dict[str, Type], reference: str, words: List[str]) -> Part:
+    part = Part(reference, types[words[0]], words[1], words[2])
+    for word in words[3:]:
+        pin, net = word.split("=")
+        if pin not in part.type.pins or pin in part.nets:
+            raise ValueError("no pin %s, or it stands twice" % pin)
+        part.nets[pin] = net
+    return part
+
+
+def _keys(types: Dict[str, Type], keys: List[Key], words: List[str]) -> List[Part]:
+    parts = []
+    for number, key in enumerate(keys, 1):
+        between = "KEY%d" % number
+        parts.append(_part(types, "SW%d" % number, [words[0], key.name, words[2], "1=ROW%d" % key.row, "2=" + between]))
+        parts.append(_part(types, "D%d" % number, words[3:6] + ["A=" + between, "K=COL%d" % key.column]))
+    return parts
+
+
+def read_board(keys: List[Key], path: Path = TABLE) -> List[Part]:
+    """The parts of the board with these keys, in the order of the table."""
+    types: Dict[str, Type] = {}
+    parts: List[Part] = []
+    for number, (what, *words) in _paragraphs(path):
+        try:
+            if what == "type":
+                types[words[0]] = _type(words)
+            elif what == "part":
+                parts.append(_part(types, words[0], words[1:]))
+            elif what == "key":
+                parts += _keys(types, keys, words)
+            else:
+                raise ValueError("a line begins with type, part or key")
+        except (ValueError, KeyError, IndexError, TypeError) as fault:
+            raise Refused("%s: line %d: %s" % (path.name, number, fault)) from fault
+    if len({part.reference for part in parts}) < len(parts):
+        raise Refused("%s: a reference stands twice" % path.name)
+    used = {"COL%d" % key.column for key in keys}
+    for part in parts:
+        part.nets = {pin: net for pin, net in part.nets.items() if net in used or not re.match(r"COL\d", net)}
+    return parts
+
+
+def read_layout(path: Path) -> List[Key]:
+    """The keys of a layout file whose tables have one entry a line, as those of examples/."""
+    try:
+        text = path.read_text(encoding="utf-8")
+    except (OSError, UnicodeDecodeError) as fault:
+        raise Refused("%s can't be read: %s" % (path, fault)) from fault
+    keys = []
+    for table in re.split(r"^\s*\[\[\s*key\s*\]\].*$", text, flags=re.MULTILINE)[1:]:
+        entry = dict(re.findall(r'^\s*(\w+)\s*=\s*"?([^"#\n]*?)"?\s*(?:#.*)?$', table, re.MULTILINE))
+        try:
+            key = Key(entry.get("key", "Fn"), int(entry["column"]), int(entry["row"]))
+        except (KeyError, ValueError) as fault:
+            raise Refused("%s: a key has no column and row, each on a line of its own" % path) from fault
+        if not (0 <= key.column < COLUMNS and 0 <= key.row < ROWS):
+            raise Refused("%s: %s is in no column of 0 to 11 and row of 0 to 7" % (path, key.name))
+        keys.append(key)
+    if not keys:
+        raise Refused("%s has no [[key]]" % path)
+    return keys
+
+
+def nets_of(parts: List[Part]) -> Nets:
+    """The pins on each net."""
+    nets: Nets = {}
+    for part in parts:
+        for pin, net in part.nets.items():
+            nets.setdefault(net, set()).add((part.reference, pin))
+    return nets
