@@ -42,6 +42,8 @@ export class KeyboardPane {
   }
 
   lamps(lights) {
+    if (lights === this.lights) return;
+    this.lights = lights;
     for (const lamp of document.querySelectorAll('#lamps [data-lamp]')) lamp.classList.toggle('on', (lights & lamp.dataset.lamp) !== 0);
   }
 

@@ -57,7 +57,7 @@ export const LESSONS = [
     file: 'four_keys.asm',
     begin: [['more:   JNT0 freed              ; the controller pulls it: the byte is broken off\n', 'more:   NOP                     ; here the clock was let go\n        NOP\n']],
     solution: [],
-    extra: { 'broken_off.keys': '10ms press a\n4550 write64 AE\n60ms release a\n100ms press b\n150ms release b\n200ms end\n' },
+    extra: { 'broken_off.keys': '10ms press a\n4200 write64 AE\n60ms release a\n100ms press b\n150ms release b\n200ms end\n' },
     calls: ['board own.hex four_keys.toml broken_off.keys'],
     items: true,
   },

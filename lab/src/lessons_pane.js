@@ -7,14 +7,14 @@ import { explained, kbd48 } from './program.js';
 const ORIGINALS = { ...files };
 
 /** The file that a lesson begins with, and its solution. */
-export const firstText = lesson => lesson.start ?? replaced(ORIGINALS[lesson.file], lesson.begin);
-export const solutionText = lesson => lesson.goal ?? replaced(ORIGINALS[lesson.file], lesson.solution);
+const firstText = lesson => lesson.start ?? replaced(ORIGINALS[lesson.file], lesson.begin);
+const solutionText = lesson => lesson.goal ?? replaced(ORIGINALS[lesson.file], lesson.solution);
 
 // The words behind each time or tick: two logs may say the same at other times.
 const itemsOf = text => text.split('\n').map(line => line.slice(line.indexOf(' ') + 1)).join('\n');
 
 /** What the program makes of a lesson's file: { outputs, fault }. */
-export function outcome(lesson, text) {
+function outcome(lesson, text) {
   const more = { ...ORIGINALS, ...lesson.extra, OWN: text };
   if (lesson.file.endsWith('.asm')) {
     const made = kbd48(['asm', 'OWN'], more);
@@ -27,7 +27,7 @@ export function outcome(lesson, text) {
 }
 
 /** Whether a file solves a lesson. */
-export function solves(lesson, text) {
+function solves(lesson, text) {
   const { outputs, fault } = outcome(lesson, text), right = outcome(lesson, solutionText(lesson)).outputs;
   if (fault) return { right: false, fault, outputs };
   const same = lesson.items ? (a, b) => itemsOf(a) === itemsOf(b) : (a, b) => a === b;
@@ -57,6 +57,9 @@ export class LessonsPane {
     };
     this.open(0);
   }
+
+  /** The solution of a lesson. */
+  solutionOf(number) { return solutionText(LESSONS[number]); }
 
   open(number) {
     this.number = number;

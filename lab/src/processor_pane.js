@@ -228,8 +228,8 @@ function registersTable(state, before) {
     ['memory bank', named.mb, before?.named.mb], ['T', named.t, before?.named.t], ['prescaler', named.pre, before?.named.pre],
     ['timer flag', named.tf, before?.named.tf], ['T runs', named.run, before?.named.run], ['timer interrupt', named.tim, before?.named.tim],
     ['in service', named.svc, before?.named.svc], ['P1', named.p1, before?.named.p1], ['P2', named.p2, before?.named.p2],
-    ['R0 to R7 of bank 0', banks[0].map(byte => hex(byte)).join(' '), before?.banks[0].map(byte => hex(byte)).join(' ')],
-    ['R0 to R7 of bank 1', banks[1].map(byte => hex(byte)).join(' '), before?.banks[1].map(byte => hex(byte)).join(' ')],
+    ['R0 to R7', banks[0].map(byte => hex(byte)).join(' '), before?.banks[0].map(byte => hex(byte)).join(' ')],
+    ['the same, bank 1', banks[1].map(byte => hex(byte)).join(' '), before?.banks[1].map(byte => hex(byte)).join(' ')],
     ['stack', stack.map(place => hex(place, 3)).join(' ') || 'empty', before && (before.stack.map(place => hex(place, 3)).join(' ') || 'empty')],
   ];
   return make('table', {}, ...rows.map(([name, now, was]) =>

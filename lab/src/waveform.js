@@ -44,8 +44,12 @@ export class Waveform {
 
   draw() {
     const { edges, bytes, cycle } = this.shown ?? this.source(), { canvas } = this, scale = globalThis.devicePixelRatio || 1;
-    const width = canvas.clientWidth, height = canvas.clientHeight;
+    const width = canvas.clientWidth, height = canvas.clientHeight, last = edges.at(-1)?.cycle ?? 0;
     if (!width) return;
+    // While nothing passes the picture stays.
+    const drawn = [last, Math.min(cycle - last, LONG), bytes.length, this.zoom, this.back, width, height, scale].join();
+    if (drawn === this.drawn) return;
+    this.drawn = drawn;
     if (canvas.width !== width * scale) canvas.width = width * scale;
     if (canvas.height !== height * scale) canvas.height = height * scale;
     const pen = canvas.getContext('2d');

@@ -66,8 +66,8 @@ export class WiresPane {
   draw() {
     const { bytes, items, stamp } = this.live();
     this.wave.draw();
-    const ms = stamp / CYCLES_OF_A_MS;
-    byId('clock-text').textContent = `${ms.toFixed(1)} ms of keyboard time`;
+    const clock = `${(stamp / CYCLES_OF_A_MS / 1000).toFixed(1)} s of keyboard time`;
+    if (byId('clock-text').textContent !== clock) byId('clock-text').textContent = clock;
     const many = bytes.length + items.length;
     if (many === this.drawn) return;
     this.drawn = many;

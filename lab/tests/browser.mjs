@@ -48,7 +48,7 @@ export async function open(program, url, [width, height]) {
     /** Waits until an expression holds. */
     async until(expression) {
       for (const end = Date.now() + PATIENCE; Date.now() < end; await browser.wait(25)) if (await browser.evaluate(expression)) return;
-      throw new Error(`it never came to be: ${expression}`);
+      throw new Error(`it never came to be: ${expression}; ${seen.join('; ')}`);
     },
     key: (type, code, more = {}) => send('Input.dispatchKeyEvent', { type, code, key: code, windowsVirtualKeyCode: 65, ...more }),
     async stroke(code, hold = 60) {
