@@ -1,0 +1,247 @@
+// The keyboard of the IBM PC/AT and the program kbd48, for Node and browsers. Both are WebAssembly modules that `lab/build`
+// makes of the proved crates; this file only passes bytes in and out. `kbd48.d.ts` has the types.
+
+export const Status = Object.freeze({
+  DONE: 0, NOT_OPEN: 1, NO_MEMORY: 2, BAD_TEXT: 3, TOO_LONG: 4, NO_SUCH_PLACE: 5, NO_SUCH_PORT: 6, FULL: 7, STUCK: 8, EARLY: 9,
+  OVER: 10, NO_WORD: 11, ROSE: 12,
+});
+
+const STATUS_TEXTS = ['done', 'the handle is empty', 'there is no memory left', 'the text has a fault', 'the text is too long',
+  'there is no such place', 'there is no such port', 'there is no room', 'the processor is stuck',
+  'the processor stuck before stamp 0', 'the count of cycles is at its end', 'there is no word', 'the interrupt line rose'];
+
+/** A call that was refused. `place` and `number` say which rule a text breaks, and at which entry or line. */
+export class Kbd48Error extends Error {
+  constructor(status, place = 0, number = 0) {
+    super(STATUS_TEXTS[status] ?? `status ${status}`);
+    Object.assign(this, { name: 'Kbd48Error', status, place, number });
+  }
+}
+
+/** The module trapped, and is dropped: no later call is made of it. */
+export class Trapped extends Error {
+  constructor(cause) {
+    super(`the module trapped and was dropped: ${cause.message}`, { cause });
+    this.name = 'Trapped';
+  }
+}
+
+// A module with its memory. Pointers are BigInts for its calls, and numbers for views.
+class Machine {
+  constructor(exports) {
+    this.exports = exports;
+    this.buffer = null;
+  }
+
+  // The memory moves when it grows.
+  get view() {
+    if (!this.exports) throw new Trapped(new Error('an earlier call trapped'));
+    if (this.buffer !== this.exports.memory.buffer) {
+      this.buffer = this.exports.memory.buffer;
+      this.cells = new DataView(this.buffer);
+    }
+    return this.cells;
+  }
+
+  call(name, ...words) {
+    if (!this.exports) throw new Trapped(new Error('an earlier call trapped'));
+    try {
+      return this.exports[name](...words);
+    } catch (cause) {
+      this.exports = null;
+      throw new Trapped(cause);
+    }
+  }
+
+  take(size) {
+    const at = this.call('page_take', BigInt(size));
+    if (at === 0n) throw new Kbd48Error(Status.NO_MEMORY);
+    return at;
+  }
+
+  give(at) {
+    this.call('page_give', at);
+  }
+
+  put(bytes, at) {
+    new Uint8Array(this.view.buffer, at, bytes.length).set(bytes);
+  }
+}
+
+/** Compiles a module's bytes and starts it. */
+async function started(bytes) {
+  const { instance } = await WebAssembly.instantiate(bytes, {});
+  return new Machine(instance.exports);
+}
+
+// Where the values lie that calls pass by pointer, in one block.
+const PLACES = { handle: 0, fault: 8, passed: 16, place: 24, byte: 28, word: 30, one: 32, two: 33, cycle: 40 };
+const PLACES_SIZE = 48;
+const ONE = 1n;
+
+/** One keyboard, as `c/kbd48.h` has it. Time is counted in cycles of 2.5 microseconds. */
+export class Keyboard {
+  static async load(bytes) {
+    return new Keyboard(await started(bytes));
+  }
+
+  constructor(machine) {
+    this.machine = machine;
+    const at = machine.take(PLACES_SIZE);
+    this.base = Number(at);
+    this.to = Object.fromEntries(Object.entries(PLACES).map(([name, offset]) => [name, at + BigInt(offset)]));
+    machine.view.setBigUint64(this.base + PLACES.handle, 0n, true);
+  }
+
+  #byte(place) {
+    return this.machine.view.getUint8(this.base + place);
+  }
+
+  #done(status) {
+    if (status !== Status.DONE) throw new Kbd48Error(status);
+  }
+
+  #open(name, text) {
+    const at = this.machine.take(text.length || 1);
+    this.machine.put(text, Number(at));
+    const status = this.machine.call(name, at, BigInt(text.length), this.to.handle, this.to.fault);
+    this.machine.give(at);
+    if (status === Status.BAD_TEXT) {
+      const { view } = this.machine;
+      throw new Kbd48Error(status, view.getUint32(this.base + PLACES.fault, true), view.getUint32(this.base + PLACES.fault + 4, true));
+    }
+    this.#done(status);
+  }
+
+  /** Opens a keyboard of a layout, the bytes of a TOML text. It is at stamp 0 then. */
+  openLayout(text) { this.#open('kbd48_open_layout', text); }
+
+  /** The same with a program as Intel HEX. */
+  openHex(text) { this.#open('kbd48_open_hex', text); }
+
+  close() { this.#done(this.machine.call('kbd48_close', this.to.handle)); }
+
+  /** A key goes down or up. The status: DONE, or FULL where four edges wait. */
+  key(place, down) { return this.machine.call('kbd48_key', this.to.handle, place, down ? 1 : 0); }
+
+  /** Runs for so many cycles, or, if watched, until the interrupt line rises. The status. */
+  run(cycles, watched = false) {
+    return this.machine.call('kbd48_run', this.to.handle, BigInt(cycles), watched ? 1 : 0, this.to.passed, this.to.place);
+  }
+
+  /** One step, which ends with ROSE if the interrupt line rose. */
+  step() { return this.machine.call('kbd48_run', this.to.handle, ONE, 1, this.to.passed, this.to.place); }
+
+  /** How many cycles the last run took. */
+  get passed() { return Number(this.machine.view.getBigUint64(this.base + PLACES.passed, true)); }
+
+  /** Where the processor is stuck, if the last run said STUCK. */
+  get stuck() {
+    return { counter: this.machine.view.getUint16(this.base + PLACES.place, true), byte: this.#byte(PLACES.place + 2) };
+  }
+
+  /** The host writes port 0x60 or 0x64. The status: DONE, or FULL. */
+  write(port, byte) { return this.machine.call('kbd48_write', this.to.handle, port, byte); }
+
+  read60() {
+    this.#done(this.machine.call('kbd48_read60', this.to.handle, this.to.byte));
+    return this.#byte(PLACES.byte);
+  }
+
+  status() {
+    this.#done(this.machine.call('kbd48_status', this.to.handle, this.to.byte));
+    return this.#byte(PLACES.byte);
+  }
+
+  /** INT 09h reads each byte, if on; at first the caller is the host. */
+  bios(on) { this.#done(this.machine.call('kbd48_bios', this.to.handle, on ? 1 : 0)); }
+
+  /** The next word of the BIOS buffer, or null if there is none. */
+  take() {
+    const status = this.machine.call('kbd48_take', this.to.handle, this.to.word);
+    if (status === Status.NO_WORD) return null;
+    this.#done(status);
+    return this.machine.view.getUint16(this.base + PLACES.word, true);
+  }
+
+  interrupt() {
+    this.#done(this.machine.call('kbd48_interrupt', this.to.handle, this.to.one));
+    return this.#byte(PLACES.one) !== 0;
+  }
+
+  /** 1 Scroll Lock, 2 Num Lock, 4 Caps Lock. */
+  lights() {
+    this.#done(this.machine.call('kbd48_lights', this.to.handle, this.to.byte));
+    return this.#byte(PLACES.byte);
+  }
+
+  /** The two wires: 1 if the clock is high, 2 if data is. */
+  wires() {
+    this.#done(this.machine.call('kbd48_wires', this.to.handle, this.to.one, this.to.two));
+    return this.#byte(PLACES.one) | this.#byte(PLACES.two) << 1;
+  }
+
+  /** The cycles since power-on; stamp 0 is cycle 4,096. */
+  cycle() {
+    this.#done(this.machine.call('kbd48_cycle', this.to.handle, this.to.cycle));
+    return Number(this.machine.view.getBigUint64(this.base + PLACES.cycle, true));
+  }
+}
+
+// The statuses of kbd48_call, and the room for a text: it grows while the program says that its sink is full.
+const CALL_DONE = 0, CALL_NO_MEMORY = 2;
+const EXIT_WRITE = 6;
+const FIRST_ROOM = 1 << 20, MOST_ROOM = 1 << 26;
+const PIECE = 16, SAID = 16;
+
+/** The whole program: each command of kbd48, over files in memory. */
+export class Program {
+  static async load(bytes) {
+    return new Program(await started(bytes));
+  }
+
+  constructor(machine) {
+    this.machine = machine;
+  }
+
+  /** Runs the program: `words` are strings, `files` maps names to bytes or strings. Its exit status and its text. */
+  run(words, files = {}) {
+    for (let room = FIRST_ROOM; ; room *= 4) {
+      const said = this.#run(words, files, room);
+      if (said.exit !== EXIT_WRITE || room >= MOST_ROOM) return said;
+    }
+  }
+
+  #run(words, files, room) {
+    const coder = new TextEncoder(), parts = [], pieces = [];
+    let length = 0;
+    const piece = part => {
+      const bytes = typeof part === 'string' ? coder.encode(part) : part;
+      parts.push(bytes);
+      pieces.push(BigInt(length), BigInt(length += bytes.length));
+    };
+    words.forEach(piece);
+    const names = Object.entries(files);
+    for (const [name, file] of names) {
+      piece(name);
+      piece(file);
+    }
+    const table = pieces.length * 8, { machine } = this;
+    const at = machine.take(table + SAID + length + room), base = Number(at);
+    new BigUint64Array(machine.view.buffer, base, pieces.length).set(pieces);
+    let to = base + table + SAID;
+    for (const part of parts) {
+      machine.put(part, to);
+      to += part.length;
+    }
+    const said = at + BigInt(table), bytes = said + BigInt(SAID), text = bytes + BigInt(length);
+    const status = machine.call('kbd48_call', bytes, BigInt(length), at, BigInt(words.length),
+      at + BigInt(PIECE * words.length), BigInt(names.length), text, BigInt(room), said);
+    const many = Number(machine.view.getBigUint64(base + table, true)), exit = machine.view.getUint8(base + table + 8);
+    const out = status === CALL_DONE ? new Uint8Array(machine.view.buffer, Number(text), many).slice() : new Uint8Array();
+    machine.give(at);
+    if (status === CALL_NO_MEMORY) throw new Kbd48Error(Status.NO_MEMORY);
+    if (status !== CALL_DONE) throw new Error('a word or a name of a file is no UTF-8 text');
+    return { exit, bytes: out, text: new TextDecoder().decode(out) };
+  }
+}

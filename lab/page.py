@@ -1,0 +1,141 @@
+"""Puts the page together: lab/src, the examples and the two modules become one HTML file that loads nothing."""
+
+from __future__ import annotations
+
+import base64
+import gzip
+import hashlib
+import json
+import re
+from pathlib import Path
+
+LAB = Path(__file__).resolve().parent
+ROOT = LAB.parent
+PAGE = LAB / "lab.html"
+MOST_BYTES = 900_000
+
+# The examples that the page has, and what they are called when that differs.
+EXAMPLES = (
+    "us84.toml sixty.toml sixty_fn.toml four_keys.toml typing_hi.keys capital_a.keys held_key.keys caps_lock.keys host.keys "
+    "ctrl_alt_del.keys noisy_line.keys broken_frame.keys sixty_fn.keys right_ctrl.keys hello.text make_code.keys make_code.script "
+    "four_keys.asm four_keys.hex four_keys.keys four_keys.script four_keys.cert wrong_parity.script unset_cell.asm run_on.asm "
+    "timer.asm delay.asm delay.hex delay.cert us84.hex kernel_delay.cert every_instruction.asm"
+).split()
+# The sections of docs/FORMATS.md that have a table of faults, and the kind of file that a refusal names.
+FAULTS = {"Key files": "keys", "`debug`": "script", "`cert`": "cert", "HEX files": "hex", "Assembler sources": "asm", "Layouts": "layout"}
+IMPORT = re.compile(r"^import [^;]*? from '(\.[^']+)';\n", re.MULTILINE)
+
+
+class Broken(Exception):
+    """What the page is made of isn't as it must be."""
+
+
+def modules_in_order(entry: Path, done: list[Path]) -> list[Path]:
+    """A script and those that it imports, each after what it imports itself."""
+    for name in IMPORT.findall(entry.read_text(encoding="utf-8")):
+        imported = (entry.parent / name).resolve()
+        if imported not in done:
+            modules_in_order(imported, done)
+    if entry not in done:
+        done.append(entry)
+    return done
+
+
+def script() -> str:
+    """All scripts as one. Two of them may not have one name at their top: the browser would refuse it."""
+    parts = []
+    for path in modules_in_order(LAB / "src" / "main.js", []):
+        text = IMPORT.sub("", path.read_text(encoding="utf-8"))
+        text = re.sub(r"^export (?=(async )?(const|let|class|function)\b)", "", text, flags=re.MULTILINE)
+        if re.search(r"^(import|export)\b", text, re.MULTILINE):
+            raise Broken(f"{path.name}: an import or export of a form that isn't known")
+        parts.append(text)
+    return "\n".join(parts)
+
+
+def kernel() -> str:
+    """The source of the keyboard's firmware."""
+    text = (ROOT / "crates/fw_kernel/src/text.rt").read_text(encoding="utf-8")
+    found = re.search(r'pub const SOURCE: &str = r"\n(.*?)";', text, re.DOTALL)
+    if not found:
+        raise Broken("crates/fw_kernel/src/text.rt: no SOURCE")
+    return found[1]
+
+
+def examples() -> dict[str, str]:
+    """The files that the page begins with."""
+    files = {name: (ROOT / "examples" / name).read_text(encoding="utf-8") for name in EXAMPLES}
+    return {**files, "kernel.asm": kernel()}
+
+
+def faults() -> dict[str, dict[str, str]]:
+    """The faults of each kind of file, by number, in the words of docs/FORMATS.md."""
+    sections = re.split(r"^## ", (ROOT / "docs/FORMATS.md").read_text(encoding="utf-8"), flags=re.MULTILINE)
+    found = {}
+    for heading, kind in FAULTS.items():
+        section = next((it for it in sections if it.startswith(heading)), "")
+        rows = dict(re.findall(r"^\| (\d+) \| (.*?) \|$", section.split("| N | fault |", 1)[-1], re.MULTILINE))
+        if "1" not in rows:
+            raise Broken(f"docs/FORMATS.md: no table of faults in the section {heading}")
+        found[kind] = {number: words.replace("`", "") for number, words in rows.items()}
+    return found
+
+
+def policy_hash(text: str) -> str:
+    """What the page's policy calls a script or a style by."""
+    return "'sha256-" + base64.b64encode(hashlib.sha256(text.encode()).digest()).decode() + "'"
+
+
+def data(value: object) -> str:
+    """JSON that may stand in a page."""
+    return json.dumps(value, ensure_ascii=False, sort_keys=True).replace("</", "<\\/")
+
+
+def packed(module: bytes) -> str:
+    """A module as text; the same module gives the same text."""
+    return base64.b64encode(gzip.compress(module, 9, mtime=0)).decode()
+
+
+def page(keyboard: str, program: str, sources: str) -> str:
+    """The page, with the two packed modules and the checksum of the crates that they were made of."""
+    style, code = (LAB / "src/style.css").read_text(encoding="utf-8"), script()
+    if "</script" in code or "</style" in style:
+        raise Broken("a script or the style ends itself")
+    policy = (
+        f"default-src 'none'; script-src {policy_hash(code)} 'wasm-unsafe-eval'; style-src {policy_hash(style)}; "
+        "img-src data:; base-uri 'none'; form-action 'none'"
+    )
+    fields = {
+        "<!--POLICY-->": f'<meta http-equiv="Content-Security-Policy" content="{policy}">',
+        "<!--SOURCES-->": f'<meta name="kbd48-sources" content="{sources}">',
+        "/*STYLE*/": style,
+        "/*FILES*/": data(examples()),
+        "/*FAULTS*/": data(faults()),
+        "/*KEYBOARD*/": keyboard,
+        "/*PROGRAM*/": program,
+        "/*SCRIPT*/": code,
+    }
+    text = (LAB / "src/page.html").read_text(encoding="utf-8")
+    parts = re.split("(" + "|".join(map(re.escape, fields)) + ")", text)
+    if sorted(part for part in parts if part in fields) != sorted(fields):
+        raise Broken("lab/src/page.html: each field must be there once")
+    made = "".join(fields.get(part, part) for part in parts)
+    if len(made.encode()) > MOST_BYTES:
+        raise Broken(f"the page has {len(made.encode())} bytes, more than {MOST_BYTES}")
+    return made
+
+
+def kept() -> tuple[str, str, str]:
+    """The packed modules and the checksum of the page that is there."""
+    text = PAGE.read_text(encoding="utf-8")
+    found = [
+        re.search(form, text)
+        for form in (
+            r'id="keyboard-module">([A-Za-z0-9+/=]+)<',
+            r'id="program-module">([A-Za-z0-9+/=]+)<',
+            r'name="kbd48-sources" content="([^"]+)"',
+        )
+    ]
+    if not all(found):
+        raise Broken("lab/lab.html has no modules")
+    return found[0][1], found[1][1], found[2][1]

@@ -1,0 +1,33 @@
+// Small helpers over the document.
+
+export const byId = id => document.getElementById(id);
+
+/** An element with these properties and children. */
+export function make(tag, properties = {}, ...children) {
+  const element = Object.assign(document.createElement(tag), properties);
+  element.append(...children);
+  return element;
+}
+
+export const hex = (number, digits = 2) => number.toString(16).toUpperCase().padStart(digits, '0');
+
+/** The options of a select; the chosen one stays, or becomes `first`. */
+export function fill(select, names, first) {
+  const chosen = names.includes(select.value) ? select.value : first;
+  select.replaceChildren(...names.map(name => new Option(name)));
+  if (names.includes(chosen)) select.value = chosen;
+}
+
+/** Says something was right or wrong. */
+export function tell(element, text, right) {
+  element.textContent = text;
+  element.className = right === undefined ? '' : right ? 'right' : 'wrong';
+  element.hidden = false;
+}
+
+/** Lets the user save a text as a file. */
+export function save(name, text) {
+  const link = make('a', { href: URL.createObjectURL(new Blob([text])), download: name });
+  link.click();
+  URL.revokeObjectURL(link.href);
+}

@@ -1,0 +1,159 @@
+// The keyboard that is drawn: real keys, the mouse and fingers press it.
+import { byId, fill, make, tell } from './dom.js';
+import { files, named, onFile } from './files.js';
+import { HEIGHT, SHAPES, WIDTH, isWhite, keyOfCode, keysOf, legendOf } from './places.js';
+import { explained, kbd48 } from './program.js';
+
+const TAP = 60; // ms that a key is held if its release isn't reported
+const LEAVE = 500; // ms between the two Escapes that leave the keyboard
+const STICKS = new Set(['lshift', 'rshift', 'ctrl', 'alt']);
+const FEW = 20; // a layout with fewer keys is drawn as its matrix
+
+export class KeyboardPane {
+  /** `open(layout, names)` begins a live keyboard; `press(place, down)` hands it an edge. */
+  constructor({ open, press }) {
+    Object.assign(this, { open, press, drawn: new Map(), held: new Map(), stuck: new Set() });
+    this.board = byId('board');
+    this.select = byId('layout');
+    fill(this.select, named('.toml'), 'us84.toml');
+    onFile(({ name }) => {
+      fill(this.select, named('.toml'), 'us84.toml');
+      if (name === this.select.value) this.begin();
+    });
+    this.select.onchange = () => this.begin();
+    byId('restart').onclick = () => { this.begin(); this.board.focus(); };
+    this.#listen();
+    this.begin();
+  }
+
+  /** Opens the chosen layout, if it is right. */
+  begin() {
+    const name = this.select.value, text = files[name], said = kbd48(['compile', name]);
+    if (said.exit !== 0) {
+      tell(byId('layout-fault'), `${name} wasn't opened: ${explained(said)?.words ?? said.text}`, false);
+      return;
+    }
+    byId('layout-fault').hidden = true;
+    this.keys = keysOf(text);
+    this.held.clear();
+    this.stuck.clear();
+    this.#draw();
+    this.open(text, new Map(this.keys.map(key => [key.place, key.name])));
+  }
+
+  lamps(lights) {
+    if (lights === this.lights) return;
+    this.lights = lights;
+    for (const lamp of document.querySelectorAll('#lamps [data-lamp]')) lamp.classList.toggle('on', (lights & lamp.dataset.lamp) !== 0);
+  }
+
+  // Each key at its place on the AT's board; of a layout with few keys, at its place in the matrix.
+  #draw() {
+    const few = this.keys.length < FEW, wide = few ? 1 + Math.max(...this.keys.map(key => key.place >> 3)) : WIDTH;
+    const high = few ? 1 + Math.max(...this.keys.map(key => key.place & 7)) : HEIGHT;
+    this.drawn.clear();
+    this.board.replaceChildren();
+    for (const key of this.keys) {
+      const { x, y, width, height } = few ? { x: key.place >> 3, y: key.place & 7, width: 1, height: 1 } : SHAPES[key.name];
+      const element = make('div', { className: isWhite(key.sends) ? 'white' : 'grey' });
+      const unit = 100 / Math.max(wide, few ? 8 : 0), row = 100 / Math.max(high, few ? 4 : 0);
+      Object.assign(element.style, { left: `${x * unit}%`, top: `calc(${y * row}% + 3px)`, width: `calc(${width * unit}% - 3px)`, height: `calc(${height * row}% - 6px)` });
+      element.dataset.key = key.name;
+      this.drawn.set(key.name, element);
+      this.board.append(element);
+      this.#point(element, key);
+    }
+    this.#legends();
+  }
+
+  // What each key sends, in the layer that is selected.
+  #legends() {
+    const under = this.keys.some(key => key.fn && this.held.get(key.name)?.size);
+    for (const key of this.keys) {
+      this.drawn.get(key.name).textContent = key.fn ? 'Fn' : legendOf(under ? key.fnSends ?? key.sends : key.sends);
+    }
+  }
+
+  #point(element, key) {
+    const sticks = STICKS.has(key.sends) || key.fn;
+    element.addEventListener('pointerdown', event => {
+      event.preventDefault();
+      this.board.focus();
+      if (sticks && (byId('sticky').checked || event.pointerType === 'touch')) {
+        const down = !this.stuck.delete(key.name);
+        if (down) this.stuck.add(key.name);
+        this.hold(key.name, down, 'stuck');
+      } else {
+        element.setPointerCapture(event.pointerId);
+        this.hold(key.name, true, 'pointer');
+      }
+    });
+    const up = () => {
+      this.hold(key.name, false, 'pointer');
+      if (!sticks) this.#unstick();
+    };
+    element.addEventListener('pointerup', up);
+    element.addEventListener('pointercancel', up);
+  }
+
+  #unstick() {
+    for (const name of this.stuck) this.hold(name, false, 'stuck');
+    this.stuck.clear();
+  }
+
+  /** A key is down while a hand, a pointer or the sticking has it down. */
+  hold(name, down, by) {
+    const key = this.keys.find(it => it.name === name);
+    if (!key) return;
+    const holders = this.held.get(name) ?? new Set(), was = holders.size > 0;
+    this.held.set(name, holders);
+    if (down) holders.add(by);
+    else holders.delete(by);
+    if (was === holders.size > 0) return;
+    this.press(key.place, down);
+    this.drawn.get(name).classList.toggle('down', down);
+    if (key.fn) this.#legends();
+  }
+
+  releaseAll() {
+    for (const [name, holders] of this.held) for (const by of [...holders]) this.hold(name, false, by);
+    this.stuck.clear();
+  }
+
+  #listen() {
+    let escaped = -Infinity;
+    this.board.addEventListener('keydown', event => {
+      const name = this.#nameOf(event.code);
+      if (!name) return;
+      event.preventDefault();
+      if (event.repeat) return;
+      this.hold(name, true, event.code);
+      // No release is reported of a key under Command, nor on a Mac of Caps Lock.
+      if (event.metaKey || (name === 'caps' && isMac)) setTimeout(() => this.hold(name, false, event.code), TAP);
+      if (event.code === 'Escape') {
+        if (event.timeStamp - escaped < LEAVE) byId('layout').focus();
+        escaped = event.timeStamp;
+      }
+    });
+    this.board.addEventListener('keyup', event => {
+      const name = this.#nameOf(event.code);
+      if (event.key === 'Meta') this.releaseAll();
+      if (!name) return;
+      event.preventDefault();
+      if (name === 'caps' && isMac) {
+        this.hold(name, true, event.code);
+        setTimeout(() => this.hold(name, false, event.code), TAP);
+      } else this.hold(name, false, event.code);
+    });
+    this.board.addEventListener('blur', () => this.releaseAll());
+    addEventListener('blur', () => this.releaseAll());
+  }
+
+  // The layout's key that does what a real key says: the key of that name, or else one that sends it.
+  #nameOf(code) {
+    const wanted = keyOfCode(code);
+    return (this.keys.find(key => key.name === wanted && key.sends === wanted) ?? this.keys.find(key => key.sends === wanted && !key.fn))?.name;
+  }
+}
+
+const isMac = /^Mac/.test(navigator.platform);

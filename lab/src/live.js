@@ -1,0 +1,134 @@
+// The keyboard that runs while one types: it goes on a step at a time, so that each change of a wire is seen. Keys and
+// writes are handed in as soon as they may be, and are kept with their stamps, so that a session is a key file too.
+import { Status } from '../kbd48.mjs';
+import { hex } from './dom.js';
+import { BOTH, Hearing } from './hearing.js';
+
+export const CYCLES_OF_A_MS = 400, FIRST_STAMP = 4096;
+// Cycles between two edges: a key file wants as many between two of one key, and so the codes come in the order of the edges.
+const APART = 2240;
+const KEPT = 40000, TRIMMED = 30000;
+// After so many cycles without a change, with no key down and nothing to be handed in, the steps are made many at a time.
+const QUIET = 40 * CYCLES_OF_A_MS, SELF_TEST = 400 * CYCLES_OF_A_MS;
+
+export class Live {
+  /** `names` has the key of each place. */
+  constructor(keyboard, layout, names) {
+    Object.assign(this, { keyboard, names, waiting: [], orders: [], events: [], edges: [], bytes: [], items: [] });
+    this.hearing = new Hearing();
+    this.lastEdge = -Infinity;
+    this.down = new Set();
+    this.up = false;
+    this.masked = false;
+    keyboard.openLayout(new TextEncoder().encode(layout));
+    keyboard.bios(true);
+    this.cycle = keyboard.cycle();
+    this.levels = BOTH;
+    this.onByte = () => {};
+    this.onWord = () => {};
+  }
+
+  get stamp() { return this.cycle - FIRST_STAMP; }
+
+  /** A key goes down or up, as soon as a key file could have it so. */
+  press(place, down) { this.waiting.push({ place, down }); }
+
+  /** The PC writes a byte, when the input buffer has room. */
+  order(port, byte) { this.orders.push({ port, byte }); }
+
+  mask(masked) {
+    this.masked = masked;
+    this.#told(masked ? 'mask' : 'unmask', () => this.keyboard.bios(!masked));
+    this.#say(masked ? 'INT 09h is masked' : 'INT 09h is let through');
+  }
+
+  read60() { this.#say(`read ${hex(this.#told('read60', () => this.keyboard.read60()))}`); }
+
+  status() { this.#say(`status ${hex(this.#told('status', () => this.keyboard.status()))}`); }
+
+  /** So many cycles pass, or a few more. */
+  advance(cycles) {
+    const end = this.cycle + cycles, { keyboard } = this;
+    while (this.cycle < end) {
+      if (this.waiting.length) this.#handEdges();
+      const said = this.#isQuiet() ? keyboard.run(end - this.cycle, true) : keyboard.step();
+      this.cycle += keyboard.passed;
+      this.#look();
+      if (said === Status.ROSE) this.up = true;
+      else if (said !== Status.DONE) throw new Error(`the run ended with status ${said}`);
+      else if (this.up && !keyboard.interrupt()) this.#entered();
+      else if (this.orders.length) this.#hand();
+    }
+  }
+
+  // Nothing happens until something is handed in: the firmware of a layout sends nothing of itself after its test.
+  #isQuiet() {
+    const since = Math.max(this.lastEdge, this.edges.at(-1)?.cycle ?? 0);
+    return this.cycle > since + QUIET && this.stamp > SELF_TEST && !this.up && this.levels === BOTH && !this.down.size
+      && !this.waiting.length && !this.orders.length;
+  }
+
+  // An event of the host is made in a step of its own.
+  #told(words, call) {
+    const { stamp } = this, said = call();
+    this.cycle = this.keyboard.cycle();
+    this.#look();
+    this.events.push({ stamp, words });
+    return said;
+  }
+
+  #look() {
+    const now = this.keyboard.wires();
+    if (now === this.levels) return;
+    this.levels = now;
+    this.edges.push({ cycle: this.cycle, levels: now });
+    if (this.edges.length > KEPT) this.edges.splice(0, KEPT - TRIMMED);
+    const byte = this.hearing.hear(this.cycle, now);
+    if (byte) this.bytes.push(byte);
+    if (this.bytes.length > KEPT) this.bytes.splice(0, KEPT - TRIMMED);
+  }
+
+  #handEdges() {
+    const [{ place, down }] = this.waiting, { cycle, stamp } = this;
+    if (cycle - this.lastEdge < APART || this.keyboard.key(place, down) !== Status.DONE) return;
+    this.waiting.shift();
+    if (down) this.down.add(place);
+    else this.down.delete(place);
+    this.lastEdge = cycle;
+    this.events.push({ stamp, words: `${down ? 'press' : 'release'} ${this.names.get(place)}` });
+  }
+
+  #hand() {
+    const [{ port, byte }] = this.orders, { stamp } = this;
+    const said = this.keyboard.write(port, byte);
+    if (said === Status.FULL) return;
+    this.cycle = this.keyboard.cycle();
+    this.#look();
+    this.orders.shift();
+    this.events.push({ stamp, words: `write${hex(port)} ${hex(byte)}` });
+    this.#say(`the PC writes ${hex(byte)} to port ${hex(port)}`);
+  }
+
+  // INT 09h, or somebody, has read a byte: the interrupt line is down again.
+  #entered() {
+    this.up = false;
+    const byte = this.#told('read60', () => this.keyboard.read60());
+    this.#say(`port ${hex(byte)}`);
+    this.onByte(byte);
+    for (let word; (word = this.#told('take', () => this.keyboard.take())) !== null;) {
+      this.#say(`word ${hex(word, 4)}`);
+      this.onWord(word);
+    }
+  }
+
+  #say(words) {
+    this.items.push({ cycle: this.cycle, words });
+    if (this.items.length > KEPT) this.items.splice(0, KEPT - TRIMMED);
+  }
+
+  /** What was done so far, as a key file. */
+  keyFile() {
+    const end = Math.max(this.stamp, 1);
+    return [...this.events.map(({ stamp, words }) => `${stamp} ${words}`), `${end} end`, ''].join('\n');
+  }
+}

@@ -1,0 +1,109 @@
+// The page: it starts the two modules, and shows the panes that are chosen.
+import { Keyboard, Program } from '../kbd48.mjs';
+import { byId, tell } from './dom.js';
+import { put } from './files.js';
+import { KeyboardPane } from './keyboard_pane.js';
+import { LessonsPane } from './lessons_pane.js';
+import { CYCLES_OF_A_MS, Live } from './live.js';
+import { ProcessorPane } from './processor_pane.js';
+import { useProgram } from './program.js';
+import { bytesOf, filesOf, unpacked } from './share.js';
+import { Pc, WiresPane } from './wires_pane.js';
+import { WorkbenchPane } from './workbench_pane.js';
+
+const LONGEST = 100; // ms of a picture that are made up for
+
+const moduleOf = async id => unpacked(bytesOf(byId(id).textContent));
+
+/** Says what went wrong; what still works goes on. */
+function trouble(error) {
+  tell(byId('trouble'), error.message, false);
+}
+addEventListener('error', event => trouble(event.error ?? event));
+addEventListener('unhandledrejection', event => trouble(event.reason));
+
+class Lab {
+  constructor(keyboard) {
+    this.keyboard = keyboard;
+    this.owed = 0;
+    this.keys = new KeyboardPane({ open: (layout, names) => this.open(layout, names), press: (place, down) => this.live.press(place, down) });
+    this.wires = new WiresPane(() => this.live, () => byId('layout').value);
+    this.processor = new ProcessorPane();
+    this.workbench = new WorkbenchPane();
+    this.lessons = new LessonsPane(name => {
+      this.show('workbench', true);
+      this.workbench.open(name);
+    });
+    for (const button of document.querySelectorAll('#panes button')) {
+      button.onclick = () => this.show(button.dataset.pane, button.getAttribute('aria-pressed') !== 'true');
+    }
+    for (const button of document.querySelectorAll('button[data-pane]')) this.show(button.dataset.pane, button.getAttribute('aria-pressed') === 'true', false);
+  }
+
+  /** Powers a keyboard on. */
+  open(layout, names) {
+    this.live = new Live(this.keyboard, layout, names);
+    const pc = new Pc((port, byte) => this.live.order(port, byte));
+    this.live.onByte = byte => pc.byte(byte);
+    this.live.onWord = word => pc.word(word);
+    byId('screen').textContent = '▁';
+    byId('masked').checked = false;
+  }
+
+  show(name, shown, scrolled = true) {
+    const pane = byId(name);
+    pane.hidden = !shown;
+    document.querySelector(`#panes [data-pane=${name}]`).setAttribute('aria-pressed', String(shown));
+    if (!shown) return;
+    this[name]?.shown?.();
+    if (scrolled) pane.scrollIntoView({ block: 'start' });
+  }
+
+  /** Lets the time pass that passed since the last picture, and draws. */
+  picture(ms) {
+    this.owed += Math.min(ms, LONGEST) * CYCLES_OF_A_MS * Number(byId('speed').value);
+    const cycles = Math.floor(this.owed), before = this.live.cycle;
+    if (cycles > 0) {
+      this.live.advance(cycles);
+      this.owed -= this.live.cycle - before;
+    }
+    this.keys.lamps(this.keyboard.lights());
+    if (!byId('wires').hidden) this.wires.draw();
+  }
+
+  start() {
+    let last = performance.now();
+    const next = now => {
+      try {
+        this.picture(now - last);
+      } catch (error) {
+        trouble(error);
+        return;
+      }
+      last = now;
+      requestAnimationFrame(next);
+    };
+    requestAnimationFrame(next);
+  }
+}
+
+async function begin() {
+  const [keyboard, program] = await Promise.all([moduleOf('keyboard-module').then(Keyboard.load), moduleOf('program-module').then(Program.load)]);
+  useProgram(program);
+  let shared = null;
+  try {
+    shared = await filesOf(location.hash);
+  } catch (error) {
+    trouble(error);
+  }
+  for (const [name, text] of Object.entries(shared ?? {})) put(name, text);
+  const lab = new Lab(keyboard);
+  globalThis.lab = lab;
+  if (shared) {
+    lab.show('workbench', true);
+    lab.workbench.open(Object.keys(shared)[0]);
+  } else byId('board').focus({ preventScroll: true });
+  lab.start();
+}
+
+await begin().catch(trouble);

@@ -1,0 +1,246 @@
+// The processor, step by step: a program on the board, under a layout and a key file.
+import { byId, fill, hex, make, tell } from './dom.js';
+import { files, named, onFile } from './files.js';
+import { FIRST_STAMP } from './live.js';
+import { explained, kbd48 } from './program.js';
+import { FOREVER, Session } from './session.js';
+import { listLines, placeOf, sourceLines } from './source.js';
+
+const KERNEL = 'kernel.asm';
+const STOPS = ['place', 'register', 'cell', 'byte']; // the probes, by their numbers
+const ROW = 16;
+
+export class ProcessorPane {
+  constructor() {
+    this.timer = null;
+    this.chosen = null;
+    this.#fill();
+    onFile(({ name, isNew }) => {
+      if (isNew) this.#fill();
+      if ([byId('program').value, byId('program-layout').value, byId('program-keys').value].includes(name)) this.session = null;
+    });
+    for (const id of ['program', 'program-layout', 'program-keys']) byId(id).onchange = () => this.open();
+    byId('power').onclick = () => this.open();
+    byId('step').onclick = () => this.#go(1, []);
+    byId('back').onclick = () => this.#to(Math.max(0, this.session.state.steps - 1));
+    byId('over').onclick = () => this.#over();
+    byId('cursor').onclick = () => { if (this.chosen !== null) this.#go(FOREVER, [`arm 0 ${hex(this.chosen, 3)} 00`]); };
+    byId('run').onclick = () => (this.timer ? this.#halt() : this.#run());
+    byId('goto').onchange = ({ target }) => { if (/^\d{1,9}$/.test(target.value)) this.#to(Number(target.value)); };
+    byId('code').addEventListener('click', event => this.#choose(event.target));
+    byId('code').addEventListener('dblclick', event => {
+      this.#choose(event.target);
+      byId('stop-place').value = this.chosen === null ? '' : hex(this.chosen, 3);
+      this.#show();
+    });
+    byId('code').addEventListener('keydown', event => {
+      const by = { ArrowDown: 1, ArrowUp: -1 }[event.key];
+      if (!by) return;
+      event.preventDefault();
+      this.#chooseNext(by);
+    });
+  }
+
+  #fill() {
+    fill(byId('program'), named('.asm', '.hex', '.toml'), 'four_keys.asm');
+    fill(byId('program-layout'), named('.toml'), 'four_keys.toml');
+    fill(byId('program-keys'), named('.keys'), 'four_keys.keys');
+  }
+
+  /** The pane is shown. */
+  shown() {
+    if (!this.session) this.open();
+  }
+
+  /** Begins a session at power-on. */
+  open() {
+    this.#halt();
+    const name = byId('program').value, how = name.endsWith('.asm') ? 'asm' : name.endsWith('.toml') ? 'compile' : null;
+    const made = how ? kbd48([how, name]) : { exit: 0, text: files[name] };
+    try {
+      if (made.exit !== 0) throw new Error(explained(made)?.words ?? made.text);
+      this.session = new Session(made.text, files[byId('program-layout').value], files[byId('program-keys').value]);
+      this.code = how === 'asm' ? sourceLines(files[name]) : how === 'compile' ? sourceLines(files[KERNEL])
+        : listLines(kbd48(['list', name]).text);
+      tell(byId('program-fault'), '');
+    } catch (refused) {
+      this.session = null;
+      this.code = { lines: [], labels: new Map() };
+      tell(byId('program-fault'), refused.message, false);
+    }
+    this.before = null;
+    this.#list();
+    this.#show();
+  }
+
+  // The probes that the breakpoints ask for, in the order of their numbers, or null if one of them is wrong.
+  #stops() {
+    const arms = [];
+    for (const [probe, kind] of STOPS.entries()) {
+      const field = byId(`stop-${kind}`), said = field.value.trim();
+      const arm = said === '' ? '' : this.#arm(kind, said);
+      field.setAttribute('aria-invalid', String(arm === null));
+      if (arm === null) {
+        tell(byId('at'), `the breakpoint ${said} isn't understood`, false);
+        return null;
+      }
+      if (arm) arms.push(`arm ${probe} ${arm}`);
+    }
+    return arms;
+  }
+
+  #arm(kind, said) {
+    if (kind === 'place') {
+      const place = placeOf(said, this.code.labels);
+      return place === null ? null : `${hex(place, 3)} 00`;
+    }
+    const found = { register: /^R([0-7])\s*=\s*([0-9A-F]{2})$/i, cell: /^([0-7][0-9A-F])\s*=\s*([0-9A-F]{2})$/i, byte: /^(keyboard|host|PC)\s+([0-9A-F]{2})$/i }[kind].exec(said);
+    if (!found) return null;
+    const first = kind === 'byte' ? Number(found[1].toLowerCase() !== 'keyboard') : Number.parseInt(found[1], 16);
+    return `${hex(first, 3)} ${found[2]}`;
+  }
+
+  #go(most, arms) {
+    if (!this.session) return null;
+    const { state } = this.session, gone = this.session.go(state.steps, most, arms);
+    this.#now(gone.state);
+    const words = `step ${gone.state.steps}, cycle ${gone.state.cycles}, stamp ${gone.state.cycles - FIRST_STAMP}`;
+    tell(byId('at'), gone.hit !== null && most > 1 ? `${words}: stopped at ${STOPS[gone.hit]}` : gone.ended ? `${words}: the run has ended` : words);
+    return gone;
+  }
+
+  #to(steps) {
+    if (!this.session) return;
+    this.#halt();
+    this.#now(this.session.go(0, steps, []).state);
+    tell(byId('at'), `step ${this.session.state.steps}, cycle ${this.session.state.cycles}, stamp ${this.session.state.cycles - FIRST_STAMP}`);
+  }
+
+  #now(state) {
+    this.before = this.session.state;
+    this.session.state = state;
+    this.#show();
+  }
+
+  // A call is over when the place behind it is reached.
+  #over() {
+    if (!this.session) return;
+    const { counter } = this.session.state, line = this.code.lines.find(it => it.place === counter);
+    if (/\bCALL\b/i.test(line?.text ?? '')) this.#go(FOREVER, [`arm 0 ${hex(counter + 2, 3)} 00`]);
+    else this.#go(1, []);
+  }
+
+  #run() {
+    const arms = this.#stops(), pace = Number(byId('pace').value);
+    if (!arms || !this.session) return;
+    byId('run').setAttribute('aria-pressed', 'true');
+    byId('run').textContent = 'Halt';
+    let last = performance.now(), owed = 1;
+    const tick = () => {
+      const now = performance.now();
+      owed += Math.min(now - last, 250) / 1000 * pace;
+      last = now;
+      const most = Math.min(Math.floor(owed), FOREVER);
+      if (most > 0) {
+        owed -= most;
+        const gone = this.#go(most, arms);
+        if (!gone || gone.hit !== null || gone.ended) {
+          this.#halt();
+          return;
+        }
+      }
+      this.timer = setTimeout(tick, 30);
+    };
+    this.timer = setTimeout(tick, 0);
+  }
+
+  #halt() {
+    clearTimeout(this.timer);
+    this.timer = null;
+    byId('run').setAttribute('aria-pressed', 'false');
+    byId('run').textContent = 'Run';
+  }
+
+  #choose(element) {
+    const place = element.closest?.('[data-place]')?.dataset.place;
+    if (place === undefined) return;
+    this.chosen = Number(place);
+    this.#mark();
+  }
+
+  #chooseNext(by) {
+    const places = this.code.lines.map(line => line.place).filter(place => place !== null).sort((a, b) => a - b);
+    const at = places.indexOf(this.chosen ?? this.session?.state.counter);
+    this.chosen = places[Math.min(places.length - 1, Math.max(0, at + by))] ?? null;
+    this.#mark();
+    this.rows.get(this.chosen)?.scrollIntoView({ block: 'nearest' });
+  }
+
+  #list() {
+    this.rows = new Map();
+    byId('code').replaceChildren(...this.code.lines.map(({ text, place }) => {
+      const row = make('div', { textContent: `${place === null ? '   ' : hex(place, 3)}  ${text}` });
+      if (place !== null) {
+        row.dataset.place = place;
+        row.setAttribute('role', 'option');
+        this.rows.set(place, row);
+      }
+      return row;
+    }));
+  }
+
+  #mark() {
+    const counter = this.session?.state.counter, stop = placeOf(byId('stop-place').value.trim(), this.code.labels);
+    for (const [place, row] of this.rows) {
+      row.classList.toggle('here', place === counter);
+      row.classList.toggle('chosen', place === this.chosen);
+      row.classList.toggle('stop', place === stop);
+      row.setAttribute('aria-selected', String(place === this.chosen));
+    }
+  }
+
+  #show() {
+    for (const id of ['back', 'step', 'over', 'cursor', 'run']) byId(id).disabled = !this.session;
+    this.#mark();
+    if (!this.session) return;
+    const { state, log } = this.session;
+    const row = this.rows.get(state.counter), code = byId('code');
+    if (row && (row.offsetTop < code.scrollTop || row.offsetTop > code.scrollTop + code.clientHeight - 40)) {
+      code.scrollTop = row.offsetTop - code.clientHeight / 2;
+    }
+    byId('registers').replaceChildren(registersTable(state, this.before));
+    byId('cells').replaceChildren(cellsTable(state, this.before));
+    const said = byId('said');
+    said.textContent = log.filter(item => item.stamp <= state.cycles - FIRST_STAMP).map(item => item.line).join('\n');
+    said.scrollTop = said.scrollHeight;
+  }
+}
+
+function cell(text, changed) {
+  return make('td', { textContent: text, className: changed ? 'changed' : '' });
+}
+
+function registersTable(state, before) {
+  const { named, flags, banks, stack } = state;
+  const rows = [
+    ['PC', hex(state.counter, 3), before && hex(before.counter, 3)], ['A', named.a, before?.named.a], ['PSW', named.psw, before?.named.psw],
+    ...Object.entries(flags).map(([name, bit]) => [name, bit, before?.flags[name]]), ['F1', named.f1, before?.named.f1],
+    ['memory bank', named.mb, before?.named.mb], ['T', named.t, before?.named.t], ['prescaler', named.pre, before?.named.pre],
+    ['timer flag', named.tf, before?.named.tf], ['T runs', named.run, before?.named.run], ['timer interrupt', named.tim, before?.named.tim],
+    ['in service', named.svc, before?.named.svc], ['P1', named.p1, before?.named.p1], ['P2', named.p2, before?.named.p2],
+    ['R0 to R7', banks[0].map(byte => hex(byte)).join(' '), before?.banks[0].map(byte => hex(byte)).join(' ')],
+    ['the same, bank 1', banks[1].map(byte => hex(byte)).join(' '), before?.banks[1].map(byte => hex(byte)).join(' ')],
+    ['stack', stack.map(place => hex(place, 3)).join(' ') || 'empty', before && (before.stack.map(place => hex(place, 3)).join(' ') || 'empty')],
+  ];
+  return make('table', {}, ...rows.map(([name, now, was]) =>
+    make('tr', {}, make('th', { scope: 'row', textContent: name }), cell(String(now), was !== undefined && was !== null && String(was) !== String(now)))));
+}
+
+function cellsTable({ cells }, before) {
+  const rows = [];
+  for (let at = 0; at < cells.length; at += ROW) {
+    rows.push(make('tr', {}, make('th', { scope: 'row', textContent: hex(at) }),
+      ...cells.slice(at, at + ROW).map((byte, n) => cell(hex(byte), before && before.cells[at + n] !== byte))));
+  }
+  return make('table', {}, ...rows);
+}

@@ -1,0 +1,113 @@
+// What passes between keyboard and PC while one types, and what the PC says.
+import { byId, hex, make, tell } from './dom.js';
+import { put } from './files.js';
+import { CYCLES_OF_A_MS, FIRST_STAMP } from './live.js';
+import { explained, kbd48 } from './program.js';
+import { Waveform } from './waveform.js';
+
+const SHOWN = 200; // lines
+const STEP = 160; // pixels
+// Each command with the bytes that the PC writes: to port 60h, or to 64h.
+const COMMANDS = [
+  ['ED 07: all lights', [0x60, 0xED], [0x60, 0x07]], ['ED 00: no light', [0x60, 0xED], [0x60, 0x00]],
+  ['F3 00: fast repeat', [0x60, 0xF3], [0x60, 0x00]], ['F3 7F: slow repeat', [0x60, 0xF3], [0x60, 0x7F]],
+  ['FF: reset', [0x60, 0xFF]], ['EE: echo', [0x60, 0xEE]], ['FE: resend', [0x60, 0xFE]], ['AD: keyboard off', [0x64, 0xAD]],
+  ['AE: keyboard on', [0x64, 0xAE]], ['D1 DF: output port', [0x64, 0xD1], [0x60, 0xDF]],
+];
+const LOCKS = { 0x46: 1, 0x45: 2, 0x3A: 4 };
+const BREAK = 0x80, SET_LIGHTS = 0xED;
+const SCREEN = 1500; // characters
+
+export class WiresPane {
+  /** `live()` answers the keyboard that runs. */
+  constructor(live, layoutName) {
+    Object.assign(this, { live, layoutName, drawn: -1 });
+    this.wave = new Waveform(byId('wave'), live);
+    for (const [words, ...bytes] of COMMANDS) {
+      const button = make('button', { type: 'button', textContent: words });
+      button.onclick = () => { for (const [port, byte] of bytes) live().order(port, byte); };
+      byId('commands').append(button, ' ');
+    }
+    for (const port of [0x60, 0x64]) byId(`write${hex(port)}`).onclick = () => this.#any(port);
+    byId('read60').onclick = () => live().read60();
+    byId('read64').onclick = () => live().status();
+    byId('masked').onchange = event => live().mask(event.target.checked);
+    byId('pause').onclick = ({ currentTarget: button }) => {
+      const paused = button.getAttribute('aria-pressed') !== 'true';
+      button.setAttribute('aria-pressed', String(paused));
+      this.wave.paused = paused;
+    };
+    byId('zoom-in').onclick = () => this.wave.zoomBy(2);
+    byId('zoom-out').onclick = () => this.wave.zoomBy(0.5);
+    byId('wave-back').onclick = () => this.wave.move(STEP);
+    byId('wave-on').onclick = () => this.wave.move(-STEP);
+    byId('session').onclick = () => {
+      put('session.keys', live().keyFile());
+      tell(byId('judged'), 'session.keys is in the workbench');
+    };
+    byId('judge').onclick = () => this.#judge();
+  }
+
+  #any(port) {
+    const text = byId('any-byte').value;
+    if (/^[0-9A-Fa-f]{2}$/.test(text)) this.live().order(port, Number.parseInt(text, 16));
+    else tell(byId('judged'), `${text || 'nothing'} is no byte of two hexadecimal digits`, false);
+  }
+
+  // What was done so far as a key file, under the model and under the firmware.
+  #judge() {
+    const keys = { 'session.keys': this.live().keyFile() }, layout = this.layoutName();
+    const run = kbd48(['run', layout, 'session.keys'], keys), expect = kbd48(['expect', layout, 'session.keys'], keys);
+    if (run.exit !== 0) tell(byId('judged'), `the session is no key file: ${explained(run)?.words}`, false);
+    else if (run.text === expect.text) tell(byId('judged'), `run and expect print the same ${run.text.split('\n').length - 1} lines of this session`, true);
+    else tell(byId('judged'), 'run and expect differ', false);
+  }
+
+  draw() {
+    const { bytes, items, stamp } = this.live();
+    this.wave.draw();
+    const clock = `${(stamp / CYCLES_OF_A_MS / 1000).toFixed(1)} s of keyboard time`;
+    if (byId('clock-text').textContent !== clock) byId('clock-text').textContent = clock;
+    const many = bytes.length + items.length;
+    if (many === this.drawn) return;
+    this.drawn = many;
+    write(byId('bytes'), bytes.slice(-SHOWN).map(byte => `${at(byte.begin)}  ${byte.sender === 'host' ? 'PC → keyboard' : 'keyboard → PC'}  ${hex(byte.byte)}`));
+    write(byId('log'), items.slice(-SHOWN).map(item => `${at(item.cycle)}  ${item.words}`));
+  }
+}
+
+const at = cycle => `${((cycle - FIRST_STAMP) / CYCLES_OF_A_MS).toFixed(2).padStart(10)} ms`;
+
+// The lines, with the last one in sight.
+function write(element, lines) {
+  element.textContent = lines.join('\n');
+  element.scrollTop = element.scrollHeight;
+}
+
+/** A program on the PC: it shows what is typed, and sets the lights after a lock key, as the AT's BIOS did. */
+export class Pc {
+  constructor(order) {
+    Object.assign(this, { order, text: '', lights: 0, lock: 0 });
+  }
+
+  byte(byte) {
+    if (byte === (this.lock | BREAK)) this.lock = 0;
+    else if (LOCKS[byte] && byte !== this.lock) {
+      this.lock = byte;
+      this.lights ^= LOCKS[byte];
+      this.order(0x60, SET_LIGHTS);
+      this.order(0x60, this.lights);
+    }
+  }
+
+  word(word) {
+    const code = word & 255;
+    if (code === 8) this.text = this.text.slice(0, -1);
+    else if (code === 13) this.text += '\n';
+    else if (code >= 32 && code < 127) this.text += String.fromCharCode(code);
+    this.text = this.text.slice(-SCREEN);
+    const screen = byId('screen');
+    screen.textContent = `${this.text}▁`;
+    screen.scrollTop = screen.scrollHeight;
+  }
+}

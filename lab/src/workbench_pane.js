@@ -1,0 +1,152 @@
+// Files, and what the program makes of them.
+import { byId, fill, make, save, tell } from './dom.js';
+import { files, named, onFile, put } from './files.js';
+import { EXIT, explained, kbd48 } from './program.js';
+import { linkOf } from './share.js';
+import { readTrace } from './vcd.js';
+import { Waveform } from './waveform.js';
+
+const LARGEST = 4 << 20;
+// What is offered for a file by its ending; NAME is the file, STEM its name without the ending.
+const OFFERS = {
+  asm: [['asm NAME'], ['board STEM.hex STEM.toml STEM.keys'], ['board STEM.hex STEM.toml STEM.keys --trace']],
+  hex: [['list NAME'], ['step NAME 25'], ['board NAME STEM.toml STEM.keys'], ['cert NAME STEM.cert']],
+  toml: [['compile NAME'], ['run NAME STEM.keys']],
+  keys: [['run us84.toml NAME', 'expect us84.toml NAME'], ['trace us84.toml NAME']],
+  cert: [['cert STEM.hex NAME']],
+  script: [['debug us84.toml STEM.keys NAME'], ['probe STEM.hex STEM.toml STEM.keys NAME']],
+  text: [['type us84.toml NAME']],
+};
+// What a command makes is kept under the file's name with this ending.
+const MADE = { asm: 'hex', compile: 'hex', list: 'asm', type: 'keys', trace: 'vcd', run: 'log', board: 'log' };
+const INPUTS = /\.(asm|hex|toml|keys|cert|script|text|items|log|vcd|json|list)$/;
+
+export class WorkbenchPane {
+  constructor() {
+    this.select = byId('file');
+    this.editor = byId('text');
+    this.#fill('four_keys.asm');
+    onFile(({ name, isNew }) => {
+      if (isNew) this.#fill(this.select.value);
+      if (name === this.select.value && this.editor.value !== files[name]) this.editor.value = files[name];
+    });
+    this.select.onchange = () => this.open(this.select.value);
+    this.editor.oninput = () => put(this.select.value, this.editor.value);
+    byId('new-file').onclick = () => this.#new();
+    byId('open-file').onchange = event => this.#take(event.target);
+    byId('save-file').onclick = () => save(this.select.value, this.editor.value);
+    byId('share').onclick = () => this.#share();
+    byId('do').onclick = () => this.run(byId('words').value);
+    byId('words').addEventListener('keydown', event => { if (event.key === 'Enter') this.run(byId('words').value); });
+    byId('keep').onclick = () => { put(this.made.name, this.made.text); this.open(this.made.name); };
+    this.wave = new Waveform(byId('trace'), () => this.traced ?? { edges: [], bytes: [], cycle: 0 });
+    this.open('four_keys.asm');
+    byId('words').value = 'board four_keys.hex four_keys.toml four_keys.keys';
+  }
+
+  #fill(first) {
+    fill(this.select, Object.keys(files).sort(), first);
+  }
+
+  shown() {
+    if (byId('answer').textContent === '') this.run(byId('words').value);
+    this.wave.draw();
+  }
+
+  /** Shows a file, and what may be done with it. */
+  open(name) {
+    this.#fill(name);
+    this.select.value = name;
+    this.editor.value = files[name];
+    const [, stem, ending] = /^(.*?)\.?([^.]*)$/.exec(name);
+    const offers = (OFFERS[ending] ?? []).map(pair => pair.map(words => words.replaceAll('NAME', name).replaceAll('STEM', stem)));
+    byId('offers').replaceChildren(...offers.filter(pair => pair.every(isPossible)).map(pair => {
+      const button = make('button', { type: 'button', textContent: pair.join(' and ') });
+      button.onclick = () => {
+        byId('words').value = pair[0];
+        this.run(pair[0], pair[1]);
+      };
+      return button;
+    }));
+  }
+
+  /** Runs one command, and a second one beside it. */
+  run(text, beside) {
+    const words = text.trim().split(/\s+/), before = performance.now(), said = kbd48(words), took = performance.now() - before;
+    byId('answer').textContent = said.text;
+    const other = beside ? kbd48(beside.trim().split(/\s+/)).text : null;
+    byId('other').hidden = other === null;
+    byId('other').textContent = other ?? '';
+    this.#tell(words, said, other, took);
+    this.#trace(said);
+    this.#keep(words, said);
+  }
+
+  #tell(words, said, other, took) {
+    const fault = said.exit === EXIT.DONE ? null : explained(said);
+    if (fault) {
+      tell(byId('told'), `exit ${said.exit}: ${fault.words}`, false);
+      const name = fault.line && words.slice(1).find(word => kindOf(word) === fault.kind);
+      if (name) this.#goTo(name, fault.line);
+    } else if (other !== null) tell(byId('told'), other === said.text ? 'both print the same' : 'they differ', other === said.text);
+    else tell(byId('told'), `exit ${said.exit}, ${said.bytes.length} bytes in ${took.toFixed(0)} ms`);
+  }
+
+  #goTo(name, line) {
+    this.open(name);
+    const lines = this.editor.value.split('\n'), start = lines.slice(0, line - 1).reduce((sum, it) => sum + it.length + 1, 0);
+    this.editor.setSelectionRange(start, start + (lines[line - 1]?.length ?? 0));
+    this.editor.scrollTop = this.editor.scrollHeight * Math.max(0, line - 5) / lines.length;
+  }
+
+  #trace(said) {
+    const isTrace = said.text.startsWith('$timescale');
+    byId('trace').hidden = !isTrace;
+    if (!isTrace) return;
+    this.traced = readTrace(said.text);
+    this.wave.back = 0;
+    this.wave.draw();
+  }
+
+  #keep(words, said) {
+    const ending = MADE[words[0]], stem = words[1]?.replace(/\.[^.]*$/, '');
+    byId('keep').hidden = said.exit !== EXIT.DONE || !ending;
+    if (byId('keep').hidden) return;
+    this.made = { name: `${stem}.${words.includes('--trace') ? 'vcd' : ending}`, text: said.text };
+    byId('keep').textContent = `Keep as ${this.made.name}`;
+  }
+
+  #new() {
+    const taken = name => name in files;
+    let number = 1;
+    while (taken(`own${number}.asm`)) number++;
+    put(`own${number}.asm`, '; a program of your own\n');
+    this.open(`own${number}.asm`);
+    this.editor.focus();
+  }
+
+  async #take(input) {
+    for (const file of input.files) {
+      const name = file.name.replace(/[^\w.-]/g, '_');
+      if (file.size > LARGEST) tell(byId('shared'), `${name} is longer than any file that the program reads`, false);
+      else {
+        put(name, await file.text());
+        this.open(name);
+      }
+    }
+    input.value = '';
+  }
+
+  // The file that is open, with what its command names beside it.
+  async #share() {
+    const names = new Set([this.select.value, ...byId('words').value.split(/\s+/).filter(word => word in files)]);
+    const link = await linkOf(Object.fromEntries([...names].map(name => [name, files[name]])));
+    history.replaceState(null, '', link);
+    tell(byId('shared'), `The address of this page now carries ${[...names].join(', ')}. `);
+    byId('shared').append(make('a', { href: link, textContent: 'The link' }));
+  }
+}
+
+const kindOf = name => ({ asm: 'asm', hex: 'hex', toml: 'layout', keys: 'keys', script: 'script', cert: 'cert' })[name.split('.').at(-1)];
+
+const isPossible = words => words.split(' ').filter(word => INPUTS.test(word)).every(name => name in files);

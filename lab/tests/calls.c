@@ -1,0 +1,64 @@
+/* Random calls of the C library, and a checksum of what they answer: LAYOUT SEED COUNT. lab/tests/module.mjs makes the same
+   calls of the module in the page. */
+#include "kbd48.h"
+#include <inttypes.h>
+#include <stdio.h>
+#include <stdlib.h>
+
+static uint64_t state, sum = 14695981039346656037u;
+
+static uint64_t random_below(uint64_t count) {
+    state = state * 6364136223846793005u + 1442695040888963407u;
+    return (state >> 33) % count;
+}
+
+static void add(uint64_t value) {
+    for (int bit = 0; bit < 64; bit += 8) sum = (sum ^ (value >> bit & 255)) * 1099511628211u;
+}
+
+/* What a random call answers: its status, or its value if it has one. */
+static uint64_t answer(kbd48 *keyboard, long number) {
+    uint64_t what = random_below(10), x = random_below(256), cycles = random_below(3000), flag = random_below(2), passed;
+    kbd48_place place;
+    uint16_t word;
+    uint8_t byte;
+    bool clock, data;
+    switch (what) {
+    case 0:
+    case 1: return (uint64_t)kbd48_key(keyboard, x % 96, flag);
+    case 2: return (uint64_t)kbd48_write(keyboard, flag ? 0x60 : 0x64, x);
+    case 3: return kbd48_read60(keyboard, &byte) ? 999 : byte;
+    case 4: return kbd48_status(keyboard, &byte) ? 999 : byte;
+    case 5: return kbd48_take(keyboard, &word) ? 99999 : word;
+    case 6:
+        if (number % 50) return kbd48_lights(keyboard, &byte) ? 999 : byte;
+        return (uint64_t)kbd48_bios(keyboard, flag);
+    case 7:
+        kbd48_wires(keyboard, &clock, &data);
+        return clock | data << 1;
+    default: return (uint64_t)kbd48_run(keyboard, cycles, flag, &passed, &place) * 1000000 + passed;
+    }
+}
+
+int main(int argc, char **argv) {
+    static uint8_t text[65536];
+    FILE *file = argc == 4 ? fopen(argv[1], "rb") : NULL;
+    if (!file) return 2;
+    size_t length = fread(text, 1, sizeof text, file);
+    fclose(file);
+    kbd48 keyboard = KBD48_EMPTY;
+    kbd48_fault fault;
+    uint64_t cycle = 0;
+    if (kbd48_open_layout(text, length, &keyboard, &fault) != KBD48_DONE) return 1;
+    state = strtoull(argv[2], NULL, 10) * 2 + 1;
+    for (long number = 0; number < atol(argv[3]); number++) {
+        bool clock, data;
+        add(answer(&keyboard, number));
+        kbd48_wires(&keyboard, &clock, &data);
+        kbd48_cycle(&keyboard, &cycle);
+        add(cycle * 4 + (clock | data << 1));
+    }
+    kbd48_close(&keyboard);
+    printf("%016" PRIx64 " cycle %" PRIu64 "\n", sum, cycle);
+    return 0;
+}

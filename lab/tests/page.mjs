@@ -1,0 +1,242 @@
+// usage: node page.mjs CHROMIUM LAB.html [SHOTS]: the page in a browser, by scripted keys and clicks. Pictures go to SHOTS.
+import assert from 'node:assert/strict';
+import { join } from 'node:path';
+import { pathToFileURL } from 'node:url';
+import { open } from './browser.mjs';
+
+const [, , chromium, page, shots] = process.argv;
+const url = pathToFileURL(page).href;
+const LEAST_CONTRAST = 4.5; // WCAG 2, AA
+const browser = await open(chromium, url, [1280, 1320]);
+const textOf = id => browser.evaluate(`document.getElementById('${id}').textContent`);
+const says = async (id, form) => {
+  try {
+    await browser.until(`${form}.test(document.getElementById('${id}').textContent)`);
+  } catch (error) {
+    throw new Error(`${id} has ${JSON.stringify(await textOf(id))}: ${error.message}`, { cause: error });
+  }
+};
+const only = async name => {
+  await browser.evaluate(`document.querySelectorAll('#panes button').forEach(button => lab.show(button.dataset.pane, button.dataset.pane === '${name}'))`);
+  await browser.wait(50);
+};
+const shot = async name => {
+  if (!shots) return;
+  await browser.evaluate('scrollTo(0, 0)');
+  await browser.wait(100);
+  await browser.screenshot(join(shots, `${name}.png`));
+};
+const ready = () => browser.until('globalThis.lab?.live?.stamp > 0');
+const put = (id, text) => browser.evaluate(`(() => { const it = document.getElementById('${id}'); it.value = ${JSON.stringify(text)}; it.dispatchEvent(new Event('input')); it.dispatchEvent(new Event('change')); })()`);
+
+async function keyboard() {
+  await says('log', /port AA/);
+  assert.equal(await browser.evaluate('document.activeElement.id'), 'board', 'one can type at once');
+  await browser.key('keyDown', 'ShiftLeft');
+  await browser.stroke('KeyH');
+  await browser.key('keyUp', 'ShiftLeft');
+  for (const code of ['KeyI', 'Comma', 'Space', 'KeyP', 'KeyC', 'Enter']) await browser.stroke(code);
+  await says('screen', /^Hi, pc\n▁$/);
+  await browser.stroke('CapsLock');
+  await browser.until('document.querySelector("[data-lamp=\\"4\\"]").classList.contains("on")');
+  await browser.stroke('KeyQ');
+  await says('screen', /Q▁$/);
+  await says('bytes', /PC → keyboard {2}ED[^]*keyboard → PC {2}FA[^]*PC → keyboard {2}04/);
+  const drawn = await browser.place('[data-key=x]');
+  await browser.mouse('mousePressed', drawn);
+  await says('screen', /QXXX/);
+  await browser.mouse('mouseReleased', drawn);
+  await shot('keyboard');
+  await browser.stroke('Escape', 40);
+  await browser.stroke('Escape', 40);
+  assert.equal(await browser.evaluate('document.activeElement.id'), 'layout', 'Escape twice leaves the keyboard');
+}
+
+async function wires() {
+  await browser.evaluate('[...document.querySelectorAll("#commands button")].find(it => it.textContent.startsWith("EE")).click()');
+  await says('bytes', /PC → keyboard {2}EE[^]*keyboard → PC {2}EE/);
+  await put('any-byte', 'zz');
+  await browser.click('#write60');
+  await says('judged', /zz is no byte/);
+  await browser.click('#judge');
+  await says('judged', /print the same \d+ lines/);
+  await browser.click('#pause');
+  await browser.click('#zoom-in');
+  await browser.click('#wave-back');
+  await browser.click('#pause');
+  await shot('wires');
+}
+
+async function processor() {
+  await only('processor');
+  await put('stop-place', 'send');
+  await browser.click('#run');
+  await says('at', /step 5800, cycle 8120, stamp 4024: stopped at place/);
+  assert.match(await textOf('registers'), /PC019A1C/);
+  assert.match(await browser.evaluate('document.querySelector("#code .here").textContent'), /^019 {2}send:/);
+  await put('stop-place', '');
+  await put('stop-byte', 'keyboard 1C');
+  await browser.click('#run');
+  await says('at', /step 6069, .*stopped at byte/);
+  await browser.click('#back');
+  await says('at', /step 6068,/);
+  await browser.click('#step');
+  await says('at', /step 6069,/);
+  await put('stop-byte', 'nothing');
+  await browser.click('#run');
+  await says('at', /isn't understood/);
+  await put('stop-byte', '');
+  await put('goto', '60119');
+  await says('said', /4440 word 1E61[^]*40879 word 2E63$/);
+  await put('program', 'us84.toml');
+  await put('program-layout', 'us84.toml');
+  await put('program-keys', 'make_code.keys');
+  await put('stop-register', 'R2=1C');
+  await browser.evaluate('document.getElementById("pace").value = "999999999"');
+  await browser.click('#run');
+  await says('at', /stopped at register/);
+  await shot('processor');
+  await put('program', 'run_on.asm');
+  await put('stop-register', '');
+  await browser.click('#run');
+  await says('at', /the run has ended/);
+}
+
+async function workbench() {
+  await only('workbench');
+  await browser.click('#new-file');
+  await put('text', 'MOV A,#5\nloop: DEC B\nJMP loop\n');
+  await put('words', 'asm own1.asm');
+  await browser.click('#do');
+  await says('told', /exit 3: line 2: the operands fit no row/);
+  assert.equal(await browser.evaluate('(it => it.value.slice(it.selectionStart, it.selectionEnd))(document.getElementById("text"))'), 'loop: DEC B');
+  await put('text', 'MOV A,#5\nloop: DEC A\nJMP loop\n');
+  await browser.click('#do');
+  await says('answer', /^:100000002305070402/);
+  await browser.click('#keep');
+  await put('words', 'step own1.hex 3');
+  await browser.click('#do');
+  await says('answer', /pc 002 a 04 /);
+  await browser.evaluate('lab.workbench.open("typing_hi.keys"); document.querySelector("#offers button").click()');
+  await says('told', /both print the same/);
+  await put('words', 'trace us84.toml typing_hi.keys');
+  await browser.click('#do');
+  assert.equal(await browser.evaluate('lab.workbench.traced.bytes.map(it => it.byte.toString(16)).join(" ")'), 'aa 12 33 f0 33 f0 12 43 f0 43 5a f0 5a');
+  await shot('workbench');
+  await put('words', 'run us84.toml nothing.keys');
+  await browser.click('#do');
+  await says('told', /exit 5: a file that the words name is not here/);
+}
+
+async function brokenLayout() {
+  await browser.evaluate('lab.workbench.open("sixty.toml")');
+  const whole = await browser.evaluate('document.getElementById("text").value');
+  await put('text', whole.replace('column = 0', 'column = 12'));
+  await only('keyboard');
+  await put('layout', 'sixty.toml');
+  await says('layout-fault', /sixty\.toml wasn't opened: entry 1 of the layout: place out of range/);
+  await put('layout', 'us84.toml');
+}
+
+async function shareLink() {
+  await only('workbench');
+  await browser.evaluate('lab.workbench.open("own1.asm")');
+  await browser.click('#share');
+  await says('shared', /carries own1.asm/);
+  const link = await browser.evaluate('location.href');
+  await go(link);
+  assert.equal(await browser.evaluate('document.getElementById("text").value'), 'MOV A,#5\nloop: DEC A\nJMP loop\n');
+  await go(`${url}#files=AAAA`);
+  await says('trouble', /the link is broken/);
+}
+
+async function go(to) {
+  await browser.send('Page.navigate', { url: 'about:blank' });
+  await browser.send('Page.navigate', { url: to });
+  await ready();
+}
+
+async function lessons() {
+  await only('lessons');
+  const many = await browser.evaluate('document.querySelectorAll("#lesson-list button").length');
+  for (let number = 0; number < many; number++) {
+    await browser.evaluate(`lab.lessons.open(${number})`);
+    await browser.click('#lesson-check');
+    await says('lesson-result', /^Not yet/);
+    await put('lesson-file', await browser.evaluate(`lab.lessons.solutionOf(${number})`));
+    await browser.click('#lesson-check');
+    await says('lesson-result', /^Done/);
+  }
+  await shot('lessons');
+  return many;
+}
+
+// Each visible text has enough contrast with what lies under it.
+async function contrast() {
+  const poor = await browser.evaluate(`(() => {
+    const luminance = rgb => rgb.map(c => (c /= 255) <= 0.03928 ? c / 12.92 : ((c + 0.055) / 1.055) ** 2.4).reduce((sum, c, n) => sum + c * [0.2126, 0.7152, 0.0722][n], 0);
+    const colour = text => text.match(/[\\d.]+/g).map(Number);
+    const under = it => { for (; it; it = it.parentElement) { const c = colour(getComputedStyle(it).backgroundColor); if (c.length < 4 || c[3] > 0) return c.slice(0, 3); } return [255, 255, 255]; };
+    const poor = [], walk = document.createTreeWalker(document.body, NodeFilter.SHOW_TEXT);
+    while (walk.nextNode()) {
+      const it = walk.currentNode.parentElement;
+      if (!walk.currentNode.data.trim() || !it.checkVisibility() || it.closest('script, button:disabled')) continue;
+      const box = it.closest('.screen-box')?.querySelector('pre') ?? it;
+      const [a, b] = [luminance(colour(getComputedStyle(it).color).slice(0, 3)), luminance(under(box))].sort((x, y) => y - x);
+      if ((a + 0.05) / (b + 0.05) < ${LEAST_CONTRAST}) poor.push(it.textContent.trim().slice(0, 40));
+    }
+    return poor;
+  })()`);
+  assert.deepEqual(poor, [], 'contrast');
+}
+
+async function narrow() {
+  await browser.send('Emulation.setDeviceMetricsOverride', { width: 360, height: 800, deviceScaleFactor: 2, mobile: true });
+  for (const name of ['keyboard', 'wires', 'processor', 'workbench', 'lessons']) {
+    await only(name);
+    const wide = await browser.evaluate('document.documentElement.scrollWidth');
+    assert.ok(wide <= 360, `${name} is ${wide} pixels wide`);
+    await shot(`narrow_${name}`);
+  }
+  await browser.send('Emulation.clearDeviceMetricsOverride');
+}
+
+// The part of one processor that the page takes with all panes open: at rest, and while somebody types.
+async function load(typing) {
+  await browser.evaluate('document.querySelectorAll("#panes button").forEach(button => lab.show(button.dataset.pane, true))');
+  await browser.send('Performance.enable');
+  const took = async () => (await browser.send('Performance.getMetrics')).metrics.find(it => it.name === 'TaskDuration').value;
+  await browser.evaluate('document.getElementById("board").focus()');
+  await browser.wait(500);
+  const before = await took(), began = Date.now();
+  for (let count = 0; count < 10; count++) await (typing ? browser.stroke('KeyA', 70).then(() => browser.wait(100)) : browser.wait(200));
+  return 100000 * (await took() - before) / (Date.now() - began);
+}
+
+// A trap drops the module, and the page says so.
+async function trap() {
+  const said = await browser.evaluate('(() => { try { lab.keyboard.machine.call("kbd48_lights", 0xFFFFFF00n, 0xFFFFFF00n); } catch (error) { return error.name; } })()');
+  assert.equal(said, 'Trapped');
+  await says('trouble', /trapped and was dropped/);
+}
+
+try {
+  await ready();
+  await keyboard();
+  await wires();
+  await contrast();
+  await processor();
+  await contrast();
+  await workbench();
+  await brokenLayout();
+  await shareLink();
+  const many = await lessons();
+  await contrast();
+  const loads = [await load(false), await load(true)].map(share => share.toFixed(0));
+  await narrow();
+  await trap();
+  assert.deepEqual(browser.seen, [], 'nothing on the console, and nothing asked for');
+  console.log(`the page in Chromium: keys, wires, processor, workbench, a link, ${many} lessons; ${loads[0]} % of one processor at rest with all panes, ${loads[1]} % while one types`);
+} finally {
+  await browser.close();
+}

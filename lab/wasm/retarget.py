@@ -1,0 +1,62 @@
+"""Compiles the LLVM module of a proved static library, which is for x86-64, to WebAssembly with a 64-bit memory.
+
+Rattle's text is memory of bytes, offsets of bytes and pointers of 64 bits for both, so the data layout, the triple and four
+attributes are all that differs. No proof covers this step, as none covers what LLVM makes of the module for x86-64."""
+
+from __future__ import annotations
+
+import re
+import subprocess
+import tempfile
+from pathlib import Path
+
+HERE = Path(__file__).resolve().parent
+PARTS = ("heap.c", "wide.c")
+STACK = 1 << 20  # first in memory, so that an overflow ends below 0, which traps
+TARGET = "--target=wasm64-unknown-unknown"
+# The flags with which Rattle compiles for wasm64 itself.
+FLAGS = [TARGET, "-mcpu=lime1", "-O3", "-ffunction-sections", "-fdata-sections", "-Wno-override-module"]
+for _flag in ("-expand-div-rem-bits=64", "-expand-fp-convert-bits=64", "-disable-machine-licm", "-disable-postra-machine-licm",
+              "-sink-common-insts=false"):
+    FLAGS += ["-mllvm", _flag]
+OF_X86 = re.compile(r' "(probe-stack|stack-probe-size|target-cpu|target-features)"="[^"]*"')
+FOREIGN = re.compile(r"llvm\.x86[\w.]*|\bmodule asm\b.*|\basm (?:sideeffect|alignstack|inteldialect|\")")
+
+
+class Stopped(Exception):
+    """The module isn't one that may be compiled for another processor."""
+
+
+def run(*words: str | Path, text: str | None = None) -> str:
+    """What a tool prints; it must end well."""
+    return subprocess.run([str(word) for word in words], input=text, stdout=subprocess.PIPE, text=True, check=True).stdout
+
+
+def retargeted(text: str, asked: str) -> str:
+    """The module's text for WebAssembly; `asked` is any module of that target."""
+    for what in ("datalayout", "triple"):
+        form = re.compile(rf"^target {what} = .*$", re.MULTILINE)
+        wanted = form.search(asked)
+        text, count = form.subn(lambda _: wanted[0], text)
+        if count != 1:
+            raise Stopped(f"the module has {count} lines `target {what}`")
+    text = OF_X86.sub("", text)
+    if found := FOREIGN.search(text):
+        raise Stopped(f"the module is for x86-64: {found[0]}")
+    return text
+
+
+def retarget(toolchain: Path, module: Path, out: Path, exports: list[str]) -> None:
+    """Writes the WebAssembly of a module, with these exports."""
+    clang, linker = toolchain / "bin/clang", toolchain / "bin/ld.lld"
+    asked = run(clang, TARGET, "-xc", "-", "-S", "-emit-llvm", "-o", "-", text="int nothing;")
+    with tempfile.TemporaryDirectory() as folder:
+        work = Path(folder)
+        run(clang, "-Wno-override-module", "-x", "ir", module, "-S", "-emit-llvm", "-Xclang", "-disable-llvm-passes", "-o", work / "x86.ll")
+        (work / "wasm.ll").write_text(retargeted((work / "x86.ll").read_text(), asked))
+        run(clang, *FLAGS, "-c", "-x", "ir", work / "wasm.ll", "-o", work / "library.o")
+        for part in PARTS:
+            run(clang, *FLAGS, "-fwrapv", "-ffreestanding", "-Wall", "-Wextra", "-Werror", "-c", HERE / part, "-o", work / f"{part}.o")
+        run(linker, "-flavor", "wasm", "-mwasm64", "--no-entry", "--stack-first", "-z", f"stack-size={STACK}", "--gc-sections",
+            "--strip-all", "--fatal-warnings", *[f"--export={name}" for name in exports], "-o", out, work / "library.o",
+            *[work / f"{part}.o" for part in PARTS])
