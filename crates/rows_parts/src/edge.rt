@@ -1,21 +1,8 @@
-//! The real shelf and sink over a real file, and the ones in memory.
+//! A writer that takes a byte at a time, and the shelf and the sinks in memory.
 
-use io_edge::{
-    DropSink, FetchFault, FileShelf, MemShelf, MemSink, Shelf, Sink, SinkFault, StreamSink, say,
-};
+use io_edge::{DropSink, FetchFault, MemShelf, MemSink, Shelf, Sink, SinkFault, StreamSink, say};
 use std::io::{self, Write};
 use std::test::Fail;
-use std::{env, fs, process};
-
-/// A path in the temporary folder that no other run has.
-fn own_path(rt: &HostRuntime, word: &str) -> Result<String, Fail> {
-    let folder = env::temp_dir(rt)?;
-    Ok(format!(in rt.alloc();
-        "{}/io_edge-{}-{word}",
-        folder.as_str(),
-        process::id(rt.process())
-    )?)
-}
 
 /// Whether the answer is these bytes.
 fn gave(answer: Result<Vec<u8>, FetchFault>, bytes: &[u8]) -> bool {
@@ -31,39 +18,6 @@ fn refused(answer: Result<Vec<u8>, FetchFault>, fault: FetchFault) -> bool {
         Ok(_) => false,
         Err(given) => given == fault,
     }
-}
-
-#[test]
-fn files_are_read_up_to_the_limit(rt: HostRuntime) -> Result<(), Fail> {
-    let path = own_path(&rt, "read")?;
-    let text = [b'k'; 5000];
-    fs::write(&rt, path.as_str(), text.as_slice())?;
-    let mut shelf = FileShelf::new(&rt);
-    assert!(rt; gave(shelf.fetch(rt.alloc(), &path, usize::MAX), &text));
-    assert!(rt; gave(shelf.fetch(rt.alloc(), &path, 5000), &text));
-    assert!(rt; refused(shelf.fetch(rt.alloc(), &path, 4999), FetchFault::TooLong));
-    fs::write(&rt, path.as_str(), b"".as_slice())?;
-    assert!(rt;
-        gave(shelf.fetch(rt.alloc(), &path, 0), b""),
-        "an empty file is no failure"
-    );
-    fs::remove_file(&rt, path.as_str())?;
-    assert!(rt; refused(shelf.fetch(rt.alloc(), &path, 5000), FetchFault::Failed));
-    Ok(())
-}
-
-#[test]
-fn a_stream_holds_what_was_put(rt: HostRuntime) -> Result<(), Fail> {
-    let path = own_path(&rt, "write")?;
-    let mut sink = StreamSink::new(fs::create(&rt, path.as_str())?);
-    assert_eq!(rt; sink.put(b"64 port AA\n"), Ok(11));
-    assert_eq!(rt; sink.put(b"beep\n"), Ok(5));
-    assert_eq!(rt;
-        fs::read(&rt, path.as_str())?.as_slice(),
-        b"64 port AA\nbeep\n".as_slice()
-    );
-    fs::remove_file(&rt, path.as_str())?;
-    Ok(())
 }
 
 /// A writer that takes one byte at a time.
