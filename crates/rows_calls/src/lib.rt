@@ -1,11 +1,10 @@
-//! How a worked example of the whole program runs: the words, the files, the exit and the text, through the top call over
-//! a shelf and a sink in memory.
-//!
-//! The examples stand in the crates above, by command: `rows_texts`, `rows_runs`, `rows_debug` and `rows_boards`.
+//! Calls of the whole program with what no command line gives it: sinks that take a part of what is put or fail, and probes
+//! that the caller arms. All other calls are worked rows, which are run over the program itself.
 #![tactic(auto)]
 
-mod rows;
-mod sample;
-
-pub use rows::{Outcome, Row, first_wrong, owned, run, run_into, shelf_of, shelf_with};
-pub use sample::{first_wrong_log, outcome_of, sample_layout, shelf_for};
+#[cfg(test)]
+mod calls;
+#[cfg(test)]
+mod probing;
+#[cfg(test)]
+mod putting;

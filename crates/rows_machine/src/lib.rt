@@ -1,25 +1,16 @@
-//! Worked examples of the layers of the keyboard's machine and the PC's: tables, controller, INT 09h, board, layouts, link,
-//! the PC's turn, wires and images. They stand in a crate of their own, so that none of those layers is proved twice for its
-//! tests.
+//! Worked examples of the layers that run: the joint machine, steps made at once, the decoder of the wires, sessions, and
+//! the run of any program. They are in a crate of their own, so that no layer is proved twice for its tests.
 //!
 //! Expected values come from the manuals, or were worked out by hand.
 #![tactic(auto)]
 
 #[cfg(test)]
-mod board;
+mod frames;
 #[cfg(test)]
-mod controller;
+mod joint_steps;
 #[cfg(test)]
-mod images;
+mod programs;
 #[cfg(test)]
-mod interrupt;
+mod scripts;
 #[cfg(test)]
-mod layouts;
-#[cfg(test)]
-mod link;
-#[cfg(test)]
-mod tables;
-#[cfg(test)]
-mod turns;
-#[cfg(test)]
-mod wires;
+mod steps_at_once;

@@ -1,0 +1,102 @@
+//! Probes that ride on the runs of `run` and `expect`, and are left alone by the other commands.
+
+use crate::calls::call;
+use board_probes::{CellProbe, Probe, Tally};
+use io_edge::MemSink;
+use kbd48_app::Exit;
+use std::test::Fail;
+
+/// A probe of one cell, armed with a place and a value.
+#[derive(Drop)]
+struct Case {
+    words: &'static [&'static str],
+    place: u16,
+    exit: Exit,
+    fails: &'static [u32],
+    /// Whether each step is met.
+    meets: bool,
+}
+
+/// The last cell of data memory is 00 after the first step, and what is behind it is never met.
+static CASES: [Case; 7] = [
+    Case {
+        words: &["run", "layout", "keys"],
+        place: 0x07f,
+        exit: Exit::Done,
+        fails: &[],
+        meets: true,
+    },
+    Case {
+        words: &["run", "layout", "keys"],
+        place: 0x080,
+        exit: Exit::Done,
+        fails: &[],
+        meets: false,
+    },
+    Case {
+        words: &["expect", "layout", "keys"],
+        place: 0x07f,
+        exit: Exit::Done,
+        fails: &[],
+        meets: true,
+    },
+    // Where the sink fails behind a run, the probes have looked.
+    Case {
+        words: &["run", "layout", "keys", "--steps"],
+        place: 0x07f,
+        exit: Exit::Write,
+        fails: &[1],
+        meets: true,
+    },
+    Case {
+        words: &["compile", "layout"],
+        place: 0x07f,
+        exit: Exit::Done,
+        fails: &[],
+        meets: false,
+    },
+    Case {
+        words: &["words", "1C"],
+        place: 0x07f,
+        exit: Exit::Done,
+        fails: &[],
+        meets: false,
+    },
+    Case {
+        words: &["run", "layout"],
+        place: 0x07f,
+        exit: Exit::Words,
+        fails: &[],
+        meets: false,
+    },
+];
+
+impl Case {
+    /// The tally is that of the case.
+    fn has(&self, tally: &Tally) -> bool {
+        if self.meets {
+            tally.count >= 1 && tally.first == Some(1)
+        } else {
+            tally.count == 0 && tally.first.is_none()
+        }
+    }
+}
+
+#[test]
+fn probes_ride_on_run_and_expect_alone(rt: HostRuntime) -> Result<(), Fail> {
+    let alloc = rt.alloc();
+    for case in &CASES {
+        let mut probe = CellProbe::new();
+        probe.arm(case.place, 0);
+        let mut probes: Vec<Box<dyn Probe>> = Vec::new(alloc);
+        probes.push(Box::new(alloc, probe)?)?;
+        let sink = MemSink::new(alloc, 8192, Vec::from_slice(alloc, case.fails)?)?;
+        let outcome = call(alloc, case.words, &[("keys", b"0 end")], sink, &mut probes)?;
+        assert_eq!(rt; outcome.exit, case.exit);
+        assert!(rt; probes.len() == 1);
+        for probe in &probes {
+            assert!(rt; case.has(&probe.tell()));
+        }
+    }
+    Ok(())
+}

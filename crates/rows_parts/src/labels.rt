@@ -1,0 +1,106 @@
+//! The kernel's source: its bytes, and the places of its labels.
+
+use fw_kernel::labels::{
+    AGAIN, BEGIN, BEGINS, BLANK, CLEAR, COLUMN, COMMAND, CUT, DEFAULT, DONE, DROP, EDGE, EDGES,
+    ENDS, ENTER, ENTER2, ENTERED, FIRE, FN_DOWN, FN_UP, FOOT, GOT, IDLE, INHIBITED, LAMPS, LAYERS,
+    LOOKS, MORE, MOVED, O_DUE, OFFER, PARAMETER, POWER, PRESS, PULLED, R_ACK, R_CELL, R_PARITY,
+    R_STOP, READ, READY, RECEIVE, RELEASE, REPEAT, RESET, REST, ROW, ROWS, S_CELL, S_STOP, SCAN,
+    SEND, SENT, SILENT, START, TESTED, TESTING, TICK, WAIT, WAITING,
+};
+use fw_kernel::{KERNEL, SOURCE};
+use mcs48_asm::assemble;
+use std::test::Fail;
+
+#[test]
+fn the_source_is_the_kernels(rt: HostRuntime) -> Result<(), Fail> {
+    let image = assemble(rt.alloc(), SOURCE.as_bytes())?;
+    assert!(rt; image.bytes == KERNEL);
+    Ok(())
+}
+
+/// The labels' names and places.
+static LABELS: [(&str, u16); 60] = [
+    ("tick", TICK),
+    ("read", READ),
+    ("offer", OFFER),
+    ("lamps", LAMPS),
+    ("tested", TESTED),
+    ("looks", LOOKS),
+    ("send", SEND),
+    ("s_cell", S_CELL),
+    ("s_stop", S_STOP),
+    ("cut", CUT),
+    ("inhibited", INHIBITED),
+    ("idle", IDLE),
+    ("got", GOT),
+    ("o_due", O_DUE),
+    ("pulled", PULLED),
+    ("testing", TESTING),
+    ("start", START),
+    ("begin", BEGIN),
+    ("wait", WAIT),
+    ("receive", RECEIVE),
+    ("r_cell", R_CELL),
+    ("r_parity", R_PARITY),
+    ("r_stop", R_STOP),
+    ("r_ack", R_ACK),
+    ("command", COMMAND),
+    ("parameter", PARAMETER),
+    ("waiting", WAITING),
+    ("ready", READY),
+    ("sent", SENT),
+    ("drop", DROP),
+    ("reset", RESET),
+    ("default", DEFAULT),
+    ("clear", CLEAR),
+    ("scan", SCAN),
+    ("repeat", REPEAT),
+    ("fire", FIRE),
+    ("again", AGAIN),
+    ("rest", REST),
+    ("power", POWER),
+    ("blank", BLANK),
+    ("edges", EDGES),
+    ("column", COLUMN),
+    ("more", MORE),
+    ("done", DONE),
+    ("moved", MOVED),
+    ("layers", LAYERS),
+    ("rows", ROWS),
+    ("row", ROW),
+    ("edge", EDGE),
+    ("press", PRESS),
+    ("begins", BEGINS),
+    ("enter", ENTER),
+    ("fn_down", FN_DOWN),
+    ("fn_up", FN_UP),
+    ("release", RELEASE),
+    ("ends", ENDS),
+    ("silent", SILENT),
+    ("enter2", ENTER2),
+    ("entered", ENTERED),
+    ("foot", FOOT),
+];
+
+/// A jump to each label, assembled behind the source, goes to the place that its constant gives.
+#[test]
+fn each_label_has_its_place(rt: HostRuntime) -> Result<(), Fail> {
+    let alloc = rt.alloc();
+    let mut text = String::from_str(alloc, SOURCE)?;
+    text.push_str("\n ORG 700H\n")?;
+    for (name, _) in &LABELS {
+        text.push_str(" JMP ")?;
+        text.push_str(name)?;
+        text.push_str("\n")?;
+    }
+    assert!(rt; text.len() < 32_768);
+    let image = assemble(alloc, text.as_bytes())?;
+    let mut bytes = image.bytes[0x700..].iter();
+    for (name, place) in &LABELS {
+        let first = bytes.next().map(|byte| u16::from(*byte));
+        let second = bytes.next().map(|byte| u16::from(*byte));
+        assert_eq!(rt; first, Some(*place / 256 * 32 + 4), "{}", name);
+        assert_eq!(rt; second, Some(*place % 256), "{}", name);
+    }
+    Ok(())
+}
