@@ -16,3 +16,5 @@ pub mod Reading
 pub mod Among
 pub mod Latency
 pub mod Meeting
+pub mod EachRead
+pub mod ReadOnce

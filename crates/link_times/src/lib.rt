@@ -10,6 +10,7 @@ ghost use Rattle.link_times.specs.Coming.{AllComesOnce, ComesExactly, NothingEls
 ghost use Rattle.link_times.specs.Flowing.{OneByteATick, QuietByteATick, QuietSends};
 ghost use Rattle.link_times.specs.Holding.{GoesAtLast, NothingElseHolds};
 ghost use Rattle.link_times.specs.Latency.{EdgesAreAmong, KeysComeInTime, LatencyIsMet, ReadsWhatArrives};
+ghost use Rattle.link_times.specs.Reads.{EachIsReadOnce, PortLinesAreArrivals};
 
 #[cfg(test)]
 mod tests;
@@ -23,6 +24,16 @@ pub fn nothing_comes_twice()
     ensures exactly { ComesExactly }
     ensures once { AllComesOnce }
     ensures all { NothingElseArrives }
+{}
+
+/// The PC reads nothing twice, and misses nothing. If the host leaves the bytes to INT 09h, which it may mask, then up
+/// to each tick's start INT 09h has read what the controller put out for the bytes that arrived, each once and in their
+/// order; only the last may be unread still. The host may write bytes for the keyboard; it gives the controller no
+/// command and reads no byte itself, and no noise turns a bit round. With a quiet host none is unread, so the `port`
+/// lines of the expected log are just these bytes. Nothing is done when it is called; the laws are its contract.
+pub fn nothing_is_read_twice()
+    ensures once { EachIsReadOnce }
+    ensures lines { PortLinesAreArrivals }
 {}
 
 /// In time: where each tick sends what is offered, the byte at place i of what waits at a tick's start is the one that
@@ -42,10 +53,10 @@ pub fn nothing_waits_for_ever()
 {}
 
 /// A key's latency, where the host only takes words and reads the status: what a byte comes to is read by INT 09h 64
-/// cycles behind its arrival, and the log says so with the tick. Each edge that a tick sees is among its edges. Each byte
-/// of its code is read at most 2 * 2,048 + 660 cycles behind the edge, and a tick more for each byte before it, less 16
-/// cycles for each column that is read before the key's; and an edge one cycle behind its column's read may take just as
-/// long. Nothing is done when it is called; the laws are its contract.
+/// cycles behind its arrival, and the log says so with the tick. Each edge that a tick sees is among its edges. Each
+/// byte of its code is read at most 2 * 2,048 + 660 cycles behind the edge, and a tick more for each byte before it,
+/// less 16 cycles for each column that is read before the key's; and an edge one cycle behind its column's read may
+/// take just as long. Nothing is done when it is called; the laws are its contract.
 pub fn keys_come_in_time()
     ensures reads { ReadsWhatArrives }
     ensures among { EdgesAreAmong }
