@@ -29,7 +29,7 @@ use Rattle.host_turn.specs.Cycle.{said_of, Cycled, cycled, host_of, port_by}
 use Rattle.host_turn.specs.Run.{Side, desk_of, stamped, goes_on}
 use Rattle.pc_tables.specs.declared.item.Item.{Item}
 use Rattle.byte_time.specs.declared.UnderWay.{UnderWay}
-use Rattle.byte_time.specs.ByteTime.{is_open}
+use Rattle.byte_time.specs.ByteTime.{closed, is_open}
 use Rattle.quiet_log.specs.Ports.{port_of, ports}
 use Rattle.quiet_log.proofs.Said.{short_fed}
 use Rattle.link_times.specs.Reads.{LeavesBytes, read_so_far, unread}
@@ -59,6 +59,13 @@ IsUnflipped (Hold since) = Unit {0}
 IsUnflipped (Ask byte since) = Unit {0}
 IsUnflipped (Request byte) = Unit {0}
 IsUnflipped (Busy u) = u.flip ≡ None
+
+pub closed_unflipped : (l : Link UnderWay) → IsUnflipped l → IsUnflipped (closed l)
+closed_unflipped Free e = e
+closed_unflipped (Hold since) e = e
+closed_unflipped (Ask byte since) e = e
+closed_unflipped (Request byte) e = e
+closed_unflipped (Busy u) e = e
 
 -- the controller, as far as no turn changes it; 45 is the command byte of the start
 pub record IsPlain (mark : Bool) (c : ControllerState) : Type 0 where
@@ -201,7 +208,7 @@ none_asked : (byte since : ℕ) (b : Bool) → IsUnflipped (if b then Request by
 none_asked byte since true = tt
 none_asked byte since false = tt
 
-stays_unflipped : (now : ℕ) (stop awaits : Bool) (l : Link UnderWay) → IsUnflipped l → IsUnflipped (link_after now stop awaits l)
+pub stays_unflipped : (now : ℕ) (stop awaits : Bool) (l : Link UnderWay) → IsUnflipped l → IsUnflipped (link_after now stop awaits l)
 stays_unflipped now stop true Free u = tt
 stays_unflipped now true false Free u = tt
 stays_unflipped now false false Free u = tt

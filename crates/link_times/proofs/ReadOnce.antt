@@ -36,8 +36,9 @@ use Rattle.quiet_log.specs.Once.{all_arrived, arrived, at_tick, meeting_at}
 use Rattle.quiet_log.specs.Ports.{port_of}
 use Rattle.quiet_log.specs.Quiet.{IsQuietAct}
 use Rattle.link_times.specs.Reads.{EachIsReadOnce, LeavesAllBytes, LeavesBytes, PortLinesAreArrivals, listed, put_out_for, read_so_far, unread}
-use Rattle.link_times.proofs.EachRead.{HasPut, IsEmptyBut, IsPlain, IsSound, IsUnflipped, LeavesNext, goes, goes_empty}
-use Rattle.link_times.proofs.Resting.{rests_at}
+use Rattle.link_times.proofs.EachRead.{HasPut, IsEmptyBut, IsPlain, IsSound, IsUnflipped, LeavesNext, closed_unflipped, goes, goes_empty}
+use Rattle.link_times.proofs.QuietFlow.{rests_in}
+use Rattle.link_times.proofs.Resting.{quiet_from_start}
 
 -- whether the last of these bytes was F0
 abbrev mark_after : Bool → List ℕ → Bool
@@ -94,13 +95,6 @@ closed_empty (Hold since) full e = e
 closed_empty (Ask byte since) full e = e
 closed_empty (Request byte) full e = e
 closed_empty (Busy u) full e = e
-
-closed_unflipped : (l : Link UnderWay) → IsUnflipped l → IsUnflipped (closed l)
-closed_unflipped Free e = e
-closed_unflipped (Hold since) e = e
-closed_unflipped (Ask byte since) e = e
-closed_unflipped (Request byte) e = e
-closed_unflipped (Busy u) e = e
 
 closed_put : (mark : Bool) (out : List ℕ) (now : ℕ) (m : Side UnderWay) → HasPut mark out m
     → HasPut mark out (with_event now Closes m)
@@ -347,7 +341,8 @@ pub port_lines_are_arrivals : PortLinesAreArrivals
 port_lines_are_arrivals layout history starts n quiet cadence =
     let m : Side UnderWay = (at_tick layout history starts n).side in
     let leaves : LeavesAllBytes history = λ k d within. quiet_leaves _ (quiet k d within) in
-    let rests = rests_at layout history quiet starts n n cadence (omega arith) in
+    let rests = rests_in layout history starts n 0 (quiet_from_start layout history starts quiet) cadence n (omega arith)
+    (omega arith) in
     let none : unread m.port.core ≡ [] = ap (λ p. unread p.core) rests.same.port in
     flat_map-map (λ (l : LogLine). port_of l.item)
     (λ (s : Stamped). record { tick = tick_of starts n s.cycle; item = s.item }) m.log
