@@ -11,7 +11,7 @@ use Rattle.joint_run.specs.Joint.{Beside, joint_board, log_of}
 use Rattle.joint_run.specs.Run.{Board, World, joint_step, run_at}
 use Rattle.joint_run.specs.Starts.{at_tick, calm, starts_before, Comes, Tick, IsStart}
 use Rattle.fw_link.specs.Drives.{Drives}
-use Rattle.key_file.specs.Accepted.{IsAccepted}
+use Rattle.key_file.specs.Accepted.{IsLawful}
 use Rattle.key_file.specs.Histories.{KeyHistory}
 use Rattle.link_model.specs.Expected.{Whole, meeting_from, whole_tick, whole_at}
 use Rattle.link_model.specs.Machine.{Machine}
@@ -25,7 +25,7 @@ use Rattle.agreement.proofs.FewEdges.{WasNear, HeldBefore, edges_seen, at_most_f
 
 -- A tick's law, with what it leaves open: what ties the run to the model, and of which keyboards it holds that a tick's
 -- edges become the keys held.
-module _ (S : Type 0) (from : World Beside) (bytes : List ℕ) (history : KeyHistory) (ok : IsAccepted history)
+module _ (S : Type 0) (from : World Beside) (bytes : List ℕ) (history : KeyHistory) (ok : IsLawful history)
     (kb : Machine S) (R : World Beside → Whole S → Type 0) (Fit : S → Type 0)
     (fits : (w : World Beside) (m : Whole S) → R w m → Fit m.keys)
     (none : (p : ℕ) → p < 96 → kb.held kb.start p ≡ false)

@@ -38,8 +38,8 @@ answers_alike f p q a b x y s t h k =
     same_some x y (sym h.2 ∙ ap (first_in f) same ∙ k.2)
 
 pub logs_agree : AgreementLaw → LogsAgree
-logs_agree law layout p stop k s is bytes accepted =
-    let both = law layout (history_of p stop) is accepted in
+logs_agree law layout p stop k s is bytes lawful =
+    let both = law layout (history_of p stop) is lawful in
     let keeps = both.0 in
     let agrees = both.1 in
     let w = s.world in

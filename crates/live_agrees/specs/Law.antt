@@ -7,7 +7,7 @@ use Rattle.host_turn.specs.declared.stamped.Stamped.{Stamped}
 use Rattle.joint_run.specs.Joint.{Beside, joint_board, joint_start, log_of}
 use Rattle.joint_run.specs.Run.{World}
 use Rattle.joint_run.specs.Starts.{IsStart}
-use Rattle.key_file.specs.Accepted.{IsAcceptedFor}
+use Rattle.key_file.specs.Accepted.{IsLawfulFor}
 use Rattle.key_file.specs.Histories.{KeyHistory}
 use Rattle.layout_reader.specs.Layouts.{IsKeyLayout, KeyLayout}
 use Rattle.link_model.specs.Expected.{whole_at}
@@ -30,11 +30,11 @@ pub record BeginsExpected (layout : KeyLayout) (p : Past) (log : List Stamped) :
   pub rest : List Stamped
   pub beginning : (whole_at (keyboard layout) p.edges p.events starts tick).side.log ≡ log ++ rest
 
--- so is what was said so far, wherever a keyboard stands whose past is accepted for the layout
+-- so is what was said so far, if a keyboard stands in a past that is lawful for the layout, however long
 abbrev pub LogsAgree : Type 0
 LogsAgree =
     (layout : KeyLayout) (p : Past) (stop : ℕ) (k : Keyboard) (s : Stands p k) → IsKeyLayout layout
-    → p.bytes ≡ image_of layout → IsAcceptedFor layout (history_of p stop)
+    → p.bytes ≡ image_of layout → IsLawfulFor layout (history_of p stop)
     → BeginsExpected layout p (log_of s.world.board)
 
 -- two keyboards in one past are in one state of the run
