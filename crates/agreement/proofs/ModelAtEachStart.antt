@@ -16,7 +16,7 @@ use Rattle.key_file.specs.Histories.{KeyHistory}
 use Rattle.link_model.specs.Expected.{Whole, meeting_from, whole_tick, whole_at}
 use Rattle.link_model.specs.Machine.{Machine}
 use Rattle.link_model.specs.TickEdges.{shown, tick_edges}
-use Rattle.agreement.specs.Agreement.{AgreesFrom}
+use Rattle.agreement.specs.Agreement.{AgreesFrom, IsPrompt}
 use Rattle.agreement.specs.Wires.{DrivesFrame, DrivesWires}
 use Rattle.agreement.proofs.InTime.{InTime, on_time}
 use Rattle.fw_logic.specs.Ticks.{IsOnTime}
@@ -266,6 +266,15 @@ module _ (S : Type 0) (from : World Beside) (bytes : List ℕ) (history : KeyHis
       let same : s.state.cycle ≡ (stand n).w.cycle = ap (λ (v : World Beside). v.cycle) (same_start n stamp s) in
       let stamp_is : stamp ≡ starts n = omega (arith, cycle, there, same) in
       subst (λ t. IsStart d TICK bytes from n t) stamp_is s
+
+  -- a start of the run is at its multiple of 2,048 or one cycle past it
+  pub prompt : (n stamp : ℕ) → IsStart d TICK bytes from n stamp → IsPrompt n stamp
+  prompt n stamp s =
+      let t = in_time_as n s.state (same_start n stamp s) in
+      let cycle : s.state.cycle ≡ 4096 + stamp = s.cycle in
+      let there : s.state.cycle ≡ 4096 + 2048 * n + (s.state.cpu.pre - 2) = t.cycle in
+      let most : s.state.cpu.pre - 2 ≤ 1 = t.most in
+      record { least = omega (arith, cycle, there); most = omega (arith, cycle, there, most) }
 
   -- what holds of each start, with the model there; and the starts of the run's numbers
   pub at_starts : (P : World Beside → Whole S → Type 0)

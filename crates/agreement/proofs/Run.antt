@@ -20,7 +20,7 @@ use Rattle.link_model.specs.Machine.{LayeredKeyboard, keyboard}
 use Rattle.mcs48_core.specs.Cpu.{Cpu}
 use Rattle.mcs48_core.specs.Reset.{reset_cpu}
 use Rattle.mcs48_ranges.specs.Sizes.{IsByte, IsFine}
-use Rattle.agreement.specs.Agreement.{AgreementLaw, AnyMemoryLaw, switched_on}
+use Rattle.agreement.specs.Agreement.{AgreementLaw, AnyMemoryLaw, PromptLaw, switched_on}
 use Rattle.agreement.specs.Executed.{ExecutedLaw}
 use Rattle.agreement.specs.Memory.{Holds, MemoryLaw}
 use Rattle.agreement.specs.Wires.{WiresLaw}
@@ -29,7 +29,7 @@ use Rattle.agreement.proofs.Compiled.{has_kernel, are_bytes}
 use Rattle.agreement.proofs.Holding.{HasPlaces, none_held, holds_now}
 use Rattle.fw_logic.specs.Ticks.{IsOnTime}
 use Rattle.agreement.proofs.Model.{at_first}
-use Rattle.agreement.proofs.ModelAtEachStart.{keeps_time, at_starts, at_run, agrees, drives}
+use Rattle.agreement.proofs.ModelAtEachStart.{keeps_time, at_starts, at_run, agrees, drives, prompt}
 use Rattle.agreement.proofs.Tied.{Tied, fits, tied_first, tied_next, passes, tick_drives}
 
 module _ (layout : KeyLayout) (history : KeyHistory) (fine : IsKeyLayout layout)
@@ -102,6 +102,15 @@ cleared =
 
 pub every_run : AgreementLaw
 every_run layout history fine ok = every_memory layout history fine ok reset_cpu cleared
+
+-- each start is prompt
+pub every_start : PromptLaw
+every_start layout history fine ok m small =
+    prompt LayeredKeyboard (switched_on history.edges history.host m) (image_of layout) history ok.lawful (keyboard layout)
+    (Tied layout history fine ok) (λ k. HasPlaces k.keyboard) (fits layout history fine ok) (λ p l. none_held layout p)
+    (holds_now layout) (tied_first layout history fine ok m small) (tied_next layout history fine ok)
+    (λ w m t. ap (λ (s : _). s.log) t.ties.side) (λ w m t. (t.ties.started.entered.serves, t.ties.started.entered.bank))
+    (λ w m t. (t.ties.started.entered.early, t.ties.started.entered.late))
 
 -- and the wires are as their law says
 pub every_wire : WiresLaw

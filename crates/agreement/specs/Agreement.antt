@@ -1,5 +1,5 @@
 -- The agreement of run and model.
-use Rattle.std.specs.Prelude.{◌≡◌, ℕ, List}
+use Rattle.std.specs.Prelude.{◌≡◌, ◌≤◌, ℕ, ◌+◌, ◌*◌, List}
 use Rattle.board_lines.specs.declared.event.Edge.{Edge}
 use Rattle.board_lines.specs.declared.event.HostEvent.{HostEvent}
 use Rattle.fw_compile.specs.Image.{image_of}
@@ -49,3 +49,17 @@ AnyMemoryLaw =
     → KeepsTimeFrom (switched_on history.edges history.host m) (image_of layout) history.edges history.host
     × AgreesFrom (switched_on history.edges history.host m) (image_of layout) (keyboard layout) history.edges
     history.host
+
+-- a start, as a stamp, is at its multiple of 2,048 or one cycle past it
+pub record IsPrompt (n start : ℕ) : Type 0 where
+  pub least : 2048 * n ≤ start
+  pub most : start ≤ 2048 * n + 1
+
+-- so is each tick start of these runs: it comes between two instructions of the wait, which take two cycles
+abbrev pub PromptLaw : Type 0
+PromptLaw =
+    (layout : KeyLayout) (history : KeyHistory) → IsKeyLayout layout → IsLawfulFor layout history
+    → (m : Cpu) → IsFine m → (n stamp : ℕ)
+    → IsStart (joint_board history.edges history.host) TICK (image_of layout)
+    (switched_on history.edges history.host m) n stamp
+    → IsPrompt n stamp

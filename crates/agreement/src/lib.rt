@@ -7,20 +7,21 @@
 //! text of a log, nor how a run is made or the expected log computed. Our own.
 #![tactic(auto)]
 
-ghost use Rattle.agreement.specs.Agreement.{AgreementLaw, AnyMemoryLaw};
+ghost use Rattle.agreement.specs.Agreement.{AgreementLaw, AnyMemoryLaw, PromptLaw};
 ghost use Rattle.agreement.specs.Executed.{ExecutedLaw};
 ghost use Rattle.agreement.specs.Firmware.{TickLaw};
 ghost use Rattle.agreement.specs.Memory.{MemoryLaw};
 ghost use Rattle.agreement.specs.Wires.{WiresLaw};
 
 /// For every layout and every history that is lawful for it, however long: the joint run of the layout's compiled image
-/// is never stuck, each of its ticks starts at most five cycles past its multiple of 2,048, and what was said up to a
+/// is never stuck, each of its ticks starts at its multiple of 2,048 or one cycle past it, and what was said up to a
 /// tick start is what the model says up to it, at the run's own tick starts. So it is of the run from cleared memory,
 /// which the program makes, and of the run from whatever a part holds when it is switched on. Nothing is done when it
 /// is called; the laws are its contract.
 pub fn run_and_model_agree()
     ensures agreement { AgreementLaw }
     ensures any_memory { AnyMemoryLaw }
+    ensures prompt { PromptLaw }
 {}
 
 /// For every layout and every history that is lawful for it, however long: in each tick of the joint run, in each of
