@@ -22,7 +22,7 @@ use Rattle.fw_logic.specs.Scan.{in_tick}
 use Rattle.joint_run.specs.Joint.{Beside, joint_board, joint_pins, keys_at}
 use Rattle.joint_run.specs.Run.{Board, World}
 use Rattle.kbd_model.specs.Keyboard.{is_held}
-use Rattle.key_file.specs.Accepted.{IsAccepted}
+use Rattle.key_file.specs.Accepted.{IsLawful}
 use Rattle.key_file.specs.Histories.{KeyHistory}
 use Rattle.board_lines.proofs.Shown.{skip, keep}
 use Rattle.link_model.proofs.Edges.{are_at, filter_same}
@@ -281,8 +281,8 @@ board_edges edges events w late =
     bytes_shown (is_held (shown_by w.cpu.ram)) (columns_in edges w.cycle) (λ c. slice_index w.cpu.ram (32 + c))
     (column_read (joint_board edges events) w) (held_read w.cpu.ram) (down_read edges events w late)
 
--- the same of an accepted history
-pub edges_are : (history : KeyHistory) (w : World Beside) → IsAccepted history → IsStarted w.cpu → 4096 ≤ w.cycle
+-- the same of a lawful history
+pub edges_are : (history : KeyHistory) (w : World Beside) → IsLawful history → IsStarted w.cpu → 4096 ≤ w.cycle
     → edges_now (joint_board history.edges history.host) w
     ≡ shown (is_held (shown_by w.cpu.ram)) (columns_in history.edges w.cycle)
 edges_are history w ok started late = board_edges history.edges history.host w late

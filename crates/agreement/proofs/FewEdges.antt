@@ -5,7 +5,7 @@ use Rattle.std.specs.Prelude.{nat_le, if◌then◌else◌}
 use Rattle.std.proofs.lemmas.Bool.Decides.{nat_tests}
 use Rattle.board_lines.specs.Cadence.{IsNear, KeepsCadenceTo}
 use Rattle.board_lines.specs.declared.event.Edge.{Edge}
-use Rattle.key_file.specs.Accepted.{IsAccepted}
+use Rattle.key_file.specs.Accepted.{IsLawful}
 use Rattle.key_file.specs.Histories.{KeyHistory}
 use Rattle.link_model.specs.TickEdges.{is_down, change_at, shown_at, shown, tick_edges, downs_in, downs_before}
 use Rattle.link_model.proofs.Edges.{same_by_place}
@@ -51,7 +51,7 @@ given_near m ago now was is j l = by (nat_le j m) refl
 abbrev pub HeldBefore : List Edge → (ℕ → ℕ) → ℕ → (ℕ → Bool) → Type 0
 HeldBefore edges starts n held = (p : ℕ) → p < 96 → held p ≡ downs_before starts edges n p
 
-module _ (history : KeyHistory) (ok : IsAccepted history) where
+module _ (history : KeyHistory) (ok : IsLawful history) where
   -- then what the columns show against them are the tick's edges
   pub edges_seen : (starts : ℕ → ℕ) (n cycle : ℕ) (held : ℕ → Bool) → KeepsCadenceTo starts n
       → cycle ≡ 4096 + starts n → HeldBefore history.edges starts n held
@@ -67,7 +67,7 @@ module _ (history : KeyHistory) (ok : IsAccepted history) where
       96 (omega arith)
       ∙ sym (edges_are_shown starts history n ok cadence).same
 
-  -- an accepted history has at most four of them in a tick
+  -- a lawful history has at most four of them in a tick
   few_of : (starts : ℕ → ℕ) (n cycle : ℕ) (held : ℕ → Bool) → KeepsCadenceTo starts n → cycle ≡ 4096 + starts n
       → HeldBefore history.edges starts n held → length (shown held (columns_in history.edges cycle)) ≤ 4
   few_of starts n cycle held cadence at same =

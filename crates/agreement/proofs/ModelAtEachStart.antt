@@ -11,12 +11,12 @@ use Rattle.joint_run.specs.Joint.{Beside, joint_board, log_of}
 use Rattle.joint_run.specs.Run.{Board, World, joint_step, run_at}
 use Rattle.joint_run.specs.Starts.{at_tick, calm, starts_before, Comes, Tick, IsStart}
 use Rattle.fw_link.specs.Drives.{Drives}
-use Rattle.key_file.specs.Accepted.{IsAccepted}
+use Rattle.key_file.specs.Accepted.{IsLawful}
 use Rattle.key_file.specs.Histories.{KeyHistory}
 use Rattle.link_model.specs.Expected.{Whole, meeting_from, whole_tick, whole_at}
 use Rattle.link_model.specs.Machine.{Machine}
 use Rattle.link_model.specs.TickEdges.{shown, tick_edges}
-use Rattle.agreement.specs.Agreement.{AgreesFrom}
+use Rattle.agreement.specs.Agreement.{AgreesFrom, IsPrompt}
 use Rattle.agreement.specs.Wires.{DrivesFrame, DrivesWires}
 use Rattle.agreement.proofs.InTime.{InTime, on_time}
 use Rattle.fw_logic.specs.Ticks.{IsOnTime}
@@ -25,7 +25,7 @@ use Rattle.agreement.proofs.FewEdges.{WasNear, HeldBefore, edges_seen, at_most_f
 
 -- A tick's law, with what it leaves open: what ties the run to the model, and of which keyboards it holds that a tick's
 -- edges become the keys held.
-module _ (S : Type 0) (from : World Beside) (bytes : List ℕ) (history : KeyHistory) (ok : IsAccepted history)
+module _ (S : Type 0) (from : World Beside) (bytes : List ℕ) (history : KeyHistory) (ok : IsLawful history)
     (kb : Machine S) (R : World Beside → Whole S → Type 0) (Fit : S → Type 0)
     (fits : (w : World Beside) (m : Whole S) → R w m → Fit m.keys)
     (none : (p : ℕ) → p < 96 → kb.held kb.start p ≡ false)
@@ -266,6 +266,15 @@ module _ (S : Type 0) (from : World Beside) (bytes : List ℕ) (history : KeyHis
       let same : s.state.cycle ≡ (stand n).w.cycle = ap (λ (v : World Beside). v.cycle) (same_start n stamp s) in
       let stamp_is : stamp ≡ starts n = omega (arith, cycle, there, same) in
       subst (λ t. IsStart d TICK bytes from n t) stamp_is s
+
+  -- a start of the run is at its multiple of 2,048 or one cycle past it
+  pub prompt : (n stamp : ℕ) → IsStart d TICK bytes from n stamp → IsPrompt n stamp
+  prompt n stamp s =
+      let t = in_time_as n s.state (same_start n stamp s) in
+      let cycle : s.state.cycle ≡ 4096 + stamp = s.cycle in
+      let there : s.state.cycle ≡ 4096 + 2048 * n + (s.state.cpu.pre - 2) = t.cycle in
+      let most : s.state.cpu.pre - 2 ≤ 1 = t.most in
+      record { least = omega (arith, cycle, there); most = omega (arith, cycle, there, most) }
 
   -- what holds of each start, with the model there; and the starts of the run's numbers
   pub at_starts : (P : World Beside → Whole S → Type 0)

@@ -1,4 +1,4 @@
--- For every layout and every accepted history run and model agree, and so do the other laws of the run hold.
+-- For every layout and every lawful history run and model agree, and so do the other laws of the run hold.
 use Rattle.std.proofs.Common.{◌≡◌, ℕ, true, false, Some, List, refl, ap, arith}
 use Rattle.std.proofs.lemmas.List.Elements.{All-replicate}
 use Rattle.fw_compile.specs.Image.{image_of}
@@ -13,14 +13,14 @@ use Rattle.board_lines.specs.declared.event.HostEvent.{HostEvent}
 use Rattle.joint_run.specs.Joint.{Beside, joint_board}
 use Rattle.joint_run.specs.Run.{World, joint_step, run_at}
 use Rattle.joint_run.specs.Starts.{at_tick, calm, Comes}
-use Rattle.key_file.specs.Accepted.{IsAcceptedFor}
+use Rattle.key_file.specs.Accepted.{IsLawfulFor}
 use Rattle.key_file.specs.Histories.{KeyHistory}
 use Rattle.layout_reader.specs.Layouts.{KeyLayout, IsKeyLayout}
 use Rattle.link_model.specs.Machine.{LayeredKeyboard, keyboard}
 use Rattle.mcs48_core.specs.Cpu.{Cpu}
 use Rattle.mcs48_core.specs.Reset.{reset_cpu}
 use Rattle.mcs48_ranges.specs.Sizes.{IsByte, IsFine}
-use Rattle.agreement.specs.Agreement.{AgreementLaw, AnyMemoryLaw, switched_on}
+use Rattle.agreement.specs.Agreement.{AgreementLaw, AnyMemoryLaw, PromptLaw, switched_on}
 use Rattle.agreement.specs.Executed.{ExecutedLaw}
 use Rattle.agreement.specs.Memory.{Holds, MemoryLaw}
 use Rattle.agreement.specs.Wires.{WiresLaw}
@@ -29,11 +29,11 @@ use Rattle.agreement.proofs.Compiled.{has_kernel, are_bytes}
 use Rattle.agreement.proofs.Holding.{HasPlaces, none_held, holds_now}
 use Rattle.fw_logic.specs.Ticks.{IsOnTime}
 use Rattle.agreement.proofs.Model.{at_first}
-use Rattle.agreement.proofs.ModelAtEachStart.{keeps_time, at_starts, at_run, agrees, drives}
+use Rattle.agreement.proofs.ModelAtEachStart.{keeps_time, at_starts, at_run, agrees, drives, prompt}
 use Rattle.agreement.proofs.Tied.{Tied, fits, tied_first, tied_next, passes, tick_drives}
 
 module _ (layout : KeyLayout) (history : KeyHistory) (fine : IsKeyLayout layout)
-    (ok : IsAcceptedFor layout history) where
+    (ok : IsLawfulFor layout history) where
   abbrev edges : List Edge
   edges = history.edges
 
@@ -72,12 +72,12 @@ module _ (layout : KeyLayout) (history : KeyHistory) (fine : IsKeyLayout layout)
 
 pub every_memory : AnyMemoryLaw
 every_memory layout history fine ok m small = (
-  keeps_time LayeredKeyboard (switched_on history.edges history.host m) (image_of layout) history ok.accepted (keyboard layout)
+  keeps_time LayeredKeyboard (switched_on history.edges history.host m) (image_of layout) history ok.lawful (keyboard layout)
       (Tied layout history fine ok) (λ k. HasPlaces k.keyboard) (fits layout history fine ok) (λ p l. none_held layout p)
       (holds_now layout) (tied_first layout history fine ok m small) (tied_next layout history fine ok)
       (λ w m t. ap (λ (s : _). s.log) t.ties.side) (λ w m t. (t.ties.started.entered.serves, t.ties.started.entered.bank))
       (λ w m t. (t.ties.started.entered.early, t.ties.started.entered.late)),
-  agrees LayeredKeyboard (switched_on history.edges history.host m) (image_of layout) history ok.accepted (keyboard layout)
+  agrees LayeredKeyboard (switched_on history.edges history.host m) (image_of layout) history ok.lawful (keyboard layout)
       (Tied layout history fine ok) (λ k. HasPlaces k.keyboard) (fits layout history fine ok) (λ p l. none_held layout p)
       (holds_now layout) (tied_first layout history fine ok m small) (tied_next layout history fine ok)
       (λ w m t. ap (λ (s : _). s.log) t.ties.side) (λ w m t. (t.ties.started.entered.serves, t.ties.started.entered.bank))
@@ -103,10 +103,19 @@ cleared =
 pub every_run : AgreementLaw
 every_run layout history fine ok = every_memory layout history fine ok reset_cpu cleared
 
+-- each start is prompt
+pub every_start : PromptLaw
+every_start layout history fine ok m small =
+    prompt LayeredKeyboard (switched_on history.edges history.host m) (image_of layout) history ok.lawful (keyboard layout)
+    (Tied layout history fine ok) (λ k. HasPlaces k.keyboard) (fits layout history fine ok) (λ p l. none_held layout p)
+    (holds_now layout) (tied_first layout history fine ok m small) (tied_next layout history fine ok)
+    (λ w m t. ap (λ (s : _). s.log) t.ties.side) (λ w m t. (t.ties.started.entered.serves, t.ties.started.entered.bank))
+    (λ w m t. (t.ties.started.entered.early, t.ties.started.entered.late))
+
 -- and the wires are as their law says
 pub every_wire : WiresLaw
 every_wire layout history fine ok m small =
-    drives LayeredKeyboard (switched_on history.edges history.host m) (image_of layout) history ok.accepted (keyboard layout)
+    drives LayeredKeyboard (switched_on history.edges history.host m) (image_of layout) history ok.lawful (keyboard layout)
     (Tied layout history fine ok) (λ k. HasPlaces k.keyboard) (fits layout history fine ok) (λ p l. none_held layout p)
     (holds_now layout) (tied_first layout history fine ok m small) (tied_next layout history fine ok)
     (λ w m t. ap (λ (s : _). s.log) t.ties.side) (λ w m t. (t.ties.started.entered.serves, t.ties.started.entered.bank))
@@ -119,7 +128,7 @@ every_wire layout history fine ok m small =
 pub every_holding : MemoryLaw
 every_holding layout history fine ok m small =
     let a =
-    at_starts LayeredKeyboard (switched_on history.edges history.host m) (image_of layout) history ok.accepted
+    at_starts LayeredKeyboard (switched_on history.edges history.host m) (image_of layout) history ok.lawful
     (keyboard layout)
     (Tied layout history fine ok) (λ k. HasPlaces k.keyboard) (fits layout history fine ok) (λ p l. none_held layout p)
     (holds_now layout) (tied_first layout history fine ok m small) (tied_next layout history fine ok)
@@ -133,7 +142,7 @@ every_holding layout history fine ok m small =
 pub every_execution : ExecutedLaw
 every_execution layout history fine ok m small =
     stays_fit layout history fine ok m small
-    (at_run LayeredKeyboard (switched_on history.edges history.host m) (image_of layout) history ok.accepted
+    (at_run LayeredKeyboard (switched_on history.edges history.host m) (image_of layout) history ok.lawful
     (keyboard layout)
     (Tied layout history fine ok) (λ k. HasPlaces k.keyboard) (fits layout history fine ok) (λ p l. none_held layout p)
     (holds_now layout) (tied_first layout history fine ok m small) (tied_next layout history fine ok)

@@ -1,5 +1,5 @@
 -- The agreement of run and model.
-use Rattle.std.specs.Prelude.{◌≡◌, ℕ, List}
+use Rattle.std.specs.Prelude.{◌≡◌, ◌≤◌, ℕ, ◌+◌, ◌*◌, List}
 use Rattle.board_lines.specs.declared.event.Edge.{Edge}
 use Rattle.board_lines.specs.declared.event.HostEvent.{HostEvent}
 use Rattle.fw_compile.specs.Image.{image_of}
@@ -9,7 +9,7 @@ use Rattle.fw_logic.specs.JointRun.{KeepsTime, KeepsTimeFrom}
 use Rattle.joint_run.specs.Joint.{Beside, beside_at_start, joint_board, joint_start, log_of}
 use Rattle.joint_run.specs.Run.{World}
 use Rattle.joint_run.specs.Starts.{IsStart}
-use Rattle.key_file.specs.Accepted.{IsAcceptedFor}
+use Rattle.key_file.specs.Accepted.{IsLawfulFor}
 use Rattle.key_file.specs.Histories.{KeyHistory}
 use Rattle.layout_reader.specs.Layouts.{KeyLayout, IsKeyLayout}
 use Rattle.link_model.specs.Expected.{whole_at}
@@ -30,10 +30,10 @@ pub record AgreesFrom {S : Type 0} (from : World Beside) (bytes : List ℕ) (kb 
 abbrev pub Agrees : {S : Type 0} → List ℕ → Machine S → List Edge → List HostEvent → Type 0
 Agrees bytes kb edges events = AgreesFrom joint_start bytes kb edges events
 
--- for every layout and every history that is accepted for it; and the run keeps its time
+-- for every layout and every history that is lawful for it; and the run keeps its time
 abbrev pub AgreementLaw : Type 0
 AgreementLaw =
-    (layout : KeyLayout) (history : KeyHistory) → IsKeyLayout layout → IsAcceptedFor layout history
+    (layout : KeyLayout) (history : KeyHistory) → IsKeyLayout layout → IsLawfulFor layout history
     → KeepsTime (image_of layout) history.edges history.host
     × Agrees (image_of layout) (keyboard layout) history.edges history.host
 
@@ -44,8 +44,22 @@ switched_on edges events m = power_on (joint_board edges events) m beside_at_sta
 -- and whatever the part holds when it is switched on: any bytes in data memory, A and T, any carries and prescaler
 abbrev pub AnyMemoryLaw : Type 0
 AnyMemoryLaw =
-    (layout : KeyLayout) (history : KeyHistory) → IsKeyLayout layout → IsAcceptedFor layout history
+    (layout : KeyLayout) (history : KeyHistory) → IsKeyLayout layout → IsLawfulFor layout history
     → (m : Cpu) → IsFine m
     → KeepsTimeFrom (switched_on history.edges history.host m) (image_of layout) history.edges history.host
     × AgreesFrom (switched_on history.edges history.host m) (image_of layout) (keyboard layout) history.edges
     history.host
+
+-- a start, as a stamp, is at its multiple of 2,048 or one cycle past it
+pub record IsPrompt (n start : ℕ) : Type 0 where
+  pub least : 2048 * n ≤ start
+  pub most : start ≤ 2048 * n + 1
+
+-- so is each tick start of these runs: it comes between two instructions of the wait, which take two cycles
+abbrev pub PromptLaw : Type 0
+PromptLaw =
+    (layout : KeyLayout) (history : KeyHistory) → IsKeyLayout layout → IsLawfulFor layout history
+    → (m : Cpu) → IsFine m → (n stamp : ℕ)
+    → IsStart (joint_board history.edges history.host) TICK (image_of layout)
+    (switched_on history.edges history.host m) n stamp
+    → IsPrompt n stamp

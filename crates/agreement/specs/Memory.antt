@@ -8,7 +8,7 @@ use Rattle.fw_keys.specs.Frameless.{shown_by, layers_by}
 use Rattle.joint_run.specs.Joint.{Beside, joint_board}
 use Rattle.joint_run.specs.Run.{World}
 use Rattle.joint_run.specs.Starts.{IsStart}
-use Rattle.key_file.specs.Accepted.{IsAcceptedFor}
+use Rattle.key_file.specs.Accepted.{IsLawfulFor}
 use Rattle.key_file.specs.Histories.{KeyHistory}
 use Rattle.layout_reader.specs.Layouts.{KeyLayout, IsKeyLayout}
 use Rattle.link_model.specs.Expected.{whole_at}
@@ -30,10 +30,10 @@ pub record HoldsKeyboard (from : World Beside) (bytes : List ℕ) (kb : Machine 
   pub holds : (n stamp : ℕ) (s : IsStart (joint_board edges events) TICK bytes from n stamp)
       → Holds s.state (whole_at kb edges events starts n).keys
 
--- for every layout and every history that is accepted for it, whatever a part holds when it is switched on
+-- for every layout and every history that is lawful for it, whatever a part holds when it is switched on
 abbrev pub MemoryLaw : Type 0
 MemoryLaw =
-    (layout : KeyLayout) (history : KeyHistory) → IsKeyLayout layout → IsAcceptedFor layout history → (m : Cpu)
+    (layout : KeyLayout) (history : KeyHistory) → IsKeyLayout layout → IsLawfulFor layout history → (m : Cpu)
     → IsFine m
     → HoldsKeyboard (switched_on history.edges history.host m) (image_of layout) (keyboard layout) history.edges
     history.host

@@ -21,7 +21,7 @@ use Rattle.fw_link.specs.Latch.{Frame, NoFrame, SentFrame, CutFrame, ReceivedFra
 use Rattle.joint_run.specs.Joint.{Beside, joint_board}
 use Rattle.joint_run.specs.Run.{World, joint_step, after_cycles}
 use Rattle.joint_run.specs.Starts.{at_tick, calm, IsStart}
-use Rattle.key_file.specs.Accepted.{IsAcceptedFor}
+use Rattle.key_file.specs.Accepted.{IsLawfulFor}
 use Rattle.key_file.specs.Histories.{KeyHistory}
 use Rattle.layout_reader.specs.Layouts.{KeyLayout, IsKeyLayout}
 use Rattle.link_model.specs.Expected.{meeting_from, whole_at}
@@ -126,10 +126,10 @@ pub record DrivesWires {S : Type 0} (from : World Beside) (bytes : List ℕ) (kb
       → DrivesFrame edges events bytes (kb.offer (whole_at kb edges events starts n).keys)
       (meeting_from kb events s.state.cycle (whole_at kb edges events starts n)) s.state
 
--- for every layout and every history that is accepted for it, whatever a part holds when it is switched on
+-- for every layout and every history that is lawful for it, whatever a part holds when it is switched on
 abbrev pub WiresLaw : Type 0
 WiresLaw =
-    (layout : KeyLayout) (history : KeyHistory) → IsKeyLayout layout → IsAcceptedFor layout history
+    (layout : KeyLayout) (history : KeyHistory) → IsKeyLayout layout → IsLawfulFor layout history
     → (m : Cpu) → IsFine m
     → DrivesWires (switched_on history.edges history.host m) (image_of layout) (keyboard layout) history.edges
     history.host

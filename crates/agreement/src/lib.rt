@@ -7,37 +7,37 @@
 //! text of a log, nor how a run is made or the expected log computed. Our own.
 #![tactic(auto)]
 
-ghost use Rattle.agreement.specs.Agreement.{AgreementLaw, AnyMemoryLaw};
+ghost use Rattle.agreement.specs.Agreement.{AgreementLaw, AnyMemoryLaw, PromptLaw};
 ghost use Rattle.agreement.specs.Executed.{ExecutedLaw};
 ghost use Rattle.agreement.specs.Firmware.{TickLaw};
 ghost use Rattle.agreement.specs.Memory.{MemoryLaw};
 ghost use Rattle.agreement.specs.Wires.{WiresLaw};
 
-/// For every layout and every history that is accepted for it: the joint run of the layout's compiled image is never
-/// stuck, each of its ticks starts at most five cycles past its multiple of 2,048, and what was said up to a tick start
-/// is what the model says up to it, at the run's own tick starts. So it is of the run from cleared memory, which the
-/// program makes, and of the run from whatever a part holds when it is switched on. Nothing is done when it is called;
-/// the law is its contract.
+/// For every layout and every history that is lawful for it, however long: the joint run of the layout's compiled image
+/// is never stuck, each of its ticks starts at its multiple of 2,048 or one cycle past it, and what was said up to a
+/// tick start is what the model says up to it, at the run's own tick starts. So it is of the run from cleared memory,
+/// which the program makes, and of the run from whatever a part holds when it is switched on. Nothing is done when it
+/// is called; the laws are its contract.
 pub fn run_and_model_agree()
     ensures agreement { AgreementLaw }
     ensures any_memory { AnyMemoryLaw }
+    ensures prompt { PromptLaw }
 {}
 
-/// For every layout and every history that is accepted for it: in each tick of the joint run, in each of its cycles, what
-/// the keyboard drives on the two wires. Outside a frame it pulls neither wire. The frame is that of the model's meeting:
-/// the byte that is sent, whole or cut in one of its cells; the one in which the controller's byte is received; or none.
-/// It is cut in the cell whose look is the first behind the cycle in which the controller began to pull the clock; where
-/// it isn't cut, the controller's link is free at its first edge and leaves the clock alone at each look, or it requests
-/// to send the byte that is received, which is the meeting's. Port 1 selects each column in the cycles of its offset,
-/// and else none.
-/// Nothing is done when it is called; the law is its contract.
+/// For every layout and every history that is lawful for it, however long: in each tick of the joint run, in each of
+/// its cycles, what the keyboard drives on the two wires. Outside a frame it pulls neither wire. The frame is that of
+/// the model's meeting: the byte that is sent, whole or cut in one of its cells; the one in which the controller's byte
+/// is received; or none. It is cut in the cell whose look is the first behind the cycle in which the controller began
+/// to pull the clock; where it isn't cut, the controller's link is free at its first edge and leaves the clock alone at
+/// each look, or it requests to send the byte that is received, which is the meeting's. Port 1 selects each column in
+/// the cycles of its offset, and else none. Nothing is done when it is called; the law is its contract.
 pub fn wires_are_driven()
     ensures wires { WiresLaw }
 {}
 
-/// For every layout and every history that is accepted for it: at each tick start of the joint run data memory shows the
-/// model's keyboard and its layers, so it goes on by the meetings of the model and the edges of its ticks. Nothing is
-/// done when it is called; the law is its contract.
+/// For every layout and every history that is lawful for it, however long: at each tick start of the joint run data
+/// memory shows the model's keyboard and its layers, so it goes on by the meetings of the model and the edges of its
+/// ticks. Nothing is done when it is called; the law is its contract.
 pub fn memory_holds_keyboard()
     ensures memory { MemoryLaw }
 {}
@@ -53,11 +53,11 @@ pub fn every_tick()
     ensures ticks { TickLaw }
 {}
 
-/// For every layout and every history that is accepted for it, whatever a part holds when it is switched on: in each
-/// state of the joint run the instruction that comes next stands in the chip's own 2,048 bytes and is none that the
-/// board rules out. So the run never enables the clock's output on T0, drives the bus or accesses memory outside, uses
-/// the port expander, reads the pins of ports 1 and 2, enables the external interrupt, or calls: of the stack's eight
-/// entries the service alone takes one. Nothing is done when it is called; the law is its contract.
+/// For every layout and every history that is lawful for it, however long, whatever a part holds when it is switched
+/// on: in each state of the joint run the instruction that comes next stands in the chip's own 2,048 bytes and is none
+/// that the board rules out. So the run never enables the clock's output on T0, drives the bus or accesses memory
+/// outside, uses the port expander, reads the pins of ports 1 and 2, enables the external interrupt, or calls: of the
+/// stack's eight entries the service alone takes one. Nothing is done when it is called; the law is its contract.
 pub fn keeps_to_the_board()
     ensures executed { ExecutedLaw }
 {}

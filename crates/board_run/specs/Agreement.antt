@@ -5,7 +5,7 @@ use Rattle.board_run.specs.Running.{IsOutcome, Outcome}
 use Rattle.fw_compile.specs.Image.{image_of}
 use Rattle.host_turn.specs.declared.stamped.Stamped.{Stamped}
 use Rattle.joint_feed.specs.Stories.{Story, story}
-use Rattle.key_file.specs.Accepted.{IsAcceptedFor}
+use Rattle.key_file.specs.Accepted.{IsLawfulFor}
 use Rattle.key_file.specs.Histories.{KeyHistory}
 use Rattle.layout_reader.specs.Layouts.{IsKeyLayout, KeyLayout}
 use Rattle.story_run.specs.Running.{AreIn}
@@ -32,8 +32,8 @@ pub record TellsRun (s : Story) (board : Outcome) (run : layout.Outcome) : Type 
   pub changes : List ℕ
   pub trace : trace_to s run.steps ≡ trace_to s board.steps ++ changes
 
--- so it is with each layout's compiled image under a history that is accepted for it
+-- so it is with each layout's compiled image under a history that is lawful for it
 abbrev pub BoardsTellRuns : Type 0
 BoardsTellRuns = (of : KeyLayout) (history : KeyHistory) (board : Outcome) (run : layout.Outcome) → IsKeyLayout of
-    → IsAcceptedFor of history → IsOutcome (story (image_of of) history) board
+    → IsLawfulFor of history → IsOutcome (story (image_of of) history) board
     → layout.IsOutcome (story (image_of of) history) run → TellsRun (story (image_of of) history) board run

@@ -10,7 +10,7 @@ pub fn boards_are_alike()
     ensures alike { BoardsAreAlike }
 {}
 
-/// A layout's compiled image, under a history that is accepted for it, says on the board what the layout's run says,
+/// A layout's compiled image, under a history that is lawful for it, says on the board what the layout's run says,
 /// item by item in the same cycles, up to the end stamp, and is never stuck. The layout's run goes on to the first
 /// tick start at or after the end stamp, and may say more until then. Nothing is done when it is called; the law is
 /// its contract.

@@ -9,6 +9,7 @@ use Rattle.kbd48_app.specs.declared.words.BoardCommand.TheVariants.{Log, Trace}
 use Rattle.kbd48_app.specs.BoardTells.{BoardTellsRun, BoardTracesRun}
 use Rattle.kbd48_app.specs.BoardTexts.{board_said}
 use Rattle.kbd48_app.specs.RunTexts.{run_text}
+use Rattle.key_file.proofs.Lawful.{lawful_for}
 use Rattle.kbd48_app.proofs.OneText.{no_refusal}
 
 alone : (run : Outcome) → run_text false false run ≡ log_text run.log
@@ -18,7 +19,7 @@ pub board_tells_run : BoardsTellRuns → BoardTellsRun
 board_tells_run law of history text answer probes others left kept sound accepted (inl none) k = absurd (no_refusal text Memory none.0)
 board_tells_run law of history text answer probes others left kept sound accepted (inr h) (inl none) = inl none.0
 board_tells_run law of history text answer probes others left kept sound accepted (inr h) (inr told) =
-    let tells = law of history told.0 h.1 sound accepted told.1 h.2.0 in
+    let tells = law of history told.0 h.1 sound (lawful_for accepted) told.1 h.2.0 in
     let same : text ≡ h.0 = cc h.3 in
     inr (
       told.3 ∙ ap (board_said (Log false) told.0) tells.over,
@@ -29,7 +30,7 @@ pub board_traces_run : BoardsTellRuns → BoardTracesRun
 board_traces_run law of history text answer probes others left kept sound accepted (inl none) k = absurd (no_refusal text Memory none.0)
 board_traces_run law of history text answer probes others left kept sound accepted (inr h) (inl none) = inl none.0
 board_traces_run law of history text answer probes others left kept sound accepted (inr h) (inr told) =
-    let tells = law of history told.0 h.1 sound accepted told.1 h.2.0 in
+    let tells = law of history told.0 h.1 sound (lawful_for accepted) told.1 h.2.0 in
     let same : text ≡ h.0 = cc h.3 in
     inr (
       told.3 ∙ ap (board_said Trace told.0) tells.over,

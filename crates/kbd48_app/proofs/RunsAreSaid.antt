@@ -35,6 +35,7 @@ use Rattle.wire_trace.specs.Ending.{IsTraceBrokenOff, IsTraceSaid}
 use Rattle.wire_trace.specs.Trace.{trace_to}
 use Rattle.wires_heard.specs.Hearing.{HearsAll}
 use Rattle.kbd48_app.proofs.RunPlans.{HistoryOutcome}
+use Rattle.key_file.proofs.Lawful.{lawful_for}
 use Rattle.kbd48_app.proofs.StrokesAreAccepted.{sample_accepted}
 
 -- how the probes are left, and what was said before the answer
@@ -84,7 +85,7 @@ module _ (ticks steps : Bool) (layout : KeyLayout) (text : List ℕ) (history : 
     outcome = subst (λ (t : Story). IsOutcome t run) this made
 
     said_so : IsRunText (Log ticks steps) layout history (run_text ticks steps run) run
-    said_so = (outcome, law layout history run sound accepted outcome, refl, tt)
+    said_so = (outcome, law layout history run sound (lawful_for accepted) outcome, refl, tt)
 
     -- it is said whole
     pub told_whole : HaveLookedAtAll s run.steps probes left
@@ -151,7 +152,7 @@ sampled count few law sound s this text probes left h =
     inr (
       text,
       h.0,
-      (made, law us84 (sample_history count) h.0 sound (sample_accepted count few) made, h.2),
+      (made, law us84 (sample_history count) h.0 sound (lawful_for (sample_accepted count few)) made, h.2),
       refl,
       subst (λ (t : Story). HaveLookedAtAll t h.0.steps probes left) this h.3,
     )
@@ -185,10 +186,10 @@ module _ (layout : KeyLayout) (text : List ℕ) (history : KeyHistory) (is : his
     trace_told : (k : ℕ) → IsOverBehind TickStart s k → (taking : Taking)
         → MayTell Trace layout text (Ok (trace_to s k)) probes (left_so probes taking)
     trace_told k over taking =
-        let made = outcomes layout history k sound accepted over in
+        let made = outcomes layout history k sound (lawful_for accepted) over in
         let run = made.0 in
         ran Trace layout text history (Ok (trace_to s k)) probes (left_so probes taking) is refl
-        (inr (trace_to s k, run, (made.1, law layout history run sound accepted made.1, ap (trace_to s) (sym made.2), heard), refl, refl))
+        (inr (trace_to s k, run, (made.1, law layout history run sound (lawful_for accepted) made.1, ap (trace_to s) (sym made.2), heard), refl, refl))
 
     -- it is said whole
     pub traced : (done : Unit {0}) → IsTraceSaid s x y

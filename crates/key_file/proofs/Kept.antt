@@ -11,7 +11,7 @@ use Rattle.board_lines.specs.Edges.{of_place, last_of}
 use Rattle.first_fault.specs.FirstFault.{Judgement, first_broken}
 use Rattle.key_file.specs.declared.rule.Rule.{Rule}
 use Rattle.key_file.specs.declared.rule.Rule.TheVariants.{Dwell, Density}
-use Rattle.key_file.specs.Accepted.{IsAccepted, Alternates, Dwells, IsThin}
+use Rattle.key_file.specs.Accepted.{IsLawful, Alternates, Dwells, IsThin}
 use Rattle.key_file.specs.Histories.{KeyHistory, Before, last_edge}
 use Rattle.key_file.specs.Briefs.{Brief, brief_of, from_end}
 use Rattle.key_file.specs.Rules.{is_down, is_held, soon_after, fourth_back, edge_judgements}
@@ -85,16 +85,16 @@ fits : (before : Brief) (e : Edge) (more : List (Judgement Rule)) → is_held e 
 fits before e more held dwell thin =
     rw held (far Dwell Density (before.last e.place) (fourth_back before) e more dwell thin)
 
--- an edge of an accepted history breaks none of them
+-- an edge of a lawful history breaks none of them
 pub edge_unbroken : (history : KeyHistory) (before : Before) (e : Edge) (edges : List Edge)
-    → IsAccepted history → before.edges ++ e ∷ edges ≡ history.edges → (more : List (Judgement Rule))
+    → IsLawful history → before.edges ++ e ∷ edges ≡ history.edges → (more : List (Judgement Rule))
     → first_broken (edge_judgements (brief_of before) e ++ more) ≡ first_broken more
-edge_unbroken history before e edges accepted are more =
+edge_unbroken history before e edges lawful are more =
     let own : of_place e.place history.edges ≡ of_place e.place before.edges ++ e ∷ of_place e.place edges =
     ap (of_place e.place) (sym are) ∙ of_place-at before.edges e edges in
     let turns = turn_at false (of_place e.place before.edges) e (of_place e.place edges)
-    (subst (Alternates false) own (accepted.alternate e.place)) in
+    (subst (Alternates false) own (lawful.alternate e.place)) in
     fits (brief_of before) e more
     (turned e.down (is_down (last_edge e.place before.edges)) (turns ∙ ap not (sym (down-last e.place before.edges))))
-    (λ x is. dwell_at (of_place e.place before.edges) e (of_place e.place edges) x (subst Dwells own (accepted.dwell e.place)) is)
-    (λ x is. thin_at before.edges e edges x (subst IsThin (sym are) accepted.thin) is)
+    (λ x is. dwell_at (of_place e.place before.edges) e (of_place e.place edges) x (subst Dwells own (lawful.dwell e.place)) is)
+    (λ x is. thin_at before.edges e edges x (subst IsThin (sym are) lawful.thin) is)

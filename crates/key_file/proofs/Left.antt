@@ -65,7 +65,7 @@ module _ (history : KeyHistory) (accepted : IsAccepted history) (before : Before
   edge_taken e edges host left order =
       let range : e.stamp ≤ 240000000 = omega (arith, edge_before_end e edges host left, accepted.end_in_range) in
       taken before (EdgeOf e) order range left.goes_on (room (e ∷ edges) host left (omega arith))
-      (edge_unbroken history before e edges accepted left.edges_are)
+      (edge_unbroken history before e edges accepted.lawful left.edges_are)
 
   pub edge_left : (e : Edge) (edges : List Edge) (host : List HostEvent)
       → IsLeft history before (e ∷ edges) host → IsLeft history (with_event before (EdgeOf e)) edges host

@@ -1,4 +1,5 @@
 pub mod LastEdges
+pub mod Lawful
 pub mod FlipBits
 pub mod HexBytes
 pub mod Pushes

@@ -147,18 +147,20 @@ accepted layout before end places sound is =
     let last : end ≡ before.stamp = subst (EndsAt before.stamp) is sound.ends in
     record {
       accepted = record {
-        in_matrix = places;
-        edges_in_order = sound.edges_in_order;
-        host_in_order = sound.host_in_order;
-        written = sound.written;
-        flips = sound.flips;
+        lawful = record {
+          in_matrix = places;
+          edges_in_order = sound.edges_in_order;
+          host_in_order = sound.host_in_order;
+          written = sound.written;
+          flips = sound.flips;
+          alternate = sound.alternate;
+          dwell = sound.dwell;
+          thin = sound.thin;
+        };
         edges_before_end = λ k d within. omega (arith, last, sound.edges_before k d within);
         host_before_end = λ k d within. omega (arith, last, sound.host_before k d within);
         end_in_range = omega (arith, last, sound.stamp_in_range);
         number_in_range = sound.number_in_range;
-        alternate = sound.alternate;
-        dwell = sound.dwell;
-        thin = sound.thin;
       };
       places = sound.places;
     }

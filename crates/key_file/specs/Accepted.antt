@@ -1,4 +1,4 @@
--- Accepted histories: those that a run is about.
+-- Lawful histories, which the laws are about; and accepted ones, which a key file can say.
 use Rattle.std.specs.Prelude.{◌≡◌, ◌≤◌, ◌<◌, ℕ, ◌+◌, Bool, false, not, List, [], ◌∷◌, length, All, IsSome}
 use Rattle.board_lines.specs.declared.event.Edge.{Edge}
 use Rattle.board_lines.specs.declared.event.HostAct.{HostAct}
@@ -53,25 +53,35 @@ abbrev pub IsThin : List Edge → Type 0
 IsThin [] = Unit {0}
 IsThin (a ∷ es) = IsFifthLater a es × IsThin es
 
--- what is accepted of a history whatever the layout; the first field says that each edge's place is one of the matrix's
--- 96
-pub record IsAccepted (history : KeyHistory) : Type 0 where
+-- what keys and a host can do, whatever the layout, however much and however long: the first field says that each edge's
+-- place is one of the matrix's 96
+pub record IsLawful (history : KeyHistory) : Type 0 where
   pub in_matrix : ArePlaces history.edges
   pub edges_in_order : AreInOrder history.edges
   pub host_in_order : AreHostEventsInOrder history.host
   pub written : AreWritten history.host
   pub flips : AreFlips history.host
-  pub edges_before_end : All (λ edge. edge.stamp ≤ history.end) history.edges
-  pub host_before_end : All (λ event. event.stamp ≤ history.end) history.host
-  pub end_in_range : history.end ≤ 240000000
-  pub number_in_range : length history.edges + length history.host ≤ 65536
   pub alternate : (place : ℕ) → Alternates false (of_place place history.edges)
   pub dwell : (place : ℕ) → Dwells (of_place place history.edges)
   pub thin : IsThin history.edges
 
+-- what is accepted in a key file: a lawful history that ends after all of it, within 600 seconds, and has at most 65,536
+-- edges and events
+pub record IsAccepted (history : KeyHistory) : Type 0 where
+  pub lawful : IsLawful history
+  pub edges_before_end : All (λ edge. edge.stamp ≤ history.end) history.edges
+  pub host_before_end : All (λ event. event.stamp ≤ history.end) history.host
+  pub end_in_range : history.end ≤ 240000000
+  pub number_in_range : length history.edges + length history.host ≤ 65536
+
 -- a place is one of the layout's
 abbrev pub IsPlaceOf : KeyLayout → ℕ → Type 0
 IsPlaceOf layout place = IsSome (entry_at place layout.entries)
+
+-- a history is lawful for a layout
+pub record IsLawfulFor (layout : KeyLayout) (history : KeyHistory) : Type 0 where
+  pub lawful : IsLawful history
+  pub places : All (λ edge. IsPlaceOf layout edge.place) history.edges
 
 -- a history is accepted for a layout
 pub record IsAcceptedFor (layout : KeyLayout) (history : KeyHistory) : Type 0 where

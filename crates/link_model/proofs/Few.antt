@@ -8,7 +8,7 @@ use Rattle.std.proofs.lemmas.List.{length-append, length-map}
 use Rattle.link_model.specs.TickEdges.{read_at, is_seen, by_place, change_of, tick_edges}
 use Rattle.link_model.specs.TickEdges.{change_at, shown_at, shown, downs_in, downs_before}
 use Rattle.key_file.specs.Histories.{KeyHistory}
-use Rattle.key_file.specs.Accepted.{IsThin, IsFifthLater, IsAccepted}
+use Rattle.key_file.specs.Accepted.{IsThin, IsFifthLater, IsLawful}
 use Rattle.board_lines.specs.declared.event.Edge.{Edge}
 use Rattle.board_lines.specs.Edges.{of_place, last_of, AreInOrder}
 use Rattle.board_lines.specs.Laws.{ArePlaces}
@@ -227,7 +227,7 @@ module _ (starts : ℕ → ℕ) (last : ℕ) (cadence : KeepsCadenceTo starts la
       let o : e.stamp ≤ starts n + 16 + 16 * (e.place / 8) = grind (arith, nat_tests, k) in
       within n c e l o
 
-  pub shows : (history : KeyHistory) (n : ℕ) → n ≤ last → IsAccepted history → Shows starts history.edges n
+  pub shows : (history : KeyHistory) (n : ℕ) → n ≤ last → IsLawful history → Shows starts history.edges n
   shows history n b ok =
       let edges : List Edge = history.edges in
       let held : ℕ → Bool = downs_before starts edges n in

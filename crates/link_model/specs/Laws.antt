@@ -15,7 +15,7 @@ use Rattle.ctl_link.specs.declared.link.Link.{Link}
 use Rattle.layout_reader.specs.Layouts.{KeyLayout, is_fn_place}
 use Rattle.kbd_model.specs.Layers.{no_layers, all_layers_after}
 use Rattle.key_file.specs.Histories.{KeyHistory}
-use Rattle.key_file.specs.Accepted.{IsAccepted}
+use Rattle.key_file.specs.Accepted.{IsLawful}
 use Rattle.link_model.specs.TickEdges.{is_seen, tick_edges, edges_before, shown, downs_in, downs_before, read_at}
 use Rattle.link_model.specs.Machine.{keyboard}
 use Rattle.link_model.specs.Expected.{to_look, to_meeting, from_meeting, whole_at}
@@ -26,7 +26,7 @@ RisesFrom from [] = Unit {0}
 RisesFrom from (c ∷ cs) = (from ≤ c.0) × RisesFrom (suc c.0) cs
 
 -- the columns of tick n, read against the keys held before it, show its edges: at most four, of different places. So
--- it is of each accepted history under the cadence
+-- it is of each lawful history under the cadence
 pub record Shows (starts : ℕ → ℕ) (edges : List Edge) (n : ℕ) : Type 0 where
   pub same : tick_edges starts edges n ≡ shown (downs_before starts edges n) (downs_in starts edges n)
   pub few : length (tick_edges starts edges n) ≤ 4
@@ -34,7 +34,7 @@ pub record Shows (starts : ℕ → ℕ) (edges : List Edge) (n : ℕ) : Type 0 w
 
 abbrev pub EdgesShown : Type 0
 EdgesShown =
-    (starts : ℕ → ℕ) (history : KeyHistory) (n : ℕ) → IsAccepted history → KeepsCadenceTo starts n
+    (starts : ℕ → ℕ) (history : KeyHistory) (n : ℕ) → IsLawful history → KeepsCadenceTo starts n
     → Shows starts history.edges n
 
 -- an edge whose column tick n reads in time has one tick that sees it, and no other

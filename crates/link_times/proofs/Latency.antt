@@ -23,12 +23,13 @@ use Rattle.link_model.specs.TickEdges.{is_seen, none_before, read_at}
 use Rattle.quiet_log.specs.Once.{meeting_at}
 use Rattle.link_times.specs.Coming.{added, code_of, codes_at, codes_of, edges_at, first_at, keyboard_at, queue_left}
 use Rattle.link_times.specs.Coming.{repeat_code, repeats_still, rest_at, test_left, tick_codes, told}
-use Rattle.link_times.specs.Flowing.{IsHostQuiet}
+use Rattle.link_times.specs.Flowing.{IsHostQuiet, IsQuietFrom}
 use Rattle.link_times.specs.Latency.{ComesInTime, StandsBehind, Strikes, read_stamp}
 use Rattle.link_times.proofs.Entering.{entered}
 use Rattle.link_times.proofs.Flowing.{get_more}
 use Rattle.link_times.proofs.QuietFlow.{byte_a_tick}
-use Rattle.link_times.proofs.Reading.{read_in}
+use Rattle.link_times.proofs.Reading.{read_from}
+use Rattle.link_times.proofs.Resting.{quiet_from_start}
 use Rattle.link_times.proofs.Twice.{comes_at, comes_exactly}
 
 -- an overrun stays
@@ -202,13 +203,13 @@ seen_late starts m edge e =
     off true h = absurd cc
     off false h = refl
 
-module _ (layout : KeyLayout) (history : KeyHistory) (starts : ℕ → ℕ) (last : ℕ) (edge : Edge) (code : List ℕ)
-    (quiet : IsHostQuiet history) (cadence : KeepsCadenceTo starts last) where
+module _ (layout : KeyLayout) (history : KeyHistory) (starts : ℕ → ℕ) (last first : ℕ) (edge : Edge) (code : List ℕ)
+    (quiet : IsQuietFrom layout history starts first) (cadence : KeepsCadenceTo starts last) where
   -- its bytes, each in its tick
-  in_tick : (n place i byte : ℕ) → n < last → Strikes layout history starts n edge code
+  in_tick : (n place i byte : ℕ) → first ≤ n → n < last → Strikes layout history starts n edge code
       → StandsBehind place code (waiting (keyboard_at layout history starts (suc n))) → slice_get code i ≡ Some byte
       → i + place + suc n < last → meeting_at layout history starts (i + place + suc n) ≡ Sent byte
-  in_tick n place i byte l struck s e u =
+  in_tick n place i byte f l struck s e u =
       let t : (keyboard_at layout history starts (suc n)).test ≡ 0 =
       tested (keyboard_at layout history starts (suc n)) struck.scanning in
       let g : slice_get (s.before ++ (code ++ s.behind)) (i + length s.before) ≡ Some byte =
@@ -216,29 +217,29 @@ module _ (layout : KeyLayout) (history : KeyHistory) (starts : ℕ → ℕ) (las
       let h : slice_get (waiting (keyboard_at layout history starts (suc n))) (i + place) ≡ Some byte =
       ap (λ v. slice_get v (i + place)) s.is
       ∙ subst (λ k. slice_get (s.before ++ (code ++ s.behind)) (i + k) ≡ Some byte) s.number g in
-      byte_a_tick layout history quiet starts last cadence (suc n) (i + place) byte (omega (arith, u)) t h
+      byte_a_tick layout history starts last first quiet cadence (suc n) (i + place) byte (omega (arith, f))
+      (omega (arith, u)) t h
 
   -- and in time
-  soon_at : (n place i : ℕ) → Strikes layout history starts n edge code → i + place + suc n ≤ last
+  soon_at : (n place i late : ℕ) → Strikes layout history starts n edge code → i + place + suc n ≤ last
+      → starts (i + place + suc n) ≤ 2048 * (i + place + suc n) + late
       → read_stamp starts (i + place + suc n) + 16 * (edge.place / 8)
-      ≤ edge.stamp + 2 * 2048 + 660 + 2048 * (i + place)
-  soon_at zero place i struck u =
+      ≤ edge.stamp + 2 * 2048 + 655 + late + 2048 * (i + place)
+  soon_at zero place i late struck u hi =
       let t : (keyboard_at layout history starts 1).test ≡ 0 =
       tested (keyboard_at layout history starts 1) struck.scanning in
       let f : (keyboard_at layout history starts 1).test ≡ 63 =
       (comes_exactly layout history starts 0).test
       ∙ first_test layout history starts (meeting_at layout history starts 0) in
       absurd (omega (arith, t, f))
-  soon_at (suc m) place i struck u =
-      let late : starts m + 16 + 16 * (edge.place / 8) < edge.stamp = seen_late starts m edge struck.seen in
+  soon_at (suc m) place i late struck u hi =
+      let behind : starts m + 16 + 16 * (edge.place / 8) < edge.stamp = seen_late starts m edge struck.seen in
       let lo : 2048 * m ≤ starts m = (cadence m (omega (arith, u))).least in
-      let hi : starts (i + place + suc (suc m)) ≤ 2048 * (i + place + suc (suc m)) + 5 =
-      (cadence (i + place + suc (suc m)) u).most in
-      omega (arith, late, lo, hi)
+      omega (arith, behind, lo, hi)
 
-  pub in_time : (n : ℕ) → n < last → Strikes layout history starts n edge code
+  pub in_time : (n : ℕ) → first ≤ n → n < last → Strikes layout history starts n edge code
       → ComesInTime layout history starts last n edge code
-  in_time n l struck =
+  in_time n f l struck =
       let s = comes_behind layout history starts n edge code struck in
       let place : ℕ = length s.before in
       let at : StandsBehind place code (waiting (keyboard_at layout history starts (suc n))) =
@@ -247,13 +248,23 @@ module _ (layout : KeyLayout) (history : KeyHistory) (starts : ℕ → ℕ) (las
         place = place;
         stands = at;
         reads = λ i byte e u.
-            read_in layout history quiet starts last cadence (i + place + suc n) byte u
-            (in_tick n place i byte l struck at e u);
-        soon = λ i u. soon_at n place i struck u;
+            read_from layout history starts first last (i + place + suc n) byte quiet cadence (omega (arith, f)) u
+            (in_tick n place i byte f l struck at e u);
+        prompt = λ i u hi. let k = soon_at n place i 1 struck u hi in omega (arith, k);
+        soon = λ i u.
+            let k = soon_at n place i 5 struck u (cadence (i + place + suc n) u).most in omega (arith, k);
       }
 
 pub keys_come_in_time : (layout : KeyLayout) (history : KeyHistory) (starts : ℕ → ℕ) (last n : ℕ) (edge : Edge)
     (code : List ℕ) → IsHostQuiet history → KeepsCadenceTo starts last → n < last
     → Strikes layout history starts n edge code → ComesInTime layout history starts last n edge code
 keys_come_in_time layout history starts last n edge code quiet cadence l struck =
-    in_time layout history starts last edge code quiet cadence n l struck
+    in_time layout history starts last 0 edge code (quiet_from_start layout history starts quiet) cadence n (omega arith)
+    l struck
+
+-- from a tick on
+pub keys_come_in_time_from : (layout : KeyLayout) (history : KeyHistory) (starts : ℕ → ℕ) (first last n : ℕ)
+    (edge : Edge) (code : List ℕ) → IsQuietFrom layout history starts first → KeepsCadenceTo starts last → first ≤ n
+    → n < last → Strikes layout history starts n edge code → ComesInTime layout history starts last n edge code
+keys_come_in_time_from layout history starts first last n edge code quiet cadence f l struck =
+    in_time layout history starts last first edge code quiet cadence n f l struck

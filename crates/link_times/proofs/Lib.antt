@@ -6,6 +6,8 @@ pub mod Wholeness
 pub mod Exact
 pub mod Twice
 pub mod Flowing
+pub mod EachRead
+pub mod Clear
 pub mod Shadow
 pub mod Resting
 pub mod QuietFlow
@@ -16,3 +18,4 @@ pub mod Reading
 pub mod Among
 pub mod Latency
 pub mod Meeting
+pub mod ReadOnce

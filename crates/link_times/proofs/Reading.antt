@@ -35,10 +35,12 @@ use Rattle.quiet_log.proofs.Calm.{Pc, core_of}
 use Rattle.quiet_log.proofs.Carrying.{stays_under_way}
 use Rattle.quiet_log.proofs.Saying.{tick_is}
 use Rattle.quiet_log.proofs.Undue.{full_span, passing, side}
-use Rattle.link_times.specs.Flowing.{IsHostQuiet}
+use Rattle.link_times.specs.Flowing.{IsHostQuiet, IsQuietFrom}
 use Rattle.link_times.specs.Latency.{IsReadIn, put_out_in, read_stamp}
-use Rattle.link_times.proofs.Resting.{Rests, begins, meet_same, meets, none_at, rest, rests_at}
-use Rattle.link_times.proofs.Shadow.{Same, all_quiet, event_quietly, same_carried, same_span, view}
+use Rattle.link_times.proofs.Clear.{view}
+use Rattle.link_times.proofs.QuietFlow.{rests_in}
+use Rattle.link_times.proofs.Resting.{Rests, begins, meet_same, meets, none_at, quiet_from_start, quiet_on, rest}
+use Rattle.link_times.proofs.Shadow.{AreQuietFrom, Same, event_quietly, same_carried, same_span}
 
 -- an element of a list, under a function
 contains_at : {X Y : Type 0} (f : X → Y) (xs : List X) (x : X) (k : ℕ) → k < length xs → slice_index_or xs k x ≡ x
@@ -107,11 +109,11 @@ module _ (events : List HostEvent) where
       subst (λ v. Contains (bios_turn now filled v).items (Port h.core.output)) (sym e.1)
       (subst (λ c. Contains (if c then read_by_bios h' else in_silence h').items (Port h.core.output)) (sym i) head)
 
-  reads_now : ((i : ℕ) → IsQuietNext (slice_get events i)) → (now : ℕ) (m : Side UnderWay)
+  reads_now : (now : ℕ) (m : Side UnderWay) → IsQuietNext (slice_get events m.done)
       → interrupts now m.port.filled (view m.masked m.port) ≡ true
       → Contains (byte_cycle events now Quiet m).log (record { cycle = now; item = Port m.port.core.output })
   unfolding byte_cycle goes_on
-  reads_now quiet now m i =
+  reads_now now m quiet i =
       let h : Host = host_of (desk_of m) in
       let o : Option HostEvent = slice_get events m.done in
       let first : List Item = (event_turn now o h).items in
@@ -119,7 +121,7 @@ module _ (events : List HostEvent) where
       let said : List Item =
       said_of (settled now (broken_off is_open now (port_by (turn_of events now m) m.port))).did in
       let item : Item = Port m.port.core.output in
-      let r : Contains second item = read_items now m.port.filled o h (quiet m.done) i in
+      let r : Contains second item = read_items now m.port.filled o h quiet i in
       Contains-append_right m.log (stamped now ((first ++ second) ++ said)) (record { cycle = now; item = item })
       (contains_map (λ v. record { cycle = now; item = v }) ((first ++ second) ++ said) item
       (Contains-append_left (first ++ second) said item (Contains-append_right first second item r)))
@@ -163,12 +165,12 @@ put_still now next byte code q filled e z =
     ∙ full_span [] n (record q { mark = t.mark; out = code }) [] 64 n (omega arith)
     (none_at (record q { mark = t.mark; out = code }) n 64)
 
-module _ (layout : KeyLayout) (history : KeyHistory) (quiet : IsHostQuiet history) where
+module _ (layout : KeyLayout) (history : KeyHistory) (d : ℕ) (quiet : AreQuietFrom d history.host) where
   abbrev host : List HostEvent
   host = history.host
 
   -- a tick in which a byte arrives
-  module _ (w : Whole LayeredKeyboard) (start byte code : ℕ) (r : Rests w.side)
+  module _ (w : Whole LayeredKeyboard) (start byte code : ℕ) (r : Rests d w.side)
       (e : (translation true w.side.port.core.break_mark byte).byte ≡ Some code) where
     abbrev meet : Side UnderWay
     meet = to_meeting host start (to_look host w.shown w.keys.keyboard.lights start w.side)
@@ -185,18 +187,20 @@ module _ (layout : KeyLayout) (history : KeyHistory) (quiet : IsHostQuiet histor
     known : (translation true r.pc.mark byte).byte ≡ Some code
     known = ap (λ p. (translation true p.core.break_mark byte).byte) (sym r.same.port) ∙ e
 
-    read_same : Same at_read (put (320 + (288 + start)) code mark r.pc)
+    read_same : Same d at_read (put (320 + (288 + start)) code mark r.pc)
     read_same =
         let b : Side UnderWay = carried [] (Sent byte) (288 + start) (rest r.pc r.filled) in
-        let s : Same at_read (quietly [] 63 (609 + start) b) =
-        same_span host (all_quiet host quiet) 63 (609 + start) gone b
-        (same_carried host (all_quiet host quiet) (Sent byte) (288 + start) meet (rest r.pc r.filled)
-        (meet_same layout history quiet w start r)) in
+        let s : Same d at_read (quietly [] 63 (609 + start) b) =
+        same_span host d quiet 63 (609 + start) gone b
+        (same_carried host d quiet (Sent byte) (288 + start) meet (rest r.pc r.filled)
+        (meet_same layout history d quiet w start r)) in
         let p : quietly [] 63 (609 + start) b ≡ put (320 + (288 + start)) code mark r.pc =
         put_still (288 + start) (609 + start) byte code r.pc r.filled known (omega arith) in
         record {
           port = s.port ∙ ap (λ (v : Side UnderWay). v.port) p;
+          clear = s.clear;
           masked = s.masked ∙ ap (λ (v : Side UnderWay). v.masked) p;
+          done = s.done;
         }
 
     -- the interrupt comes through in cycle 672
@@ -214,7 +218,7 @@ module _ (layout : KeyLayout) (history : KeyHistory) (quiet : IsHostQuiet histor
         let n : c ≡ now = omega (arith, y) in
         let said : Contains (byte_cycle host c Quiet at_read).log
         (record { cycle = c; item = Port at_read.port.core.output }) =
-        reads_now host (all_quiet host quiet) c at_read (through c (omega arith)) in
+        reads_now host c at_read (quiet at_read.done read_same.done) (through c (omega arith)) in
         let known_item : Contains (byte_cycle host c Quiet at_read).log (record { cycle = now; item = Port code }) =
         subst (λ k. Contains (byte_cycle host c Quiet at_read).log (record { cycle = k; item = Port code })) n
         (subst (λ v. Contains (byte_cycle host c Quiet at_read).log (record { cycle = c; item = Port v }))
@@ -224,21 +228,22 @@ module _ (layout : KeyLayout) (history : KeyHistory) (quiet : IsHostQuiet histor
         (kept_span host more (suc c) (byte_cycle host c Quiet at_read) (record { cycle = now; item = Port code }) known_item)
 
   -- in a run
-  module _ (starts : ℕ → ℕ) (last : ℕ) (cadence : KeepsCadenceTo starts last) where
-    says_at : (n byte code : ℕ) → n < last → meeting_at layout history starts n ≡ Sent byte
+  module _ (starts : ℕ → ℕ) (last first : ℕ) (cadence : KeepsCadenceTo starts last)
+      (rests : (n : ℕ) → first ≤ n → n ≤ last → Rests d (at_tick layout history starts n).side) where
+    says_at : (n byte code : ℕ) → first ≤ n → n < last → meeting_at layout history starts n ≡ Sent byte
         → put_out_in layout history starts n byte ≡ Some code
         → Contains (at_tick layout history starts (suc n)).side.log
         (record { cycle = 4096 + read_stamp starts n; item = Port code })
-    says_at n byte code l m e =
+    says_at n byte code f l m e =
         let w : Whole LayeredKeyboard = at_tick layout history starts n in
         let start : ℕ = 4096 + starts n in
-        let r : Rests w.side = rests_at layout history quiet starts last n cadence (omega (arith, l)) in
+        let r : Rests d w.side = rests n f (omega (arith, l)) in
         let hi : starts n ≤ 2048 * n + 5 = (cadence n (omega (arith, l))).most in
         let lo : 2048 * suc n ≤ starts (suc n) = (cadence (suc n) l).least in
         let all : ℕ = starts (suc n) - starts n - 609 in
         let more : ℕ = starts (suc n) - starts n - 673 in
         let begins_so : begins_from (keyboard layout) host start w ≡ Sent byte =
-        begins layout history quiet w start r ∙ sym (meets layout history quiet w start r) ∙ m in
+        begins layout history d quiet w start r ∙ sym (meets layout history d quiet w start r) ∙ m in
         subst (λ v. Contains (from_meeting host start all v
         (to_meeting host start (to_look host w.shown w.keys.keyboard.lights start w.side))).log
         (record { cycle = 4096 + read_stamp starts n; item = Port code })) (sym begins_so)
@@ -259,18 +264,18 @@ module _ (layout : KeyLayout) (history : KeyHistory) (quiet : IsHostQuiet histor
         (begins_from (keyboard layout) host start w) w.side s (kept_on n count s c))
 
     -- and with its tick
-    line_at : (n byte code : ℕ) → n < last → meeting_at layout history starts n ≡ Sent byte
+    line_at : (n byte code : ℕ) → first ≤ n → n < last → meeting_at layout history starts n ≡ Sent byte
         → put_out_in layout history starts n byte ≡ Some code
         → Contains (expected (keyboard layout) history.edges history.host starts last)
         (record { tick = n; item = Port code })
-    line_at n byte code l m e =
+    line_at n byte code f l m e =
         let cycle : ℕ = 4096 + read_stamp starts n in
         let hi : starts n ≤ 2048 * n + 5 = (cadence n (omega (arith, l))).most in
         let s : Stamped = record { cycle = cycle; item = Port code } in
         let z : last - suc n + suc n ≡ last = omega (arith, l) in
         let c : Contains (at_tick layout history starts last).side.log s =
         subst (λ v. Contains (at_tick layout history starts v).side.log s) z
-        (kept_on (suc n) (last - suc n) s (says_at n byte code l m e)) in
+        (kept_on (suc n) (last - suc n) s (says_at n byte code f l m e)) in
         let t : tick_of starts last cycle ≡ n =
         tick_is starts last cadence n cycle l (omega arith) (omega (arith, hi)) in
         let f : Stamped → LogLine = λ v. record { tick = tick_of starts last v.cycle; item = v.item } in
@@ -278,16 +283,25 @@ module _ (layout : KeyLayout) (history : KeyHistory) (quiet : IsHostQuiet histor
         (record { tick = k; item = Port code })) t
         (contains_map f (at_tick layout history starts last).side.log s c)
 
-    pub read_in : (n byte : ℕ) → n < last → meeting_at layout history starts n ≡ Sent byte
+    pub read_in : (n byte : ℕ) → first ≤ n → n < last → meeting_at layout history starts n ≡ Sent byte
         → IsReadIn layout history starts last n byte
-    read_in n byte l m = record {
+    read_in n byte f l m = record {
       arrives = m;
-      reads = λ code e. says_at n byte code l m e;
-      says = λ code e. line_at n byte code l m e;
+      reads = λ code e. says_at n byte code f l m e;
+      says = λ code e. line_at n byte code f l m e;
     }
+
+-- from a tick on
+pub read_from : (layout : KeyLayout) (history : KeyHistory) (starts : ℕ → ℕ) (first last n byte : ℕ)
+    → IsQuietFrom layout history starts first → KeepsCadenceTo starts last → first ≤ n → n < last
+    → meeting_at layout history starts n ≡ Sent byte → IsReadIn layout history starts last n byte
+read_from layout history starts first last n byte quiet cadence f l m =
+    let d : ℕ = (at_tick layout history starts first).side.done in
+    read_in layout history d (quiet_on history.host d quiet.acts) starts last first cadence
+    (rests_in layout history starts last first quiet cadence) n byte f l m
 
 pub reads_what_arrives : (layout : KeyLayout) (history : KeyHistory) (starts : ℕ → ℕ) (last n byte : ℕ)
     → IsHostQuiet history → KeepsCadenceTo starts last → n < last → meeting_at layout history starts n ≡ Sent byte
     → IsReadIn layout history starts last n byte
 reads_what_arrives layout history starts last n byte quiet cadence l m =
-    read_in layout history quiet starts last cadence n byte l m
+    read_from layout history starts 0 last n byte (quiet_from_start layout history starts quiet) cadence (omega arith) l m

@@ -1,16 +1,16 @@
--- With a quiet host the controller and its link go on as with no host: two sides with the same port and mask.
-use Rattle.std.proofs.Common.{◌≡◌, ℕ, suc, zero, ◌+◌, List, [], Bool, true, false, Some, None, refl, ap, sym, ◌∙◌}
+-- With a quiet host the controller and its link go on as with no host: two sides that are alike in what it hangs on.
+use Rattle.std.proofs.Common.{◌≡◌, ◌≤◌, ℕ, suc, zero, ◌+◌, List, [], Bool, true, false, Some, None, refl, ap, sym, ◌∙◌, arith}
 use Rattle.std.specs.Prelude.{if◌then◌else◌, slice_get, All}
 use Rattle.std.specs.declared.option.Option.{Option}
 use Rattle.std.proofs.lemmas.Option.{slice_get_within, get_or_from_slice_get}
 use Rattle.std.proofs.Common.{subst}
-use Rattle.ctl_core.specs.Controller.{ControllerState, emptied}
+use Rattle.ctl_core.specs.Controller.{ControllerState}
 use Rattle.ctl_link.specs.declared.port.Port.{Port}
 use Rattle.ctl_link.specs.Link.{broken_off, settled}
 use Rattle.board_lines.specs.declared.event.HostAct.{HostAct}
 use Rattle.board_lines.specs.declared.event.HostAct.TheVariants.{Write60, Write64, Read60, Mask, Unmask, Take, Flip, Status as AskStatus}
 use Rattle.board_lines.specs.declared.event.HostEvent.{HostEvent}
-use Rattle.int09.specs.Bios.{State, start, without_first}
+use Rattle.int09.specs.Bios.{State, without_first}
 use Rattle.host_turn.specs.Host.{Host, acted_where, bios_turn, event_turn, in_silence, interrupts, is_done, read_by_bios, turn}
 use Rattle.host_turn.specs.Cycle.{host_of}
 use Rattle.host_turn.specs.Rest.{is_due}
@@ -22,9 +22,10 @@ use Rattle.byte_time.specs.ByteTime.{Event, Quiet, Begins, Closes, Arrives, IsWh
 use Rattle.byte_time.specs.ByteTime.{carried, happened_at, is_open, quietly, sends}
 use Rattle.quiet_log.specs.Quiet.{IsQuietAct}
 use Rattle.quiet_log.proofs.Acting.{IsQuietNext}
+use Rattle.link_times.proofs.Clear.{IsClear, happened_clear, happened_plain, next_clear, next_plain, next_port, plain, read_core, view}
 
 -- each event of a list is a quiet one
-next_quiet : (o : Option HostEvent) → ((e : HostEvent) → o ≡ Some e → IsQuietAct e.act) → IsQuietNext o
+pub next_quiet : (o : Option HostEvent) → ((e : HostEvent) → o ≡ Some e → IsQuietAct e.act) → IsQuietNext o
 next_quiet None g = tt
 next_quiet (Some e) g = g e refl
 
@@ -63,10 +64,6 @@ pub event_quietly : (now : ℕ) (o : Option HostEvent) (h : Host) → IsQuietNex
 event_quietly now None h q = (h.bios, refl)
 event_quietly now (Some e) h q = acts_quietly (is_done now (Some e) h.core) e.act h q
 
--- the controller's view after the read, if any
-abbrev pub read_core : Bool → ControllerState → ControllerState
-read_core c s = if c then emptied s else s
-
 record Turned (core : ControllerState) (masked : Bool) (flip : Option ℕ) (h : Host) : Type 0 where
   core_is : h.core ≡ core
   masked_is : h.masked ≡ masked
@@ -85,30 +82,37 @@ turns now filled o h q =
     subst (λ v. Turned (read_core (interrupts now filled h) h.core) h.masked h.flip (bios_turn now filled v).host)
     (sym e.1) (reads_by (interrupts now filled h) (record h { bios = e.0 }))
 
--- the host's view, whatever INT 09h
-abbrev pub view : Bool → Port UnderWay → Host
-view masked p = record { core = p.core; masked = masked; bios = start; flip = p.flip }
+-- the events from one on are quiet
+abbrev pub AreQuietFrom : ℕ → List HostEvent → Type 0
+AreQuietFrom d events = (i : ℕ) → d ≤ i → IsQuietNext (slice_get events i)
 
--- the controller after a cycle, by itself
-abbrev pub next_port : ℕ → Bool → Port UnderWay → Port UnderWay
-next_port now masked p =
-    (settled now (broken_off is_open now
-    (record p { core = read_core (interrupts now p.filled (view masked p)) p.core }))).port
-
--- so many steps of which each has its own host
-pub record Same (a b : Side UnderWay) : Type 0 where
-  pub port : a.port ≡ b.port
+-- so many steps of which each has its own host, as far as the controller goes on by itself; d events are done
+pub record Same (d : ℕ) (a b : Side UnderWay) : Type 0 where
+  pub port : plain a.port ≡ b.port
+  pub clear : IsClear a.port
   pub masked : a.masked ≡ b.masked
+  pub done : d ≤ a.done
 
-pub cycle_port : (events : List HostEvent) → ((i : ℕ) → IsQuietNext (slice_get events i)) → (now : ℕ) (e : Event)
-    (m : Side UnderWay)
+-- what is done stays done
+done_more : (c : Bool) (d n : ℕ) → d ≤ n → d ≤ (if c then n + 1 else n)
+done_more true d n h = omega (arith, h)
+done_more false d n h = h
+
+later : (events : List HostEvent) (d now : ℕ) (e : Event) (m : Side UnderWay) → d ≤ m.done
+    → d ≤ (byte_cycle events now e m).done
+unfolding byte_cycle goes_on
+later events d now e m h =
+    done_more (is_done now (slice_get events m.done) (happened_at now e m.port).core) d m.done h
+
+pub cycle_port : (events : List HostEvent) (now : ℕ) (e : Event) (m : Side UnderWay)
+    → IsQuietNext (slice_get events m.done)
     → ((byte_cycle events now e m).port ≡ next_port now m.masked (happened_at now e m.port))
     × ((byte_cycle events now e m).masked ≡ m.masked)
 unfolding byte_cycle goes_on
-cycle_port events quiet now e m =
+cycle_port events now e m quiet =
     let p : Port UnderWay = happened_at now e m.port in
     let h : Host = host_of (desk_of (record m { port = p })) in
-    let t = turns now p.filled (slice_get events m.done) h (quiet m.done) in (
+    let t = turns now p.filled (slice_get events m.done) h quiet in (
       ap (λ c. (settled now (broken_off is_open now
           (record p { core = c; flip = (turn now p.filled (slice_get events m.done) h).host.flip }))).port) t.core_is
           ∙ ap (λ f. (settled now (broken_off is_open now
@@ -116,24 +120,29 @@ cycle_port events quiet now e m =
       t.masked_is,
     )
 
-module _ (events : List HostEvent) (quiet : (i : ℕ) → IsQuietNext (slice_get events i)) where
-  same_cycle : (now : ℕ) (e : Event) (a b : Side UnderWay) → Same a b
-      → Same (byte_cycle events now e a) (byte_cycle [] now e b)
+module _ (events : List HostEvent) (d : ℕ) (quiet : AreQuietFrom d events) where
+  same_cycle : (now : ℕ) (e : Event) (a b : Side UnderWay) → Same d a b
+      → Same d (byte_cycle events now e a) (byte_cycle [] now e b)
   same_cycle now e a b s =
-      let f = cycle_port events quiet now e a in
-      let g = cycle_port [] none_quiet now e b in
+      let f = cycle_port events now e a (quiet a.done s.done) in
+      let g = cycle_port [] now e b (none_quiet b.done) in
+      let h : IsClear (happened_at now e a.port) = happened_clear now e a.port s.clear in
       record {
-        port = f.0 ∙ ap (λ v. next_port now a.masked (happened_at now e v)) s.port
+        port = ap plain f.0 ∙ next_plain now a.masked (happened_at now e a.port) h
+            ∙ ap (λ v. next_port now a.masked v) (happened_plain now e a.port s.clear)
+            ∙ ap (λ v. next_port now a.masked (happened_at now e v)) s.port
             ∙ ap (λ v. next_port now v (happened_at now e b.port)) s.masked ∙ sym g.0;
+        clear = subst IsClear (sym f.0) (next_clear now a.masked (happened_at now e a.port) h);
         masked = f.1 ∙ s.masked ∙ sym g.1;
+        done = later events d now e a s.done;
       }
 
-  pub same_span : (n now : ℕ) (a b : Side UnderWay) → Same a b → Same (quietly events n now a) (quietly [] n now b)
+  pub same_span : (n now : ℕ) (a b : Side UnderWay) → Same d a b → Same d (quietly events n now a) (quietly [] n now b)
   same_span zero now a b s = s
   same_span (suc n) now a b s =
       same_span n (suc now) (byte_cycle events now Quiet a) (byte_cycle [] now Quiet b) (same_cycle now Quiet a b s)
 
-  pub same_sends : (now : ℕ) (a b : Side UnderWay) → Same a b → Same (sends events now a) (sends [] now b)
+  pub same_sends : (now : ℕ) (a b : Side UnderWay) → Same d a b → Same d (sends events now a) (sends [] now b)
   same_sends now a b s =
       let a1 : Side UnderWay = byte_cycle events now (Begins true) a in
       let b1 : Side UnderWay = byte_cycle [] now (Begins true) b in
@@ -143,8 +152,8 @@ module _ (events : List HostEvent) (quiet : (i : ℕ) → IsQuietNext (slice_get
       (same_cycle (288 + now) Closes a2 b2
       (same_span 287 (suc now) a1 b1 (same_cycle now (Begins true) a b s)))
 
-  pub same_carried : (meeting : Meeting) (now : ℕ) (a b : Side UnderWay) → Same a b
-      → Same (carried events meeting now a) (carried [] meeting now b)
+  pub same_carried : (meeting : Meeting) (now : ℕ) (a b : Side UnderWay) → Same d a b
+      → Same d (carried events meeting now a) (carried [] meeting now b)
   same_carried (Got byte) now a b s =
       let a1 : Side UnderWay = byte_cycle events now (Begins false) a in
       let b1 : Side UnderWay = byte_cycle [] now (Begins false) b in

@@ -1,5 +1,5 @@
--- Nothing comes twice: what comes to wait in a tick is a reply, the AA of the test's end, and the codes of its keys,
--- each once. Nothing of it is read off the state that the tick leaves, but whether scanning is on then, and the rate.
+-- Nothing comes to wait twice: what does in a tick is a reply, the AA of the test's end, the codes of its keys and the
+-- 00 of an overrun, each once. Nothing of it is read off the state that the tick leaves, but whether scanning is on then, and the rate.
 use Rattle.std.specs.Prelude.{◌≡◌, ℕ, ◌+◌, ◌-◌, ◌==◌, nat_lt, nat_le, Bool, not, ◌&&◌, ◌||◌}
 use Rattle.std.specs.Prelude.{if◌then◌else◌, List, [], ◌∷◌, ◌++◌, length, map, All, Some, None, is_some}
 use Rattle.std.specs.List.Sorted.{IsPermutation}

@@ -1,12 +1,16 @@
 -- In time: one byte a tick.
-use Rattle.std.specs.Prelude.{◌≡◌, ◌≤◌, ◌<◌, ℕ, ◌+◌, ◌⊎◌, false, All, Some, slice_get}
+use Rattle.std.specs.Prelude.{◌≡◌, ◌≤◌, ◌<◌, ℕ, ◌+◌, ◌⊎◌, false, All, Some, None, slice_get}
 use Rattle.board_lines.specs.Cadence.{KeepsCadenceTo}
+use Rattle.board_lines.specs.declared.event.HostEvent.{HostEvent}
+use Rattle.ctl_link.specs.declared.link.Link.TheVariants.{Free}
+use Rattle.host_turn.specs.Run.{Side}
+use Rattle.byte_time.specs.declared.UnderWay.{UnderWay}
 use Rattle.byte_time.specs.declared.meeting.Meeting.TheVariants.{Sent}
 use Rattle.kbd_model.specs.Keyboard.{offer}
 use Rattle.kbd_model.specs.Once.{is_reset_due, waiting}
 use Rattle.key_file.specs.Histories.{KeyHistory}
 use Rattle.layout_reader.specs.Layouts.{KeyLayout}
-use Rattle.quiet_log.specs.Once.{meeting_at}
+use Rattle.quiet_log.specs.Once.{at_tick, meeting_at}
 use Rattle.quiet_log.specs.Quiet.{IsQuietAct}
 use Rattle.link_times.specs.Coming.{keyboard_at}
 
@@ -31,6 +35,25 @@ OneByteATick =
 abbrev pub IsHostQuiet : KeyHistory → Type 0
 IsHostQuiet history = All (λ event. IsQuietAct event.act) history.host
 
+-- the PC's side at rest: both buffers are empty and the link is free, no reply is awaited, no flip is pending, the
+-- interrupt isn't masked, and the command byte is that of power-on
+pub record IsAtRest (m : Side UnderWay) : Type 0 where
+  pub input : m.port.core.input ≡ None
+  pub output : m.port.core.output_full ≡ false
+  pub command : m.port.core.command_byte ≡ 0x45
+  pub link : m.port.link ≡ Free
+  pub awaits : m.port.awaits ≡ false
+  pub flip : m.port.flip ≡ None
+  pub masked : m.masked ≡ false
+
+-- from a tick on the host is quiet, whatever it did before: at the tick's start the PC's side is at rest and the
+-- keyboard has no reply to send, and the events that aren't done yet are quiet
+pub record IsQuietFrom (layout : KeyLayout) (history : KeyHistory) (starts : ℕ → ℕ) (first : ℕ) : Type 0 where
+  pub rests : IsAtRest (at_tick layout history starts first).side
+  pub replied : (keyboard_at layout history starts first).reply ≡ None
+  pub acts : (i : ℕ) (event : HostEvent) → (at_tick layout history starts first).side.done ≤ i
+      → slice_get history.host i ≡ Some event → IsQuietAct event.act
+
 -- such a host holds nothing off: once the test has ended, each tick sends what is offered
 abbrev pub QuietSends : Type 0
 QuietSends =
@@ -45,3 +68,10 @@ QuietByteATick =
     → KeepsCadenceTo starts last → i + n < last → (keyboard_at layout history starts n).test ≡ 0
     → slice_get (waiting (keyboard_at layout history starts n)) i ≡ Some byte
     → meeting_at layout history starts (i + n) ≡ Sent byte
+
+-- and so it is from a tick on
+abbrev pub QuietSendsFrom : Type 0
+QuietSendsFrom =
+    (layout : KeyLayout) (history : KeyHistory) (starts : ℕ → ℕ) (first last n : ℕ)
+    → IsQuietFrom layout history starts first → KeepsCadenceTo starts last → first ≤ n → n < last
+    → (keyboard_at layout history starts n).test ≡ 0 → Sends layout history starts n

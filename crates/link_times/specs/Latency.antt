@@ -17,7 +17,7 @@ use Rattle.link_model.specs.TickEdges.{is_seen}
 use Rattle.pc_tables.specs.declared.item.Item.TheVariants.{Port}
 use Rattle.quiet_log.specs.Once.{at_tick, meeting_at}
 use Rattle.link_times.specs.Coming.{code_of, edges_at, keyboard_at}
-use Rattle.link_times.specs.Flowing.{IsHostQuiet}
+use Rattle.link_times.specs.Flowing.{IsHostQuiet, IsQuietFrom}
 
 -- the stamp at which INT 09h reads what arrives in tick n: 64 cycles behind its arrival, which is at offset 608
 abbrev pub read_stamp : (ℕ → ℕ) → ℕ → ℕ
@@ -74,13 +74,18 @@ EdgesAreAmong =
 -- its code waits at the next tick's start behind so many bytes. Byte i of it is read i + place ticks later: at most two
 -- ticks and 660 cycles behind the edge, and a tick for each byte before it; 16 fewer for each column before the key's.
 -- The edge may come a cycle behind the read of its column, at offset 16, and so waits for the next tick's; what it
--- enters goes in the tick behind that, which may start 5 cycles late: 5 + 608 + 64 - 17
+-- enters goes in the tick behind that, which may start 5 cycles late: 5 + 608 + 64 - 17. In a run of the compiled image
+-- it starts one cycle late at most: 1 + 608 + 64 - 17
 pub record ComesInTime (layout : KeyLayout) (history : KeyHistory) (starts : ℕ → ℕ) (last n : ℕ) (edge : Edge)
     (code : List ℕ) : Type 0 where
   pub place : ℕ
   pub stands : StandsBehind place code (waiting (keyboard_at layout history starts (suc n)))
   pub reads : (i byte : ℕ) → slice_get code i ≡ Some byte → i + place + suc n < last
       → IsReadIn layout history starts last (i + place + suc n) byte
+  pub prompt : (i : ℕ) → i + place + suc n ≤ last
+      → starts (i + place + suc n) ≤ 2048 * (i + place + suc n) + 1
+      → read_stamp starts (i + place + suc n) + 16 * (edge.place / 8)
+      ≤ edge.stamp + 2 * 2048 + 656 + 2048 * (i + place)
   pub soon : (i : ℕ) → i + place + suc n ≤ last
       → read_stamp starts (i + place + suc n) + 16 * (edge.place / 8)
       ≤ edge.stamp + 2 * 2048 + 660 + 2048 * (i + place)
@@ -92,7 +97,14 @@ KeysComeInTime =
     → IsHostQuiet history → KeepsCadenceTo starts last → n < last → Strikes layout history starts n edge code
     → ComesInTime layout history starts last n edge code
 
--- and no less would do: where the edge comes one cycle behind the read of its column, in a tick that starts at its
+-- and so it is from a tick on, whatever the host did before
+abbrev pub KeysComeInTimeFrom : Type 0
+KeysComeInTimeFrom =
+    (layout : KeyLayout) (history : KeyHistory) (starts : ℕ → ℕ) (first last n : ℕ) (edge : Edge) (code : List ℕ)
+    → IsQuietFrom layout history starts first → KeepsCadenceTo starts last → first ≤ n → n < last
+    → Strikes layout history starts n edge code → ComesInTime layout history starts last n edge code
+
+-- and of starts that keep the cadence no less would do: where the edge comes one cycle behind the read of its column, in a tick that starts at its
 -- multiple, and the tick that reads the byte starts five cycles late, it is read just then
 pub record IsMet (n before : ℕ) (edge : Edge) : Type 0 where
   pub starts : ℕ → ℕ

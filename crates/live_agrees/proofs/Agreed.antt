@@ -1,5 +1,5 @@
 -- The log so far is the beginning of what the model says.
-use Rattle.std.proofs.Common.{◌≡◌, ◌≤◌, ◌<◌, ℕ, suc, ◌+◌, ◌-◌, ◌*◌, true, false, List, ◌++◌}
+use Rattle.std.proofs.Common.{◌≡◌, ◌≤◌, ◌<◌, ℕ, ◌+◌, ◌-◌, true, false, List, [], ◌++◌}
 use Rattle.std.proofs.Common.{length, drop, leb, Some, refl, ap, sym, subst, ◌∙◌, arith}
 use Rattle.std.proofs.Math.Seq.{drop-append_seam}
 use Rattle.std.proofs.lemmas.Bool.Decides.{nat_tests}
@@ -9,14 +9,21 @@ use Rattle.fw_compile.specs.Image.{image_of}
 use Rattle.host_turn.specs.declared.stamped.Stamped.{Stamped}
 use Rattle.joint_feed.proofs.Going.{same_state}
 use Rattle.joint_feed.specs.Stories.{Story, state_at}
-use Rattle.joint_run.specs.Joint.{Beside, joint_board, joint_start, log_of}
-use Rattle.joint_run.specs.Run.{World, run_at}
+use Rattle.joint_run.specs.Joint.{joint_board, joint_start, log_of}
+use Rattle.joint_run.specs.Run.{run_at}
 use Rattle.mcs48_core.specs.Reset.{reset_cpu}
 use Rattle.live_agrees.proofs.Logs.{goes_between}
-use Rattle.live_agrees.specs.Law.{AnswersAreAlike, LogsAgree, StatesAreAlike, history_of}
+use Rattle.live_agrees.specs.Law.{AnswersAreAlike, AnyUseIsLawful, LogsAgree, StatesAreAlike, WordsAreAlike, history_of}
+use Rattle.live_board.specs.Calls.{Tells}
+use Rattle.live_board.specs.Standing.{Stands}
+use Rattle.live_board.specs.declared.parts.Parts.{Parts as Keyboard}
+use Rattle.board_lines.specs.Flips.{AreFlips}
+use Rattle.board_lines.specs.declared.event.HostEvent.{HostEvent}
+use Rattle.key_file.specs.Accepted.{AreHostEventsInOrder, AreWritten, IsLawfulFor}
+use Rattle.layout_reader.specs.Layouts.{KeyLayout}
 use Rattle.live_board.proofs.Stepping.{here}
-use Rattle.live_board.specs.Answers.{first_in}
-use Rattle.live_board.specs.Pasts.{Past, state_of, story_of}
+use Rattle.live_board.specs.Answers.{Told, first_in}
+use Rattle.live_board.specs.Pasts.{Past}
 
 pub states_alike : StatesAreAlike
 states_alike p a b s t = same_state (sym (here p a s) ∙ here p b t)
@@ -25,11 +32,12 @@ same_rest : (log a b after : List Stamped) → after ≡ log ++ a → after ≡ 
 same_rest log a b after h k =
     sym (drop-append_seam log a) ∙ ap (drop (length log)) (sym h ∙ k) ∙ drop-append_seam log b
 
-same_some : (x y : ℕ) → Some x ≡ Some y → x ≡ y
+same_some : {X : Type 0} (x y : X) → Some x ≡ Some y → x ≡ y
 same_some x y h = cc h
 
-pub answers_alike : AnswersAreAlike
-answers_alike f p q a b x y s t h k =
+told_alike : {X : Type 0} (f : Told → Option X) (p q : Past) (a b : Keyboard) (x y : X) → Stands p a → Stands q b
+    → Tells f p q x → Tells f p q y → x ≡ y
+told_alike f p q a b x y s t h k =
     let w = s.world in
     let v = t.world in
     let from = here p a s in
@@ -37,9 +45,37 @@ answers_alike f p q a b x y s t h k =
     let same : h.0 ≡ k.0 = same_rest (log_of w.board) h.0 k.0 (log_of v.board) (h.1 w v from to) (k.1 w v from to) in
     same_some x y (sym h.2 ∙ ap (first_in f) same ∙ k.2)
 
+pub answers_alike : AnswersAreAlike
+answers_alike f p q a b x y s t h k = told_alike f p q a b x y s t h k
+
+pub words_alike : WordsAreAlike
+words_alike f p q a b x y s t h k = told_alike f p q a b x y s t h k
+
+-- without edges nothing is asked of them
+without_edges : (layout : KeyLayout) (events : List HostEvent) (stop : ℕ) → AreHostEventsInOrder events
+    → AreWritten events → AreFlips events → IsLawfulFor layout (record { edges = []; host = events; end = stop })
+without_edges layout events stop order written flips = record {
+  lawful = record {
+    in_matrix = tt;
+    edges_in_order = tt;
+    host_in_order = order;
+    written = written;
+    flips = flips;
+    alternate = λ place. tt;
+    dwell = λ place. tt;
+    thin = tt;
+  };
+  places = λ k d within. absurd (omega (arith, within));
+}
+
+pub any_use_is_lawful : AnyUseIsLawful
+any_use_is_lawful layout p stop none order written flips =
+    subst (λ es. IsLawfulFor layout (record { edges = es; host = p.events; end = stop })) (sym none)
+    (without_edges layout p.events stop order written flips)
+
 pub logs_agree : AgreementLaw → LogsAgree
-logs_agree law layout p stop k s is bytes accepted =
-    let both = law layout (history_of p stop) is accepted in
+logs_agree law layout p stop k s is bytes lawful =
+    let both = law layout (history_of p stop) is lawful in
     let keeps = both.0 in
     let agrees = both.1 in
     let w = s.world in

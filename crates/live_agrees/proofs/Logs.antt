@@ -1,5 +1,5 @@
 -- What is said is never taken back.
-use Rattle.std.proofs.Common.{◌≡◌, ◌≤◌, ◌<◌, ℕ, zero, suc, ◌+◌, List, [], ◌++◌, Some, None, refl, ap, sym, subst, ◌∙◌, arith, append_assoc}
+use Rattle.std.proofs.Common.{◌≡◌, ◌≤◌, ℕ, zero, suc, ◌+◌, List, [], ◌++◌, Some, None, ap, sym, subst, ◌∙◌, arith, append_assoc}
 use Rattle.std.proofs.lemmas.List.{append-nil}
 use Rattle.std.specs.declared.option.Option.{Option}
 use Rattle.board_lines.specs.declared.event.Edge.{Edge}
@@ -11,7 +11,7 @@ use Rattle.joint_run.proofs.Passing.{cycle_is}
 use Rattle.joint_run.specs.Cycle.{outside_cycle}
 use Rattle.joint_run.specs.Due.{outside_of}
 use Rattle.joint_run.specs.Joint.{Beside, joint_board, joint_cycle, log_of}
-use Rattle.joint_run.specs.Run.{World, after_cycles, after_step, joint_step, seen}
+use Rattle.joint_run.specs.Run.{World, after_cycles, after_step, seen}
 use Rattle.live_board.proofs.Timed.{before, joined, step_later}
 use Rattle.mcs48_core.specs.Step.{Stepped, stepped}
 use Rattle.std.specs.Prelude.{slice_get}

@@ -1,20 +1,20 @@
 -- A keyboard that runs as one goes, against the model.
-use Rattle.std.specs.Prelude.{◌≡◌, ℕ, List, ◌++◌, Some}
+use Rattle.std.specs.Prelude.{◌≡◌, ℕ, List, [], ◌++◌}
 use Rattle.std.specs.declared.option.Option.{Option}
 use Rattle.fw_compile.specs.Image.{image_of}
 use Rattle.fw_kernel.specs.declared.labels.TheConstants.{TICK}
 use Rattle.host_turn.specs.declared.stamped.Stamped.{Stamped}
-use Rattle.joint_run.specs.Joint.{Beside, joint_board, joint_start, log_of}
-use Rattle.joint_run.specs.Run.{World}
+use Rattle.joint_run.specs.Joint.{joint_board, joint_start, log_of}
 use Rattle.joint_run.specs.Starts.{IsStart}
-use Rattle.key_file.specs.Accepted.{IsAcceptedFor}
+use Rattle.board_lines.specs.Flips.{AreFlips}
+use Rattle.key_file.specs.Accepted.{AreHostEventsInOrder, AreWritten, IsLawfulFor}
 use Rattle.key_file.specs.Histories.{KeyHistory}
 use Rattle.layout_reader.specs.Layouts.{IsKeyLayout, KeyLayout}
 use Rattle.link_model.specs.Expected.{whole_at}
 use Rattle.link_model.specs.Machine.{keyboard}
 use Rattle.live_board.specs.Answers.{Told}
 use Rattle.live_board.specs.Calls.{Tells}
-use Rattle.live_board.specs.Pasts.{Past, state_of}
+use Rattle.live_board.specs.Pasts.{Past}
 use Rattle.live_board.specs.Standing.{Stands}
 use Rattle.live_board.specs.declared.parts.Parts.{Parts as Keyboard}
 
@@ -30,11 +30,11 @@ pub record BeginsExpected (layout : KeyLayout) (p : Past) (log : List Stamped) :
   pub rest : List Stamped
   pub beginning : (whole_at (keyboard layout) p.edges p.events starts tick).side.log ≡ log ++ rest
 
--- so is what was said so far, wherever a keyboard stands whose past is accepted for the layout
+-- so is what was said so far, if a keyboard stands in a past that is lawful for the layout, however long
 abbrev pub LogsAgree : Type 0
 LogsAgree =
     (layout : KeyLayout) (p : Past) (stop : ℕ) (k : Keyboard) (s : Stands p k) → IsKeyLayout layout
-    → p.bytes ≡ image_of layout → IsAcceptedFor layout (history_of p stop)
+    → p.bytes ≡ image_of layout → IsLawfulFor layout (history_of p stop)
     → BeginsExpected layout p (log_of s.world.board)
 
 -- two keyboards in one past are in one state of the run
@@ -46,3 +46,16 @@ abbrev pub AnswersAreAlike : Type 0
 AnswersAreAlike =
     (f : Told → Option ℕ) (p q : Past) (a b : Keyboard) (x y : ℕ) → Stands p a → Stands q b
     → Tells f p q x → Tells f p q y → x ≡ y
+
+-- and it is one word, or none
+abbrev pub WordsAreAlike : Type 0
+WordsAreAlike =
+    (f : Told → Option (Option ℕ)) (p q : Past) (a b : Keyboard) (x y : Option ℕ) → Stands p a → Stands q b
+    → Tells f p q x → Tells f p q y → x ≡ y
+
+-- a program may use the ports as often and as long as it likes: if no key moved, a past is lawful whose events are in
+-- order, write bytes, and turn round data bits or the parity alone
+abbrev pub AnyUseIsLawful : Type 0
+AnyUseIsLawful =
+    (layout : KeyLayout) (p : Past) (stop : ℕ) → p.edges ≡ [] → AreHostEventsInOrder p.events → AreWritten p.events
+    → AreFlips p.events → IsLawfulFor layout (history_of p stop)

@@ -4,19 +4,22 @@
 //! do. Source: our own.
 #![tactic(auto)]
 
-ghost use Rattle.live_agrees.specs.Law.{AnswersAreAlike, LogsAgree, StatesAreAlike};
+ghost use Rattle.live_agrees.specs.Law.{AnswersAreAlike, AnyUseIsLawful, LogsAgree, StatesAreAlike, WordsAreAlike};
 
 use agreement::run_and_model_agree;
 
-/// Whatever calls were made, in whatever order: where a keyboard stands in a past that begins with a layout's compiled
-/// image, and the keys and host events of that past are an accepted history for the layout, whatever its end stamp, what
-/// was said so far is the beginning of what the model says of that history, at the run's own tick starts. And the same
-/// calls give the same answers: two keyboards in one past are in one state of the run, and what is told between two
-/// pasts is one thing. Nothing is done when it is called; the law is its contract.
+/// Whatever calls were made, in whatever order, however many and for however long: let a keyboard stand in a past that
+/// begins with a layout's compiled image, and let the keys and host events of that past be lawful for the layout. Then
+/// what was said so far is the beginning of what the model says of them, at the run's own tick starts. How often a
+/// program uses the ports is free: without keys, events in order that write bytes are lawful. And the same calls give the
+/// same answers: two keyboards in one past are in one state of the run, and what is told between two pasts is one byte,
+/// and one word or none. Nothing is done when it is called; the laws are its contract.
 pub fn calls_agree()
     ensures agrees { LogsAgree }
     ensures one_state { StatesAreAlike }
     ensures one_answer { AnswersAreAlike }
+    ensures one_word { WordsAreAlike }
+    ensures any_use { AnyUseIsLawful }
 {
     run_and_model_agree();
 }

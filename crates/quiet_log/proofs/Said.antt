@@ -1,5 +1,5 @@
--- What INT 09h says of a byte is two items at most.
-use Rattle.std.proofs.Common.{◌≡◌, ℕ, ◌≤◌, length, Bool, true, false, not, ◌&&◌, ◌==◌, Some, None, refl, subst, ◌||◌, arith}
+-- What INT 09h says of a byte is two items at most, and none of them is a byte that it read.
+use Rattle.std.proofs.Common.{◌≡◌, ℕ, ◌≤◌, length, List, [], ◌++◌, ap, Bool, true, false, not, ◌&&◌, ◌==◌, Some, None, refl, subst, ◌||◌, arith}
 use Rattle.std.specs.Prelude.{if◌then◌else◌, nat_lt, is_some, option_and_then}
 use Rattle.std.specs.Option.{option_map, unwrap_or}
 use Rattle.std.specs.declared.option.Option.{Option}
@@ -10,11 +10,13 @@ use Rattle.int09.specs.Bits.{ctrl, alt, num, sysreq, pause}
 use Rattle.int09.specs.Bios.{State, Outcome, quiet, says, enters, enters_if}
 use Rattle.int09.specs.Keys.{shift_bit, lock_bit, keypad_digit, differ, shift_down, reverses}
 use Rattle.int09.specs.Rules.{is_make, code_of, marks, on_sysreq, alt_broken, on_shift_key, locks, lock_made, on_lock_key}
+use Rattle.quiet_log.specs.Ports.{port_of, ports}
 use Rattle.int09.specs.Rules.{without_words, in_pause, word_in, alt_typed, with_alt, with_ctrl, alone, fed}
 
--- at most two items
+-- at most two items, and no byte that is read
 pub record IsShort (o : Outcome) : Type 0 where
   pub few : length o.items ≤ 2
+  pub none_read : ports o.items ≡ []
 
 -- where a rule fits
 record AreShort (o : Option Outcome) : Type 0 where
@@ -36,13 +38,13 @@ some_of true h g = h
 some_of false h g = g
 
 short_quiet : {s : State} → IsShort (quiet s)
-short_quiet = record { few = omega arith }
+short_quiet = record { few = omega arith; none_read = refl }
 
-short_says : {i : Item} {s : State} → IsShort (says i s)
-short_says = record { few = omega arith }
+short_says : {i : Item} {s : State} → port_of i ≡ [] → IsShort (says i s)
+short_says e = record { few = omega arith; none_read = ap (λ v. v ++ []) e }
 
 short_enters : (word : ℕ) (s : State) → IsShort (enters word s)
-short_enters word s = one_of (nat_lt (length s.words) 15) short_says short_says
+short_enters word s = one_of (nat_lt (length s.words) 15) (short_says refl) (short_says refl)
 
 short_enters_if : (word : Option ℕ) (s : State) → IsShort (enters_if word s)
 short_enters_if None s = short_quiet
@@ -52,13 +54,13 @@ short_marks : (byte : ℕ) (s : State) → AreShort (marks byte s)
 unfolding marks
 short_marks byte s =
     some_of (byte == 0xfa) (some short_quiet) (some_of (byte == 0xfe) (some short_quiet)
-    (some_of (byte == 0xff) (some (record { few = omega arith })) none))
+    (some_of (byte == 0xff) (some (record { few = omega arith; none_read = refl })) none))
 
 short_sysreq : (byte : ℕ) (s : State) → AreShort (on_sysreq byte s)
 unfolding on_sysreq
 short_sysreq byte s =
-    some_of (byte == 0xd4) (some short_says) (some_of (byte == 0x54 && has_bit sysreq s.downs) (some short_quiet)
-    (some_of (byte == 0x54) (some short_says) none))
+    some_of (byte == 0xd4) (some (short_says refl)) (some_of (byte == 0x54 && has_bit sysreq s.downs) (some short_quiet)
+    (some_of (byte == 0x54) (some (short_says refl)) none))
 
 short_alt_broken : (s : State) → IsShort (alt_broken s)
 unfolding alt_broken
@@ -108,7 +110,7 @@ short_without byte s = some_of (is_make byte && is_some (words_at byte)) none (s
 short_pause : (code : ℕ) (s : State) → AreShort (in_pause code s)
 unfolding in_pause
 short_pause code s =
-    some_of (has_bit pause s.downs && code == 0x45) (some short_quiet) (some_of (has_bit pause s.downs) (some short_says) none)
+    some_of (has_bit pause s.downs && code == 0x45) (some short_quiet) (some_of (has_bit pause s.downs) (some (short_says refl)) none)
 
 short_alt_typed : (digit : Option ℕ) (code : ℕ) (s : State) → IsShort (alt_typed digit code s)
 unfolding alt_typed
@@ -118,20 +120,20 @@ short_alt_typed None code s = short_enters_if (word_in (λ row. row.alt) code) _
 short_alt : (code : ℕ) (s : State) → AreShort (with_alt code s)
 unfolding with_alt
 short_alt code s =
-    some_of (not (has_bit alt s.shifts)) none (some_of (has_bit ctrl s.shifts && code == 0x53) (some short_says)
+    some_of (not (has_bit alt s.shifts)) none (some_of (has_bit ctrl s.shifts && code == 0x53) (some (short_says refl))
     (some_of (code == 0x39) (some (short_enters 0x3920 s)) (some (short_alt_typed (keypad_digit code) code s))))
 
 short_ctrl : (code : ℕ) (s : State) → AreShort (with_ctrl code s)
 unfolding with_ctrl
 short_ctrl code s =
-    some_of (not (has_bit ctrl s.shifts)) none (some_of (code == 0x46) (some (record { few = omega arith }))
-    (some_of (code == 0x45) (some short_says) (some (short_enters_if (word_in (λ row. row.ctrl) code) s))))
+    some_of (not (has_bit ctrl s.shifts)) none (some_of (code == 0x46) (some (record { few = omega arith; none_read = refl }))
+    (some_of (code == 0x45) (some (short_says refl)) (some (short_enters_if (word_in (λ row. row.ctrl) code) s))))
 
 short_alone : (code : ℕ) (s : State) → AreShort (alone code s)
 unfolding alone
 short_alone code s =
     some_of (not (differ (shift_down s) (reverses code s))) (some (short_enters_if (word_in (λ row. row.base) code) s))
-    (some_of (code == 0x37) (some short_says) (some (short_enters_if (word_in (λ row. row.shift) code) s)))
+    (some_of (code == 0x37) (some (short_says refl)) (some (short_enters_if (word_in (λ row. row.shift) code) s)))
 
 -- the first rule that fits, or what the others come to
 first : (o : Option Outcome) {p : Outcome} → AreShort o → IsShort p → IsShort (unwrap_or o p)

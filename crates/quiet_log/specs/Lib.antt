@@ -1,3 +1,4 @@
 pub mod Quiet
 pub mod Once
 pub mod Length
+pub mod Ports

@@ -45,14 +45,14 @@ module _ (u : Halt) (s : Story) (old new : Course) (before after : List Watch) (
   pub edges_now : new.seen.edges ≤ length new.ahead.due.edges.items
   edges_now =
       subst (λ (a : Ahead). new.seen.edges ≤ length a.due.edges.items) (sym g.stepped.ahead)
-      (edges_taken s last new.joint new.seen g.onward.going.standing.on g.onward.going.accepted.thin
-      g.onward.going.accepted.edges_in_order g.stepped.step g.stepped.run)
+      (edges_taken s last new.joint new.seen g.onward.going.standing.on g.onward.going.accepted.lawful.thin
+      g.onward.going.accepted.lawful.edges_in_order g.stepped.step g.stepped.run)
 
   pub host_now : new.seen.host ≤ length new.ahead.due.host.items
   host_now =
       subst (λ (a : Ahead). new.seen.host ≤ length a.due.host.items) (sym g.stepped.ahead)
-      (host_taken s last new.joint new.seen g.onward.going.standing.on g.onward.going.accepted.thin
-      g.onward.going.accepted.edges_in_order g.stepped.step g.stepped.run)
+      (host_taken s last new.joint new.seen g.onward.going.standing.on g.onward.going.accepted.lawful.thin
+      g.onward.going.accepted.lawful.edges_in_order g.stepped.step g.stepped.run)
 
   step_now : new.joint.steps ≡ suc last.joint.steps
   step_now = next_step u s last new g.between after g.onward.going g.stepped

@@ -51,7 +51,7 @@ module _ (u : Halt) (s : Story) (old new : Course) (before after : List Watch) (
   none : state_at s (suc new.joint.steps) ≡ None
   none =
       ap (λ (k : ℕ). state_at s (suc k)) steps_same
-      ∙ no_further s last new.joint stuck going.standing.on going.accepted.thin going.accepted.edges_in_order h.run
+      ∙ no_further s last new.joint stuck going.standing.on going.accepted.lawful.thin going.accepted.lawful.edges_in_order h.run
 
   no_step : joint_step (joint_board s.edges s.events) s.bytes on_now.world ≡ None
   no_step = sym (ap (step_on (joint_board s.edges s.events) s.bytes) there) ∙ none

@@ -41,14 +41,14 @@ module _ (u : Halt) (s : Story) (old : Course) (new : Machine) (seen : Seen) (g 
     (is : IsJointStep old.ahead.due old.joint (due_step old.ahead.due old.joint) (Ok seen) new)
     (run : IsStepOfRun old.ahead.due old.joint (Ok seen) new) where
   next_is : new.steps ≡ suc old.joint.steps
-  next_is = one_more_step s old new seen g.standing.on g.accepted.thin g.accepted.edges_in_order is run
+  next_is = one_more_step s old new seen g.standing.on g.accepted.lawful.thin g.accepted.lawful.edges_in_order is run
 
   goes_on : RunGoesOn s.held s.edges s.events old.ahead.made g.standing.on.world seen new
-  goes_on = on s old new seen g.standing.on g.accepted.thin g.accepted.edges_in_order is run
+  goes_on = on s old new seen g.standing.on g.accepted.lawful.thin g.accepted.lawful.edges_in_order is run
 
   there : state_at s (suc old.joint.steps) ≡ Some goes_on.next
   there =
-      let made = step s old new seen g.standing.on g.accepted.thin g.accepted.edges_in_order is run in
+      let made = step s old new seen g.standing.on g.accepted.lawful.thin g.accepted.lawful.edges_in_order is run in
       let image : new.image.bytes ≡ s.bytes = ap (λ m. m.image.bytes) made.after ∙ g.standing.on.image in
       subst (λ (k : ℕ). state_at s k ≡ Some goes_on.next) next_is
       (subst (λ (b : List ℕ). run_at (joint_board s.edges s.events) b (joint_start_of s.held) new.steps ≡ Some goes_on.next)
@@ -104,21 +104,21 @@ module _ (u : Halt) (s : Story) (old new : Course) (before after : List Watch) (
   pub on_with : (ahead : Ahead) → IsFed s.edges s.events ahead → ahead.made ≡ old.ahead.made + new.seen.edges
       → ahead.done ≡ old.ahead.done + new.seen.host → IsOnCourse s (with_ahead ahead)
   on_with ahead fed made done =
-      on_again s old new.joint new.seen g.standing.on g.accepted.thin g.accepted.edges_in_order t.step t.run
+      on_again s old new.joint new.seen g.standing.on g.accepted.lawful.thin g.accepted.lawful.edges_in_order t.step t.run
       new.fill ahead t.some t.few fed made done
 
   pub next_step : new.joint.steps ≡ suc old.joint.steps
-  next_step = one_more_step s old new.joint new.seen g.standing.on g.accepted.thin g.accepted.edges_in_order t.step t.run
+  next_step = one_more_step s old new.joint new.seen g.standing.on g.accepted.lawful.thin g.accepted.lawful.edges_in_order t.step t.run
 
   pub next_cycle : (old.joint.cycle < new.joint.cycle) × (new.joint.cycle < old.joint.cycle + 3)
   next_cycle =
-      let a = cycle_more s old new.joint new.seen g.standing.on g.accepted.thin g.accepted.edges_in_order t.step t.run in
+      let a = cycle_more s old new.joint new.seen g.standing.on g.accepted.lawful.thin g.accepted.lawful.edges_in_order t.step t.run in
       let b = t.some in
       let c = t.few in
       (omega (arith, a, b), omega (arith, a, c))
 
   pub says : IsSaid s old.joint.steps new.seen.items.items
-  says = is_said s old new.joint new.seen g.standing.on g.accepted.thin g.accepted.edges_in_order t.step t.run
+  says = is_said s old new.joint new.seen g.standing.on g.accepted.lawful.thin g.accepted.lawful.edges_in_order t.step t.run
 
   -- the run goes on to the next state
   pub goes_on_to : GoesOnTo u.ending s new.joint.steps

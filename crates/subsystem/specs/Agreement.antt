@@ -3,7 +3,7 @@ use Rattle.std.specs.Prelude.{◌≡◌, ◌<◌, ◌-◌, length}
 use Rattle.board_lines.specs.Cadence.{KeepsCadenceTo, listed}
 use Rattle.fw_compile.specs.Image.{image_of}
 use Rattle.joint_feed.specs.Stories.{Story, story}
-use Rattle.key_file.specs.Accepted.{IsAcceptedFor}
+use Rattle.key_file.specs.Accepted.{IsAccepted, IsLawfulFor}
 use Rattle.key_file.specs.Histories.{KeyHistory}
 use Rattle.layout_reader.specs.Layouts.{KeyLayout, IsKeyLayout}
 use Rattle.link_model.specs.Expected.{expected_log}
@@ -11,17 +11,17 @@ use Rattle.quiet_log.specs.Quiet.{IsQuiet, quiet_log}
 use Rattle.subsystem.specs.Running.{Outcome, IsOutcome}
 
 -- a run's log is the one that the model expects where its ticks start when the run's do, and these starts keep the
--- cadence; for a quiet history it is a function of layout and history alone. It has fewer than 800,000 items
+-- cadence; for a quiet history it is a function of layout and history alone. If the history is accepted, it has fewer than 800,000 items
 pub record IsAsExpected (layout : KeyLayout) (history : KeyHistory) (run : Outcome) : Type 0 where
   pub log : run.log ≡ expected_log layout history run.starts
   pub cadence : KeepsCadenceTo (listed run.starts) (length run.starts - 1)
   pub quiet : IsQuiet history → run.log ≡ quiet_log layout history
-  pub few : length run.log < 800000
+  pub few : IsAccepted history → length run.log < 800000
 
--- so it is with each run of a layout's compiled image under a history that is accepted for it
+-- so it is with each run of a layout's compiled image under a history that is lawful for it
 abbrev pub RunsAsExpected : Type 0
 RunsAsExpected =
-    (layout : KeyLayout) (history : KeyHistory) (run : Outcome) → IsKeyLayout layout → IsAcceptedFor layout history
+    (layout : KeyLayout) (history : KeyHistory) (run : Outcome) → IsKeyLayout layout → IsLawfulFor layout history
     → IsOutcome (story (image_of layout) history) run → IsAsExpected layout history run
 
 -- two runs tell the same

@@ -2,17 +2,17 @@
 use Rattle.std.specs.Prelude.{◌≡◌, ℕ}
 use Rattle.fw_compile.specs.Image.{image_of}
 use Rattle.joint_feed.specs.Stories.{story}
-use Rattle.key_file.specs.Accepted.{IsAcceptedFor}
+use Rattle.key_file.specs.Accepted.{IsLawfulFor}
 use Rattle.key_file.specs.Histories.{KeyHistory}
 use Rattle.layout_reader.specs.Layouts.{IsKeyLayout, KeyLayout}
 use Rattle.story_run.specs.declared.ending.Ending.TheVariants.{TickStart}
 use Rattle.story_run.specs.Running.{IsOverBehind}
 use Rattle.subsystem.specs.Running.{IsOutcome, Outcome}
 
--- behind the steps behind which the run of a layout's image is over, under a history that is accepted for the layout, it
+-- behind the steps behind which the run of a layout's image is over, under a history that is lawful for the layout, it
 -- has come to an outcome, of as many steps
 abbrev pub RunsComeToOutcomes : Type 0
 RunsComeToOutcomes =
-    (layout : KeyLayout) (history : KeyHistory) (steps : ℕ) → IsKeyLayout layout → IsAcceptedFor layout history
+    (layout : KeyLayout) (history : KeyHistory) (steps : ℕ) → IsKeyLayout layout → IsLawfulFor layout history
     → IsOverBehind TickStart (story (image_of layout) history) steps
     → (run : Outcome) × IsOutcome (story (image_of layout) history) run × (run.steps ≡ steps)

@@ -4,7 +4,7 @@ use Rattle.fw_compile.specs.Image.{image_of}
 use Rattle.board_probes.specs.Probes.{Watch}
 use Rattle.fw_debug.specs.Sessions.{Debuggee, has_ended, of_layout, walk}
 use Rattle.joint_feed.specs.Stories.{story}
-use Rattle.key_file.specs.Accepted.{IsAcceptedFor}
+use Rattle.key_file.specs.Accepted.{IsLawfulFor}
 use Rattle.key_file.specs.Histories.{KeyHistory}
 use Rattle.layout_reader.specs.Layouts.{IsKeyLayout, KeyLayout}
 use Rattle.subsystem.specs.Running.{IsOutcome, Outcome}
@@ -16,8 +16,8 @@ pub record EndsBehind (d : Debuggee) (steps : ℕ) : Type 0 where
   pub ended : has_ended d steps ≡ true
   pub walked : (n : ℕ) (probes : List Watch) → steps ≤ n → (walk d n (record { steps = 0; probes = probes })).steps ≡ steps
 
--- over a layout's image it ends where the layout's run does, for each history that is accepted for the layout
+-- over a layout's image it ends where the layout's run does, for each history that is lawful for the layout
 abbrev pub SessionsEndWithRuns : Type 0
 SessionsEndWithRuns =
-    (layout : KeyLayout) (history : KeyHistory) (run : Outcome) → IsKeyLayout layout → IsAcceptedFor layout history
+    (layout : KeyLayout) (history : KeyHistory) (run : Outcome) → IsKeyLayout layout → IsLawfulFor layout history
     → IsOutcome (story (image_of layout) history) run → EndsBehind (of_layout (story (image_of layout) history)) run.steps

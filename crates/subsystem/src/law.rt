@@ -7,9 +7,10 @@ ghost use Rattle.subsystem.specs.Sessions.{SessionsEndWithRuns};
 use agreement::run_and_model_agree;
 use quiet_log::{logs_are_limited, quiet_histories};
 
-/// Every run of a layout's compiled image under a history that is accepted for it gives the log that the model expects where
-/// its ticks start when the run's do, and these starts keep the cadence; for a quiet history it is a function of layout and
-/// history alone. The log has fewer than 800,000 items. Nothing is done when it is called; the law is its contract.
+/// Every run of a layout's compiled image under a history that is lawful for it gives the log that the model expects
+/// where its ticks start when the run's do, and these starts keep the cadence; for a quiet history it is a function of
+/// layout and history alone. The log of an accepted history has fewer than 800,000 items. Nothing is done when it is
+/// called; the law is its contract.
 pub fn runs_are_expected()
     ensures expected { RunsAsExpected }
 {
@@ -24,17 +25,17 @@ pub fn runs_are_alike()
     ensures alike { RunsAreAlike }
 {}
 
-/// Where the run of a layout's compiled image, under a history that is accepted for it, is over, it has come to an outcome,
-/// of as many steps. Nothing is done when it is called; the law is its contract.
+/// Where the run of a layout's compiled image, under a history that is lawful for it, is over, it has come to an
+/// outcome, of as many steps. Nothing is done when it is called; the law is its contract.
 pub fn runs_come_to_outcomes()
     ensures outcomes { RunsComeToOutcomes }
 {
     run_and_model_agree();
 }
 
-/// A debugger's session over a layout's compiled image, under a history that is accepted for it, ends exactly where the run
-/// of `run` does: it makes each of the run's steps, and none behind them. Nothing is done when it is called; the law is its
-/// contract.
+/// A debugger's session over a layout's compiled image, under a history that is lawful for it, ends exactly where the
+/// run of `run` does: it makes each of the run's steps, and none behind them. Nothing is done when it is called; the
+/// law is its contract.
 pub fn sessions_end_with_runs()
     ensures ends { SessionsEndWithRuns }
 {

@@ -187,13 +187,20 @@ module _ (layout : KeyLayout) (ss : List Stroke) (fit : AllFit layout.entries ss
   accepted : IsAccepted (planned ss)
   unfolding planned
   accepted = record {
-    in_matrix = places_of (edges_from 0 ss)
-        (all_edges (λ e. e.place < 96) layout.entries (stroke_start (length ss)) (λ e p m n. p.in_matrix) 0 ss fit
-        ends);
-    edges_in_order = ordered_of 0 (edges_from 0 ss) (apart_from 0 0 ss (omega arith));
-    host_in_order = takes_in_order 0 ss;
-    written = all_takes (λ e. WritesByte e.act) (stroke_start (length ss)) (λ t m n. tt) 0 ss ends;
-    flips = all_takes (λ e. FlipsDataOrParity e.act) (stroke_start (length ss)) (λ t m n. tt) 0 ss ends;
+    lawful = record {
+      in_matrix = places_of (edges_from 0 ss)
+          (all_edges (λ e. e.place < 96) layout.entries (stroke_start (length ss)) (λ e p m n. p.in_matrix) 0 ss fit
+          ends);
+      edges_in_order = ordered_of 0 (edges_from 0 ss) (apart_from 0 0 ss (omega arith));
+      host_in_order = takes_in_order 0 ss;
+      written = all_takes (λ e. WritesByte e.act) (stroke_start (length ss)) (λ t m n. tt) 0 ss ends;
+      flips = all_takes (λ e. FlipsDataOrParity e.act) (stroke_start (length ss)) (λ t m n. tt) 0 ss ends;
+      alternate = λ p. alternates_of false 0 (of_place p (edges_from 0 ss))
+          (paced_from layout.entries p 0 0 ss fit (omega arith));
+      dwell = λ p. dwells_of false 0 (of_place p (edges_from 0 ss))
+          (paced_from layout.entries p 0 0 ss fit (omega arith));
+      thin = thin_of 0 (edges_from 0 ss) (apart_from 0 0 ss (omega arith));
+    };
     edges_before_end =
         all_edges (λ e. e.stamp ≤ stroke_start (length ss)) layout.entries (stroke_start (length ss)) (λ e p m n. n)
         0 ss fit ends;
@@ -202,11 +209,6 @@ module _ (layout : KeyLayout) (ss : List Stroke) (fit : AllFit layout.entries ss
         ss ends;
     end_in_range = omega (arith, l);
     number_in_range = omega (arith, l, few_edges 0 ss, few_takes 0 ss);
-    alternate = λ p. alternates_of false 0 (of_place p (edges_from 0 ss))
-        (paced_from layout.entries p 0 0 ss fit (omega arith));
-    dwell = λ p. dwells_of false 0 (of_place p (edges_from 0 ss))
-        (paced_from layout.entries p 0 0 ss fit (omega arith));
-    thin = thin_of 0 (edges_from 0 ss) (apart_from 0 0 ss (omega arith));
   }
 
   pub playable : IsPlayable layout (planned ss)

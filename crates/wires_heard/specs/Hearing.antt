@@ -8,7 +8,7 @@ use Rattle.board_probes.specs.declared.heard.Transfer.{Transfer}
 use Rattle.joint_feed.specs.Stories.{Story, story, state_at}
 use Rattle.joint_run.specs.Joint.{Beside, latch_of}
 use Rattle.joint_run.specs.Run.{World}
-use Rattle.key_file.specs.Accepted.{IsAcceptedFor}
+use Rattle.key_file.specs.Accepted.{IsLawfulFor}
 use Rattle.key_file.specs.Histories.{KeyHistory}
 use Rattle.layout_reader.specs.Layouts.{KeyLayout, IsKeyLayout}
 use Rattle.pc_wires.specs.Wires.{wires}
@@ -52,8 +52,8 @@ pub record HearsAll (s : Story) : Type 0 where
   pub each : (k : ℕ) → transfer_at s k ≡ passed_at s k
   pub all : (k : ℕ) → transfers_to s k ≡ passed_to s k
 
--- for every layout and every history that is accepted for it
+-- for every layout and every history that is lawful for it
 abbrev pub HeardLaw : Type 0
 HeardLaw =
-    (layout : KeyLayout) (history : KeyHistory) → IsKeyLayout layout → IsAcceptedFor layout history
+    (layout : KeyLayout) (history : KeyHistory) → IsKeyLayout layout → IsLawfulFor layout history
     → HearsAll (story (image_of layout) history)

@@ -7,7 +7,7 @@ use Rattle.board_probes.specs.Counts.{met_between, ear_between}
 use Rattle.board_probes.specs.Probes.{Watch, heard_as, is_awaited}
 use Rattle.board_probes.specs.Tallies.{armed}
 use Rattle.joint_feed.specs.Stories.{Story, story}
-use Rattle.key_file.specs.Accepted.{IsAcceptedFor}
+use Rattle.key_file.specs.Accepted.{IsLawfulFor}
 use Rattle.key_file.specs.Histories.{KeyHistory}
 use Rattle.layout_reader.specs.Layouts.{KeyLayout, IsKeyLayout}
 use Rattle.wires_heard.specs.Hearing.{heard_to}
@@ -35,8 +35,8 @@ pub record CountsPassing (s : Story) (a b k n : ℕ) : Type 0 where
   pub steps : met_between s k n (armed_at s k a b) ≡ passing_from s (record { a = a; b = b }) k (n - k)
   pub hears : k ≤ n → ear_between s k n (armed_at s k a b) ≡ heard_to s n
 
--- for every layout and every history that is accepted for it
+-- for every layout and every history that is lawful for it
 abbrev pub ProbeLaw : Type 0
 ProbeLaw =
-    (layout : KeyLayout) (history : KeyHistory) → IsKeyLayout layout → IsAcceptedFor layout history
+    (layout : KeyLayout) (history : KeyHistory) → IsKeyLayout layout → IsLawfulFor layout history
     → (a b k n : ℕ) → CountsPassing (story (image_of layout) history) a b k n

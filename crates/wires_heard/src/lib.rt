@@ -9,12 +9,12 @@
 ghost use Rattle.wires_heard.specs.Hearing.{HeardLaw};
 ghost use Rattle.wires_heard.specs.Probing.{ProbeLaw};
 
-/// For every layout and every history that is accepted for it: in each step of the joint run of the layout's compiled
-/// image, the sample of the wires behind the step completes a transfer where the controller's eleventh edge of a frame lies
-/// in one of the step's cycles, and nowhere else: the keyboard's byte, as its bits stood on the wires, where the controller
-/// takes one; the controller's own, where it has sent one. A frame that is broken off is none. So the transfers heard in
-/// the first steps of the run are, in order, the bytes that the controller takes and sends in them. Nothing is done when it
-/// is called; the law is its contract.
+/// For every layout and every history that is lawful for it, however long: in each step of the joint run of the
+/// layout's compiled image, the sample of the wires behind the step completes a transfer where the controller's
+/// eleventh edge of a frame lies in one of the step's cycles, and nowhere else: the keyboard's byte, as its bits stood
+/// on the wires, where the controller takes one; the controller's own, where it has sent one. A frame that is broken
+/// off is none. So the transfers heard in the first steps of the run are, in order, the bytes that the controller takes
+/// and sends in them. Nothing is done when it is called; the law is its contract.
 pub fn wires_are_heard()
     ensures heard { HeardLaw }
 {}

@@ -10,6 +10,9 @@ returns-clause-reads c = reads_what_arrives
 pub returns-clause-soon : goal.returns-clause-soon
 returns-clause-soon c = latency.keys_come_in_time
 
+pub returns-clause-soon_from : goal.returns-clause-soon_from
+returns-clause-soon_from c = latency.keys_come_in_time_from
+
 pub returns-clause-among : goal.returns-clause-among
 returns-clause-among c = edge_among
 

@@ -1,4 +1,4 @@
-use Rattle.live_agrees.proofs.Agreed.{answers_alike, logs_agree, states_alike}
+use Rattle.live_agrees.proofs.Agreed.{answers_alike, any_use_is_lawful, logs_agree, states_alike, words_alike}
 use Rattle.live_agrees.proofs.calls_agree.Goals as goal
 
 pub returns : goal.returns
@@ -6,4 +6,6 @@ returns c = record {
   agrees = logs_agree c.run_and_model_agree.ensures.agreement;
   one_state = states_alike;
   one_answer = answers_alike;
+  one_word = words_alike;
+  any_use = any_use_is_lawful;
 }

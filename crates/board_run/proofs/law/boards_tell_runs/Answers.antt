@@ -5,6 +5,6 @@ use Rattle.board_run.proofs.law.boards_tell_runs.Goals as goal
 
 pub returns : goal.returns
 returns c = record {
-  tell = λ layout history board run sound accepted is ran.
-      tells (story (image_of layout) history) (c.run_and_model_agree.ensures.agreement layout history sound accepted).0 board run is ran;
+  tell = λ layout history board run sound lawful is ran.
+      tells (story (image_of layout) history) (c.run_and_model_agree.ensures.agreement layout history sound lawful).0 board run is ran;
 }

@@ -47,21 +47,21 @@ at-requires-clause-host c =
 pub count-requires-clause-edges : goal.count-requires-clause-edges
 count-requires-clause-edges c =
     let s = run_of c.args.course.now c.args.history.now in
-    let a = c.end.ensures.accepted in
+    let a = c.end.ensures.accepted.lawful in
     took_edges s c.args.course.now c.requires.on a.thin a.edges_in_order c.args.most c.go_on.new.joint
     c.go_on.new.seen c.in_ok-go_on.ensures.gone
 
 pub count-requires-clause-host : goal.count-requires-clause-host
 count-requires-clause-host c =
     let s = run_of c.args.course.now c.args.history.now in
-    let a = c.end.ensures.accepted in
+    let a = c.end.ensures.accepted.lawful in
     took_host s c.args.course.now c.requires.on a.thin a.edges_in_order c.args.most c.go_on.new.joint
     c.go_on.new.seen c.in_ok-go_on.ensures.gone
 
 pub returns-in_err-go_on-clause-strode : goal.returns-in_err-go_on-clause-strode
 returns-in_err-go_on-clause-strode c =
     let s = run_of c.args.course.now c.args.history.now in
-    let a = c.end.ensures.accepted in
+    let a = c.end.ensures.accepted.lawful in
     strode_stuck s c.args.course.now c.requires.on a.thin a.edges_in_order c.args.most c.go_on.new.joint
     c.go_on.new.seen c.in_err-go_on.field-0.0 c.in_err-go_on.ensures.gone
     c.from_residual.result c.from_residual.ensures.0
@@ -69,7 +69,7 @@ returns-in_err-go_on-clause-strode c =
 pub returns-clause-strode : goal.returns-clause-strode
 returns-clause-strode c =
     let s = run_of c.args.course.now c.args.history.now in
-    let a = c.end.ensures.accepted in
+    let a = c.end.ensures.accepted.lawful in
     let e = c.in_ok-go_on.ensures in
     strode_on s c.args.course.now c.requires.on a.thin a.edges_in_order c.args.most c.go_on.new.joint
     c.go_on.new.seen e.gone c.count.new.self

@@ -9,7 +9,7 @@ use Rattle.link_model.proofs.expecting.expect.Goals as goal
 
 pub expect_events-requires-clause-order : goal.expect_events-requires-clause-order
 expect_events-requires-clause-order c =
-    subst (λ (es : List Edge). AreInOrder es) (sym c.edges.ensures.edges) c.requires.accepted.accepted.edges_in_order
+    subst (λ (es : List Edge). AreInOrder es) (sym c.edges.ensures.edges) c.requires.accepted.accepted.lawful.edges_in_order
 
 pub expect_events-requires-clause-keys : goal.expect_events-requires-clause-keys
 expect_events-requires-clause-keys c =

@@ -9,8 +9,8 @@ use Rattle.subsystem.proofs.law.runs_are_expected.Goals as goal
 pub returns : goal.returns
 returns c = record {
   expected =
-      λ layout history run sound accepted is.
-      let law = c.run_and_model_agree.ensures.agreement layout history sound accepted in
+      λ layout history run sound lawful is.
+      let law = c.run_and_model_agree.ensures.agreement layout history sound lawful in
       let s = story (image_of layout) history in
       let log = log_as_expected (keyboard layout) s law.0 law.1 run is in
       let cadence = keeps_cadence s law.0 run is in
@@ -18,7 +18,7 @@ returns c = record {
         log = log;
         cadence = cadence;
         quiet = λ quiet. log ∙ c.quiet_histories.ensures.listed layout history run.starts quiet cadence is.last;
-        few = subst (λ items. length items < 800000) (sym log)
-            (c.logs_are_limited.ensures.limit layout history run.starts accepted.accepted cadence is.last);
+        few = λ accepted. subst (λ items. length items < 800000) (sym log)
+            (c.logs_are_limited.ensures.limit layout history run.starts accepted cadence is.last);
       };
 }

@@ -6,8 +6,8 @@ use Rattle.subsystem.proofs.law.runs_come_to_outcomes.Goals as goal
 
 pub returns : goal.returns
 returns c = record {
-  outcomes = λ layout history steps sound accepted over.
+  outcomes = λ layout history steps sound lawful over.
       let s = story (image_of layout) history in
-      let time = (c.run_and_model_agree.ensures.agreement layout history sound accepted).0 in
+      let time = (c.run_and_model_agree.ensures.agreement layout history sound lawful).0 in
       (outcome_there s time steps over, is_outcome_there s time steps over, refl);
 }

@@ -5,6 +5,6 @@ use Rattle.subsystem.proofs.law.sessions_end_with_runs.Goals as goal
 
 pub returns : goal.returns
 returns c = record {
-  ends = λ layout history run sound accepted is.
-      ends_behind (story (image_of layout) history) (c.run_and_model_agree.ensures.agreement layout history sound accepted).0 run is;
+  ends = λ layout history run sound lawful is.
+      ends_behind (story (image_of layout) history) (c.run_and_model_agree.ensures.agreement layout history sound lawful).0 run is;
 }

@@ -7,6 +7,7 @@ use Rattle.subsystem.proofs.Beginning.{begins}
 use Rattle.subsystem.proofs.Came.{came_kept, looked_some_by}
 use Rattle.subsystem.proofs.Looking.{looked_some, looked_whole}
 use Rattle.subsystem.proofs.Timekeeping.{serves_at_end}
+use Rattle.key_file.proofs.Lawful.{lawful_for}
 use Rattle.subsystem.proofs.running.run.Goals as goal
 
 pub tell_run-requires-clause-told : goal.tell_run-requires-clause-told
@@ -30,14 +31,14 @@ returns g c =
     r.told run (ap (λ v. v.items) e.log) (ap (λ v. v.items) e.starts) e.end e.steps e.cycles in
     let ran = subst (λ (t : Story). IsOutcome t run) to came in
     let expected =
-    c.runs_are_expected.ensures.expected c.args.layout.now c.args.history.now run c.begin_run.ensures.layout c.requires ran in
+    c.runs_are_expected.ensures.expected c.args.layout.now c.args.history.now run c.begin_run.ensures.layout (lawful_for c.requires) ran in
     let serving = serves_at_end s begun.timely run came in
     record {
       run = ran;
       agrees = expected.log;
       quiet = expected.quiet;
       cadence = expected.cadence;
-      few = expected.few;
+      few = expected.few c.requires.accepted;
       serves = serving.0;
       bank = serving.1;
       looked = looked_whole _ _ _ _ _ _ to e.steps r.looked;

@@ -1,6 +1,7 @@
 use Rattle.std.proofs.Common.{subst}
 use Rattle.joint_feed.specs.Stories.{Story}
 use Rattle.wire_trace.specs.Ending.{IsTraceBrokenOff, IsTraceSaid}
+use Rattle.key_file.proofs.Lawful.{lawful_for}
 use Rattle.wire_trace.proofs.tracing.trace.Goals as goal
 
 pub returns-in-Err-put_trace-clause-broken : goal.returns-in-Err-put_trace-clause-broken
@@ -19,12 +20,12 @@ returns-clause-said g c =
 
 pub returns-clause-heard : goal.returns-clause-heard
 returns-clause-heard g c =
-    c.wires_are_heard.ensures.heard c.args.layout.now (g.F.Feed.told c.args.feed).history c.begin_run.ensures.layout c.requires.accepted
+    c.wires_are_heard.ensures.heard c.args.layout.now (g.F.Feed.told c.args.feed).history c.begin_run.ensures.layout (lawful_for c.requires.accepted)
 
 pub returns-in-Err-clause-heard : goal.returns-in-Err-clause-heard
 returns-in-Err-clause-heard g c =
-    c.wires_are_heard.ensures.heard c.args.layout.now (g.F.Feed.told c.args.feed).history c.begin_run.ensures.layout c.requires.accepted
+    c.wires_are_heard.ensures.heard c.args.layout.now (g.F.Feed.told c.args.feed).history c.begin_run.ensures.layout (lawful_for c.requires.accepted)
 
 pub returns-in-Err-put_trace-clause-heard : goal.returns-in-Err-put_trace-clause-heard
 returns-in-Err-put_trace-clause-heard g c =
-    c.wires_are_heard.ensures.heard c.args.layout.now (g.F.Feed.told c.args.feed).history c.begin_run.ensures.layout c.requires.accepted
+    c.wires_are_heard.ensures.heard c.args.layout.now (g.F.Feed.told c.args.feed).history c.begin_run.ensures.layout (lawful_for c.requires.accepted)

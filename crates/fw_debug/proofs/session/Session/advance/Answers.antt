@@ -55,7 +55,7 @@ returns c = λ before at_rest.
     let new = c.stride.new.course in
     let most = c.quiet_room-most.result in
     let on = c.self.invariant.0 in
-    let a = c.stride.ensures.accepted in
+    let a = c.stride.ensures.accepted.lawful in
     let strode : HasStrode it.story most old c.stride.result new =
     subst (λ (bytes : List ℕ). HasStrode (filled_story old.fill bytes h) most old c.stride.result new)
     c.self.invariant.0.image c.stride.ensures.strode in

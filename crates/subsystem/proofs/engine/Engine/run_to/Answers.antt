@@ -11,6 +11,7 @@ use Rattle.subsystem.proofs.Beginning.{begins}
 use Rattle.subsystem.proofs.Came.{HasCome, broken_whole, came, looked_some_by}
 use Rattle.subsystem.proofs.Looking.{looked_break, looked_some, looked_whole, on_err}
 use Rattle.subsystem.proofs.Timekeeping.{keeps_cadence}
+use Rattle.key_file.proofs.Lawful.{lawful_for}
 use Rattle.subsystem.proofs.engine.Engine.run_to.Goals as goal
 
 pub tell_run-requires : goal.tell_run-requires
@@ -57,7 +58,7 @@ returns g c =
           let image = ap (λ (t : Story). t.bytes) c.self.view_is ∙ bytes in
           subst (λ (t : Story). IsAsExpected layout (history_of t) (ending t ended)) c.self.view_is
           (c.runs_are_expected.ensures.expected layout h (ending s ended) sound
-          (subst (λ (t : Story). IsAcceptedFor layout (history_of t)) (sym c.self.view_is) accepted)
+          (lawful_for (subst (λ (t : Story). IsAcceptedFor layout (history_of t)) (sym c.self.view_is) accepted))
           (subst (λ b. IsOutcome (story b h) (ending s ended)) image here.run));
       cadence = keeps_cadence s time (ending s ended) here.run;
       broken = tt;
