@@ -25,19 +25,19 @@ pub const SEND: u16 = 0x04b;
 pub const S_CELL: u16 = 0x066;
 
 /// The last cell of a sent frame.
-pub const S_STOP: u16 = 0x07f;
+pub const S_STOP: u16 = 0x082;
 
 /// The controller pulled the clock in a sent frame: both wires are released.
-pub const CUT: u16 = 0x089;
+pub const CUT: u16 = 0x08c;
 
 /// The tick has no frame, and the controller is why.
-pub const INHIBITED: u16 = 0x08d;
+pub const INHIBITED: u16 = 0x090;
 
 /// The tick has no frame.
-pub const IDLE: u16 = 0x08e;
+pub const IDLE: u16 = 0x091;
 
 /// The clock was high and data low: the controller asks to send.
-pub const GOT: u16 = 0x090;
+pub const GOT: u16 = 0x093;
 
 /// The offer where a reply or AA is due.
 pub const O_DUE: u16 = 0x09c;

@@ -55,7 +55,7 @@ module _ (d : Board) (bytes : List ℕ) (has : HasKernel bytes) (y : ℕ) (m : C
 
   -- the data wire at the cell's look
   abbrev pub bit_seen : Bool
-  bit_seen = (d.pins m.p1 (risen m) (y + 18) (board_at_look d y m board)).t1
+  bit_seen = (d.pins m.p1 (risen m) (y + 18) (board_at_look d y (risen m) m board)).t1
 
   -- from the looks to the first cell: 28 cycles
   abbrev pub Awaits : Stage d.State → Type 0

@@ -24,7 +24,7 @@ received_lights v o l =
 pub sent_lights : (v byte o : ℕ) → v < 256 → lights_of (sent_latch v byte o) ≡ lights_of v
 sent_lights v byte o l =
     by_case (nat_lt o 10) (nat_lt o 28) (nat_le 16 ((o - 28) % 32))
-    (frame_bit byte (if nat_lt ((o - 28) % 32) 20 then (o - 28) / 32 else suc ((o - 28) / 32)))
+    (frame_bit byte (if nat_lt ((o - 28) % 32) 21 then (o - 28) / 32 else suc ((o - 28) / 32)))
   where
     by_case : (c e a b : Bool)
         → lights_of (if c then v else if e then wired v true false else wired v a b) ≡ lights_of v

@@ -12,9 +12,9 @@ wired v clock level = bit_and v (252 + digit clock + 2 * digit level)
 abbrev pub frame_bit : ℕ → ℕ → Bool
 frame_bit byte k = slice_index_or (frame_bits byte) k true
 
--- a cell of a sent frame: the clock is low for 16 cycles, and the next bit is put 4 cycles behind its rise
+-- a cell of a sent frame: the clock is low for 16 cycles, and the next bit is put 5 cycles after its rise
 abbrev pub sent_cell : ℕ → ℕ → ℕ → ℕ → ℕ
-sent_cell v byte k o = wired v (nat_le 16 o) (frame_bit byte (if nat_lt o 20 then k else suc k))
+sent_cell v byte k o = wired v (nat_le 16 o) (frame_bit byte (if nat_lt o 21 then k else suc k))
 
 -- a sent frame, by the offset from the look at data: the start bit is put 10 cycles behind, the first cell begins 28
 -- cycles behind

@@ -138,7 +138,7 @@ module _ (old v : ℕ) (was : IsReleased old) (is : IsReleased v) where
           ap (λ c. bit 0 (if c then v else if nat_lt i 28 then wired v true false else sent_cell v byte ((i - 28) / 32) ((i - 28) % 32))) e
           ∙ ap (λ c. bit 0 (if c then wired v true false else sent_cell v byte ((i - 28) / 32) ((i - 28) % 32))) f
           ∙ clock_of_latch (nat_le 16 ((i - 28) % 32))
-          (frame_bit byte (if nat_lt ((i - 28) % 32) 20 then (i - 28) / 32 else suc ((i - 28) / 32))) v is
+          (frame_bit byte (if nat_lt ((i - 28) % 32) 21 then (i - 28) / 32 else suc ((i - 28) / 32))) v is
           ∙ eleven i 0 m l
 
   received_clock : (i : ℕ) → i < 366 → bit 0 (received_latch v i) ≡ clock_in 11 (260 + i)
