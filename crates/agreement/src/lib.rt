@@ -48,7 +48,7 @@ pub fn memory_holds_keyboard()
 /// cycle the latch of port 2 was that of a tick with the meeting's frame. Without a frame it is written once, with the
 /// lights, and pulls no wire. In each cycle port 1 selects the column of its offset. All is counted from the tick's
 /// start: column c is read at offset 16 + 16 c, the lights are put at 232, the clock is looked at at 256 and data at 258,
-/// and in a frame the looks are at 306 + 32 k. Nothing is done when it is called; the law is its contract.
+/// and again at 286 where it is low; and in a frame the looks are at 306 + 32 k. Nothing is done when it is called; the law is its contract.
 pub fn every_tick()
     ensures ticks { TickLaw }
 {}

@@ -58,16 +58,16 @@ pub const BEGIN: u16 = 0x0f5;
 pub const WAIT: u16 = 0x0fc;
 
 /// A frame of the controller is received.
-pub const RECEIVE: u16 = 0x100;
+pub const RECEIVE: u16 = 0x0fe;
 
 /// One cell of a data bit.
 pub const R_CELL: u16 = 0x106;
 
 /// The cell of the parity bit.
-pub const R_PARITY: u16 = 0x11e;
+pub const R_PARITY: u16 = 0x11c;
 
 /// The cell of the stop bit.
-pub const R_STOP: u16 = 0x13c;
+pub const R_STOP: u16 = 0x13a;
 
 /// The last cell of a received frame, in which data is pulled.
 pub const R_ACK: u16 = 0x14a;

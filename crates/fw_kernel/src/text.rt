@@ -275,23 +275,22 @@ pause:  DJNZ R0,pause       ; 416 to 443
 ; -- wait: the main program, between ticks.
 wait:   JMP wait
 
-; -- receive: the first cell follows.
-; needs: nothing. leaves: R3 = 8.
+; -- receive: data is looked at again just before the first cell: a request lasts, and what doesn't is none.
+; needs: nothing. leaves: R3 = 8. Goes to none where data is high.
 ; cycles: 26.
-        ORG 100H
 receive: MOV R3,#8          ; 262
-        MOV R0,#11          ; 264
-r_on:   DJNZ R0,r_on        ; 266 to 287
+        MOV R0,#10          ; 264
+r_on:   DJNZ R0,r_on        ; 266 to 285
+        JT1 none            ; 286
 
 ; -- r_cell: cell k of a received frame, k = 0..7: data bit k comes into bit 7 of A.
 ; needs: R3; A the bits so far. leaves: A the byte, after the eighth.
 ; cycles: 32.
 r_cell: ANL P2,#0FEH        ; 288+32k
-        RR A                ; 290
-        ANL A,#7FH          ; 291
-        MOV R0,#4           ; 293
-r_low:  DJNZ R0,r_low       ; 295 to 302
-        NOP                 ; 303
+        CLR C               ; 290
+        RRC A               ; 291
+        MOV R0,#5           ; 292
+r_low:  DJNZ R0,r_low       ; 294 to 303
         ORL P2,#1           ; 304
         JT1 r_one           ; 306
         JMP r_bit           ; 308
@@ -326,7 +325,8 @@ p_bit:  MOV R5,A            ; 566
 p_high: DJNZ R0,p_high      ; 569 to 574
         NOP                 ; 575
 
-; -- r_stop: the cell of the stop bit, which the controller always releases.
+; -- r_stop: the cell of the stop bit, which the controller always releases. Data is pulled for the eleventh fall, so it
+; is low before the clock is.
 ; needs: nothing; R4, R5 are kept.
 ; cycles: 32.
 r_stop: ANL P2,#0FEH        ; 576
@@ -334,13 +334,14 @@ r_stop: ANL P2,#0FEH        ; 576
 t_low:  DJNZ R0,t_low       ; 580 to 591
         ORL P2,#1           ; 592
         JT1 t_on            ; 594: read, without an effect
-t_on:   MOV R0,#5           ; 596
-t_high: DJNZ R0,t_high      ; 598 to 607
+t_on:   ANL P2,#0FDH        ; 596: data falls
+        MOV R0,#4           ; 598
+t_high: DJNZ R0,t_high      ; 600 to 607
 
-; -- r_ack: the eleventh fall, with data pulled; the frame ends.
+; -- r_ack: the eleventh fall, with data low; the frame ends, and both wires are released.
 ; needs: nothing; R4, R5 are kept.
 ; cycles: 18.
-r_ack:  ANL P2,#0FCH        ; 608
+r_ack:  ANL P2,#0FEH        ; 608
         MOV R0,#6           ; 610
 r_end:  DJNZ R0,r_end       ; 612 to 623
         ORL P2,#3           ; 624
@@ -432,6 +433,11 @@ c_reset: MOV R1,#REPLYDUE
 refuse: MOV R1,#REPLY
         MOV @R1,#0FEH
         JMP scan
+
+; -- none: there was no request; the tick has no frame.
+; needs: nothing. leaves: nothing.
+; cycles: 2.
+none:   JMP scan            ; 288
 
 ; -- sent: the byte is the last one sent, except FE.
 ; needs: R4. leaves: LAST; R4 is kept.
