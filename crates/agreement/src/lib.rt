@@ -8,7 +8,7 @@
 #![tactic(auto)]
 
 ghost use Rattle.agreement.specs.Agreement.{AgreementLaw, AnyMemoryLaw};
-ghost use Rattle.agreement.specs.Executed.{ExecutedLaw};
+ghost use Rattle.agreement.specs.Executed.{ExecutedLaw, LateLaw};
 ghost use Rattle.agreement.specs.Firmware.{TickLaw};
 ghost use Rattle.agreement.specs.Memory.{MemoryLaw};
 ghost use Rattle.agreement.specs.Wires.{WiresLaw};
@@ -54,10 +54,13 @@ pub fn every_tick()
 {}
 
 /// For every layout and every history that is accepted for it, whatever a part holds when it is switched on: in each
-/// state of the joint run the instruction that comes next stands in the chip's own 2,048 bytes and is none that the
-/// board rules out. So the run never enables the clock's output on T0, drives the bus or accesses memory outside, uses
-/// the port expander, reads the pins of ports 1 and 2, enables the external interrupt, or calls: of the stack's eight
-/// entries the service alone takes one. Nothing is done when it is called; the law is its contract.
+/// state of the joint run the instruction that comes next is in the chip's own 2,048 bytes, in a row of sixteen that the
+/// HEX text has, and of the kernel's kinds. So the run never enables the clock's output on T0, drives the bus or accesses
+/// memory outside, uses the port expander, reads the pins of ports 1 and 2, reads the timer, enables the external
+/// interrupt, or calls: of the stack's eight entries the service alone takes one. And where a look at the clock wire comes
+/// next after a row that puts port 2, a chip samples the wire at least 7 fifths of a cycle, 3.5 microseconds, after it
+/// has put the port. Nothing is done when it is called; the laws are its contract.
 pub fn keeps_to_the_board()
     ensures executed { ExecutedLaw }
+    ensures late { LateLaw }
 {}
