@@ -13,7 +13,7 @@ use Rattle.fw_keys.proofs.Scan.{edges_most}
 use Rattle.fw_keys.proofs.Serve.{Work, fit}
 use Rattle.fw_keys.specs.Edges.{image_keys, IsSilentAlike}
 use Rattle.fw_keys.specs.Frameless.{cells_in, shown_by, layers_by, IsStarted, IsRepeating, IsFrameless, edges_now, latch_now}
-use Rattle.fw_keys.specs.Frameless.{clock_now, data_now}
+use Rattle.fw_keys.specs.Frameless.{clock_now, data_now, data_again}
 use Rattle.fw_keys.specs.State.{Inv}
 use Rattle.fw_link.proofs.Latches.{driven}
 use Rattle.fw_link.proofs.TickLatch.{before_data, within, behind, without_frame}
@@ -32,7 +32,7 @@ use Rattle.kbd_model.specs.Keyboard.{Keyboard}
 use Rattle.kbd_model.specs.declared.meeting.Meeting.{Meeting}
 use Rattle.kbd_model.specs.declared.meeting.Meeting.TheVariants.{Sent, Cut, Got}
 use Rattle.agreement.proofs.AtLook.{one_byte, sent_at, received_at}
-use Rattle.agreement.proofs.Fitting.{Behind, clock, data_wire, clock_look, data_look}
+use Rattle.agreement.proofs.Fitting.{Behind, clock, data_wire, data_second, clock_look, data_look}
 use Rattle.agreement.proofs.Fitting.{sends_frame, cuts_frame, gets_frame}
 use Rattle.agreement.proofs.Happened.{Happened}
 use Rattle.agreement.proofs.Lit.{shine, from_lights, from_head}
@@ -180,6 +180,14 @@ module _ (d : Board) (bytes : List ℕ) (hk : HasKernel bytes) (alike : IsSilent
       ap (λ q. (d.pins 44 v (y + 24) q).t1) (from_lights d bytes hk alike small low w s few l 24 y (omega arith))
       ∙ ap (λ c. (d.pins 44 v c (after_cycles 26 (start + 232) (d.cycle v) (in_tick d w 232))).t1) a
 
+  second_is : (l : Bool)
+      → data_second d bytes hk alike small low held (start + 3) (first l) third (stacked f) ring start refl released
+      ≡ data_again d w
+  second_is l =
+      let a : y + 52 ≡ start + 232 + 54 = omega arith in
+      ap (λ q. (d.pins 44 v (y + 52) q).t1) (from_lights d bytes hk alike small low w s few l 52 y (omega arith))
+      ∙ ap (λ c. (d.pins 44 v c (after_cycles 54 (start + 232) (d.cycle v) (in_tick d w 232))).t1) a
+
   -- those of a frame, by the offset from the look at data
   abbrev look_off : ℕ → ℕ
   look_off k = 28 + 32 * k + 18
@@ -248,7 +256,7 @@ module _ (d : Board) (bytes : List ℕ) (hk : HasKernel bytes) (alike : IsSilent
   quiet meeting q =
       let h : most ≤ 728 = edges_few in
       let a = works d bytes hk alike small low w s few meeting q in
-      let max : a.0 ≤ 36 = a.1 in
+      let max : a.0 ≤ 56 = a.1 in
       by_way meeting NoFrame (231 + (a.0 + (56 + (2 + most)))) head (omega (arith, h, max)) a.2 (still_came meeting)
 
   -- what is offered is sent, or cut in a cell
@@ -284,8 +292,8 @@ module _ (d : Board) (bytes : List ℕ) (hk : HasKernel bytes) (alike : IsSilent
 
   -- a byte is received: what the looks at data read
   pub got : (byte : ℕ) (good : Bool) → byte_in (data_in d w) ≡ byte → right_in (data_in d w) ≡ good → IsOpen d w
-      → data_now d w ≡ false → Tick d TICK bytes w (So (Got byte good) ReceivedFrame)
-  got byte good is right ended pulled =
+      → data_now d w ≡ false → data_again d w ≡ false → Tick d TICK bytes w (So (Got byte good) ReceivedFrame)
+  got byte good is right ended pulled still =
       let h : most ≤ 728 = edges_few in
       by_way (Got byte good) ReceivedFrame (231 + (392 + (68 + (56 + (2 + most))))) (framed ReceivedFrame)
       (omega (arith, h))
@@ -296,7 +304,7 @@ module _ (d : Board) (bytes : List ℕ) (hk : HasKernel bytes) (alike : IsSilent
       got_works d bytes hk alike small low held (start + 3) (first l) third (stacked f) ring byte good 392
       (framed ReceivedFrame l) begins ended.0
       (gets_frame d bytes hk alike small low held (start + 3) (first l) third (stacked f) ring start refl released
-      ended.0 (clock_is l ∙ ended.1) byte good (data_is l ∙ pulled) (same.0 ∙ is) (same.1 ∙ right)) (safe l))
+      ended.0 (clock_is l ∙ ended.1) byte good (data_is l ∙ pulled) (second_is l ∙ still) (same.0 ∙ is) (same.1 ∙ right)) (safe l))
       (frame_came (Got byte good) ReceivedFrame)
 
   -- by what the looks find
@@ -309,4 +317,4 @@ module _ (d : Board) (bytes : List ℕ) (hk : HasKernel bytes) (alike : IsSilent
       subst (λ m. Tick d TICK bytes w (So m (CutFrame byte j))) (sym q.0) (cut byte j q.1 q.2 q.3 q.4)
   every ReceivedFrame meeting codes q =
       subst (λ m. Tick d TICK bytes w (So m ReceivedFrame)) (sym q.0)
-      (got (byte_in (data_in d w)) (right_in (data_in d w)) refl refl q.1 q.2)
+      (got (byte_in (data_in d w)) (right_in (data_in d w)) refl refl q.1 q.2 q.3)

@@ -1,6 +1,6 @@
 -- The looks of a frame: what the latch of port 2 is there, and what levels that agree say.
 use Rattle.std.proofs.Common.{◌≡◌, ◌<◌, ℕ, ◌+◌, ◌*◌, Bool, true, refl, ap, ◌∙◌, arith}
-use Rattle.fw_link.proofs.Taking.{cell_high as received_high}
+use Rattle.fw_link.proofs.Taking.{cell_rise as received_high}
 use Rattle.fw_link.proofs.TickLatch.{within}
 use Rattle.fw_link.proofs.Wired.{IsReleased, both_high, cell_high}
 use Rattle.fw_link.specs.Latch.{SentFrame, ReceivedFrame, wired, frame_bit, sent_latch, received_latch, tick_latch}
@@ -37,4 +37,4 @@ received_at old v released k few =
     let o : 306 + 32 * k ≡ 260 + i = omega arith in
     let p : i ≡ 28 + 32 * k + 16 + 2 = omega arith in
     ap (λ o. tick_latch old v ReceivedFrame o) o ∙ within old v ReceivedFrame i (omega (arith, few))
-    ∙ ap (λ o. received_latch v o) p ∙ received_high v k 2 (omega arith) ∙ both_high v released
+    ∙ ap (λ o. received_latch v o) p ∙ received_high v k 2 few (omega arith) ∙ both_high v released

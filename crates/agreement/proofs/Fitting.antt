@@ -23,6 +23,7 @@ use Rattle.fw_link.proofs.Received.{got_cells, received_frame}
 use Rattle.fw_link.proofs.Sending.{sending}
 use Rattle.fw_link.proofs.Wired.{IsReleased}
 use Rattle.fw_logic.proofs.Block.{memory, scratched, begin_at, At}
+use Rattle.fw_logic.proofs.Blocks.{absolute, joined}
 use Rattle.fw_logic.proofs.Clock.{IsFree}
 use Rattle.fw_logic.proofs.Kernel.{kernel_in}
 use Rattle.fw_logic.proofs.Leads.{Leads}
@@ -88,6 +89,9 @@ module _ (d : Board) (bytes : List ℕ) (hk : HasKernel bytes) (alike : IsSilent
   abbrev pub data_wire : Bool
   data_wire = (d.pins 44 v (y + 231 + 24) (after_cycles 24 (y + 231) (d.cycle v) shine)).t1
 
+  abbrev pub data_second : Bool
+  data_second = (d.pins 44 v (y + 231 + 52) (after_cycles 52 (y + 231) (d.cycle v) shine)).t1
+
   abbrev pub clock_look : ℕ → ℕ → Bool
   clock_look byte k =
       (d.pins 44 (wired v true (frame_bit byte k)) (260 + start + (28 + 32 * k + 18))
@@ -95,6 +99,15 @@ module _ (d : Board) (bytes : List ℕ) (hk : HasKernel bytes) (alike : IsSilent
 
   abbrev pub data_look : ℕ → Bool
   data_look k = (d.pins 44 v (260 + start + (28 + 32 * k + 18)) (passed (received_latch v) (28 + 32 * k + 18))).t1
+
+  -- the second look at data, told from where a frame begins
+  second_is : (d.pins 44 v (260 + start + 26) (after_cycles 26 0 (λ o. d.cycle v (260 + start + o)) entered)).t1 ≡ data_second
+  second_is =
+      let at : 260 + start + 26 ≡ y + 231 + 52 = omega (arith, here) in
+      ap (λ b. (d.pins 44 v (260 + start + 26) b).t1)
+      (absolute 26 (260 + start) (d.cycle v) entered
+      ∙ joined 26 26 (y + 231) (260 + start) (d.cycle v) shine (omega (arith, here)))
+      ∙ ap (λ c. (d.pins 44 v c (after_cycles 52 (y + 231) (d.cycle v) shine)).t1) at
 
   -- the looks come to a place
   abbrev Looks : ℕ → Type 0
@@ -199,13 +212,13 @@ module _ (d : Board) (bytes : List ℕ) (hk : HasKernel bytes) (alike : IsSilent
           (λ r4 r5 offers. (is_offered r4 r5 byte (offers ∙ is)).1)
 
     -- a byte is received: that of the first eight looks at data, right where the ninth is its parity
-    pub gets_frame : (byte : ℕ) (good : Bool) → data_wire ≡ false → byte_in data_look ≡ byte → right_in data_look ≡ good
+    pub gets_frame : (byte : ℕ) (good : Bool) → data_wire ≡ false → data_second ≡ false → byte_in data_look ≡ byte → right_in data_look ≡ good
         → Law COMMAND 392 (received_latch v) 366 (IsGot d bytes hk alike small low held y m board f ring byte good)
-    gets_frame byte good pulled is right =
+    gets_frame byte good pulled still is right =
         by_frame GOT COMMAND 366 392 (received_latch v) (λ h. got_cells h (byte_in data_look) (right_in data_look))
         (IsGot d bytes hk alike small low held y m board f ring byte good) (omega arith)
         (got_leaves (byte_in data_look) (right_in data_look)) (asked_looks no_test high pulled)
         (λ r4 r5 c offers less ok acc.
         received_frame d bytes hk (260 + start) (entry GOT r4 r5 c) entered (looked_in (cells r4 r5)) ring released acc
-        ok)
+        ok (second_is ∙ still))
         (λ r4 r5 offers. (is, told (right_in data_look) ∙ right))

@@ -7,6 +7,7 @@ use Rattle.fw_keys.proofs.Head.{offered_in}
 use Rattle.fw_link.proofs.Ends.{in_quarters}
 use Rattle.fw_link.proofs.Received.{got_cells}
 use Rattle.fw_link.proofs.Sending.{sending, left_at}
+use Rattle.fw_link.specs.Latch.{wired, frame_bit}
 use Rattle.fw_logic.proofs.Block.{put}
 use Rattle.fw_logic.proofs.Cells.{put_other}
 use Rattle.agreement.proofs.Looking.{looked_in}
@@ -27,12 +28,13 @@ above_looked g i l = above (put g 25 69) 24 0 i (omega arith) l ∙ above g 25 6
 -- a sent frame writes R0 to R3 and R6
 sent_kept : (h : ℕ → ℕ) (v byte k n r0 i : ℕ) → 32 ≤ i → sending h v byte k n r0 i ≡ h i
 sent_kept h v byte k n r0 i l =
-    let h1 : ℕ → ℕ = put h 25 (in_quarters byte) in
+    let r1 = wired v true (frame_bit byte k) in
+    let h1 : ℕ → ℕ = put h 25 r1 in
     let h2 : ℕ → ℕ = put h1 26 (bit_and v 253) in
     let h3 : ℕ → ℕ = put h2 27 n in
     let h4 : ℕ → ℕ = put h3 30 (left_at byte k) in
     above h4 24 r0 i (omega arith) l ∙ above h3 30 (left_at byte k) i (omega arith) l ∙ above h2 27 n i (omega arith) l
-    ∙ above h1 26 (bit_and v 253) i (omega arith) l ∙ above h 25 (in_quarters byte) i (omega arith) l
+    ∙ above h1 26 (bit_and v 253) i (omega arith) l ∙ above h 25 r1 i (omega arith) l
 
 pub sent_leaves : (v byte k n r0 : ℕ) → Leaves (λ h. sending h v byte k n r0)
 sent_leaves v byte k n r0 = record {

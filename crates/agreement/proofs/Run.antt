@@ -3,11 +3,11 @@ use Rattle.std.proofs.Common.{◌≡◌, ℕ, true, false, Some, List, refl, ap,
 use Rattle.std.proofs.lemmas.List.Elements.{All-replicate}
 use Rattle.fw_compile.specs.Image.{image_of}
 use Rattle.fw_kernel.specs.declared.labels.TheConstants.{TICK}
-use Rattle.fw_logic.proofs.Executing.{before_first, all_fit}
+use Rattle.fw_logic.proofs.Executing.{before_first, all_fit, all_late}
 use Rattle.fw_logic.proofs.Laws.{comes_as}
 use Rattle.fw_logic.proofs.Passing.{Passes}
 use Rattle.fw_logic.proofs.Turns.{IsMain}
-use Rattle.fw_logic.specs.Executed.{IsFit}
+use Rattle.fw_logic.specs.Executed.{IsFit, LooksLate}
 use Rattle.board_lines.specs.declared.event.Edge.{Edge}
 use Rattle.board_lines.specs.declared.event.HostEvent.{HostEvent}
 use Rattle.joint_run.specs.Joint.{Beside, joint_board}
@@ -21,7 +21,7 @@ use Rattle.mcs48_core.specs.Cpu.{Cpu}
 use Rattle.mcs48_core.specs.Reset.{reset_cpu}
 use Rattle.mcs48_ranges.specs.Sizes.{IsByte, IsFine}
 use Rattle.agreement.specs.Agreement.{AgreementLaw, AnyMemoryLaw, PromptLaw, switched_on}
-use Rattle.agreement.specs.Executed.{ExecutedLaw}
+use Rattle.agreement.specs.Executed.{ExecutedLaw, LateLaw}
 use Rattle.agreement.specs.Memory.{Holds, MemoryLaw}
 use Rattle.agreement.specs.Wires.{WiresLaw}
 use Rattle.agreement.proofs.Beginning.{is_tick, begins_let_go}
@@ -69,6 +69,13 @@ module _ (layout : KeyLayout) (history : KeyHistory) (fine : IsKeyLayout layout)
         → at_tick (joint_board edges events) TICK w ≡ true → Passes (joint_board edges events) bytes w)
         → (k : ℕ) (w : World Beside) → run_at (joint_board edges events) bytes from k ≡ Some w → IsFit bytes w.cpu
     stays_fit = all_fit (joint_board edges events) bytes (has_kernel layout) from main comes_first
+
+    -- and looks late
+    looks_late : ((k : ℕ) (w : World Beside) → run_at (joint_board edges events) bytes from k ≡ Some w
+        → at_tick (joint_board edges events) TICK w ≡ true → Passes (joint_board edges events) bytes w)
+        → (k : ℕ) (w next : World Beside) → run_at (joint_board edges events) bytes from k ≡ Some w
+        → joint_step (joint_board edges events) bytes w ≡ Some next → LooksLate bytes w.cpu next.cpu
+    looks_late = all_late (joint_board edges events) bytes (has_kernel layout) from main comes_first
 
 pub every_memory : AnyMemoryLaw
 every_memory layout history fine ok m small = (
@@ -138,11 +145,15 @@ every_holding layout history fine ok m small =
     (λ n w m time t few. (t.ties.keyboard, t.ties.layers)) in
     record { starts = a.0; each = a.1; holds = a.2 }
 
--- and each state of the run is fit
-pub every_execution : ExecutedLaw
-every_execution layout history fine ok m small =
-    stays_fit layout history fine ok m small
-    (at_run LayeredKeyboard (switched_on history.edges history.host m) (image_of layout) history ok.lawful
+-- each tick start of the run has its way through the tick
+each_passes : (layout : KeyLayout) (history : KeyHistory) (fine : IsKeyLayout layout) (ok : IsLawfulFor layout history)
+    (m : Cpu) → IsFine m → (k : ℕ) (w : World Beside)
+    → run_at (joint_board history.edges history.host) (image_of layout) (switched_on history.edges history.host m) k
+    ≡ Some w
+    → at_tick (joint_board history.edges history.host) TICK w ≡ true
+    → Passes (joint_board history.edges history.host) (image_of layout) w
+each_passes layout history fine ok m small =
+    at_run LayeredKeyboard (switched_on history.edges history.host m) (image_of layout) history ok.lawful
     (keyboard layout)
     (Tied layout history fine ok) (λ k. HasPlaces k.keyboard) (fits layout history fine ok) (λ p l. none_held layout p)
     (holds_now layout) (tied_first layout history fine ok m small) (tied_next layout history fine ok)
@@ -150,4 +161,14 @@ every_execution layout history fine ok m small =
     (λ w m t. (t.ties.started.entered.serves, t.ties.started.entered.bank))
     (λ w m t. (t.ties.started.entered.early, t.ties.started.entered.late))
     (λ w. Passes (joint_board history.edges history.host) (image_of layout) w)
-    (λ n w m time t few. passes layout history fine ok n w m time t few))
+    (λ n w m time t few. passes layout history fine ok n w m time t few)
+
+-- so each state of the run is fit
+pub every_execution : ExecutedLaw
+every_execution layout history fine ok m small =
+    stays_fit layout history fine ok m small (each_passes layout history fine ok m small)
+
+-- and looks late
+pub every_look : LateLaw
+every_look layout history fine ok m small =
+    looks_late layout history fine ok m small (each_passes layout history fine ok m small)

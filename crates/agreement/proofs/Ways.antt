@@ -10,7 +10,7 @@ use Rattle.ctl_wire.specs.Wire.{drive}
 use Rattle.fw_kernel.specs.Places.{HasKernel}
 use Rattle.fw_kernel.specs.declared.labels.TheConstants.{TICK}
 use Rattle.fw_keys.specs.Edges.{IsSilentAlike}
-use Rattle.fw_keys.specs.Frameless.{shown_by, IsStarted, IsRepeating, edges_now, latch_now, clock_now, data_now}
+use Rattle.fw_keys.specs.Frameless.{shown_by, IsStarted, IsRepeating, edges_now, latch_now, clock_now, data_now, data_again}
 use Rattle.fw_link.proofs.Board.{clock_is, data_is}
 use Rattle.fw_link.proofs.Got.{frame_value, frame_parity}
 use Rattle.fw_link.proofs.Outside.{received_lines}
@@ -33,7 +33,7 @@ use Rattle.kbd_model.specs.declared.meeting.Meeting.{Meeting}
 use Rattle.kbd_model.specs.declared.meeting.Meeting.TheVariants.{Idle, Inhibited, Sent, Cut, Got}
 use Rattle.pc_wires.specs.Wires.{Pc}
 use Rattle.wires_agree.proofs.Got.{frame_shown}
-use Rattle.wires_agree.proofs.Meetings.{request_at}
+use Rattle.wires_agree.proofs.Meetings.{request_at, requests}
 use Rattle.wires_agree.proofs.Spans.{IsAt}
 use Rattle.wires_agree.specs.Cycles.{board_cycles}
 use Rattle.wires_agree.specs.Ticks.{at_meeting, leaves_clock}
@@ -88,6 +88,17 @@ module _ (edges : List Edge) (events : List HostEvent) (d : Board) (to : d.State
       (at_clock edges events d to over w lit) (λ o a u. refl))
       ∙ ap (λ c. c && (drive later.side.port.link).dat) free_latch.data_wire
 
+  -- a request is still there at the second look at data, 28 cycles after the first
+  asks_again : (byte : ℕ) → b.side.port.link ≡ Request byte → data_again d w ≡ false
+  asks_again byte asks =
+      let later : Pc = board_cycles events (λ o. latch_of v) 30 (256 + start) b in
+      data_is edges events d to over 44 v (start + 232 + 54) (after_cycles 54 (start + 232) (d.cycle v) (in_tick d w 232))
+      ∙ ap (λ (t : Beside). (latch_of v).dat && (drive t.pc.side.port.link).dat)
+      (behind_look edges events d to over (λ o. latch_of v) v start (start + 232) 30 (in_tick d w 232) b (omega arith)
+      (at_clock edges events d to over w lit) (λ o a u. refl))
+      ∙ ap (λ c. c && (drive later.side.port.link).dat) free_latch.data_wire
+      ∙ ap (λ l. (drive l).dat) (requests events (λ o. latch_of v) 30 (256 + start) b byte (λ o a u. free_latch.clock) asks)
+
   -- the power-on test runs
   pub testing : (kbd.test == 0) ≡ false → Tick d TICK bytes w (So Idle NoFrame)
   testing runs = quiet d bytes hk alike small low w s repeats few Idle (inl runs)
@@ -96,12 +107,12 @@ module _ (edges : List Edge) (events : List HostEvent) (d : Board) (to : d.State
   pub idle : (kbd.test == 0) ≡ true → b.side.port.link ≡ Free → offer kbd ≡ None
       → Tick d TICK bytes w (So Idle NoFrame)
   idle no_test free none =
-      quiet d bytes hk alike small low w s repeats few Idle (inr (
+      quiet d bytes hk alike small low w s repeats few Idle (inr (inl (
         no_test,
         sees_clock ∙ ap (λ q. (drive q).clk) free,
         sees_data ∙ free_shows events v start free_latch b free,
         none,
-      ))
+      )))
 
   -- the controller holds the clock
   pub inhibited : (kbd.test == 0) ≡ true → (drive b.side.port.link).clk ≡ false
@@ -201,7 +212,7 @@ module _ (edges : List Edge) (events : List HostEvent) (d : Board) (to : d.State
         got d bytes hk alike small low w s repeats few byte true (same.0 ∙ frame_value byte less)
         (same.1 ∙ ap (λ n. is_parity (frame_bit byte 9) n) (frame_value byte less) ∙ frame_parity byte less)
         (no_test, sees_clock ∙ ap (λ q. (drive q).clk) asks)
-        (sees_data ∙ request_shows events v start free_latch b byte asks)
+        (sees_data ∙ request_shows events v start free_latch b byte asks) (asks_again byte asks)
 
   pub gets : (byte : ℕ) → byte < 256 → (kbd.test == 0) ≡ true → b.side.port.link ≡ Request byte
       → Tick d TICK bytes w (So (Got byte true) ReceivedFrame)

@@ -1,9 +1,9 @@
--- What the joint run of a layout's image executes.
+-- What the joint run of a layout's image executes, and when it looks at the clock on a chip.
 use Rattle.std.specs.Prelude.{◌≡◌, ℕ, Some}
 use Rattle.fw_compile.specs.Image.{image_of}
-use Rattle.fw_logic.specs.Executed.{IsFit}
+use Rattle.fw_logic.specs.Executed.{IsFit, LooksLate}
 use Rattle.joint_run.specs.Joint.{Beside, joint_board}
-use Rattle.joint_run.specs.Run.{World, run_at}
+use Rattle.joint_run.specs.Run.{World, joint_step, run_at}
 use Rattle.key_file.specs.Accepted.{IsLawfulFor}
 use Rattle.key_file.specs.Histories.{KeyHistory}
 use Rattle.layout_reader.specs.Layouts.{KeyLayout, IsKeyLayout}
@@ -12,7 +12,7 @@ use Rattle.mcs48_ranges.specs.Sizes.{IsFine}
 use Rattle.agreement.specs.Agreement.{switched_on}
 
 -- for every layout and every history that is lawful for it, whatever a part holds when it is switched on: in each
--- state of the run the instruction that comes next is none that the board rules out
+-- state of the run the instruction that comes next is in a row of the HEX text and one of the kernel's kinds
 abbrev pub ExecutedLaw : Type 0
 ExecutedLaw =
     (layout : KeyLayout) (history : KeyHistory) → IsKeyLayout layout → IsLawfulFor layout history
@@ -21,3 +21,15 @@ ExecutedLaw =
     → run_at (joint_board history.edges history.host) (image_of layout) (switched_on history.edges history.host m) k
     ≡ Some w
     → IsFit (image_of layout) w.cpu
+
+-- and a look at the clock wire that is next after a row that puts port 2 samples at least 7 fifths of a cycle after a chip
+-- has put it
+abbrev pub LateLaw : Type 0
+LateLaw =
+    (layout : KeyLayout) (history : KeyHistory) → IsKeyLayout layout → IsLawfulFor layout history
+    → (m : Cpu) → IsFine m
+    → (k : ℕ) (w next : World Beside)
+    → run_at (joint_board history.edges history.host) (image_of layout) (switched_on history.edges history.host m) k
+    ≡ Some w
+    → joint_step (joint_board history.edges history.host) (image_of layout) w ≡ Some next
+    → LooksLate (image_of layout) w.cpu next.cpu

@@ -6,7 +6,7 @@ use Rattle.fw_kernel.specs.declared.labels.TheConstants.{TICK}
 use Rattle.fw_kernel.specs.Places.{HasKernel}
 use Rattle.fw_keys.specs.Edges.{image_code, IsSilentAlike}
 use Rattle.fw_keys.specs.Frameless.{IsStarted, IsRepeating, IsFrameless, GoesOn, shown_by, tests_in, edges_now}
-use Rattle.fw_keys.specs.Frameless.{latch_now, clock_now, data_now}
+use Rattle.fw_keys.specs.Frameless.{latch_now, clock_now, data_now, data_again}
 use Rattle.fw_link.specs.Latch.{Frame, NoFrame, SentFrame, CutFrame, ReceivedFrame, tick_latch}
 use Rattle.fw_link.specs.Reading.{byte_in, right_in}
 use Rattle.fw_logic.specs.Boards.{numbered}
@@ -47,7 +47,7 @@ Offers d w byte = IsOpen d w × (data_now d w ≡ true) × (offer (shown_by w.cp
 
 -- the frame of a tick, and its meeting, by what the looks find. The byte offered is sent where the clock is high at the
 -- looks of all ten cells; it is cut in the cell whose look is the first that finds the clock low. A byte is received
--- where the clock is high and data low: that of the first eight looks at data, right where the ninth is its parity
+-- where the clock is high, and data low at both looks at it: that of the first eight looks at data, right where the ninth is its parity
 abbrev pub Finds : (d : Board) → World d.State → Frame → Meeting → Type 0
 Finds d w NoFrame meeting = IsFrameless d w meeting
 Finds d w (SentFrame byte) meeting =
@@ -57,6 +57,7 @@ Finds d w (CutFrame byte cell) meeting =
     × (clock_in d w byte cell ≡ false)
 Finds d w ReceivedFrame meeting =
     (meeting ≡ Got (byte_in (data_in d w)) (right_in (data_in d w))) × IsOpen d w × (data_now d w ≡ false)
+    × (data_again d w ≡ false)
 
 -- in the queue that data memory shows no code is broken: behind F0 stands its code
 abbrev pub HasWholeCodes : List ℕ → Type 0

@@ -8,7 +8,7 @@
 #![tactic(auto)]
 
 ghost use Rattle.agreement.specs.Agreement.{AgreementLaw, AnyMemoryLaw, PromptLaw};
-ghost use Rattle.agreement.specs.Executed.{ExecutedLaw};
+ghost use Rattle.agreement.specs.Executed.{ExecutedLaw, LateLaw};
 ghost use Rattle.agreement.specs.Firmware.{TickLaw};
 ghost use Rattle.agreement.specs.Memory.{MemoryLaw};
 ghost use Rattle.agreement.specs.Wires.{WiresLaw};
@@ -48,16 +48,19 @@ pub fn memory_holds_keyboard()
 /// cycle the latch of port 2 was that of a tick with the meeting's frame. Without a frame it is written once, with the
 /// lights, and pulls no wire. In each cycle port 1 selects the column of its offset. All is counted from the tick's
 /// start: column c is read at offset 16 + 16 c, the lights are put at 232, the clock is looked at at 256 and data at 258,
-/// and in a frame the looks are at 306 + 32 k. Nothing is done when it is called; the law is its contract.
+/// and again at 286 where it is low; and in a frame the looks are at 306 + 32 k. Nothing is done when it is called; the law is its contract.
 pub fn every_tick()
     ensures ticks { TickLaw }
 {}
 
-/// For every layout and every history that is lawful for it, however long, whatever a part holds when it is switched
-/// on: in each state of the joint run the instruction that comes next stands in the chip's own 2,048 bytes and is none
-/// that the board rules out. So the run never enables the clock's output on T0, drives the bus or accesses memory
-/// outside, uses the port expander, reads the pins of ports 1 and 2, enables the external interrupt, or calls: of the
-/// stack's eight entries the service alone takes one. Nothing is done when it is called; the law is its contract.
+/// For every layout and every history that is lawful for it, however long, whatever a part holds when it is switched on: in each
+/// state of the joint run the instruction that comes next is in the chip's own 2,048 bytes, in a row of sixteen that the
+/// HEX text has, and of the kernel's kinds. So the run never enables the clock's output on T0, drives the bus or accesses
+/// memory outside, uses the port expander, reads the pins of ports 1 and 2, reads the timer, enables the external
+/// interrupt, or calls: of the stack's eight entries the service alone takes one. And where a look at the clock wire comes
+/// next after a row that puts port 2, a chip samples the wire at least 7 fifths of a cycle, 3.5 microseconds, after it
+/// has put the port. Nothing is done when it is called; the laws are its contract.
 pub fn keeps_to_the_board()
     ensures executed { ExecutedLaw }
+    ensures late { LateLaw }
 {}

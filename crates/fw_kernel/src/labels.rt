@@ -25,19 +25,19 @@ pub const SEND: u16 = 0x04b;
 pub const S_CELL: u16 = 0x066;
 
 /// The last cell of a sent frame.
-pub const S_STOP: u16 = 0x07f;
+pub const S_STOP: u16 = 0x082;
 
 /// The controller pulled the clock in a sent frame: both wires are released.
-pub const CUT: u16 = 0x089;
+pub const CUT: u16 = 0x08c;
 
 /// The tick has no frame, and the controller is why.
-pub const INHIBITED: u16 = 0x08d;
+pub const INHIBITED: u16 = 0x090;
 
 /// The tick has no frame.
-pub const IDLE: u16 = 0x08e;
+pub const IDLE: u16 = 0x091;
 
 /// The clock was high and data low: the controller asks to send.
-pub const GOT: u16 = 0x090;
+pub const GOT: u16 = 0x093;
 
 /// The offer where a reply or AA is due.
 pub const O_DUE: u16 = 0x09c;
@@ -58,16 +58,16 @@ pub const BEGIN: u16 = 0x0f5;
 pub const WAIT: u16 = 0x0fc;
 
 /// A frame of the controller is received.
-pub const RECEIVE: u16 = 0x100;
+pub const RECEIVE: u16 = 0x0fe;
 
 /// One cell of a data bit.
 pub const R_CELL: u16 = 0x106;
 
 /// The cell of the parity bit.
-pub const R_PARITY: u16 = 0x11e;
+pub const R_PARITY: u16 = 0x11c;
 
 /// The cell of the stop bit.
-pub const R_STOP: u16 = 0x13c;
+pub const R_STOP: u16 = 0x13a;
 
 /// The last cell of a received frame, in which data is pulled.
 pub const R_ACK: u16 = 0x14a;

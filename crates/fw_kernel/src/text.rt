@@ -136,7 +136,7 @@ l_on:   DJNZ R0,l_on        ; 242 to 255
         JNT1 got            ; 258
 
 ; -- send: the byte and its parity are made ready; data falls for the start bit.
-; needs: R4, R5 of offer, LIGHTS. leaves: R4; R6 the byte; C its parity bit; R2 the latch with data low; R3 = 10.
+; needs: R4, R5 of offer, LIGHTS. leaves: R4; R6 the byte; C its parity bit; R1, R2 the latch with data low; R3 = 10.
 ; cycles: 3 to 28.
 send:   MOV A,R5            ; 260
         JZ idle             ; 261
@@ -146,24 +146,26 @@ send:   MOV A,R5            ; 260
         ANL A,#0FDH         ; 267
         MOV R2,A            ; 269
         OUTL P2,A           ; 270: data falls
-        MOV A,R4            ; 272
-        MOV R6,A            ; 273
-        SWAP A              ; 274
-        XRL A,R4            ; 275
-        MOV R1,A            ; 276
-        RR A                ; 277
+        MOV R1,A            ; 272
+        MOV A,R4            ; 273
+        MOV R6,A            ; 274
+        SWAP A              ; 275
+        XRL A,R4            ; 276
+        MOV R0,A            ; 277
         RR A                ; 278
-        XRL A,R1            ; 279
-        MOV R1,A            ; 280
-        RR A                ; 281
-        XRL A,R1            ; 282: FF where the number of ones is odd, else 00
-        CPL A               ; 283
-        RRC A               ; 284: the parity bit in C
-        MOV R3,#10          ; 285
-        NOP                 ; 287
+        RR A                ; 279
+        XRL A,R0            ; 280
+        MOV R0,A            ; 281
+        RR A                ; 282
+        XRL A,R0            ; 283: FF where the number of ones is odd, else 00
+        CPL A               ; 284
+        RRC A               ; 285: the parity bit in C
+        MOV R3,#10          ; 286
 
-; -- s_cell: cell k of a sent frame: the clock falls upon bit k, it is looked at, and bit k+1 is put.
-; needs: R2, R3, R6, C. leaves: the same for cell k+1; R4 is kept. Goes to cut where the clock is low.
+; -- s_cell: cell k of a sent frame: the clock falls upon bit k, rises and is looked at, and bit k+1 is put. OUTL lets
+; the clock rise: on a part it writes a cycle before ANL and ORL do, so the wire has longer to rise until the look.
+; needs: R1 the latch with bit k, R2, R3, R6, C. leaves: the same for cell k+1; R4 is kept. Goes to cut where the clock
+; is low.
 ; cycles: 20 to 32.
 s_cell: ANL P2,#0FEH        ; 288+32k
         MOV A,R6            ; 290
@@ -174,13 +176,17 @@ s_cell: ANL P2,#0FEH        ; 288+32k
         RL A                ; 295: the next bit at the data wire's place
         ORL A,R2            ; 296
         CPL C               ; 297: C was 0; ones follow the parity bit, the first is the stop bit
-        MOV R0,#2           ; 298
-s_low:  DJNZ R0,s_low       ; 300 to 303
-        ORL P2,#1           ; 304
+        XCH A,R1            ; 298: R1 the latch with bit k+1, A that with bit k
+        MOV R0,#1           ; 299
+s_low:  DJNZ R0,s_low       ; 301
+        NOP                 ; 303
+        OUTL P2,A           ; 304
         JNT0 cut            ; 306
-        OUTL P2,A           ; 308
-        MOV R0,#3           ; 310
-s_high: DJNZ R0,s_high      ; 312 to 317
+        MOV A,R1            ; 308
+        OUTL P2,A           ; 309
+        MOV R0,#2           ; 311
+s_high: DJNZ R0,s_high      ; 313 to 316
+        NOP                 ; 317
         DJNZ R3,s_cell      ; 318
 
 ; -- s_stop: the eleventh fall; the frame ends.
@@ -269,23 +275,22 @@ pause:  DJNZ R0,pause       ; 416 to 443
 ; -- wait: the main program, between ticks.
 wait:   JMP wait
 
-; -- receive: the first cell follows.
-; needs: nothing. leaves: R3 = 8.
+; -- receive: data is looked at again just before the first cell: a request lasts, and what doesn't is none.
+; needs: nothing. leaves: R3 = 8. Goes to none where data is high.
 ; cycles: 26.
-        ORG 100H
 receive: MOV R3,#8          ; 262
-        MOV R0,#11          ; 264
-r_on:   DJNZ R0,r_on        ; 266 to 287
+        MOV R0,#10          ; 264
+r_on:   DJNZ R0,r_on        ; 266 to 285
+        JT1 none            ; 286
 
 ; -- r_cell: cell k of a received frame, k = 0..7: data bit k comes into bit 7 of A.
 ; needs: R3; A the bits so far. leaves: A the byte, after the eighth.
 ; cycles: 32.
 r_cell: ANL P2,#0FEH        ; 288+32k
-        RR A                ; 290
-        ANL A,#7FH          ; 291
-        MOV R0,#4           ; 293
-r_low:  DJNZ R0,r_low       ; 295 to 302
-        NOP                 ; 303
+        CLR C               ; 290
+        RRC A               ; 291
+        MOV R0,#5           ; 292
+r_low:  DJNZ R0,r_low       ; 294 to 303
         ORL P2,#1           ; 304
         JT1 r_one           ; 306
         JMP r_bit           ; 308
@@ -320,7 +325,8 @@ p_bit:  MOV R5,A            ; 566
 p_high: DJNZ R0,p_high      ; 569 to 574
         NOP                 ; 575
 
-; -- r_stop: the cell of the stop bit, which the controller always releases.
+; -- r_stop: the cell of the stop bit, which the controller always releases. Data is pulled for the eleventh fall, so it
+; is low before the clock is.
 ; needs: nothing; R4, R5 are kept.
 ; cycles: 32.
 r_stop: ANL P2,#0FEH        ; 576
@@ -328,13 +334,14 @@ r_stop: ANL P2,#0FEH        ; 576
 t_low:  DJNZ R0,t_low       ; 580 to 591
         ORL P2,#1           ; 592
         JT1 t_on            ; 594: read, without an effect
-t_on:   MOV R0,#5           ; 596
-t_high: DJNZ R0,t_high      ; 598 to 607
+t_on:   ANL P2,#0FDH        ; 596: data falls
+        MOV R0,#4           ; 598
+t_high: DJNZ R0,t_high      ; 600 to 607
 
-; -- r_ack: the eleventh fall, with data pulled; the frame ends.
+; -- r_ack: the eleventh fall, with data low; the frame ends, and both wires are released.
 ; needs: nothing; R4, R5 are kept.
 ; cycles: 18.
-r_ack:  ANL P2,#0FCH        ; 608
+r_ack:  ANL P2,#0FEH        ; 608
         MOV R0,#6           ; 610
 r_end:  DJNZ R0,r_end       ; 612 to 623
         ORL P2,#3           ; 624
@@ -426,6 +433,11 @@ c_reset: MOV R1,#REPLYDUE
 refuse: MOV R1,#REPLY
         MOV @R1,#0FEH
         JMP scan
+
+; -- none: there was no request; the tick has no frame.
+; needs: nothing. leaves: nothing.
+; cycles: 2.
+none:   JMP scan            ; 288
 
 ; -- sent: the byte is the last one sent, except FE.
 ; needs: R4. leaves: LAST; R4 is kept.

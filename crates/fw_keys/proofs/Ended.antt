@@ -23,7 +23,7 @@ use Rattle.fw_keys.proofs.Block.{Safe}
 use Rattle.fw_keys.proofs.Scan.{after, edges_most, keyed}
 use Rattle.fw_keys.proofs.Tick.{down, changed, begun, lit, shining, Ticked, TickLaw, idle_tick}
 use Rattle.fw_keys.proofs.KeyedTick.{keyed_tick}
-use Rattle.fw_keys.proofs.Tick.{inhibited_tick, test_tick, IsFreeAt, same_kbd}
+use Rattle.fw_keys.proofs.Tick.{glitch_tick, inhibited_tick, test_tick, IsFreeAt, IsGlitchAt, same_kbd}
 
 module _ (d : Board) (bytes : List ℕ) (hk : HasKernel bytes) (alike : IsSilentAlike bytes) (small : All IsByte bytes)
     (low : (p1 p2 c : ℕ) (s : d.State) → (d.pins p1 p2 c s).bus < 256) (held : List Bool)
@@ -109,6 +109,13 @@ module _ (d : Board) (bytes : List ℕ) (hk : HasKernel bytes) (alike : IsSilent
   idle_works inv no_test nothing wires safe =
       silent Idle false 31 (same_kbd d bytes hk alike small low held y m board f ring)
       (idle_tick d bytes hk alike small low held y m board f ring inv no_test nothing wires safe)
+
+  -- data is low at the first look alone
+  pub glitch_works : Inv f → (f 69 == 0) ≡ true → IsGlitchAt d bytes hk alike small low held y m board f ring
+      → Safe m 10 f ring → Works Idle (231 + (56 + (56 + (2 + edges_most changes_now)))) AtHead
+  glitch_works inv no_test levels safe =
+      silent Idle false 56 (same_kbd d bytes hk alike small low held y m board f ring)
+      (glitch_tick d bytes hk alike small low held y m board f ring inv no_test levels safe)
 
   -- the clock is low
   pub inhibited_works : Inv f → (f 69 == 0) ≡ true

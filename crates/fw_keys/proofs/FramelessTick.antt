@@ -32,7 +32,7 @@ use Rattle.fw_keys.specs.Frameless.{cells_in, shown_by, IsStarted, changed_now, 
 use Rattle.fw_keys.specs.Frameless.{IsFrameless, GoesOn, IsRepeating, layers_by}
 use Rattle.fw_keys.proofs.Step5.{all_edges}
 use Rattle.fw_keys.proofs.Scan.{edges_most}
-use Rattle.fw_keys.proofs.Ended.{AtHead, idle_works, inhibited_works, test_works}
+use Rattle.fw_keys.proofs.Ended.{AtHead, idle_works, glitch_works, inhibited_works, test_works}
 use Rattle.std.proofs.lemmas.List.Elements.{All-get_or}
 use Rattle.fw_keys.proofs.Serve.{kept_on, down, changed, held, first, first_board, fit, Goes, Work, tick, tick_passes, four_edges}
 use Rattle.fw_keys.proofs.Begun.{columns_same, columns_count, started_begun, started_is, xor_small}
@@ -143,7 +143,7 @@ module _ (d : Board) (bytes : List ℕ) (hk : HasKernel bytes) (alike : IsSilent
       ∙ ap (λ c. d.pins 44 (latch_now d w) c (after_cycles (2 + n) (x + 232) new (in_tick d w 232))) a
 
   pub works : (meeting : Meeting) → IsFrameless d w meeting
-      → (max : ℕ) × (max ≤ 36) × ((l : Bool) → Work d bytes hk alike small low w.cycle late soon m.tf m.last_t1 f ring m
+      → (max : ℕ) × (max ≤ 56) × ((l : Bool) → Work d bytes hk alike small low w.cycle late soon m.tf m.last_t1 f ring m
       w.board l meeting (231 + (max + (56 + (2 + edges_most changed_in)))) (IsAtHead l))
   works Idle (inl runs) = (
     36,
@@ -151,12 +151,21 @@ module _ (d : Board) (bytes : List ℕ) (hk : HasKernel bytes) (alike : IsSilent
     λ l. test_works d bytes hk alike small low held_before (w.cycle + 3) (cpu_at_head l) board3 (stacked f) ring inv runs
         (fit d bytes hk alike small low w.cycle late soon m.tf m.last_t1 f ring m w.board l fine),
   )
-  works Idle (inr q) = (
+  works Idle (inr (inl q)) = (
     31,
     omega arith,
     λ l. idle_works d bytes hk alike small low held_before (w.cycle + 3) (cpu_at_head l) board3 (stacked f) ring inv q.0 q.3 (
       ap (λ p. p.t0) (look_is 22) ∙ q.1,
       ap (λ p. p.t1) (look_is 24) ∙ q.2,
+    ) (fit d bytes hk alike small low w.cycle late soon m.tf m.last_t1 f ring m w.board l fine),
+  )
+  works Idle (inr (inr q)) = (
+    56,
+    omega arith,
+    λ l. glitch_works d bytes hk alike small low held_before (w.cycle + 3) (cpu_at_head l) board3 (stacked f) ring inv q.0 (
+      ap (λ p. p.t0) (look_is 22) ∙ q.1,
+      ap (λ p. p.t1) (look_is 24) ∙ q.2,
+      ap (λ p. p.t1) (look_is 52) ∙ q.3,
     ) (fit d bytes hk alike small low w.cycle late soon m.tf m.last_t1 f ring m w.board l fine),
   )
   works Inhibited q = (
@@ -280,7 +289,7 @@ module _ (d : Board) (bytes : List ℕ) (hk : HasKernel bytes) (alike : IsSilent
       (GoesOn d bytes meeting w)
   frameless_tick repeats meeting q =
       let a = works meeting q in
-      let max : a.0 ≤ 36 = a.1 in
+      let max : a.0 ≤ 56 = a.1 in
       let edges : edges_most changed_in ≤ 728 = four in
       let t = any_tick meeting (231 + (a.0 + (56 + (2 + edges_most changed_in)))) (frameless_pressed d w keys meeting q repeats)
       (omega (arith, max, edges)) IsAtHead a.2 in

@@ -22,3 +22,6 @@ keyed_tick keys meeting changed down l k =
 
 pub below_cells : (f : ℕ → ℕ) (u v i : ℕ) → 32 ≤ i → put (put f 25 u) 24 v i ≡ f i
 below_cells f u v i l = grind (arith, nat_tests, l)
+
+pub counted_cells : (f : ℕ → ℕ) (u v n i : ℕ) → 32 ≤ i → put (put (put f 25 u) 24 v) 27 n i ≡ f i
+counted_cells f u v n i l = grind (arith, nat_tests, l)

@@ -31,7 +31,7 @@ use Rattle.kbd_model.specs.Keyboard.{Keyboard, offer}
 use Rattle.kbd_model.specs.Tick.{is_scanning, tested_if}
 use Rattle.kbd_model.specs.declared.meeting.Meeting.{Meeting}
 use Rattle.kbd_model.specs.declared.meeting.Meeting.TheVariants.{Idle, Inhibited}
-use Rattle.fw_keys.proofs.KeyedTick.{passed, keyed_tick, below_cells}
+use Rattle.fw_keys.proofs.KeyedTick.{passed, keyed_tick, below_cells, counted_cells}
 
 module _ (d : Board) (bytes : List ℕ) (hk : HasKernel bytes) (alike : IsSilentAlike bytes) (small : All IsByte bytes)
     (low : (p1 p2 c : ℕ) (s : d.State) → (d.pins p1 p2 c s).bus < 256) (held : List Bool) where
@@ -231,6 +231,39 @@ module _ (d : Board) (bytes : List ℕ) (hk : HasKernel bytes) (alike : IsSilent
           ),
         )
 
+    -- the clock is high, and data low at the first look alone
+    abbrev pub IsGlitchAt : Type 0
+    IsGlitchAt =
+        ((d.pins 44 (255 - f LIGHTS) (y + 231 + 22) (after_cycles 22 0 (λ o. d.cycle (255 - f LIGHTS) (y + 231 + o)) shining)).t0
+        ≡ true)
+        × ((d.pins 44 (255 - f LIGHTS) (y + 231 + 24) (after_cycles 24 0 (λ o. d.cycle (255 - f LIGHTS) (y + 231 + o)) shining)).t1
+        ≡ false)
+        × ((d.pins 44 (255 - f LIGHTS) (y + 231 + 52) (after_cycles 52 0 (λ o. d.cycle (255 - f LIGHTS) (y + 231 + o)) shining)).t1
+        ≡ true)
+
+    glitch_way : Inv f → (f 69 == 0) ≡ true → IsGlitchAt → Way false 56 same_kbd
+    glitch_way inv no_test levels m' board' r4 r5 is where_board offers safe =
+        leaf d (kernel_in true bytes) (has_rows true bytes hk) small low (Keeps held same_kbd (headed_by r4 r5) ring)
+        (Until 65 ∷ Go false ∷ Until 71 ∷ Go false ∷ Go true ∷ Until 260 ∷ Go true ∷ Until SCAN ∷ []) TESTED SCAN 56
+        (put (put (put (headed_by r4 r5) 25 69) 24 0) 27 8) ring (y + 231) m' (record m' { f1 = false }) board'
+        (headed_by r4 r5) ring safe.0
+        (λ a. record {
+          kbd = refl;
+          inv = still (refl, refl, refl, refl, refl) inv;
+          cells = λ i l u. counted_cells (headed_by r4 r5) 69 0 8 i l;
+          layers = λ i l u. counted_cells (headed_by r4 r5) 69 0 8 i (omega (arith, l));
+          stack = (refl, refl);
+        }) (
+          ap not no_test,
+          (
+            look_at m' board' r4 r5 22 (λ p. not p.t0) is where_board ∙ ap not levels.0,
+            (
+              look_at m' board' r4 r5 24 (λ p. not p.t1) is where_board ∙ ap not levels.1,
+              (look_at m' board' r4 r5 52 (λ p. p.t1) is where_board ∙ levels.2, (refl, refl, refl)),
+            ),
+          ),
+        )
+
     inhibited_way : Inv f → (f 69 == 0) ≡ true
         → (d.pins 44 (255 - f LIGHTS) (y + 231 + 22) (after_cycles 22 0 (λ o. d.cycle (255 - f LIGHTS) (y + 231 + o)) shining)).t0
         ≡ false
@@ -284,6 +317,13 @@ module _ (d : Board) (bytes : List ℕ) (hk : HasKernel bytes) (alike : IsSilent
         (sym (ap (λ b. keyed (image_keys bytes) false changed down (layers_of f)
         (tested_if (not b) (kbd_of held f ring))) no_test))
         (tick_by false 31 same_kbd (idle_way inv no_test nothing wires.0 wires.1) safe)
+
+    pub glitch_tick : Inv f → (f 69 == 0) ≡ true → IsGlitchAt → Safe m 10 f ring → TickLaw Idle false 56 same_kbd
+    glitch_tick inv no_test levels safe =
+        with_model Idle false 56 same_kbd
+        (sym (ap (λ b. keyed (image_keys bytes) false changed down (layers_of f)
+        (tested_if (not b) (kbd_of held f ring))) no_test))
+        (tick_by false 56 same_kbd (glitch_way inv no_test levels) safe)
 
     pub inhibited_tick : Inv f → (f 69 == 0) ≡ true
         → (d.pins 44 (255 - f LIGHTS) (y + 231 + 22) (after_cycles 22 0 (λ o. d.cycle (255 - f LIGHTS) (y + 231 + o)) shining)).t0

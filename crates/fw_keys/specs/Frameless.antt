@@ -64,14 +64,20 @@ clock_now d w = (levels_in d (w.cycle + 232) 44 (latch_now d w) (in_tick d w 232
 abbrev pub data_now : (d : Board) → World d.State → Bool
 data_now d w = (levels_in d (w.cycle + 232) 44 (latch_now d w) (in_tick d w 232) 26).t1
 
--- a tick without a frame: the power-on test runs, or both wires are high and nothing is offered; or the clock is held
+-- data is looked at again at offset 286 where it was low at 258
+abbrev pub data_again : (d : Board) → World d.State → Bool
+data_again d w = (levels_in d (w.cycle + 232) 44 (latch_now d w) (in_tick d w 232) 54).t1
+
+-- a tick without a frame: the power-on test runs; or both wires are high and nothing is offered; or data is low at the
+-- first look alone; or the clock is held
 abbrev pub tests_in : (d : Board) → World d.State → Bool
 tests_in d w = (shown_by w.cpu.ram).test == 0
 
 abbrev pub IsFrameless : (d : Board) → World d.State → Meeting → Type 0
 IsFrameless d w Idle =
     (tests_in d w ≡ false)
-    ⊎ ((tests_in d w ≡ true) × (clock_now d w ≡ true) × (data_now d w ≡ true) × (offer (shown_by w.cpu.ram) ≡ None))
+    ⊎ (((tests_in d w ≡ true) × (clock_now d w ≡ true) × (data_now d w ≡ true) × (offer (shown_by w.cpu.ram) ≡ None))
+    ⊎ ((tests_in d w ≡ true) × (clock_now d w ≡ true) × (data_now d w ≡ false) × (data_again d w ≡ true)))
 IsFrameless d w Inhibited = (tests_in d w ≡ true) × (clock_now d w ≡ false)
 IsFrameless d w Sent = ⊥
 IsFrameless d w Cut = ⊥

@@ -17,9 +17,9 @@ use Rattle.fw_logic.proofs.Short.{has_rows}
 use Rattle.fw_logic.proofs.Sound.{sound}
 use Rattle.joint_run.specs.Run.{Board, after_cycles}
 
--- R0, R3 and R6 behind a cell: R6 is turned through the carry
-abbrev pub turned : (ℕ → ℕ) → Bool → ℕ → ℕ → ℕ
-turned f c n = put (put (put f 30 (128 * digit c + f 30 / 2)) 24 0) 27 n
+-- R0, R1, R3 and R6 behind a cell: R1 is the latch that was put, R6 is turned through the carry
+abbrev pub turned : (ℕ → ℕ) → Bool → ℕ → ℕ → ℕ → ℕ
+turned f c v n = put (put (put (put f 30 (128 * digit c + f 30 / 2)) 25 v) 24 0) 27 n
 
 -- the next bit at the data wire's place
 next_bit : (b c : Bool) (r2 v : ℕ) → c ≡ b → bit_or (2 * digit b) r2 ≡ v
@@ -36,9 +36,9 @@ fallen m = bit_and m.p2 254
 abbrev pub risen : Cpu → ℕ
 risen m = bit_or (bit_and m.p2 254) 1
 
--- the board at a cell's look, 18 cycles into it
-abbrev pub board_at_look : (d : Board) → ℕ → Cpu → d.State → d.State
-board_at_look d y m board = after_cycles 2 16 (λ o. d.cycle (risen m) (y + o))
+-- the board at a cell's look, 18 cycles into it, where the clock rises with this latch
+abbrev pub board_at_look : (d : Board) → ℕ → ℕ → Cpu → d.State → d.State
+board_at_look d y w m board = after_cycles 2 16 (λ o. d.cycle w (y + o))
     (after_cycles 16 0 (λ o. d.cycle (fallen m) (y + o)) board)
 
 -- the number of cells left goes down by one, and is tested
@@ -50,36 +50,37 @@ asks c n less more left = ap (λ k. not (k == 0)) less ∙ left
 
 module _ (d : Board) (bytes : List ℕ) (has : HasKernel bytes) (y : ℕ) (m : Cpu) (board : d.State) (f : ℕ → ℕ)
     (ring : List ℕ) where
-  -- the board 20 cycles into the cell, and at its end
-  abbrev pub board_at_put : d.State
-  board_at_put = after_cycles 4 16 (λ o. d.cycle (risen m) (y + o)) (after_cycles 16 0 (λ o. d.cycle (fallen m) (y + o)) board)
+  -- the board so many cycles after the rise, for which R1 is the latch; and at the cell's end
+  abbrev pub board_risen : ℕ → d.State
+  board_risen n = after_cycles n 16 (λ o. d.cycle (f 25) (y + o)) (after_cycles 16 0 (λ o. d.cycle (fallen m) (y + o)) board)
 
   abbrev pub board_behind : ℕ → d.State
-  board_behind v = after_cycles 12 20 (λ o. d.cycle v (y + o)) board_at_put
+  board_behind v = after_cycles 11 21 (λ o. d.cycle v (y + o)) (board_risen 5)
 
   -- the clock wire at the cell's look
   abbrev pub clock_seen : Bool
-  clock_seen = (d.pins m.p1 (risen m) (y + 18) (board_at_look d y m board)).t0
+  clock_seen = (d.pins m.p1 (f 25) (y + 18) (board_at_look d y (f 25) m board)).t0
 
   abbrev pub Celled : ℕ → ℕ → ℕ → Stage d.State → Type 0
   Celled v n place e =
-      (e.cpu ≡ scratched (record m { p2 = v }) place (memory (turned f m.c n) ring) e.cpu) × (e.cpu.c ≡ true)
+      (e.cpu ≡ scratched (record m { p2 = v }) place (memory (turned f m.c v n) ring) e.cpu) × (e.cpu.c ≡ true)
       × (e.off ≡ 32) × (e.board ≡ board_behind v)
 
   -- where the clock is low at the look both wires are released: 24 cycles in all
   abbrev pub board_cut : d.State
-  board_cut = after_cycles 4 20 (λ o. d.cycle (bit_or (risen m) 3) (y + o)) board_at_put
+  board_cut = after_cycles 4 20 (λ o. d.cycle (bit_or (f 25) 3) (y + o)) (board_risen 4)
 
-  abbrev pub half_turned : ℕ → ℕ
-  half_turned = put (put f 30 (128 * digit m.c + f 30 / 2)) 24 0
+  abbrev pub half_turned : ℕ → ℕ → ℕ
+  half_turned v = put (put (put f 30 (128 * digit m.c + f 30 / 2)) 25 v) 24 0
 
-  pub cut : IsFree m → clock_seen ≡ false
+  pub cut : (b : Bool) (v : ℕ) → IsFree m → bit 0 (f 30) ≡ b → bit_or (2 * digit b) (f 26) ≡ v → clock_seen ≡ false
       → Leads d (kernel_in true bytes) y (begin_at d S_CELL f ring m board)
-      (At d (record m { p2 = bit_or (risen m) 3 }) SCAN half_turned ring 24 board_cut)
-  cut free low =
+      (At d (record m { p2 = bit_or (f 25) 3 }) SCAN (half_turned v) ring 24 board_cut)
+  cut b v free low value clock_low =
       straight d (kernel_in true bytes) (has_rows true bytes has)
-      (Until 118 ∷ Go true ∷ Until SCAN ∷ []) y m S_CELL SCAN 24 f half_turned
-      ring (record m { p2 = bit_or (risen m) 3 }) board board_cut free (ap not low, (refl, refl, refl))
+      (Until 111 ∷ Acc v ∷ Until 119 ∷ Go true ∷ Until SCAN ∷ []) y m S_CELL SCAN 24 f (half_turned v)
+      ring (record m { p2 = bit_or (f 25) 3 }) board board_cut free
+      (next_bit b (bit 0 (f 30)) (f 26) v low value, (ap not clock_low, (refl, refl, refl)))
 
   pub cell : (b : Bool) (v n : ℕ) → IsFree m → f 27 ≡ suc n → n < 255 → bit 0 (f 30) ≡ b
       → bit_or (2 * digit b) (f 26) ≡ v → clock_seen ≡ true → (more : Bool) → not (n == 0) ≡ more
@@ -90,22 +91,22 @@ module _ (d : Board) (bytes : List ℕ) (has : HasKernel bytes) (y : ℕ) (m : C
       less : (f 27 + 255) % 256 ≡ n
       less = one_less (f 27) n count few
 
-      cells : memory (turned f m.c ((f 27 + 255) % 256)) ring ≡ memory (turned f m.c n) ring
-      cells = ap (λ k. memory (turned f m.c k) ring) less
+      cells : memory (turned f m.c v ((f 27 + 255) % 256)) ring ≡ memory (turned f m.c v n) ring
+      cells = ap (λ k. memory (turned f m.c v k) ring) less
 
       go : (more : Bool) → not (n == 0) ≡ more
           → Leads d (kernel_in true bytes) y (begin_at d S_CELL f ring m board)
           (Celled v n (if more then S_CELL else S_STOP))
       go true left =
           sound d (kernel_in true bytes) (has_rows true bytes has) y
-          (Until 111 ∷ Acc v ∷ Until 118 ∷ Go false ∷ Until 125 ∷ Go true ∷ Ram (memory (turned f m.c n) ring) ∷ [])
+          (Until 111 ∷ Acc v ∷ Until 119 ∷ Go false ∷ Until 128 ∷ Go true ∷ Ram (memory (turned f m.c v n) ring) ∷ [])
           (Celled v n S_CELL) (begin_at d S_CELL f ring m board) (
             next_bit b (bit 0 (f 30)) (f 26) v low value,
             (ap not high, (asks (f 27) n less true left, (cells, (refl, refl, refl, refl)))),
           ) free
       go false left =
           sound d (kernel_in true bytes) (has_rows true bytes has) y
-          (Until 111 ∷ Acc v ∷ Until 118 ∷ Go false ∷ Until 125 ∷ Go false ∷ Ram (memory (turned f m.c n) ring) ∷ [])
+          (Until 111 ∷ Acc v ∷ Until 119 ∷ Go false ∷ Until 128 ∷ Go false ∷ Ram (memory (turned f m.c v n) ring) ∷ [])
           (Celled v n S_STOP) (begin_at d S_CELL f ring m board) (
             next_bit b (bit 0 (f 30)) (f 26) v low value,
             (ap not high, (asks (f 27) n less false left, (cells, (refl, refl, refl, refl)))),

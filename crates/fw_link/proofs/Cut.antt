@@ -20,8 +20,8 @@ use Rattle.fw_link.specs.Latch.{wired, frame_bit, sent_latch, cut_latch}
 use Rattle.fw_link.proofs.Latches.{driven}
 use Rattle.fw_link.proofs.Cell.{cut, board_cut, half_turned}
 use Rattle.fw_link.proofs.Frame.{begins, cells_pass}
-use Rattle.fw_link.proofs.Sending.{InFrame, sending, left_at, look, risen_is, high_span, look_is}
-use Rattle.fw_link.proofs.Wired.{IsReleased, releases, spans, ticks_alike}
+use Rattle.fw_link.proofs.Sending.{InFrame, sending, left_at, next_is, look, high_span, look_is}
+use Rattle.fw_link.proofs.Wired.{IsReleased, releases, puts, spans, ticks_alike}
 use Rattle.joint_run.specs.Run.{Board, after_cycles}
 
 -- the latch of a frame that is cut, before the cut and behind it
@@ -70,26 +70,27 @@ module _ (d : Board) (bytes : List ℕ) (has : HasKernel bytes) (x : ℕ) (m : C
       let w : t.cpu.p2 ≡ wired v true (frame_bit byte q.k) = ap (λ (z : Cpu). z.p2) q.cpu in
       let one : t.cpu.p1 ≡ m.p1 = ap (λ (z : Cpu). z.p1) q.cpu in
       let y : x + t.off ≡ x + (28 + 32 * q.k) = ap (λ i. x + i) o in
-      let few : 4 ≤ 4 = omega arith in
-      let u = bit_or (bit_or (bit_and t.cpu.p2 254) 1) 3 in
-      let free_again : u ≡ v =
-      ap (λ z. bit_or z 3) (risen_is d bytes has x m board f ring v byte released small q.k t.cpu.p2 w)
-      ∙ releases (frame_bit byte q.k) v released in
+      let few : 4 ≤ 5 = omega arith in
+      let r = wired v true (frame_bit byte q.k) in
+      let next = wired v true (frame_bit byte (suc q.k)) in
+      let u = bit_or r 3 in
+      let free_again : u ≡ v = releases (frame_bit byte q.k) v released in
+      let inside : q.k < 10 = omega (arith, c) in
       let place : 28 + 32 * q.k + 16 + 4 ≡ 28 + 32 * j + 20 = omega (arith, k) in
       let last : 28 + 32 * j + 20 + 4 ≡ 28 + 32 * j + 24 = omega arith in
       let low_again : is_high q.k ≡ false = ap is_high k ∙ low in
       from_stage d (kernel_in true bytes) (has_rows true bytes has) x S_CELL
       (record m { p2 = wired v true (frame_bit byte q.k) }) g ring t
-      (At d (record t.cpu { p2 = u }) SCAN (half_turned d bytes has (x + t.off) t.cpu t.board g ring) ring 24
+      (At d (record t.cpu { p2 = u }) SCAN (half_turned d bytes has (x + t.off) t.cpu t.board g ring next) ring 24
       (board_cut d bytes has (x + t.off) t.cpu t.board g ring))
       (Cut j n) is
       (λ e a. record {
         cpu =
             a.cpu
             ∙ ap (λ (z : Cpu). scratched (record z { p2 = u }) SCAN
-            (memory (half_turned d bytes has (x + t.off) t.cpu t.board g ring) ring) e.cpu) q.cpu
+            (memory (half_turned d bytes has (x + t.off) t.cpu t.board g ring next) ring) e.cpu) q.cpu
             ∙ ap (λ z. scratched (record m { p2 = u }) SCAN
-            (memory (put (put g 30 (128 * digit z + left_at byte q.k / 2)) 24 0) ring) e.cpu) q.carry
+            (memory (put (put (put g 30 (128 * digit z + left_at byte q.k / 2)) 25 next) 24 0) ring) e.cpu) q.carry
             ∙ ap (λ z. scratched (record m { p2 = z }) SCAN (memory (sending f v byte (suc q.k) (suc n) 0) ring) e.cpu)
             (free_again ∙ sym out)
             ∙ ap (λ i. scratched m SCAN (memory (sending f v byte (suc i) (suc n) 0) ring) e.cpu) k;
@@ -97,17 +98,18 @@ module _ (d : Board) (bytes : List ℕ) (has : HasKernel bytes) (x : ℕ) (m : C
         now =
             a.now
             ∙ spans d x (cut_latch v byte j) 4 (28 + 32 * j + 20) (x + t.off) 20 u
-            (after_cycles 4 16 (λ o. d.cycle (bit_or (bit_and t.cpu.p2 254) 1) (x + t.off + o))
+            (after_cycles 4 16 (λ o. d.cycle r (x + t.off + o))
             (after_cycles 16 0 (λ o. d.cycle (bit_and t.cpu.p2 254) (x + t.off + o)) t.board))
             board (omega (arith, o, k)) (λ i l. as_cut v byte j i ∙ sym free_again)
-            (high_span d bytes has x m board f ring v byte released small 4 q.k (x + t.off) t.cpu.p2 t.board few y w
-            q.board_now
+            (high_span d bytes has x m board f ring v byte released small 4 q.k (x + t.off) t.cpu.p2 r t.board few y w
+            refl q.board_now
             ∙ ap (λ i. driven d x (sent_latch v byte) i 0 board) place ∙ up_to_cut j (28 + 32 * j + 20) (omega arith))
             ∙ ap (cut_board j) last;
       })
-      (cut d bytes has (x + t.off) t.cpu t.board g ring free
-      (look_is d bytes has x m board f ring v byte released small q.k (x + t.off) t.cpu.p2 t.cpu.p1 t.board one y w
-      q.board_now ∙ low_again))
+      (cut d bytes has (x + t.off) t.cpu t.board g ring (frame_bit byte (suc q.k)) next free
+      (next_is q.k byte inside small) (puts (frame_bit byte (suc q.k)) v released)
+      (look_is d bytes has x m board f ring v byte released small q.k (x + t.off) t.cpu.p2 r t.cpu.p1 t.board one y w
+      refl q.board_now ∙ low_again))
 
   -- the looks of the cells before j show the clock high, that of cell j shows it low
   pub cut_frame : IsFree m → m.p2 ≡ v → 255 - f LIGHTS ≡ v → f 28 ≡ byte → (f 29 == 0) ≡ false

@@ -43,7 +43,9 @@ module _ (d : Board) (bytes : List ℕ) (has : HasKernel bytes) (y : ℕ) (m : C
     (ring : List ℕ) where
   -- the registers of a sent frame at its first cell
   abbrev pub readied : ℕ → ℕ
-  readied = put (put (put (put f 25 (in_quarters (f 28))) 26 (bit_and (255 - f LIGHTS) 253)) 27 10) 30 (f 28)
+  readied =
+      put (put (put (put (put f 24 (in_quarters (f 28))) 25 (bit_and (255 - f LIGHTS) 253)) 26
+      (bit_and (255 - f LIGHTS) 253)) 27 10) 30 (f 28)
 
   abbrev pub lit_low : Cpu
   lit_low = record m { p2 = bit_and (255 - f LIGHTS) 253 }
@@ -70,7 +72,7 @@ module _ (d : Board) (bytes : List ℕ) (has : HasKernel bytes) (y : ℕ) (m : C
       weaken d (kernel_in true bytes) (has_rows true bytes has) y ByBit Readied (begin_at d SEND f ring m board)
       (λ e h. (h.0, h.1 ∙ lowest (parity_of (f 28)), h.2, h.3))
       (sound d (kernel_in true bytes) (has_rows true bytes has) y
-      (Run 1 ∷ Go false ∷ Until 98 ∷ Acc (255 * digit (parity_of (f 28))) ∷ Until S_CELL ∷ []) ByBit
+      (Run 1 ∷ Go false ∷ Until 99 ∷ Acc (255 * digit (parity_of (f 28))) ∷ Until S_CELL ∷ []) ByBit
       (begin_at d SEND f ring m board)
       (some, (parity_is (f 28) small, (refl, refl, refl, refl))) free)
 

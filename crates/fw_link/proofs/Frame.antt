@@ -34,12 +34,17 @@ start_put v byte i l =
     rw (a, b) refl
 
 -- the registers at the first cell, in the frame's words
+abbrev first : ℕ → ℕ → (ℕ → ℕ) → ℕ → ℕ
+first lights b f =
+    put (put (put (put (put f 24 (in_quarters b)) 25 (bit_and (255 - lights) 253)) 26 (bit_and (255 - lights) 253)) 27
+    10) 30 b
+
 first_cells : (f : ℕ → ℕ) (ring : List ℕ) (v byte : ℕ) → 255 - f LIGHTS ≡ v → f 28 ≡ byte
-    → memory (put (put (put (put f 25 (in_quarters (f 28))) 26 (bit_and (255 - f LIGHTS) 253)) 27 10) 30 (f 28)) ring
-    ≡ memory (sending f v byte 0 10 (f 24)) ring
+    → memory (first (f LIGHTS) (f 28) f) ring ≡ memory (sending f v byte 0 10 (in_quarters byte)) ring
 first_cells f ring v byte lit is =
-    ap (λ b. memory (put (put (put (put f 25 (in_quarters b)) 26 (bit_and (255 - f LIGHTS) 253)) 27 10) 30 b) ring) is
-    ∙ ap (λ w. memory (put (put (put (put f 25 (in_quarters byte)) 26 (bit_and w 253)) 27 10) 30 byte) ring) lit
+    ap (λ b. memory (first (f LIGHTS) b f) ring) is
+    ∙ ap (λ w. memory (put (put (put (put (put f 24 (in_quarters byte)) 25 (bit_and w 253)) 26 (bit_and w 253)) 27 10) 30
+    byte) ring) lit
 
 module _ (d : Board) (bytes : List ℕ) (has : HasKernel bytes) (x : ℕ) (m : Cpu) (board : d.State) (f : ℕ → ℕ)
     (ring : List ℕ) (v byte : ℕ) (released : IsReleased v) (small : byte < 256) where
@@ -70,7 +75,7 @@ module _ (d : Board) (bytes : List ℕ) (has : HasKernel bytes) (x : ℕ) (m : C
       (λ e h. record {
         k = 0;
         count = refl;
-        r0 = f 24;
+        r0 = in_quarters byte;
         cpu =
             h.0 ∙ ap (λ w. scratched (record m { p2 = w }) S_CELL (memory (readied d bytes has x m board f ring) ring)
             e.cpu) data_low
@@ -114,7 +119,7 @@ module _ (d : Board) (bytes : List ℕ) (has : HasKernel bytes) (x : ℕ) (m : C
       let w : t.cpu.p2 ≡ wired v true (frame_bit byte q.k) = ap (λ (z : Cpu). z.p2) q.cpu in
       let g = sending f v byte q.k 0 q.r0 in
       let y : x + t.off ≡ x + (28 + 32 * q.k) = ap (λ i. x + i) o in
-      let few : 4 ≤ 4 = omega arith in
+      let few : 4 ≤ 5 = omega arith in
       let last : 28 + 32 * q.k + 16 + 4 ≡ 368 = omega (arith, k) in
       let free_again : bit_or (bit_and t.cpu.p2 254) 1 ≡ m.p2 =
       risen_is d bytes has x m board f ring v byte released small q.k t.cpu.p2 w
@@ -135,7 +140,8 @@ module _ (d : Board) (bytes : List ℕ) (has : HasKernel bytes) (x : ℕ) (m : C
         now =
             a.now
             ∙ high_span d bytes has x m board f ring v byte released small 4 q.k
-            (x + t.off) t.cpu.p2 t.board few y w q.board_now
+            (x + t.off) t.cpu.p2 (bit_or (bit_and t.cpu.p2 254) 1) t.board few y w
+            (risen_is d bytes has x m board f ring v byte released small q.k t.cpu.p2 w) q.board_now
             ∙ ap at_offset last;
       })
       (stops d bytes has (x + t.off) t.cpu t.board g ring free)))

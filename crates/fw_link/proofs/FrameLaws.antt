@@ -17,7 +17,7 @@ use Rattle.fw_logic.proofs.Kernel.{kernel_in}
 use Rattle.fw_logic.proofs.Leads.{Leads}
 use Rattle.fw_logic.proofs.Memory.{memory_is}
 use Rattle.fw_link.specs.Frames.{is_sending, is_receiving, Passed, Offers, Awaits, Received, SentLaw, CutLaw, GotLaw}
-use Rattle.fw_link.specs.Frames.{PulledLaw, at_edge, is_let}
+use Rattle.fw_link.specs.Frames.{PulledLaw, at_again, at_edge, is_let}
 use Rattle.fw_link.specs.Drives.{Drives}
 use Rattle.fw_link.specs.Latch.{sent_latch, cut_latch, cut_after, received_latch}
 use Rattle.fw_link.proofs.Got.{got_frame}
@@ -173,10 +173,11 @@ module _ (bytes : List ℕ) (has : HasKernel bytes) (edges : List Edge) (events 
 
   pub got_over : Awaits start u → byte < 256
       → ((o : ℕ) → o < 366 → lines (260 + start + o) ≡ latch_of (received_latch m.p2 o))
+      → (at_again events lines u).side.port.link ≡ Request byte
       → (at_edge events lines u).side.port.link ≡ Request byte → (at_edge events lines u).clock ≡ true
       → Comes d TICK bytes w
       (λ e. Received events lines byte u (under to e) × (e.board ≡ out (received_latch m.p2) 366))
-  got_over h small drives link clock =
+  got_over h small drives asks link clock =
       let latch : ℕ → ℕ = received_latch m.p2 in
       let g : ℕ → ℕ = got_cells f byte true in
       let free : IsReleased m.p2 = record { byte = h.latch; clock = h.clock; data_wire = h.data_wire } in
@@ -185,6 +186,7 @@ module _ (bytes : List ℕ) (has : HasKernel bytes) (edges : List Edge) (events 
       (subst (λ c. Leads d (kernel_in true bytes) c (begin_at d GOT f ring m w.board)
       (At d m COMMAND g ring 366 (driven d c latch 366 0 w.board))) (sym h.cycle)
       (got_frame edges events d to over bytes has start m w.board f ring free h.acc lines byte small h.shown drives
+      (ap (λ c. (board_cycles events lines 26 c (to w.board).pc).side.port.link) (sym h.cycle) ∙ asks)
       (ap (λ c. (board_cycles events lines 28 c (to w.board).pc).side.port.link) (sym h.cycle) ∙ link)
       (ap (λ c. (board_cycles events lines 28 c (to w.board).pc).clock) (sym h.cycle) ∙ clock) h.at.free))
       (λ e cpu ok cycle board. (
@@ -247,11 +249,11 @@ cut_law bytes has edges events start byte j w h few lines drives high low =
     (watch_over edges events w latch) start byte (watched w) lines h j few drives high low)
 
 pub got_law : GotLaw
-got_law bytes has edges events start byte w h small lines drives link clock =
+got_law bytes has edges events start byte w h small lines drives asks link clock =
     let latch : ℕ → ℕ = received_latch w.cpu.p2 in
     watched_by edges events w latch bytes 366 (Received events lines byte w)
     (got_over bytes has edges events (watch edges events w latch) (beneath edges events w latch)
-    (watch_over edges events w latch) start byte (watched w) lines h small drives link clock)
+    (watch_over edges events w latch) start byte (watched w) lines h small drives asks link clock)
 
 -- a look, by what stands at the first edge
 look_from_edge : (events : List HostEvent) (lines : ℕ → Lines) (start : ℕ) (w : World Beside) → w.cycle ≡ 260 + start

@@ -1,6 +1,6 @@
 -- A received frame on any board above the joint run's: the byte that the controller sends is the byte that is read, and
 -- its parity is right.
-use Rattle.std.proofs.Common.{◌≡◌, ◌≤◌, ◌<◌, ℕ, ◌+◌, ◌*◌, List, Bool, true, ◌&&◌, refl, ap, ◌∙◌, arith}
+use Rattle.std.proofs.Common.{false, ◌≡◌, ◌≤◌, ◌<◌, ℕ, ◌+◌, ◌*◌, List, Bool, true, ◌&&◌, refl, ap, ◌∙◌, arith}
 use Rattle.mcs48_core.specs.Cpu.{Cpu}
 use Rattle.board_lines.specs.Bits.{value}
 use Rattle.board_lines.specs.declared.event.Edge.{Edge}
@@ -22,9 +22,9 @@ use Rattle.fw_link.proofs.Latches.{driven}
 use Rattle.fw_link.proofs.Board.{over_wires, data_is}
 use Rattle.fw_link.proofs.Over.{IsOver}
 use Rattle.fw_link.proofs.Receive.{is_parity}
-use Rattle.fw_link.proofs.Received.{received_frame, got_cells, byte_read, right_read}
-use Rattle.fw_link.proofs.Taking.{read_bits, bit_read}
-use Rattle.fw_link.proofs.Wired.{IsReleased}
+use Rattle.fw_link.proofs.Received.{received_frame, got_cells, byte_read, right_read, wire_again}
+use Rattle.fw_link.proofs.Taking.{read_bits, bit_read, before_cells}
+use Rattle.fw_link.proofs.Wired.{IsReleased, spans}
 use Rattle.fw_link.proofs.Wires.{Drives}
 use Rattle.fw_link.proofs.WiresGot.{received_lights, received_is_frame, received_bit}
 use Rattle.joint_run.specs.Joint.{Beside, lights_of}
@@ -74,7 +74,18 @@ module _ (edges : List Edge) (events : List HostEvent) (d : Board) (to : d.State
   abbrev wire : ℕ → Bool
   wire k = bit_read d bytes has (260 + start) m s f ring released small k
 
-  module _ (requests : (pc_in 28).side.port.link ≡ Request byte) (high : (pc_in 28).clock ≡ true) where
+  module _ (asks : (pc_in 26).side.port.link ≡ Request byte) (requests : (pc_in 28).side.port.link ≡ Request byte)
+      (high : (pc_in 28).clock ≡ true) where
+    again_is : wire_again d bytes has (260 + start) m s f ring released small ≡ false
+    again_is =
+        ap (λ b. (d.pins m.p1 m.p2 (260 + start + 26) b).t1)
+        (spans d (260 + start) (received_latch m.p2) 26 0 (260 + start) 0 m.p2 s s refl
+        (λ i l. before_cells m.p2 i (omega (arith, l))) refl)
+        ∙ data_is edges events d to over m.p1 m.p2 (260 + start + 26) (got_board 26)
+        ∙ ap (λ c. c && (drive (to (got_board 26)).pc.side.port.link).dat) released.data_wire
+        ∙ ap (λ (t : Beside). (drive t.pc.side.port.link).dat) (at_offset 26 (omega arith))
+        ∙ ap (λ l. (drive l).dat) asks
+
     wire_is : (k : ℕ) → k < 10 → wire k ≡ frame_bit byte (k + 1)
     wire_is k l =
         let o : ℕ = 28 + 32 * k + 18 in
@@ -121,4 +132,4 @@ module _ (edges : List Edge) (events : List HostEvent) (d : Board) (to : d.State
           off = a.off;
           now = a.now;
         })
-        (received_frame d bytes has (260 + start) m s f ring released small free)
+        (received_frame d bytes has (260 + start) m s f ring released small free again_is)

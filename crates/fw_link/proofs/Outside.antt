@@ -170,9 +170,10 @@ module _ (v start : ℕ) (released : IsReleased v) where
           let p : o ≡ 260 + start + (28 + 32 * j + 16 + i) = omega (arith, a) in
           let short : 28 + 32 * j + 16 + i < cut_after j = omega (arith, l) in
           let early : 28 + 32 * j + 16 + i < 28 + 32 * j + 20 = omega (arith, l) in
+          let soon : i < 5 = omega (arith, l) in
           ap (λ c. (lines_of (cut_latch v byte j) (cut_after j) c).clk) p
           ∙ ap (λ q. (latch_of q).clk) (in_frame (cut_latch v byte j) v start (cut_after j) (28 + 32 * j + 16 + i) short
-          ∙ as_sent v byte j (28 + 32 * j + 16 + i) early ∙ cell_high v byte j i l)
+          ∙ as_sent v byte j (28 + 32 * j + 16 + i) early ∙ cell_high v byte j i soon)
           ∙ clock_of_latch true (frame_bit byte j) v released
       by_case false e =
           let l : 308 + 32 * j + start ≤ o = grind (arith, nat_tests, e) in

@@ -1,5 +1,5 @@
 -- The cells of a received frame, one by one: a data bit, the parity bit, the stop bit, and the fall that ends it.
-use Rattle.std.proofs.Common.{◌≡◌, ◌<◌, ℕ, suc, ◌+◌, ◌-◌, ◌*◌, ◌/◌, ◌%◌, List, [], ◌∷◌, Bool, true, false, not}
+use Rattle.std.proofs.Common.{arith, ◌≡◌, ◌<◌, ℕ, suc, ◌+◌, ◌-◌, ◌*◌, ◌/◌, ◌%◌, List, [], ◌∷◌, Bool, true, false, not}
 use Rattle.std.proofs.Common.{◌==◌, if◌then◌else◌}
 use Rattle.std.proofs.Common.{bit_and, bit_or, refl, ap}
 use Rattle.mcs48_core.specs.Cpu.{Cpu}
@@ -7,7 +7,7 @@ use Rattle.bits.specs.Bits.{bit}
 use Rattle.mcs48_core.specs.Status.{digit}
 use Rattle.board_lines.specs.Frame.{parity_of}
 use Rattle.fw_kernel.specs.Places.{HasKernel}
-use Rattle.fw_kernel.specs.declared.labels.TheConstants.{GOT, R_CELL, R_PARITY, R_STOP, R_ACK, COMMAND}
+use Rattle.fw_kernel.specs.declared.labels.TheConstants.{GOT, R_CELL, R_PARITY, R_STOP, R_ACK, COMMAND, SCAN}
 use Rattle.fw_logic.proofs.Block.{memory, put, scratched, begin_at, At}
 use Rattle.fw_logic.proofs.Blocks.{straight}
 use Rattle.bits.proofs.Every.{by_byte}
@@ -27,8 +27,8 @@ looked place acc m b e =
     record m { pc = place; a = acc m.a b; t = e.t; pre = e.pre; tf = e.tf; rq = e.rq; last_t1 = e.last_t1 }
 
 -- a bit comes in at the top
-turned_down : (a : ℕ) → a < 256 → bit_and (128 * digit (bit 0 a) + a / 2) 127 ≡ a / 2
-turned_down = by_byte (λ a. bit_and (128 * digit (bit 0 a) + a / 2) 127) (λ a. a / 2) refl
+turned_down : (a : ℕ) → 128 * digit false + a / 2 ≡ a / 2
+turned_down a = omega arith
 
 bit_in : (a : ℕ) (b : Bool) → a < 256 → (if b then bit_or (a / 2) 128 else a / 2) ≡ a / 2 + 128 * digit b
 bit_in a true l = by_byte (λ a. bit_or (a / 2) 128) (λ a. a / 2 + 128) refl a l
@@ -55,19 +55,32 @@ module _ (d : Board) (bytes : List ℕ) (has : HasKernel bytes) (y : ℕ) (m : C
 
   -- the data wire at the cell's look
   abbrev pub bit_seen : Bool
-  bit_seen = (d.pins m.p1 (risen m) (y + 18) (board_at_look d y m board)).t1
+  bit_seen = (d.pins m.p1 (risen m) (y + 18) (board_at_look d y (risen m) m board)).t1
 
-  -- from the looks to the first cell: 28 cycles
+  -- the data wire two cycles before the first cell
+  abbrev pub seen_again : Bool
+  seen_again = (d.pins m.p1 m.p2 (y + 26) (after_cycles 26 0 (λ o. d.cycle m.p2 (y + o)) board)).t1
+
+  -- from the looks to the first cell, where data is still low: 28 cycles
   abbrev pub Awaits : Stage d.State → Type 0
   Awaits e =
       (e.cpu ≡ scratched m R_CELL (memory (put (put f 27 8) 24 0) ring) e.cpu) × (e.cpu.a ≡ m.a) × (e.off ≡ 28)
       × (e.board ≡ after_cycles 28 0 (λ o. d.cycle m.p2 (y + o)) board)
 
-  pub awaits : IsFree m → Leads d (kernel_in true bytes) y (begin_at d GOT f ring m board) Awaits
-  awaits free =
-      sound d (kernel_in true bytes) (has_rows true bytes has) y (Until R_CELL ∷ []) Awaits
+  pub awaits : IsFree m → seen_again ≡ false → Leads d (kernel_in true bytes) y (begin_at d GOT f ring m board) Awaits
+  awaits free low =
+      sound d (kernel_in true bytes) (has_rows true bytes has) y (Until 260 ∷ Go false ∷ []) Awaits
       (begin_at d GOT f ring m board)
-      (refl, refl, refl, refl) free
+      (low, (refl, refl, refl, refl)) free
+
+  -- where it is high there was no request: 30 cycles
+  pub drops : IsFree m → seen_again ≡ true
+      → Leads d (kernel_in true bytes) y (begin_at d GOT f ring m board)
+      (At d m SCAN (put (put f 27 8) 24 0) ring 30 (after_cycles 30 0 (λ o. d.cycle m.p2 (y + o)) board))
+  drops free high =
+      straight d (kernel_in true bytes) (has_rows true bytes has) (Until 260 ∷ Go true ∷ Until SCAN ∷ []) y m GOT SCAN 30 f
+      (put (put f 27 8) 24 0) ring m board (after_cycles 30 0 (λ o. d.cycle m.p2 (y + o)) board) free
+      (high, (refl, refl, refl))
 
   -- a data bit
   abbrev pub TakesBit : ℕ → ℕ → Stage d.State → Type 0
@@ -91,10 +104,10 @@ module _ (d : Board) (bytes : List ℕ) (has : HasKernel bytes) (y : ℕ) (m : C
           (TakesBit n (if more then R_CELL else R_PARITY))
       go true left =
           sound d (kernel_in true bytes) (has_rows true bytes has) y
-          (Until 267 ∷ Acc (m.a / 2) ∷ Until 274 ∷ Fork 280 (looked 280 (λ a b. if b then bit_or a 128 else a)) ∷ Acc
-          (m.a / 2 + 128 * digit bit_seen) ∷ Until 284 ∷ Go true ∷ Ram (memory (put (put f 24 0) 27 n) ring) ∷ [])
+          (Until 266 ∷ Acc (m.a / 2) ∷ Until 272 ∷ Fork 278 (looked 278 (λ a b. if b then bit_or a 128 else a)) ∷ Acc
+          (m.a / 2 + 128 * digit bit_seen) ∷ Until 282 ∷ Go true ∷ Ram (memory (put (put f 24 0) 27 n) ring) ∷ [])
           (TakesBit n R_CELL) (begin_at d R_CELL f ring m board) (
-            turned_down m.a small,
+            turned_down m.a,
             (
               refl,
               (
@@ -107,10 +120,10 @@ module _ (d : Board) (bytes : List ℕ) (has : HasKernel bytes) (y : ℕ) (m : C
           ) free
       go false left =
           sound d (kernel_in true bytes) (has_rows true bytes has) y
-          (Until 267 ∷ Acc (m.a / 2) ∷ Until 274 ∷ Fork 280 (looked 280 (λ a b. if b then bit_or a 128 else a)) ∷ Acc
-          (m.a / 2 + 128 * digit bit_seen) ∷ Until 284 ∷ Go false ∷ Ram (memory (put (put f 24 0) 27 n) ring) ∷ [])
+          (Until 266 ∷ Acc (m.a / 2) ∷ Until 272 ∷ Fork 278 (looked 278 (λ a b. if b then bit_or a 128 else a)) ∷ Acc
+          (m.a / 2 + 128 * digit bit_seen) ∷ Until 282 ∷ Go false ∷ Ram (memory (put (put f 24 0) 27 n) ring) ∷ [])
           (TakesBit n R_PARITY) (begin_at d R_CELL f ring m board) (
-            turned_down m.a small,
+            turned_down m.a,
             (
               refl,
               (
@@ -131,31 +144,36 @@ module _ (d : Board) (bytes : List ℕ) (has : HasKernel bytes) (y : ℕ) (m : C
       (At d (record m { p2 = (risen m) }) R_STOP with_parity ring 32 board_behind_bit)
   takes_parity free small =
       straight d (kernel_in true bytes) (has_rows true bytes has)
-      (Until 298 ∷ Acc (255 * digit (not (parity_of m.a))) ∷ Until 304 ∷ Fork 310
-      (looked 310 (λ a b. if b then 255 - a else a)) ∷ Acc (255 * digit (is_parity bit_seen m.a)) ∷ Until R_STOP ∷ [])
+      (Until 296 ∷ Acc (255 * digit (not (parity_of m.a))) ∷ Until 302 ∷ Fork 308
+      (looked 308 (λ a b. if b then 255 - a else a)) ∷ Acc (255 * digit (is_parity bit_seen m.a)) ∷ Until R_STOP ∷ [])
       y m R_PARITY R_STOP 32 f with_parity ring (record m { p2 = (risen m) }) board board_behind_bit free
       (odd_is m.a small, (refl, (refl, refl, refl, λ e. (weighed bit_seen (parity_of m.a), (refl, refl, refl)))))
 
-  -- the stop bit: read, without an effect
+  -- the stop bit: read, without an effect; then data falls
+  abbrev pub board_pulled : d.State
+  board_pulled =
+      after_cycles 12 20 (λ o. d.cycle (bit_and (risen m) 253) (y + o))
+      (after_cycles 4 16 (λ o. d.cycle (risen m) (y + o)) (after_cycles 16 0 (λ o. d.cycle (fallen m) (y + o)) board))
+
   pub takes_stop : IsFree m
       → Leads d (kernel_in true bytes) y (begin_at d R_STOP f ring m board)
-      (At d (record m { p2 = (risen m) }) R_ACK (put f 24 0) ring 32 board_behind_bit)
+      (At d (record m { p2 = bit_and (risen m) 253 }) R_ACK (put f 24 0) ring 32 board_pulled)
   takes_stop free =
       straight d (kernel_in true bytes) (has_rows true bytes has)
-      (Until 324 ∷ Fork 326 (looked 326 (λ a b. a)) ∷ Until R_ACK ∷ [])
-      y m R_STOP R_ACK 32 f (put f 24 0) ring (record m { p2 = (risen m) }) board board_behind_bit free
+      (Until 322 ∷ Fork 324 (looked 324 (λ a b. a)) ∷ Until R_ACK ∷ [])
+      y m R_STOP R_ACK 32 f (put f 24 0) ring (record m { p2 = bit_and (risen m) 253 }) board board_pulled free
       (refl, (refl, refl, refl, λ e. (refl, refl, refl)))
 
-  -- the eleventh fall: both wires are low for 16 cycles
+  -- the eleventh fall: the clock is low for 16 cycles, and then both wires are let go
   abbrev pub board_acked : d.State
   board_acked =
-      after_cycles 2 16 (λ o. d.cycle (bit_or (bit_and m.p2 252) 3) (y + o))
-      (after_cycles 16 0 (λ o. d.cycle (bit_and m.p2 252) (y + o)) board)
+      after_cycles 2 16 (λ o. d.cycle (bit_or (fallen m) 3) (y + o))
+      (after_cycles 16 0 (λ o. d.cycle (fallen m) (y + o)) board)
 
   pub acks : IsFree m
       → Leads d (kernel_in true bytes) y (begin_at d R_ACK f ring m board)
-      (At d (record m { p2 = bit_or (bit_and m.p2 252) 3 }) COMMAND (put f 24 0) ring 18 board_acked)
+      (At d (record m { p2 = bit_or (fallen m) 3 }) COMMAND (put f 24 0) ring 18 board_acked)
   acks free =
       straight d (kernel_in true bytes) (has_rows true bytes has) (Until COMMAND ∷ []) y m R_ACK COMMAND 18 f
       (put f 24 0) ring
-      (record m { p2 = bit_or (bit_and m.p2 252) 3 }) board board_acked free (refl, refl, refl)
+      (record m { p2 = bit_or (fallen m) 3 }) board board_acked free (refl, refl, refl)

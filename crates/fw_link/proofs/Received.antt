@@ -19,11 +19,11 @@ use Rattle.fw_logic.proofs.Sound.{chain, weaken}
 use Rattle.fw_link.specs.Latch.{wired, received_latch}
 use Rattle.fw_link.proofs.Latches.{driven}
 use Rattle.fw_link.proofs.Ends.{in_quarters}
-use Rattle.fw_link.proofs.Receive.{awaits, Awaits, is_parity, takes_parity, with_parity, takes_stop, acks}
-use Rattle.fw_link.proofs.Receive.{board_behind_bit, board_acked}
+use Rattle.fw_link.proofs.Receive.{awaits, Awaits, seen_again, is_parity, takes_parity, with_parity, takes_stop, acks}
+use Rattle.fw_link.proofs.Receive.{board_behind_bit, board_pulled, board_acked}
 use Rattle.fw_link.proofs.Taking.{taken, taken_is, taken_small, read_bits, InBits, one_bit, bit_read, risen_is}
-use Rattle.fw_link.proofs.Taking.{cell_span, look_is, in_cell, before_cells}
-use Rattle.fw_link.proofs.Wired.{IsReleased, both_high, restores, spans}
+use Rattle.fw_link.proofs.Taking.{cell_span, last_span, look_is, in_cell, before_cells}
+use Rattle.fw_link.proofs.Wired.{IsReleased, both_high, falls, restores, spans}
 use Rattle.joint_run.specs.Run.{Board, after_cycles}
 
 -- the registers behind a received frame: R4 is the byte, R5 is 255 where its parity was right and else 0
@@ -65,8 +65,13 @@ module _ (outside : Board) (bytes : List ℕ) (has : HasKernel bytes) (start : �
   abbrev pub got : ℕ → ℕ
   got = got_cells cells byte_read right_read
 
-  begins : IsFree begun → Leads outside (kernel_in true bytes) start (begin_at outside GOT cells ring begun board) (In 8)
-  begins free =
+  -- the data wire at the second look at it
+  abbrev pub wire_again : Bool
+  wire_again = seen_again outside bytes has start begun board cells ring
+
+  begins : IsFree begun → wire_again ≡ false
+      → Leads outside (kernel_in true bytes) start (begin_at outside GOT cells ring begun board) (In 8)
+  begins free still =
       weaken outside (kernel_in true bytes) (has_rows true bytes has) start (Awaits outside bytes has start begun board cells ring) (In 8)
       (begin_at outside GOT cells ring begun board)
       (λ stage is. record {
@@ -80,13 +85,18 @@ module _ (outside : Board) (bytes : List ℕ) (has : HasKernel bytes) (start : �
             is.3 ∙ spans outside start (received_latch begun.p2) 28 0 start 0 begun.p2 board board refl
             (λ cycle within. before_cells begun.p2 cycle within) refl;
       })
-      (awaits outside bytes has start begun board cells ring free)
+      (awaits outside bytes has start begun board cells ring free still)
+
+  -- data is pulled for the eleventh fall
+  abbrev pulled : Cpu
+  pulled = record begun { p2 = bit_and begun.p2 253 }
 
   parity_cell : (stage : Stage outside.State) → In 0 stage → IsFree stage.cpu
       → Leads outside (kernel_in true bytes) start stage (At outside begun R_STOP got ring (28 + 32 * 9) (at_offset (28 + 32 * 9)))
   parity_cell stage held free =
       let eighth : held.k ≡ 8 = (let count : held.k + 0 ≡ 8 = held.count in omega (arith, count)) in
       let few : held.k < 10 = omega (arith, eighth) in
+      let early : held.k < 9 = omega (arith, eighth) in
       let off_is : stage.off ≡ 28 + 32 * held.k = held.off in
       let same_cycle : start + stage.off ≡ start + (28 + 32 * held.k) = ap (λ offset. start + offset) off_is in
       let same_latch : stage.cpu.p2 ≡ begun.p2 = ap (λ (cpu : Cpu). cpu.p2) held.cpu in
@@ -120,50 +130,51 @@ module _ (outside : Board) (bytes : List ℕ) (has : HasKernel bytes) (start : �
         off = (let count : end.off ≡ 32 = arrives.off in omega (arith, count, off_is, eighth));
         now =
             arrives.now ∙ cell_span outside bytes has start begun board cells ring released small held.k
-            (start + stage.off) stage.cpu.p2 stage.board few same_cycle same_latch held.board_now
+            (start + stage.off) stage.cpu.p2 stage.board early same_cycle same_latch held.board_now
             ∙ (let place : 28 + 32 * suc held.k ≡ 28 + 32 * 9 = omega (arith, eighth) in ap at_offset place);
       })
       (takes_parity outside bytes has (start + stage.off) stage.cpu stage.board counted ring free low)
 
   stop_cell : (stage : Stage outside.State)
       → At outside begun R_STOP got ring (28 + 32 * 9) (at_offset (28 + 32 * 9)) stage → IsFree stage.cpu
-      → Leads outside (kernel_in true bytes) start stage (At outside begun R_ACK got ring (28 + 32 * 10) (at_offset (28 + 32 * 10)))
+      → Leads outside (kernel_in true bytes) start stage (At outside pulled R_ACK got ring (28 + 32 * 10) (at_offset (28 + 32 * 10)))
   stop_cell stage held free =
-      let nine : 9 < 10 = omega arith in
       let off_is : stage.off ≡ 28 + 32 * 9 = held.off in
       let same_cycle : start + stage.off ≡ start + (28 + 32 * 9) = ap (λ offset. start + offset) off_is in
       let same_latch : stage.cpu.p2 ≡ begun.p2 = ap (λ (cpu : Cpu). cpu.p2) held.cpu in
-      let let_go = bit_or (bit_and stage.cpu.p2 254) 1 in
+      let falls = bit_and (bit_or (bit_and stage.cpu.p2 254) 1) 253 in
       from_stage outside (kernel_in true bytes) (has_rows true bytes has) start R_STOP begun got ring stage
-      (At outside (record stage.cpu { p2 = let_go }) R_ACK (put got 24 0) ring 32
-      (board_behind_bit outside bytes has (start + stage.off) stage.cpu stage.board got ring))
-      (At outside begun R_ACK got ring (28 + 32 * 10) (at_offset (28 + 32 * 10))) held.cpu
+      (At outside (record stage.cpu { p2 = falls }) R_ACK (put got 24 0) ring 32
+      (board_pulled outside bytes has (start + stage.off) stage.cpu stage.board got ring))
+      (At outside pulled R_ACK got ring (28 + 32 * 10) (at_offset (28 + 32 * 10))) held.cpu
       (λ end arrives. record {
         cpu =
-            arrives.cpu ∙ ap (λ (cpu : Cpu). scratched (record cpu { p2 = let_go }) R_ACK (memory (put got 24 0) ring) end.cpu) held.cpu
-            ∙ ap (λ latch. scratched (record begun { p2 = latch }) R_ACK (memory (put got 24 0) ring) end.cpu)
+            arrives.cpu ∙ ap (λ (cpu : Cpu). scratched (record cpu { p2 = falls }) R_ACK (memory (put got 24 0) ring) end.cpu) held.cpu
+            ∙ ap (λ latch. scratched (record begun { p2 = bit_and latch 253 }) R_ACK (memory (put got 24 0) ring) end.cpu)
             (risen_is outside bytes has start begun board cells ring released small stage.cpu.p2 same_latch);
         off = (let count : end.off ≡ 32 = arrives.off in omega (arith, count, off_is));
         now =
-            arrives.now ∙ cell_span outside bytes has start begun board cells ring released small 9 (start + stage.off)
-            stage.cpu.p2 stage.board nine same_cycle same_latch held.now;
+            arrives.now ∙ last_span outside bytes has start begun board cells ring released small (start + stage.off)
+            stage.cpu.p2 stage.board same_cycle same_latch held.now;
       })
       (takes_stop outside bytes has (start + stage.off) stage.cpu stage.board got ring free)
 
   last_fall : (stage : Stage outside.State)
-      → At outside begun R_ACK got ring (28 + 32 * 10) (at_offset (28 + 32 * 10)) stage → IsFree stage.cpu
+      → At outside pulled R_ACK got ring (28 + 32 * 10) (at_offset (28 + 32 * 10)) stage → IsFree stage.cpu
       → Leads outside (kernel_in true bytes) start stage (At outside begun COMMAND got ring 366 (at_offset 366))
   last_fall stage held free =
       let off_is : stage.off ≡ 28 + 32 * 10 = held.off in
-      let same_latch : stage.cpu.p2 ≡ begun.p2 = ap (λ (cpu : Cpu). cpu.p2) held.cpu in
-      let let_go = bit_or (bit_and stage.cpu.p2 252) 3 in
-      let free_again : let_go ≡ begun.p2 = ap (λ latch. bit_or (bit_and latch 252) 3) same_latch ∙ restores begun.p2 released in
-      let first : after_cycles 16 0 (λ offset. outside.cycle (bit_and stage.cpu.p2 252) (start + stage.off + offset)) stage.board
+      let same_latch : stage.cpu.p2 ≡ bit_and begun.p2 253 = ap (λ (cpu : Cpu). cpu.p2) held.cpu in
+      let low = bit_and stage.cpu.p2 254 in
+      let let_go = bit_or low 3 in
+      let both_low : low ≡ bit_and begun.p2 252 = ap (λ latch. bit_and latch 254) same_latch ∙ falls false begun.p2 released.byte in
+      let free_again : let_go ≡ begun.p2 = ap (λ latch. bit_or latch 3) both_low ∙ restores begun.p2 released in
+      let first : after_cycles 16 0 (λ offset. outside.cycle low (start + stage.off + offset)) stage.board
       ≡ at_offset (28 + 32 * 10 + 16) =
-      spans outside start (received_latch begun.p2) 16 (28 + 32 * 10) (start + stage.off) 0 (bit_and stage.cpu.p2 252) stage.board board
+      spans outside start (received_latch begun.p2) 16 (28 + 32 * 10) (start + stage.off) 0 low stage.board board
       (omega (arith, off_is))
-      (λ cycle within. last_low begun.p2 cycle within ∙ sym (ap (λ latch. bit_and latch 252) same_latch)) held.now in
-      from_stage outside (kernel_in true bytes) (has_rows true bytes has) start R_ACK begun got ring stage
+      (λ cycle within. last_low begun.p2 cycle within ∙ sym both_low) held.now in
+      from_stage outside (kernel_in true bytes) (has_rows true bytes has) start R_ACK pulled got ring stage
       (At outside (record stage.cpu { p2 = let_go }) COMMAND (put got 24 0) ring 18
       (board_acked outside bytes has (start + stage.off) stage.cpu stage.board got ring))
       (At outside begun COMMAND got ring 366 (at_offset 366)) held.cpu
@@ -175,7 +186,7 @@ module _ (outside : Board) (bytes : List ℕ) (has : HasKernel bytes) (start : �
         now =
             arrives.now
             ∙ spans outside start (received_latch begun.p2) 2 (28 + 32 * 10 + 16) (start + stage.off) 16 let_go
-            (after_cycles 16 0 (λ offset. outside.cycle (bit_and stage.cpu.p2 252) (start + stage.off + offset)) stage.board)
+            (after_cycles 16 0 (λ offset. outside.cycle low (start + stage.off + offset)) stage.board)
             board (omega (arith, off_is))
             (λ cycle within. last_high begun.p2 cycle within ∙ both_high begun.p2 released ∙ sym free_again) first;
       })
@@ -183,14 +194,14 @@ module _ (outside : Board) (bytes : List ℕ) (has : HasKernel bytes) (start : �
 
   -- the frame: R4 is the byte that the eight looks read, R5 tells whether the ninth read its parity; both wires are
   -- released at its end
-  pub received_frame : IsFree begun
+  pub received_frame : IsFree begun → wire_again ≡ false
       → Leads outside (kernel_in true bytes) start (begin_at outside GOT cells ring begun board)
       (At outside begun COMMAND got ring 366 (at_offset 366))
-  received_frame free =
+  received_frame free still =
       let kernel = kernel_in true bytes in
       let has' = has_rows true bytes has in
       let End : Stage outside.State → Type 0 = At outside begun COMMAND got ring 366 (at_offset 366) in
-      chain outside kernel has' start (In 8) End (begin_at outside GOT cells ring begun board) (begins free)
+      chain outside kernel has' start (In 8) End (begin_at outside GOT cells ring begun board) (begins free still)
       (λ stage is free.
       chain outside kernel has' start (In 0) End stage
       (counts_down outside kernel has' start In
@@ -200,5 +211,5 @@ module _ (outside : Board) (bytes : List ℕ) (has : HasKernel bytes) (start : �
       chain outside kernel has' start (At outside begun R_STOP got ring (28 + 32 * 9) (at_offset (28 + 32 * 9)))
       End stage (parity_cell stage held free)
       (λ stage held free.
-      chain outside kernel has' start (At outside begun R_ACK got ring (28 + 32 * 10) (at_offset (28 + 32 * 10))) End stage
+      chain outside kernel has' start (At outside pulled R_ACK got ring (28 + 32 * 10) (at_offset (28 + 32 * 10))) End stage
       (stop_cell stage held free) last_fall)))

@@ -19,7 +19,6 @@ use Rattle.fw_logic.proofs.Short.{has_rows}
 use Rattle.fw_link.specs.Latch.{wired, frame_bit, sent_latch}
 use Rattle.fw_link.proofs.Latches.{driven}
 use Rattle.fw_link.proofs.Cell.{turned, cell, Celled}
-use Rattle.fw_link.proofs.Ends.{in_quarters}
 use Rattle.fw_link.proofs.Wired.{IsReleased, falls, rises, puts, spans, cell_low, cell_high, cell_next}
 use Rattle.joint_run.specs.Run.{Board, after_cycles}
 
@@ -36,10 +35,10 @@ left_at byte (suc k) = 128 * digit (carry_at byte k) + left_at byte k / 2
 pub next_is : (k byte : ℕ) → k < 10 → byte < 256 → bit 0 (left_at byte k) ≡ frame_bit byte (suc k)
 next_is = pair_tests 10 256 (λ k byte. bit 0 (left_at byte k)) (λ k byte. frame_bit byte (suc k)) refl
 
--- the registers of a sent frame at cell k with n cells left; R0 is any
+-- the registers of a sent frame at cell k with n cells left; R0 is any, R1 the latch with bit k
 abbrev pub sending : (ℕ → ℕ) → ℕ → ℕ → ℕ → ℕ → ℕ → ℕ → ℕ
 sending f v byte k n r0 =
-    put (put (put (put (put f 25 (in_quarters byte)) 26 (bit_and v 253)) 27 n) 30 (left_at byte k)) 24 r0
+    put (put (put (put (put f 25 (wired v true (frame_bit byte k))) 26 (bit_and v 253)) 27 n) 30 (left_at byte k)) 24 r0
 
 module _ (d : Board) (bytes : List ℕ) (has : HasKernel bytes) (x : ℕ) (m : Cpu) (board : d.State) (f : ℕ → ℕ)
     (ring : List ℕ) (v byte : ℕ) (released : IsReleased v) (small : byte < 256) where
@@ -80,48 +79,49 @@ module _ (d : Board) (bytes : List ℕ) (has : HasKernel bytes) (x : ℕ) (m : C
       ap (λ q. bit_or (bit_and q 254) 1) is ∙ ap (λ q. bit_or q 1) (falls (frame_bit byte k) v released.byte)
       ∙ rises (frame_bit byte k) v released
 
-  pub high_span : (n k y w : ℕ) (s : d.State) → n ≤ 4 → y ≡ x + (28 + 32 * k) → w ≡ wired v true (frame_bit byte k)
-      → s ≡ board_in (28 + 32 * k)
-      → after_cycles n 16 (λ o. d.cycle (bit_or (bit_and w 254) 1) (y + o)) (after_cycles 16 0 (λ o. d.cycle (bit_and w 254) (y + o)) s)
+  -- the clock rises with the latch r
+  pub high_span : (n k y w r : ℕ) (s : d.State) → n ≤ 5 → y ≡ x + (28 + 32 * k) → w ≡ wired v true (frame_bit byte k)
+      → r ≡ wired v true (frame_bit byte k) → s ≡ board_in (28 + 32 * k)
+      → after_cycles n 16 (λ o. d.cycle r (y + o)) (after_cycles 16 0 (λ o. d.cycle (bit_and w 254) (y + o)) s)
       ≡ board_in (28 + 32 * k + 16 + n)
-  high_span n k y w s few e is b =
-      spans d x latch n (28 + 32 * k + 16) y 16 (bit_or (bit_and w 254) 1)
+  high_span n k y w r s few e is up b =
+      spans d x latch n (28 + 32 * k + 16) y 16 r
       (after_cycles 16 0 (λ o. d.cycle (bit_and w 254) (y + o)) s) board
       (omega (arith, e))
-      (λ i l. let q : i < 4 = omega (arith, l, few) in cell_high v byte k i q ∙ sym (risen_is k w is))
+      (λ i l. let q : i < 5 = omega (arith, l, few) in cell_high v byte k i q ∙ sym up)
       (low_span k y w s e is b)
 
-  behind_span : (k y w u : ℕ) (s : d.State) → y ≡ x + (28 + 32 * k) → w ≡ wired v true (frame_bit byte k)
-      → u ≡ wired v true (frame_bit byte (suc k)) → s ≡ board_in (28 + 32 * k)
-      → after_cycles 12 20 (λ o. d.cycle u (y + o))
-      (after_cycles 4 16 (λ o. d.cycle (bit_or (bit_and w 254) 1) (y + o)) (after_cycles 16 0 (λ o. d.cycle (bit_and w 254) (y + o)) s))
+  behind_span : (k y w r u : ℕ) (s : d.State) → y ≡ x + (28 + 32 * k) → w ≡ wired v true (frame_bit byte k)
+      → r ≡ wired v true (frame_bit byte k) → u ≡ wired v true (frame_bit byte (suc k)) → s ≡ board_in (28 + 32 * k)
+      → after_cycles 11 21 (λ o. d.cycle u (y + o))
+      (after_cycles 5 16 (λ o. d.cycle r (y + o)) (after_cycles 16 0 (λ o. d.cycle (bit_and w 254) (y + o)) s))
       ≡ board_in (28 + 32 * suc k)
-  behind_span k y w u s e is next b =
-      let few : 4 ≤ 4 = omega arith in
-      let p : 28 + 32 * k + 16 + 4 ≡ 28 + 32 * k + 20 = omega arith in
-      let q : 28 + 32 * k + 20 + 12 ≡ 28 + 32 * suc k = omega arith in
-      spans d x latch 12 (28 + 32 * k + 20) y 20 u
-      (after_cycles 4 16 (λ o. d.cycle (bit_or (bit_and w 254) 1) (y + o)) (after_cycles 16 0 (λ o. d.cycle (bit_and w 254) (y + o)) s))
+  behind_span k y w r u s e is up next b =
+      let few : 5 ≤ 5 = omega arith in
+      let p : 28 + 32 * k + 16 + 5 ≡ 28 + 32 * k + 21 = omega arith in
+      let q : 28 + 32 * k + 21 + 11 ≡ 28 + 32 * suc k = omega arith in
+      spans d x latch 11 (28 + 32 * k + 21) y 21 u
+      (after_cycles 5 16 (λ o. d.cycle r (y + o)) (after_cycles 16 0 (λ o. d.cycle (bit_and w 254) (y + o)) s))
       board (omega (arith, e))
-      (λ i l. cell_next v byte k i l ∙ sym next) (high_span 4 k y w s few e is b ∙ ap board_in p)
+      (λ i l. cell_next v byte k i l ∙ sym next) (high_span 5 k y w r s few e is up b ∙ ap board_in p)
       ∙ ap board_in q
 
   -- the look in a cell of the law is that of the frame
-  pub look_is : (k y w p1 : ℕ) (s : d.State) → p1 ≡ m.p1 → y ≡ x + (28 + 32 * k) → w ≡ wired v true (frame_bit byte k)
-      → s ≡ board_in (28 + 32 * k)
-      → (d.pins p1 (bit_or (bit_and w 254) 1) (y + 18)
-      (after_cycles 2 16 (λ o. d.cycle (bit_or (bit_and w 254) 1) (y + o))
+  pub look_is : (k y w r p1 : ℕ) (s : d.State) → p1 ≡ m.p1 → y ≡ x + (28 + 32 * k)
+      → w ≡ wired v true (frame_bit byte k) → r ≡ wired v true (frame_bit byte k) → s ≡ board_in (28 + 32 * k)
+      → (d.pins p1 r (y + 18)
+      (after_cycles 2 16 (λ o. d.cycle r (y + o))
       (after_cycles 16 0 (λ o. d.cycle (bit_and w 254) (y + o)) s))).t0 ≡ look k
-  look_is k y w p1 s one e is b =
-      let few : 2 ≤ 4 = omega arith in
+  look_is k y w r p1 s one e is up b =
+      let few : 2 ≤ 5 = omega arith in
       let p : 28 + 32 * k + 16 + 2 ≡ 28 + 32 * k + 18 = omega arith in
       let c : y + 18 ≡ x + (28 + 32 * k + 18) = omega (arith, e) in
-      let at : after_cycles 2 16 (λ o. d.cycle (bit_or (bit_and w 254) 1) (y + o))
+      let at : after_cycles 2 16 (λ o. d.cycle r (y + o))
       (after_cycles 16 0 (λ o. d.cycle (bit_and w 254) (y + o)) s) ≡ board_in (28 + 32 * k + 18) =
-      high_span 2 k y w s few e is b ∙ ap board_in p in
-      ap (λ t. (d.pins p1 (bit_or (bit_and w 254) 1) (y + 18) t).t0) at
-      ∙ ap (λ q. (d.pins q (bit_or (bit_and w 254) 1) (y + 18) (board_in (28 + 32 * k + 18))).t0) one
-      ∙ ap (λ q. (d.pins m.p1 q (y + 18) (board_in (28 + 32 * k + 18))).t0) (risen_is k w is)
+      high_span 2 k y w r s few e is up b ∙ ap board_in p in
+      ap (λ t. (d.pins p1 r (y + 18) t).t0) at
+      ∙ ap (λ q. (d.pins q r (y + 18) (board_in (28 + 32 * k + 18))).t0) one
+      ∙ ap (λ q. (d.pins m.p1 q (y + 18) (board_in (28 + 32 * k + 18))).t0) up
       ∙ ap (λ q. (d.pins m.p1 (wired v true (frame_bit byte k)) q (board_in (28 + 32 * k + 18))).t0) c
 
   -- one cell, if its look shows the clock high
@@ -141,6 +141,7 @@ module _ (d : Board) (bytes : List ℕ) (has : HasKernel bytes) (x : ℕ) (m : C
       (memory g ring) s.cpu) more in
       let w : s.cpu.p2 ≡ wired v true (frame_bit byte k) = ap (λ (q : Cpu). q.p2) h.cpu in
       let one : s.cpu.p1 ≡ m.p1 = ap (λ (q : Cpu). q.p1) h.cpu in
+      let r = wired v true (frame_bit byte k) in
       let u = wired v true (frame_bit byte (suc k)) in
       let bit_now : bit 0 (left_at byte k) ≡ frame_bit byte (suc k) = next_is k byte few small in
       from_stage d (kernel_in true bytes) (has_rows true bytes has) x S_CELL
@@ -152,14 +153,14 @@ module _ (d : Board) (bytes : List ℕ) (has : HasKernel bytes) (x : ℕ) (m : C
         r0 = 0;
         cpu =
             q.0 ∙ ap (λ (z : Cpu). scratched (record z { p2 = u }) (if not (n == 0) then S_CELL else S_STOP)
-            (memory (turned g s.cpu.c n) ring) e.cpu) h.cpu
+            (memory (turned g s.cpu.c u n) ring) e.cpu) h.cpu
             ∙ ap (λ z. scratched (record m { p2 = u }) (if not (n == 0) then S_CELL else S_STOP)
-            (memory (turned g z n) ring) e.cpu) h.carry;
+            (memory (turned g z u n) ring) e.cpu) h.carry;
         carry = q.1;
         off = (let t : e.off ≡ 32 = q.2 in omega (arith, t, o));
-        board_now = q.3 ∙ behind_span k (x + s.off) s.cpu.p2 u s.board y w refl h.board_now;
+        board_now = q.3 ∙ behind_span k (x + s.off) s.cpu.p2 r u s.board y w refl refl h.board_now;
       })
       (cell d bytes has (x + s.off) s.cpu s.board g ring (frame_bit byte (suc k)) u n free refl (omega (arith, c))
       bit_now
       (puts (frame_bit byte (suc k)) v released)
-      (look_is k (x + s.off) s.cpu.p2 s.cpu.p1 s.board one y w h.board_now ∙ high) (not (n == 0)) refl)
+      (look_is k (x + s.off) s.cpu.p2 r s.cpu.p1 s.board one y w refl h.board_now ∙ high) (not (n == 0)) refl)

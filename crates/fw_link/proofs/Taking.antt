@@ -1,5 +1,5 @@
 -- What a received frame is told by: the bits that were read, the board under its latch, and its data cells.
-use Rattle.std.proofs.Common.{◌≡◌, ◌≤◌, ◌<◌, ℕ, suc, zero, ◌+◌, ◌-◌, ◌*◌, ◌/◌, ◌%◌, List, [], ◌∷◌, Bool, true}
+use Rattle.std.proofs.Common.{◌||◌, ◌≡◌, ◌≤◌, ◌<◌, ℕ, suc, zero, ◌+◌, ◌-◌, ◌*◌, ◌/◌, ◌%◌, List, [], ◌∷◌, Bool, true}
 use Rattle.std.proofs.Common.{false, not, ◌==◌, nat_le, nat_lt, if◌then◌else◌}
 use Rattle.std.proofs.Common.{bit_and, bit_or, refl, ap, sym, ◌∙◌, subst, arith}
 use Rattle.std.proofs.lemmas.Bool.Decides.{nat_tests}
@@ -90,17 +90,42 @@ cell_low v k i few l =
     let m : i < 32 = omega (arith, l) in
     let a : nat_le 16 i ≡ false = grind (arith, nat_tests, l) in
     let b : nat_lt k 10 ≡ true = grind (arith, nat_tests, few) in
-    in_cell v k i m ∙ rw (a, b) refl
+    let c : nat_lt i 20 ≡ true = grind (arith, nat_tests, l) in
+    in_cell v k i m ∙ rw (a, b, c) refl
 
-pub cell_high : (v k i : ℕ) → i < 16 → received_latch v (28 + 32 * k + 16 + i) ≡ wired v true true
-cell_high v k i l =
+-- in the cells before the tenth data is let go
+also : (a b : Bool) → b ≡ true → (a || b) ≡ true
+also true b e = refl
+also false b e = e
+
+pub cell_high : (v k i : ℕ) → k < 9 → i < 16 → received_latch v (28 + 32 * k + 16 + i) ≡ wired v true true
+cell_high v k i few l =
     let m : 16 + i < 32 = omega (arith, l) in
     let a : nat_le 16 (16 + i) ≡ true = grind (arith, nat_tests) in
+    let b : nat_lt k 10 ≡ true = grind (arith, nat_tests, few) in
+    let early : nat_lt k 9 ≡ true = grind (arith, nat_tests, few) in
+    let c : (nat_lt (16 + i) 20 || nat_lt k 9) ≡ true = also (nat_lt (16 + i) 20) (nat_lt k 9) early in
     let p : 28 + 32 * k + 16 + i ≡ 28 + 32 * k + (16 + i) = omega arith in
-    let same : (c : Bool) → (if c then true else true) ≡ true =
-    λ c. elim c as (λ z. (if z then true else true) ≡ true) [ true ↦ refl | false ↦ refl ] in
-    ap (λ o. received_latch v o) p ∙ in_cell v k (16 + i) m
-    ∙ ap (λ c. wired v c (if nat_lt k 10 then true else c)) a ∙ ap (λ c. wired v true c) (same (nat_lt k 10))
+    ap (λ o. received_latch v o) p ∙ in_cell v k (16 + i) m ∙ rw (a, b, c) refl
+
+-- so it is in each of the ten up to 4 cycles past the clock's rise
+pub cell_rise : (v k i : ℕ) → k < 10 → i < 4 → received_latch v (28 + 32 * k + 16 + i) ≡ wired v true true
+cell_rise v k i few l =
+    let m : 16 + i < 32 = omega (arith, l) in
+    let a : nat_le 16 (16 + i) ≡ true = grind (arith, nat_tests) in
+    let b : nat_lt k 10 ≡ true = grind (arith, nat_tests, few) in
+    let c : nat_lt (16 + i) 20 ≡ true = grind (arith, nat_tests, l) in
+    let p : 28 + 32 * k + 16 + i ≡ 28 + 32 * k + (16 + i) = omega arith in
+    ap (λ o. received_latch v o) p ∙ in_cell v k (16 + i) m ∙ rw (a, b, c) refl
+
+-- and from there on the tenth has it low
+pub cell_late : (v i : ℕ) → i < 12 → received_latch v (28 + 32 * 9 + 20 + i) ≡ wired v true false
+cell_late v i l =
+    let m : 20 + i < 32 = omega (arith, l) in
+    let a : nat_le 16 (20 + i) ≡ true = grind (arith, nat_tests) in
+    let c : nat_lt (20 + i) 20 ≡ false = grind (arith, nat_tests) in
+    let p : 28 + 32 * 9 + 20 + i ≡ 28 + 32 * 9 + (20 + i) = omega arith in
+    ap (λ o. received_latch v o) p ∙ in_cell v 9 (20 + i) m ∙ rw (a, c) refl
 
 module _ (d : Board) (bytes : List ℕ) (has : HasKernel bytes) (x : ℕ) (m : Cpu) (board : d.State) (f : ℕ → ℕ)
     (ring : List ℕ) (released : IsReleased m.p2) (small : m.a < 256) where
@@ -121,24 +146,43 @@ module _ (d : Board) (bytes : List ℕ) (has : HasKernel bytes) (x : ℕ) (m : C
       spans d x (received_latch m.p2) 16 (28 + 32 * k) y 0 (bit_and w 254) s board (omega (arith, e))
       (λ i l. cell_low m.p2 k i few l ∙ sym (ap (λ q. bit_and q 254) is)) b
 
-  pub high_span : (n k y w : ℕ) (s : d.State) → n ≤ 16 → k < 10 → y ≡ x + (28 + 32 * k) → w ≡ m.p2
+  -- the clock has risen, and data is let go
+  abbrev IsHigh : ℕ → ℕ → Type 0
+  IsHigh n k = (i : ℕ) → i < n → received_latch m.p2 (28 + 32 * k + 16 + i) ≡ wired m.p2 true true
+
+  pub high_span : (n k y w : ℕ) (s : d.State) → IsHigh n k → k < 10 → y ≡ x + (28 + 32 * k) → w ≡ m.p2
       → s ≡ board_in (28 + 32 * k)
       → after_cycles n 16 (λ o. d.cycle (bit_or (bit_and w 254) 1) (y + o)) (after_cycles 16 0 (λ o. d.cycle (bit_and w 254) (y + o)) s)
       ≡ board_in (28 + 32 * k + 16 + n)
-  high_span n k y w s short few e is b =
+  high_span n k y w s high few e is b =
       spans d x (received_latch m.p2) n (28 + 32 * k + 16) y 16 (bit_or (bit_and w 254) 1)
       (after_cycles 16 0 (λ o. d.cycle (bit_and w 254) (y + o)) s) board
       (omega (arith, e))
-      (λ i l. let q : i < 16 = omega (arith, l, short) in cell_high m.p2 k i q ∙ both_high m.p2 released
-      ∙ sym (risen_is w is)) (low_span k y w s few e is b)
+      (λ i l. high i l ∙ both_high m.p2 released ∙ sym (risen_is w is)) (low_span k y w s few e is b)
 
-  pub cell_span : (k y w : ℕ) (s : d.State) → k < 10 → y ≡ x + (28 + 32 * k) → w ≡ m.p2 → s ≡ board_in (28 + 32 * k)
+  pub cell_span : (k y w : ℕ) (s : d.State) → k < 9 → y ≡ x + (28 + 32 * k) → w ≡ m.p2 → s ≡ board_in (28 + 32 * k)
       → after_cycles 16 16 (λ o. d.cycle (bit_or (bit_and w 254) 1) (y + o))
       (after_cycles 16 0 (λ o. d.cycle (bit_and w 254) (y + o)) s)
       ≡ board_in (28 + 32 * suc k)
   cell_span k y w s few e is b =
       let p : 28 + 32 * k + 16 + 16 ≡ 28 + 32 * suc k = omega arith in
-      high_span 16 k y w s (omega arith) few e is b ∙ ap board_in p
+      high_span 16 k y w s (λ i l. cell_high m.p2 k i few l) (omega (arith, few)) e is b ∙ ap board_in p
+
+  -- the tenth, in which data falls
+  pub last_span : (y w : ℕ) (s : d.State) → y ≡ x + (28 + 32 * 9) → w ≡ m.p2 → s ≡ board_in (28 + 32 * 9)
+      → after_cycles 12 20 (λ o. d.cycle (bit_and (bit_or (bit_and w 254) 1) 253) (y + o))
+      (after_cycles 4 16 (λ o. d.cycle (bit_or (bit_and w 254) 1) (y + o))
+      (after_cycles 16 0 (λ o. d.cycle (bit_and w 254) (y + o)) s))
+      ≡ board_in (28 + 32 * 10)
+  last_span y w s e is b =
+      let nine : 9 < 10 = omega arith in
+      let pulls : bit_and (bit_or (bit_and w 254) 1) 253 ≡ wired m.p2 true false =
+      ap (λ q. bit_and q 253) (risen_is w is) in
+      spans d x (received_latch m.p2) 12 (28 + 32 * 9 + 20) y 20 (bit_and (bit_or (bit_and w 254) 1) 253)
+      (after_cycles 4 16 (λ o. d.cycle (bit_or (bit_and w 254) 1) (y + o))
+      (after_cycles 16 0 (λ o. d.cycle (bit_and w 254) (y + o)) s)) board (omega (arith, e))
+      (λ i l. cell_late m.p2 i l ∙ sym pulls)
+      (high_span 4 9 y w s (λ i l. cell_rise m.p2 9 i nine l) nine e is b)
 
   -- the look in a cell of the law is that of the frame
   pub look_is : (k y w p1 : ℕ) (s : d.State) → k < 10 → p1 ≡ m.p1 → y ≡ x + (28 + 32 * k) → w ≡ m.p2
@@ -151,7 +195,7 @@ module _ (d : Board) (bytes : List ℕ) (has : HasKernel bytes) (x : ℕ) (m : C
       let c : y + 18 ≡ x + (28 + 32 * k + 18) = omega (arith, e) in
       let at : after_cycles 2 16 (λ o. d.cycle (bit_or (bit_and w 254) 1) (y + o))
       (after_cycles 16 0 (λ o. d.cycle (bit_and w 254) (y + o)) s) ≡ board_in (28 + 32 * k + 18) =
-      high_span 2 k y w s (omega arith) few e is b ∙ ap board_in p in
+      high_span 2 k y w s (λ i l. cell_rise m.p2 k i few (omega (arith, l))) few e is b ∙ ap board_in p in
       ap (λ t. (d.pins p1 (bit_or (bit_and w 254) 1) (y + 18) t).t1) at
       ∙ ap (λ q. (d.pins q (bit_or (bit_and w 254) 1) (y + 18) (board_in (28 + 32 * k + 18))).t1) one
       ∙ ap (λ q. (d.pins m.p1 q (y + 18) (board_in (28 + 32 * k + 18))).t1) (risen_is w is)
@@ -200,6 +244,6 @@ module _ (d : Board) (bytes : List ℕ) (has : HasKernel bytes) (x : ℕ) (m : C
             (risen_is s.cpu.p2 w);
         acc = q.1 ∙ ap (λ b. s.cpu.a / 2 + 128 * digit b) seen ∙ ap (λ a. a / 2 + 128 * digit (bit_read k)) h.acc;
         off = (let t : e.off ≡ 32 = q.2 in omega (arith, t, o));
-        board_now = q.3 ∙ cell_span k (x + s.off) s.cpu.p2 s.board few y w h.board_now;
+        board_now = q.3 ∙ cell_span k (x + s.off) s.cpu.p2 s.board (omega (arith, c)) y w h.board_now;
       })
       (takes_bit d bytes has (x + s.off) s.cpu s.board g ring n free low refl (omega (arith, c)) (not (n == 0)) refl)

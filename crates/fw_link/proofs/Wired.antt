@@ -131,22 +131,22 @@ pub cell_low : (v byte k i : ℕ) → i < 16 → sent_latch v byte (28 + 32 * k 
 cell_low v byte k i l =
     let m : i < 32 = omega (arith, l) in
     let a : nat_le 16 i ≡ false = grind (arith, nat_tests, l) in
-    let b : nat_lt i 20 ≡ true = grind (arith, nat_tests, l) in
+    let b : nat_lt i 21 ≡ true = grind (arith, nat_tests, l) in
     in_cell v byte k i m ∙ rw (a, b) refl
 
-pub cell_high : (v byte k i : ℕ) → i < 4 → sent_latch v byte (28 + 32 * k + 16 + i) ≡ wired v true (frame_bit byte k)
+pub cell_high : (v byte k i : ℕ) → i < 5 → sent_latch v byte (28 + 32 * k + 16 + i) ≡ wired v true (frame_bit byte k)
 cell_high v byte k i l =
     let m : 16 + i < 32 = omega (arith, l) in
     let a : nat_le 16 (16 + i) ≡ true = grind (arith, nat_tests) in
-    let b : nat_lt (16 + i) 20 ≡ true = grind (arith, nat_tests, l) in
+    let b : nat_lt (16 + i) 21 ≡ true = grind (arith, nat_tests, l) in
     let p : 28 + 32 * k + 16 + i ≡ 28 + 32 * k + (16 + i) = omega arith in
     ap (λ o. sent_latch v byte o) p ∙ in_cell v byte k (16 + i) m ∙ rw (a, b) refl
 
-pub cell_next : (v byte k i : ℕ) → i < 12
-    → sent_latch v byte (28 + 32 * k + 20 + i) ≡ wired v true (frame_bit byte (suc k))
+pub cell_next : (v byte k i : ℕ) → i < 11
+    → sent_latch v byte (28 + 32 * k + 21 + i) ≡ wired v true (frame_bit byte (suc k))
 cell_next v byte k i l =
-    let m : 20 + i < 32 = omega (arith, l) in
-    let a : nat_le 16 (20 + i) ≡ true = grind (arith, nat_tests) in
-    let b : nat_lt (20 + i) 20 ≡ false = grind (arith, nat_tests) in
-    let p : 28 + 32 * k + 20 + i ≡ 28 + 32 * k + (20 + i) = omega arith in
-    ap (λ o. sent_latch v byte o) p ∙ in_cell v byte k (20 + i) m ∙ rw (a, b) refl
+    let m : 21 + i < 32 = omega (arith, l) in
+    let a : nat_le 16 (21 + i) ≡ true = grind (arith, nat_tests) in
+    let b : nat_lt (21 + i) 21 ≡ false = grind (arith, nat_tests) in
+    let p : 28 + 32 * k + 21 + i ≡ 28 + 32 * k + (21 + i) = omega arith in
+    ap (λ o. sent_latch v byte o) p ∙ in_cell v byte k (21 + i) m ∙ rw (a, b) refl

@@ -109,7 +109,7 @@ module _ (lines : ℕ → Lines) (start v : ℕ) (released : IsReleased v) where
     sent_clock : (k i : ℕ) → i < 32 → 32 * k + i < 340 → (lines (32 * k + (288 + start) + i)).clk ≡ nat_le 16 i
     sent_clock k i l few =
         ap (λ (z : Lines). z.clk) (sent_lines k i l few)
-        ∙ clock_of_latch (nat_le 16 i) (frame_bit byte (if nat_lt i 20 then k else suc k)) v released
+        ∙ clock_of_latch (nat_le 16 i) (frame_bit byte (if nat_lt i 21 then k else suc k)) v released
 
     pub sent_is_frame : IsFrame lines (288 + start) (frame_bit byte)
     sent_is_frame =

@@ -1,6 +1,6 @@
 -- The latch of a received frame, and that of a cut one, on the wires.
 use Rattle.std.proofs.Common.{◌≡◌, ◌<◌, ℕ, suc, ◌+◌, ◌-◌, ◌*◌, ◌/◌, ◌%◌, Bool, true, false, nat_le, nat_lt}
-use Rattle.std.proofs.Common.{if◌then◌else◌}
+use Rattle.std.proofs.Common.{if◌then◌else◌, ◌||◌}
 use Rattle.std.proofs.Common.{refl, ap, ◌∙◌, arith}
 use Rattle.board_lines.specs.declared.lines.Lines.{Lines}
 use Rattle.fw_link.specs.Latch.{wired, sent_latch, cut_latch, frame_bit, received_cell, received_latch}
@@ -15,7 +15,7 @@ use Rattle.wires_agree.specs.Ticks.{EndsFrame}
 pub received_lights : (v o : ℕ) → v < 256 → lights_of (received_latch v o) ≡ lights_of v
 received_lights v o l =
     by_case (nat_lt o 28) (nat_le 16 ((o - 28) % 32))
-    (if nat_lt ((o - 28) / 32) 10 then true else nat_le 16 ((o - 28) % 32))
+    (if nat_lt ((o - 28) / 32) 10 then nat_lt ((o - 28) % 32) 20 || nat_lt ((o - 28) / 32) 9 else nat_le 16 ((o - 28) % 32))
   where
     by_case : (c a b : Bool) → lights_of (if c then v else wired v a b) ≡ lights_of v
     by_case true a b = refl
@@ -24,7 +24,7 @@ received_lights v o l =
 pub sent_lights : (v byte o : ℕ) → v < 256 → lights_of (sent_latch v byte o) ≡ lights_of v
 sent_lights v byte o l =
     by_case (nat_lt o 10) (nat_lt o 28) (nat_le 16 ((o - 28) % 32))
-    (frame_bit byte (if nat_lt ((o - 28) % 32) 20 then (o - 28) / 32 else suc ((o - 28) / 32)))
+    (frame_bit byte (if nat_lt ((o - 28) % 32) 21 then (o - 28) / 32 else suc ((o - 28) / 32)))
   where
     by_case : (c e a b : Bool)
         → lights_of (if c then v else if e then wired v true false else wired v a b) ≡ lights_of v
@@ -39,7 +39,7 @@ cut_lights v byte j o l = by_case (nat_lt o (28 + 32 * j + 20))
     by_case true = sent_lights v byte o l
     by_case false = refl
 
--- the data wire is pulled in the eleventh cell alone
+-- at the falls of the clock the data wire is pulled in the eleventh cell alone
 abbrev pub received_bit : ℕ → Bool
 received_bit k = nat_lt k 10
 
@@ -58,7 +58,7 @@ module _ (lines : ℕ → Lines) (start v : ℕ) (released : IsReleased v) where
     got_clock : (k i : ℕ) → i < 32 → 32 * k + i < 338 → (lines (32 * k + (288 + start) + i)).clk ≡ nat_le 16 i
     got_clock k i l few =
         ap (λ (z : Lines). z.clk) (got_lines k i l few) ∙ clock_of_latch (nat_le 16 i)
-        (if nat_lt k 10 then true else nat_le 16 i) v released
+        (if nat_lt k 10 then nat_lt i 20 || nat_lt k 9 else nat_le 16 i) v released
 
     pub received_is_frame : IsFrame lines (288 + start) received_bit
     received_is_frame =

@@ -57,6 +57,10 @@ pub record Offers (start byte : ℕ) (w : World Beside) : Type 0 where
 abbrev pub at_edge : List HostEvent → (ℕ → Lines) → World Beside → Pc
 at_edge events lines w = board_cycles events lines 28 w.cycle w.board.pc
 
+-- and at the second look at data, two cycles before it
+abbrev pub at_again : List HostEvent → (ℕ → Lines) → World Beside → Pc
+at_again events lines w = board_cycles events lines 26 w.cycle w.board.pc
+
 -- whether the controller leaves the clock alone at the look at it in cell k, 18 cycles into the cell
 abbrev pub is_let : List HostEvent → (ℕ → Lines) → World Beside → ℕ → Bool
 is_let events lines w k = (drive (board_cycles events lines (28 + 32 * k + 18) w.cycle w.board.pc).side.port.link).clk
@@ -106,13 +110,14 @@ pub record Awaits (start : ℕ) (w : World Beside) : Type 0 where
   pub data_wire : bit 1 w.cpu.p2 ≡ true
   pub shown : lights_of w.cpu.p2 ≡ w.board.shown
 
--- the controller's byte is received in 366 cycles
+-- the controller's byte is received in 366 cycles, where it requests at the second look at data and at the first edge
 abbrev pub ReceivesFrames : List ℕ → Type 0
 ReceivesFrames bytes =
     (edges : List Edge) (events : List HostEvent)
     → (start byte : ℕ) (w : World Beside)
     → Awaits start w → byte < 256 → (lines : ℕ → Lines)
     → ((o : ℕ) → o < 366 → lines (260 + start + o) ≡ latch_of (received_latch w.cpu.p2 o))
+    → (at_again events lines w).side.port.link ≡ Request byte
     → (at_edge events lines w).side.port.link ≡ Request byte → (at_edge events lines w).clock ≡ true
     → Drives (joint_board edges events) TICK bytes w (λ c. received_latch w.cpu.p2 (c - w.cycle))
     (Received events lines byte w)

@@ -1,6 +1,6 @@
 -- The latch of port 2 in a frame, as a function of the offset.
 use Rattle.std.specs.Prelude.{ℕ, suc, ◌+◌, ◌-◌, ◌*◌, ◌/◌, ◌%◌}
-use Rattle.std.specs.Prelude.{Bool, true, false, nat_le, nat_lt, if◌then◌else◌, bit_and, slice_index_or}
+use Rattle.std.specs.Prelude.{Bool, true, false, ◌||◌, nat_le, nat_lt, if◌then◌else◌, bit_and, slice_index_or}
 use Rattle.mcs48_core.specs.Status.{digit}
 use Rattle.board_lines.specs.Frame.{frame_bits}
 
@@ -12,9 +12,9 @@ wired v clock level = bit_and v (252 + digit clock + 2 * digit level)
 abbrev pub frame_bit : ℕ → ℕ → Bool
 frame_bit byte k = slice_index_or (frame_bits byte) k true
 
--- a cell of a sent frame: the clock is low for 16 cycles, and the next bit is put 4 cycles behind its rise
+-- a cell of a sent frame: the clock is low for 16 cycles, and the next bit is put 5 cycles after its rise
 abbrev pub sent_cell : ℕ → ℕ → ℕ → ℕ → ℕ
-sent_cell v byte k o = wired v (nat_le 16 o) (frame_bit byte (if nat_lt o 20 then k else suc k))
+sent_cell v byte k o = wired v (nat_le 16 o) (frame_bit byte (if nat_lt o 21 then k else suc k))
 
 -- a sent frame, by the offset from the look at data: the start bit is put 10 cycles behind, the first cell begins 28
 -- cycles behind
@@ -32,10 +32,10 @@ cut_latch v byte j o = if nat_lt o (28 + 32 * j + 20) then sent_latch v byte o e
 abbrev pub cut_after : ℕ → ℕ
 cut_after j = 28 + 32 * j + 24
 
--- a received frame, by the offset from the look at data: ten cells with the clock low for 16 cycles, and an eleventh in
--- which data is low too
+-- a received frame, by the offset from the look at data: eleven cells with the clock low for 16 cycles; data is low from
+-- 20 cycles into the tenth on, 12 cycles before the eleventh fall, until the clock rises for the last time
 abbrev pub received_cell : ℕ → ℕ → ℕ → ℕ
-received_cell v k o = wired v (nat_le 16 o) (if nat_lt k 10 then true else nat_le 16 o)
+received_cell v k o = wired v (nat_le 16 o) (if nat_lt k 10 then nat_lt o 20 || nat_lt k 9 else nat_le 16 o)
 
 abbrev pub received_latch : ℕ → ℕ → ℕ
 received_latch v o = if nat_lt o 28 then v else received_cell v ((o - 28) / 32) ((o - 28) % 32)

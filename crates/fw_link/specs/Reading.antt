@@ -1,10 +1,10 @@
 -- What a received frame reads, whatever stands beside the processor.
-use Rattle.std.specs.Prelude.{◌≡◌, ◌<◌, ℕ, ◌+◌, ◌*◌, Bool, true, not, List, [], ◌∷◌, slice_index, if◌then◌else◌}
+use Rattle.std.specs.Prelude.{◌≡◌, ◌<◌, ℕ, ◌+◌, ◌*◌, Bool, true, false, not, List, [], ◌∷◌, slice_index, if◌then◌else◌}
 use Rattle.bits.specs.Bits.{bit}
 use Rattle.board_lines.specs.Bits.{value}
 use Rattle.board_lines.specs.Frame.{parity_of}
 use Rattle.fw_kernel.specs.Places.{HasKernel}
-use Rattle.fw_kernel.specs.declared.labels.TheConstants.{TICK, GOT, COMMAND}
+use Rattle.fw_kernel.specs.declared.labels.TheConstants.{TICK, GOT, COMMAND, SCAN}
 use Rattle.fw_logic.specs.Blocks.{IsAt}
 use Rattle.fw_logic.specs.Boards.{numbered}
 use Rattle.fw_link.specs.Latch.{received_latch}
@@ -37,10 +37,30 @@ pub record Reads (d : Board) (w e : World d.State) : Type 0 where
   pub r5 : slice_index e.cpu.ram 29 ≡ 255 * digit (right_in (data_read d w))
   pub p2 : e.cpu.p2 ≡ w.cpu.p2
 
+-- the level of the data wire at the second look at it, two cycles before the first cell
+abbrev pub data_again : (d : Board) → World d.State → Bool
+data_again d w =
+    (d.pins w.cpu.p1 w.cpu.p2 (w.cycle + 26) (after_cycles 26 0 (λ o. d.cycle w.cpu.p2 (w.cycle + o)) w.board)).t1
+
+-- where it is high there is no frame: in 30 cycles the keys' turn comes, and no wire was pulled
+pub record Drops (d : Board) (w e : World d.State) : Type 0 where
+  pub to : IsAt SCAN e.cpu
+  pub cycle : e.cycle ≡ w.cycle + 30
+  pub p2 : e.cpu.p2 ≡ w.cpu.p2
+  pub board : e.board ≡ after_cycles 30 0 (λ o. d.cycle w.cpu.p2 (w.cycle + o)) w.board
+
 -- so it is for any levels at the pins, in every image that has the kernel's bytes outside the layout's tables
 abbrev pub ReadsLaw : Type 0
 ReadsLaw =
     (bytes : List ℕ) → HasKernel bytes
     → (pins : ℕ → ℕ → ℕ → ℕ → Pins) (tick : ℕ → ℕ → ℕ → ℕ) (w : World ℕ) → IsAt GOT w.cpu
     → w.cpu.a < 256 → w.cpu.p2 < 256 → bit 0 w.cpu.p2 ≡ true → bit 1 w.cpu.p2 ≡ true
+    → data_again (numbered pins tick) w ≡ false
     → Comes (numbered pins tick) TICK bytes w (Reads (numbered pins tick) w)
+
+abbrev pub DropsLaw : Type 0
+DropsLaw =
+    (bytes : List ℕ) → HasKernel bytes
+    → (pins : ℕ → ℕ → ℕ → ℕ → Pins) (tick : ℕ → ℕ → ℕ → ℕ) (w : World ℕ) → IsAt GOT w.cpu
+    → data_again (numbered pins tick) w ≡ true
+    → Comes (numbered pins tick) TICK bytes w (Drops (numbered pins tick) w)

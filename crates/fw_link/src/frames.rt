@@ -1,7 +1,7 @@
 //! Laws of frames in the joint run, for any working processor.
 
 ghost use Rattle.fw_link.specs.Frames.{CutLaw, GotLaw, IsCut, PulledLaw, ReceivesFrames, SendsFrames, SentLaw};
-ghost use Rattle.fw_link.specs.Reading.{ReadsLaw};
+ghost use Rattle.fw_link.specs.Reading.{DropsLaw, ReadsLaw};
 
 use fw_kernel::KERNEL;
 use mcs48_isa::Image;
@@ -23,15 +23,18 @@ pub fn frame_cut()
     ensures pulled { PulledLaw }
 {}
 
-/// A received frame: where the controller requests at the first edge, the run comes from `GOT` to `COMMAND` in 366
-/// cycles; R4 is the controller's byte, R5 is 255, which says that its parity was right. In each cycle the latch of
-/// port 2 is that of a received frame: the clock falls eleven times, and data is pulled with the eleventh fall alone.
+/// A received frame: where the controller requests at the second look at data, two cycles before the first edge, and
+/// there, the run comes from `GOT` to `COMMAND` in 366 cycles; R4 is the controller's byte, R5 is 255, which says that its parity was right. In each cycle the latch of
+/// port 2 is that of a received frame: the clock falls eleven times, and data is low at the eleventh fall alone, from 12
+/// cycles before it on.
 /// Both latches, F1 and memory but for R0, R1, R3, R4 and R5 stay. Whatever stands beside the processor, R4 is the byte
-/// of the first eight looks at data, and R5 is 255 where the ninth is its parity, and else 0. Nothing is done when it
+/// of the first eight looks at data, and R5 is 255 where the ninth is its parity, and else 0; and where data is high at
+/// the second look, nothing is received and no wire is pulled. Nothing is done when it
 /// is called; the laws are its contract.
 pub fn frame_received()
     ensures received { GotLaw }
     ensures reads { ReadsLaw }
+    ensures drops { DropsLaw }
 {}
 
 /// The kernel with empty tables, as an image: it sends, is cut and receives by these laws.

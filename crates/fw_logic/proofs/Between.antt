@@ -34,7 +34,7 @@ module _ (d : Board) (bytes : List ℕ) where
   IsStart v = at_tick d TICK v ≡ true
 
   -- what the processor's step is where the joint step is this
-  step_of : (w next : World d.State) (o : Option Stepped) → after_step d w o ≡ Some next
+  pub step_of : (w next : World d.State) (o : Option Stepped) → after_step d w o ≡ Some next
       → (n : Stepped) × (o ≡ Some n) × (n.cpu ≡ next.cpu) × (w.cycle + n.cycles ≡ next.cycle)
   step_of w next None h = absurd cc
   step_of w next (Some n) h =

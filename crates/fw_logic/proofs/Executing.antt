@@ -4,11 +4,14 @@ use Rattle.std.proofs.Common.{refl, ◌∙◌, subst, arith, inl, inr}
 use Rattle.std.specs.declared.option.Option.{Option}
 use Rattle.fw_kernel.specs.declared.labels.TheConstants.{TICK}
 use Rattle.fw_kernel.specs.Places.{HasKernel}
-use Rattle.joint_run.specs.Run.{Board, World, joint_step, step_on, run_at}
+use Rattle.mcs48_core.specs.Cpu.{Cpu}
+use Rattle.mcs48_core.specs.Step.{stepped}
+use Rattle.joint_run.specs.Run.{Board, World, seen, joint_step, step_on, run_at}
 use Rattle.joint_run.specs.Starts.{at_tick, calm, Comes}
-use Rattle.fw_logic.specs.Executed.{IsFit}
+use Rattle.fw_logic.specs.Executed.{IsFit, LooksLate}
 use Rattle.fw_logic.proofs.Between.{IsStart, Resting, Working, WorksOn, works_on, rests_on, begins_work, same_next}
-use Rattle.fw_logic.proofs.Between.{start_place, along, no_start}
+use Rattle.fw_logic.proofs.Between.{start_place, along, no_start, step_of}
+use Rattle.fw_logic.proofs.Late.{main_late, serve_late}
 use Rattle.fw_logic.proofs.Passing.{Passes}
 use Rattle.fw_logic.proofs.Turns.{IsMain, IsServing, main_fit, service_fit}
 
@@ -90,3 +93,18 @@ module _ (d : Board) (bytes : List ℕ) (has : HasKernel bytes) (from : World d.
         by (inl h) = service_fit bytes has w.cpu h.serving
         by (inr (inl h)) = main_fit bytes has w.cpu h.main
         by (inr (inr h)) = service_fit bytes has w.cpu h.0
+
+    -- and what each step leaves looks late, if it looks
+    pub all_late : (k : ℕ) (w next : World d.State) → run_at d bytes from k ≡ Some w → joint_step d bytes w ≡ Some next
+        → LooksLate bytes w.cpu next.cpu
+    all_late k w next run step = by (each k w run)
+      where
+        serves : IsServing false w.cpu → LooksLate bytes w.cpu next.cpu
+        serves h =
+            let s = step_of d bytes w next (stepped bytes (seen d w) w.cpu) step in
+            subst (λ (c : Cpu). LooksLate bytes w.cpu c) s.2 (serve_late bytes has false (seen d w) w.cpu s.0 h s.1)
+
+        by : On w → LooksLate bytes w.cpu next.cpu
+        by (inl h) = serves h.serving
+        by (inr (inl h)) = main_late bytes has false w.cpu next.cpu h.main
+        by (inr (inr h)) = serves h.0

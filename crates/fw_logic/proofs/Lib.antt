@@ -35,4 +35,6 @@ pub mod Passing
 pub mod Between
 pub mod Selecting
 pub mod Sweep
+pub mod Written
+pub mod Late
 pub mod Executing

@@ -18,7 +18,8 @@ use Rattle.fw_logic.proofs.Following.{Stays, stays_of, effect_stays, effect_colu
 use Rattle.fw_logic.proofs.Image.{row_is}
 use Rattle.fw_logic.proofs.Clock.{is_closed}
 use Rattle.fw_logic.proofs.Leads.{LetsNone}
-use Rattle.fw_logic.proofs.Placed.{in_main, in_service, is_behind, main_at, service_at}
+use Rattle.fw_logic.proofs.Placed.{in_main, in_service, is_behind, main_at, service_at, main_text, service_text}
+use Rattle.fw_logic.proofs.Written.{text_is}
 
 -- in the main program: no service, nothing on the stack; and in the service, with its way back on it. The external
 -- interrupt is off, the memory bank is the lower, and the clock's output is on or off
@@ -44,6 +45,7 @@ module _ (bytes : List ℕ) (has : HasKernel bytes) where
       let depth : m.sp ≡ 0 = ap (λ (s : Stays). s.sp) h.stays in
       record {
         place = r.low;
+        text = text_is bytes has m.pc r.low (main_text m.pc h.place);
         row = r.row;
         is = row_is bytes has m.pc r.row r.is;
         allowed = r.allowed;
@@ -57,6 +59,7 @@ module _ (bytes : List ℕ) (has : HasKernel bytes) where
       let depth : m.sp ≡ 1 = ap (λ (s : Stays). s.sp) h.stays in
       record {
         place = r.low;
+        text = text_is bytes has m.pc r.low (service_text m.pc h.place);
         row = r.row;
         is = row_is bytes has m.pc r.row r.is;
         allowed = r.allowed;

@@ -138,7 +138,7 @@ module _ (old v : ℕ) (was : IsReleased old) (is : IsReleased v) where
           ap (λ c. bit 0 (if c then v else if nat_lt i 28 then wired v true false else sent_cell v byte ((i - 28) / 32) ((i - 28) % 32))) e
           ∙ ap (λ c. bit 0 (if c then wired v true false else sent_cell v byte ((i - 28) / 32) ((i - 28) % 32))) f
           ∙ clock_of_latch (nat_le 16 ((i - 28) % 32))
-          (frame_bit byte (if nat_lt ((i - 28) % 32) 20 then (i - 28) / 32 else suc ((i - 28) / 32))) v is
+          (frame_bit byte (if nat_lt ((i - 28) % 32) 21 then (i - 28) / 32 else suc ((i - 28) / 32))) v is
           ∙ eleven i 0 m l
 
   received_clock : (i : ℕ) → i < 366 → bit 0 (received_latch v i) ≡ clock_in 11 (260 + i)
@@ -152,7 +152,8 @@ module _ (old v : ℕ) (was : IsReleased old) (is : IsReleased v) where
       by false f =
           let m : 28 ≤ i = grind (arith, nat_tests, f) in
           ap (λ c. bit 0 (if c then v else received_cell v ((i - 28) / 32) ((i - 28) % 32))) f
-          ∙ clock_of_latch (nat_le 16 ((i - 28) % 32)) (if nat_lt ((i - 28) / 32) 10 then true else nat_le 16 ((i - 28) % 32)) v is
+          ∙ clock_of_latch (nat_le 16 ((i - 28) % 32)) (if nat_lt ((i - 28) / 32) 10
+          then nat_lt ((i - 28) % 32) 20 || nat_lt ((i - 28) / 32) 9 else nat_le 16 ((i - 28) % 32)) v is
           ∙ eleven i 0 m (omega (arith, l))
 
   cut_clock : (byte j i : ℕ) → j < 10 → i < 28 + 32 * j + 24 → bit 0 (cut_latch v byte j i) ≡ clock_in (suc j) (260 + i)
