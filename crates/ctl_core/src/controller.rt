@@ -92,6 +92,24 @@ impl Controller {
         }
     }
 
+    /// A controller of its own in the same state.
+    pub fn copied(&self) -> Controller
+        ensures same { result ≡ self.now }
+    {
+        Controller {
+            input: self.input,
+            output_full: self.output_full,
+            output: self.output,
+            command_byte: self.command_byte,
+            awaited: self.awaited,
+            output_port: self.output_port,
+            break_mark: self.break_mark,
+            parity: self.parity,
+            last_to_64: self.last_to_64,
+            resends: self.resends,
+        }
+    }
+
     /// The host writes a port. It fills the input buffer; where that is full already, nothing changes.
     pub fn host_write(&mut self, port: Port, byte: u8) -> Result<(), InputFull>
         ensures full { IsErr result ↔ IsSome self.old.input }
@@ -174,6 +192,20 @@ impl Controller {
         ensures byte { result ≡ self.now.command_byte }
     {
         self.command_byte.bits()
+    }
+
+    /// The last byte that was put out, 00 at first, whether the output buffer is full or not.
+    pub fn output(&self) -> u8
+        ensures byte { result ≡ self.now.output }
+    {
+        self.output
+    }
+
+    /// The last byte that was written to the output port, CF at first.
+    pub fn output_port(&self) -> u8
+        ensures byte { result ≡ self.now.output_port }
+    {
+        self.output_port
     }
 
     /// How often in a row the keyboard's byte came wrong and was asked for again.

@@ -33,6 +33,16 @@ impl Bits {
         Bits { bits, count: 1 }
     }
 
+    /// Bits of their own that are the same.
+    pub fn copied(&self) -> Bits
+        ensures same { result ≡ self.now }
+    {
+        Bits {
+            bits: self.bits,
+            count: self.count,
+        }
+    }
+
     /// Whether one bit alone is missing.
     pub fn lack_one(&self) -> bool
         ensures lack { result ≡ (length self.now == 10) }

@@ -17,6 +17,18 @@ pub enum Wire {
     Send(u8, Edges),
 }
 
+impl Wire {
+    /// A byte of its own that is under way in the same way.
+    pub fn copied(&self) -> Wire
+        ensures same { result ≡ self.now }
+    {
+        match self {
+            Wire::Recv(flip, bits) => Wire::Recv(*flip, bits.copied()),
+            Wire::Send(byte, edges) => Wire::Send(*byte, *edges),
+        }
+    }
+}
+
 impl Passing for Wire {
     ghost use Rattle.ctl_wire.specs.Wire.{is_breakable};
 

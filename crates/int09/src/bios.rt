@@ -71,6 +71,31 @@ impl Bios {
         })
     }
 
+    /// A state of its own that is the same, with memory of its own for 15 words.
+    pub fn copied(&self, alloc: Global) -> Result<Bios, AllocError>
+        ensures same { IfOk result (λ bios. bios ≡ self.now) }
+    {
+        let mut words = HeapCircularBuffer::with_capacity(alloc, self.words.capacity())?;
+        let count = self.count();
+        let mut at = 0;
+        'words: while at < count {
+            let word = match self.word_at(at) {
+                Some(word) => word,
+                None => unreachable!(),
+            };
+            let _ = words.push_back(word);
+            at += 1;
+        }
+        Ok(Bios {
+            shifts: self.shifts,
+            downs: self.downs,
+            number: self.number,
+            ack: self.ack,
+            resend: self.resend,
+            words,
+        })
+    }
+
     /// Treats a byte that was read from port 60h, and answers what is said of it, in order. The buffer keeps at most 15
     /// words.
     pub fn feed(&mut self, byte: u8) -> ArrayVec<Item, 2>

@@ -13,7 +13,7 @@ ghost use Rattle.joint_run.specs.Cycle.{is_let_go, is_quiet, looked_outside, out
 
 use arrayvec::ArrayVec;
 use board_lines::{HostEvent, Lines};
-use ctl_link::Link;
+use ctl_link::{Link, Port};
 use ctl_wire::{Wire, drive_of, fall};
 use host_turn::{Desk, Stamped};
 use int09::Bios;
@@ -73,7 +73,49 @@ fn next_of(host: &[HostEvent], done: u8) -> Option<HostEvent>
     host.get(done as usize).copied()
 }
 
+/// A state of the link of its own that is the same.
+fn copied_link(link: &Link<Wire>) -> Link<Wire>
+    ensures { result ≡ link.now }
+{
+    match link {
+        Link::Free => Link::Free,
+        Link::Hold(since) => Link::Hold(*since),
+        Link::Ask(byte, since) => Link::Ask(*byte, *since),
+        Link::Request(byte) => Link::Request(*byte),
+        Link::Busy(wire) => Link::Busy(wire.copied()),
+    }
+}
+
+/// A controller of its own, with its link in the same state.
+fn copied_port(port: &Port<Wire>) -> Port<Wire>
+    ensures { result ≡ port.now }
+{
+    Port {
+        core: port.core.copied(),
+        filled: port.filled,
+        link: copied_link(&port.link),
+        awaits: port.awaits,
+        flip: port.flip,
+    }
+}
+
 impl Outside {
+    /// What stands outside another processor in the same state, with this INT 09h.
+    pub(crate) fn copied(&self, bios: Bios) -> Outside
+        requires same { bios ≡ self.now.desk.bios }
+        ensures same { result ≡ self.now }
+    {
+        Outside {
+            desk: Desk {
+                port: copied_port(&self.desk.port),
+                masked: self.desk.masked,
+                bios,
+            },
+            clock: self.clock,
+            shown: self.shown,
+        }
+    }
+
     /// What stands outside the processor at power-on, with INT 09h at its start.
     pub(crate) fn new(bios: Bios) -> Outside
         requires { bios ≡ start }

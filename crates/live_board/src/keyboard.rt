@@ -2,12 +2,10 @@
 
 ghost use Rattle.std.specs.Prelude.{◌≡◌, ◌+◌, ◌-◌, [], IfOk};
 ghost use Rattle.board_lines.specs.declared.event.HostAct.TheVariants.{Read60, Status, Take};
-ghost use Rattle.joint_run.specs.Joint.{latch_of};
-ghost use Rattle.pc_wires.specs.Wires.{wires};
 ghost use Rattle.live_board.specs.Acts.{masking_of, write_of};
-ghost use Rattle.live_board.specs.Answers.{line_in, raises};
 ghost use Rattle.live_board.specs.Calls.{IsActed, IsKeyed, Tells};
-ghost use Rattle.live_board.specs.Pasts.{Past, acted, state_of};
+ghost use Rattle.live_board.specs.Looks.{IsCopied};
+ghost use Rattle.live_board.specs.Pasts.{Past, acted};
 ghost use Rattle.live_board.specs.Running.{HasRun, IsOpened};
 ghost use Rattle.live_board.specs.Standing.{Stands};
 
@@ -15,7 +13,7 @@ use crate::answers::{read_in, status_in, taken_in};
 use crate::parts::Parts;
 use crate::ran::Ran;
 use crate::refused::Refused;
-use board_lines::{HostAct, Lines, Place};
+use board_lines::{HostAct, Place};
 use ctl_core::Port;
 use mcs48_isa::Image;
 use std::alloc::{AllocError, Global};
@@ -24,7 +22,7 @@ use std::marker::Model;
 /// A keyboard on its board, driven by calls. A clause sees its parts.
 #[derive(Drop)]
 pub struct Keyboard {
-    parts: Parts,
+    pub(crate) parts: Parts,
 }
 
 impl Model for Keyboard {
@@ -123,34 +121,13 @@ impl Keyboard {
         Ok(Keyboard { parts })
     }
 
-    /// Whether the interrupt line is up: the controller's output buffer is full, and its interrupt is enabled.
-    pub fn interrupt(&self) -> bool
-        ensures line { result ≡ raises self.now.joint.outside.desk.port.core }
-        ensures state { (p : Past) → Stands p self.now → result ≡ line_in (state_of p) }
+    /// A keyboard of its own in the same state, with memory of its own: it stands in every past in which this one does,
+    /// so the same calls give the same answers.
+    pub fn copied(&self, alloc: Global) -> Result<Keyboard, AllocError>
+        ensures same { IfOk result (IsCopied self.now) }
+        ensures stands { IfOk result (λ k. (p : Past) → Stands p self.now → Stands p k) }
     {
-        self.parts.interrupt()
-    }
-
-    /// The lights: Scroll as bit 0, Num as bit 1, Caps as bit 2.
-    pub fn lights(&self) -> u8
-        ensures state { (p : Past) → (s : Stands p self.now) → result ≡ s.world.board.shown }
-    {
-        self.parts.joint.lights()
-    }
-
-    /// The two wires after the last cycle.
-    pub fn wires(&self) -> Lines
-        ensures state { (p : Past) → (s : Stands p self.now)
-            → result ≡ wires (latch_of s.world.cpu.p2) s.world.board.pc }
-    {
-        self.parts.joint.lines()
-    }
-
-    /// How many cycles of 2.5 microseconds have passed since power-on; stamp 0 is cycle 4,096.
-    pub fn cycle(&self) -> u64
-        ensures cycle { result ≡ self.now.joint.cycle }
-        ensures state { (p : Past) → (s : Stands p self.now) → result ≡ s.world.cycle }
-    {
-        self.parts.joint.cycle()
+        let parts = self.parts.copied(alloc)?;
+        Ok(Keyboard { parts })
     }
 }

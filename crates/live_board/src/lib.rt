@@ -11,12 +11,14 @@ mod answers;
 mod going;
 mod keyboard;
 mod law;
+mod looks;
 mod parts;
 mod ran;
 mod refused;
 
 pub use keyboard::Keyboard;
 pub use law::stories_grow_at_end;
+pub use looks::Registers;
 pub use ran::{Ran, RunEnd};
 pub use refused::Refused;
 

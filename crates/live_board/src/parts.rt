@@ -4,6 +4,7 @@ ghost use Rattle.std.specs.Prelude.{◌≡◌, ◌≤◌, ◌<◌, ◌^◌, ◌�
 ghost use Rattle.joint_run.specs.Due.{due_step, told, IsJointStep};
 ghost use Rattle.joint_run.specs.History.{IsStepOfRun};
 ghost use Rattle.live_board.specs.Answers.{line_in, raises};
+ghost use Rattle.live_board.specs.Looks.{IsCopied};
 ghost use Rattle.live_board.specs.Pasts.{Past, state_of, untouched};
 ghost use Rattle.live_board.specs.Running.{IsOpened};
 ghost use Rattle.live_board.specs.Standing.{Stands};
@@ -65,6 +66,22 @@ impl Parts {
         let _ = parts.run(STAMP_0, false);
         let _ = parts.act(HostAct::Mask);
         Ok(parts)
+    }
+
+    /// Parts of their own: the machine in the same state, by the same edges that wait. No event of the host does.
+    pub(crate) fn copied(&self, alloc: Global) -> Result<Parts, AllocError>
+        ensures same { IfOk result (IsCopied self.now) }
+        ensures stands { IfOk result (λ k. (p : Past) → Stands p self.now → Stands p k) }
+    {
+        let bios = self.joint.bios().copied(alloc)?;
+        Ok(Parts {
+            joint: self.joint.copied(bios),
+            due: Due {
+                edges: edge_list(self.due.edges.as_slice()),
+                host: ArrayVec::new(),
+            },
+            seen: Seen::nothing(),
+        })
     }
 
     /// The edges that were made wait no longer.

@@ -46,6 +46,43 @@ fn a_fifth_edge_and_a_second_write_find_no_room(rt: HostRuntime) -> Result<(), A
 }
 
 #[test]
+fn looks_change_nothing_and_show_what_the_ports_would_read(
+    rt: HostRuntime,
+) -> Result<(), AllocError> {
+    let image = Image { bytes: KERNEL };
+    let mut keyboard = Keyboard::open(rt.alloc(), &image)?;
+    assert!(rt; keyboard.registers().status == 0x14 && keyboard.registers().output == 0);
+    assert!(rt;
+        keyboard.registers().command_byte == 0x45 && keyboard.registers().output_port == 0xcf
+    );
+    assert!(rt; keyboard.run(SECOND, true).end == RunEnd::Rose);
+    let cycle = keyboard.cycle();
+    assert!(rt; keyboard.registers().status == 0x15 && keyboard.registers().output == 0xaa);
+    assert!(rt; keyboard.processor().ram.len() == 128 && keyboard.place().pc < 2048);
+    assert!(rt; keyboard.cycle() == cycle && keyboard.interrupt());
+    assert!(rt; keyboard.key(Place::default(), true).is_ok() && keyboard.edges_waiting() == 1);
+    assert!(rt; keyboard.rows(0) == 0xff && keyboard.rows(12) == 0xff);
+    assert!(rt; keyboard.run(1, false).end == RunEnd::Passed && keyboard.rows(0) == 0xfe);
+    assert!(rt; keyboard.edges_waiting() == 0 && keyboard.words_waiting() == 0);
+    Ok(())
+}
+
+#[test]
+fn a_copy_goes_on_as_the_original_does_and_by_itself(rt: HostRuntime) -> Result<(), AllocError> {
+    let image = Image { bytes: KERNEL };
+    let mut keyboard = Keyboard::open(rt.alloc(), &image)?;
+    assert!(rt; keyboard.run(SECOND, true).end == RunEnd::Rose);
+    assert!(rt; keyboard.key(Place::default(), true).is_ok());
+    let mut copy = keyboard.copied(rt.alloc())?;
+    assert!(rt; copy.edges_waiting() == 1 && copy.cycle() == keyboard.cycle());
+    assert!(rt; keyboard.read60() == Ok(0xaa) && copy.interrupt() && !keyboard.interrupt());
+    assert!(rt; copy.read60() == Ok(0xaa) && copy.cycle() == keyboard.cycle());
+    let first = keyboard.run(SECOND, true);
+    assert!(rt; first == copy.run(SECOND, true) && keyboard.read60() == copy.read60());
+    Ok(())
+}
+
+#[test]
 fn a_program_that_sticks_stays_where_it_is(rt: HostRuntime) -> Result<(), AllocError> {
     let mut bytes = [0; 2048];
     bytes[2] = 0x01;
