@@ -20,7 +20,7 @@
 //!
 //! **What is proved of it** stands above. Here are bytes, labels and a text, and no function, so this crate's own check
 //! refuses none of them. `fw_logic` proves what stands at `TICK` and what the blocks do, `fw_keys`, `fw_link` and
-//! `agreement` what whole ticks do, by these very bytes; a test of `rows_texts` assembles the text to them.
+//! `agreement` what whole ticks do, by these very bytes; a test of `rows_parts` assembles the text to them.
 #![tactic(auto)]
 
 mod bytes;
