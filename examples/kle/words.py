@@ -9,11 +9,11 @@ from typing import Optional
 # In lower case; `plain_form` passes over marks in words and on letters. First the keys that the 84 have beside the keypad.
 KEYS = {
     "backspace": "backspace bksp bkspc bkspace bspc bs back backsp rück rücktaste löschen retourarrière retroceso ⌫ "
-                 "⟵",
+                 "⟵ <-- <--- ←-- ←---",
     "tab": "tab tabulator tabulador tabulation ↹ ⇥ ⇤ ⭾ →| |→ ←| |← |←→|",
     "ctrl": "ctrl control ctl lctrl rctrl leftctrl rightctrl leftcontrol rightcontrol lcontrol rcontrol ctrll ctrlr "
             "strg strgl strgr ⌃ ⎈",
-    "enter": "enter return ret entrée eingabe intro entrar invio giriş retur ⏎ ↵ ⮐ ↩ ⌤ ⎆ ↲",
+    "enter": "enter return ret entrée eingabe intro entrar invio giriş retur kpenter numenter ⏎ ↵ ⮐ ↩ ⌤ ⎆ ↲",
     "alt": "alt lalt ralt leftalt rightalt altl altr altgr altgraph opt option ⌥ ⎇",
     "space": "space spacebar spc leertaste espace espacio espaço spazio boşluk mellemrum mellomrom mellanslag ␣",
     "caps": "caps capslock capslk capslck shiftlock feststell feststelltaste verrmaj bloqmayús blocmaiusc ⇪ ⇬ 英数",
@@ -44,10 +44,11 @@ SHIFTS = {
     "rshift": "rshift rightshift shiftr shiftright rsft"}
 # Keys that the 84 don't have.
 OTHERS = (
-    "win lwin rwin leftwin rightwin windows super lsuper rsuper gui lgui rgui meta cmd command lcmd rcmd os hyper "
+    "win lwin rwin winkey leftwin rightwin leftgui rightgui leftsuper rightsuper windows super lsuper rsuper gui lgui rgui "
+    "meta cmd command lcmd rcmd ◇ ◆ mo(1) mo(2) mo(3) l1 l2 l3 os hyper "
     "code logo logowindows8 logowindows7 ⌘ ❖ ⊞ menu app apps application kontextmenü menü menú ≣ ☰ ▤ fn fn1 fn2 fn3 "
     "function layer lower raise adjust pause break pausebreak brk pauseattn pauseunterbr unterbr pauseuntbr untbr "
-    "attn pausa pausainterr pausainter interr mute vol vol+ vol↑ vol↓ volup voldown voldn volumeup volumedown volume "
+    "attn pausa pausainterr pausainter interr mute vol vol+ vol- vol↑ vol↓ volup voldown voldn volumeup volumedown volume "
     "play pauseplay playpause next prev previous stop media mail calc power sleep wake eject help undo redo copy cut "
     "paste 00 000 無変換 変換 かな カタカナひらがな カタカナひらがなローマ字 ひらがな ローマ字 muhenkan henkan kana 한영 한자 encoder knob ⏏ ⇓ ⇑ mouse "
     "keypad program progrm prog ⏯ ⏭ ⏮ ⏹ 🔇 🔊 🔉 led rgb reset boot "
@@ -78,7 +79,7 @@ def plain_form(token: str) -> str:
     """A piece of a legend in lower case; marks in and on the letters of a word are passed over."""
     token = token.replace("\ufe0f", "")
     if len(token) > 1 and any(character.isalnum() for character in token):
-        token = re.sub(r"[._\-/]", "", token) or token
+        token = re.sub(r"[._/]|(?<=\w)-(?=\w)", "", token) or token
         token = "".join(part for part in unicodedata.normalize("NFD", token) if not unicodedata.combining(part))
     return token.lower()
 
