@@ -106,7 +106,8 @@ def in_own_matrix(board: Board, own: Matrix) -> Optional[Wiring]:
 
 
 def cut_anew(board: Board, own: Matrix) -> Optional[Wiring]:
-    """The places of the board's matrix with its rows cut, or its columns, so that they fit; None where they don't."""
+    """The places of the board's matrix with its rows cut, or its columns, or its diodes turned, so that they fit; None if
+    they don't."""
     turned = own.turned()
     if board.diodes is Diodes.ROW2COL and own.fits_cut():
         matrix, line, other, diodes = own, "column", "row", Diodes.ROW2COL
@@ -117,6 +118,10 @@ def cut_anew(board: Board, own: Matrix) -> Optional[Wiring]:
     else:
         return None
     parts, length = matrix.parts(), matrix.length()
+    if parts == 1:
+        return Wiring([*matrix.places], "those of the board's matrix, its %ss as columns here" % line, [
+            "its %ss are columns here and its %ss rows, and each of its diodes is turned: the band is at its %s"
+            % (line, other, line)], anew=True)
     cuts = ["%ss %s column %d" % (other, spans(range(part * length, min((part + 1) * length, matrix.rows))), part)
             for part in range(parts)]
     joins = ["row %d here is %ss %s" % (at, other, " and ".join(map(str, range(at, matrix.rows, length))))
