@@ -8,7 +8,9 @@ from typing import Any, Optional
 
 
 class Refused(Exception):
-    """What is wrong with a file, in words."""
+    """What is wrong, in words; and with which file, if it is with one alone."""
+
+    file = ""
 
 
 class Tool(Enum):

@@ -25,7 +25,8 @@ def text_of(path: str) -> str:
     except UnicodeDecodeError as error:
         raise Refused("it is no UTF-8 text") from error
     if path.endswith((".c", ".h")) or (IN_C.search(text) and not text.lstrip().startswith(("{", "["))):
-        raise Refused("it is a keymap in C; `qmk c2json -kb KEYBOARD -km KEYMAP %s` makes JSON of it, which can be read" % path)
+        raise Refused("it is a keymap in C; `qmk c2json -kb KEYBOARD -km KEYMAP %s` makes JSON of it, which can be read"
+                      % path)
     return text
 
 
@@ -35,8 +36,8 @@ def line_of(text: str, place: int) -> int:
 
 
 def mended(text: str) -> tuple[str, list[str]]:
-    """A text without comments and without commas before a closing bracket, which JSON doesn't have and hand-written files do;
-    and what is told of them. Lines stay as they are."""
+    """A text without comments and without commas before a closing bracket, which JSON doesn't have and files by hand do; and
+    what is told of them. Lines stay as they are."""
     told: list[str] = []
 
     def blank(found: re.Match[str]) -> str:
@@ -64,8 +65,17 @@ def attempts(text: str) -> Iterator[str]:
 
 
 def loaded(path: str) -> tuple[Any, list[str]]:
-    """What a file's JSON says, and what is told of it."""
-    text = text_of(path)
+    """What a file's JSON says, and what is told of it, with the file's name."""
+    try:
+        data, told = read(text_of(path))
+    except Refused as fault:
+        fault.file = path
+        raise
+    return data, ["%s: %s" % (path, line) for line in told]
+
+
+def read(text: str) -> tuple[Any, list[str]]:
+    """What a text's JSON says, and what is told of it."""
     try:
         return json.loads(text), []
     except ValueError:
@@ -88,7 +98,8 @@ def loaded(path: str) -> tuple[Any, list[str]]:
 def judge_kind(data: Any) -> None:
     """Refuses a keymap in a board's place."""
     if is_of_vial(data):
-        raise Refused("it is a keymap that Vial has saved; the board's definition comes before it: from_kle vial.json FILE.vil")
+        raise Refused("it is a keymap that Vial has saved; the board's definition comes before it: from_kle vial.json "
+                      "FILE.vil")
     if isinstance(data, dict) and isinstance(data.get("layers"), list) and "layouts" not in data:
         raise Refused("it is a keymap; the board comes before it: from_kle info.json FILE, or VIA's definition")
 

@@ -67,8 +67,8 @@ def has_name(board: Board, keyboard: str, path: str) -> bool:
 
 
 def judge_board(board: Board, keymap: Keymap, path: str, any_keyboard: bool) -> list[str]:
-    """Refuses a keymap of another board; what is told where that may be. Layouts with names that many boards share fit all of
-    them."""
+    """Refuses a keymap of another board; what is told if it may be of one. Layouts with names that many boards share fit all
+    of them."""
     other = None
     if keymap.usb is not None and board.usb is not None and keymap.usb != board.usb:
         other = "the keymap is of the board with vendorProductId %d, and this one has %d" % (keymap.usb, board.usb)

@@ -47,7 +47,8 @@ class Said:
 
     def sign(self) -> str:
         """The only arrow or like sign that the key has, or nothing."""
-        return self.words[0].text if len(self.words) == 1 and not self.characters and len(self.words[0].text) == 1 else ""
+        alone = len(self.words) == 1 and not self.characters
+        return self.words[0].text if alone and len(self.words[0].text) == 1 else ""
 
     def digit(self) -> bool:
         """Whether a digit alone, or beside a move, is on the key."""
@@ -102,7 +103,8 @@ def keypad_of(keys: list[Key], said: list[Said]) -> set[int]:
         return set(range(len(keys))) if digits else set()
     for at, say in enumerate(said):
         if [word.key for word in say.words] == ["num"]:
-            block = {other for other, key in enumerate(keys) if -0.6 <= key.x - keys[at].x <= 3.6 and key.y >= keys[at].y - 0.1}
+            left, top = keys[at].x, keys[at].y
+            block = {other for other, key in enumerate(keys) if -0.6 <= key.x - left <= 3.6 and key.y >= top - 0.1}
             if len(block.intersection(digits)) >= 6:
                 return block
     return set()

@@ -8,12 +8,13 @@ from .board import Board, Choices, Diodes, Place, Refused, Tool
 from .layers import Role
 
 COLUMNS, ROWS = 12, 8
-COUNT = "with --count its keys are counted, for a board that is wired so"
+UNSAID = ("it doesn't say how its diodes stand: its %s is taken as a column here, so the band of each diode must be at its %s "
+          "(%s)")
 
 
 @dataclass(frozen=True)
 class Wiring:
-    """Where each key of a board stands here, None where it needs no place; how that was found, and what it asks of the board;
+    """The place of each key of a board here, None if it needs none; how that was found, and what it asks of the board;
     whether its own matrix is given up."""
 
     places: list[Optional[Place]]
@@ -39,7 +40,8 @@ def counted(roles: list[Role]) -> list[Optional[Place]]:
 def by_counting(roles: list[Role]) -> Wiring:
     """Places for keys that have none."""
     return Wiring([*counted(roles)], "counted, column by column",
-                  ["its keys are counted, eight a column, and the board must be wired so, the band of each diode at the column"])
+                  ["its keys are counted, eight a column, and the board must be wired so, the band of each diode at the "
+                   "column"])
 
 
 @dataclass(frozen=True)
@@ -95,17 +97,17 @@ def in_own_matrix(board: Board, own: Matrix) -> Optional[Wiring]:
     if board.diodes is Diodes.ROW2COL:
         straight.asks.append("its diodes are ROW2COL, the band at its column, so its rows and columns are those here")
         return straight if own.fits() else None
-    ask = "it doesn't say how its diodes stand: its %s is taken as a column here, so the band of each diode must be at its %s (%s)"
     if own.fits():
-        straight.asks.append(ask % ("column", "column", "ROW2COL")
+        straight.asks.append(UNSAID % ("column", "column", "ROW2COL")
                              + ("; --diodes COL2ROW takes the other way" if turned.fits() else ""))
         return straight
-    other.asks.append(ask % ("row", "row", "COL2ROW"))
+    other.asks.append(UNSAID % ("row", "row", "COL2ROW"))
     return other if turned.fits() else None
 
 
 def cut_anew(board: Board, own: Matrix) -> Optional[Wiring]:
-    """The places of the board's matrix with its rows cut, or its columns, so that they fit; None where they don't."""
+    """The places of the board's matrix with its rows cut, or its columns, or its diodes turned, so that they fit; None if
+    they don't."""
     turned = own.turned()
     if board.diodes is Diodes.ROW2COL and own.fits_cut():
         matrix, line, other, diodes = own, "column", "row", Diodes.ROW2COL
@@ -116,10 +118,15 @@ def cut_anew(board: Board, own: Matrix) -> Optional[Wiring]:
     else:
         return None
     parts, length = matrix.parts(), matrix.length()
+    if parts == 1:
+        return Wiring([*matrix.places], "those of the board's matrix, its %ss as columns here" % line, [
+            "its %ss are columns here and its %ss rows, and each of its diodes is turned: the band is at its %s"
+            % (line, other, line)], anew=True)
     cuts = ["%ss %s column %d" % (other, spans(range(part * length, min((part + 1) * length, matrix.rows))), part)
             for part in range(parts)]
-    joins = ["row %d here is %ss %s" % (at, other, " and ".join(map(str, range(at, matrix.rows, length)))) for at in range(length)]
-    return Wiring([*matrix.cut()], "those of the board's matrix, each of its %ss cut into %d columns here" % (line, parts), [
+    joins = ["row %d here is %ss %s" % (at, other, " and ".join(map(str, range(at, matrix.rows, length))))
+             for at in range(length)]
+    return Wiring([*matrix.cut()], "those of the board's matrix, each %s cut into %d columns here" % (line, parts), [
         "each of its %ss is cut into %d columns here: of %s 0 %s; and so on, %d columns here for each %s"
         % (line, parts, line, ", ".join(cuts), parts, line),
         "its %ss are joined: %s" % (other, "; ".join(joins)),
@@ -129,8 +136,9 @@ def cut_anew(board: Board, own: Matrix) -> Optional[Wiring]:
 
 def placed_anew(board: Board, own: Matrix, roles: list[Role]) -> Wiring:
     """Places for a board whose own matrix doesn't fit: which has to be wired anew."""
-    size = "its matrix has %d rows of %d columns%s, which twelve columns of eight rows can't take as they are, so it must be wired anew" % (
-        own.rows, own.columns, " and its diodes are %s" % board.diodes.value if board.diodes else "")
+    diodes = " and its diodes are %s" % board.diodes.value if board.diodes else ""
+    size = ("its matrix has %d rows of %d columns%s, which twelve columns of eight rows can't take as they are, so it must "
+            "be wired anew" % (own.rows, own.columns, diodes))
     wiring = cut_anew(board, own)
     if not wiring:
         wiring = Wiring(counted(roles), "chosen for it, eight keys a column", [
@@ -145,7 +153,8 @@ def judge(board: Board, places: list[Place]) -> None:
         if place in seen:
             raise Refused("two keys have the place %s in the matrix" % place)
         if place.row >= (board.rows or place.row + 1) or place.column >= (board.columns or place.column + 1):
-            raise Refused("a key has the place %s, and its matrix %s rows of %s columns" % (place, board.rows, board.columns))
+            raise Refused("a key has the place %s, and its matrix %s rows of %s columns"
+                          % (place, board.rows, board.columns))
         seen.add(place)
 
 

@@ -6,13 +6,14 @@ import unicodedata
 from dataclasses import dataclass
 from typing import Optional
 
-# In lower case and without the marks that `plain_form` passes over. The keys of the 84 that a board has once or at either end.
+# In lower case; `plain_form` passes over marks in words and on letters. First the keys that the 84 have beside the keypad.
 KEYS = {
-    "backspace": "backspace bksp bkspc bkspace bspc bs back backsp rück rücktaste löschen retourarrière retroceso ⌫ ⟵",
+    "backspace": "backspace bksp bkspc bkspace bspc bs back backsp rück rücktaste löschen retourarrière retroceso ⌫ "
+                 "⟵ <-- <--- ←-- ←---",
     "tab": "tab tabulator tabulador tabulation ↹ ⇥ ⇤ ⭾ →| |→ ←| |← |←→|",
-    "ctrl": "ctrl control ctl lctrl rctrl leftctrl rightctrl leftcontrol rightcontrol lcontrol rcontrol ctrll ctrlr strg "
-            "strgl strgr ⌃ ⎈",
-    "enter": "enter return ret entrée eingabe intro entrar invio giriş retur ⏎ ↵ ⮐ ↩ ⌤ ⎆ ↲",
+    "ctrl": "ctrl control ctl lctrl rctrl leftctrl rightctrl leftcontrol rightcontrol lcontrol rcontrol ctrll ctrlr "
+            "strg strgl strgr ⌃ ⎈",
+    "enter": "enter return ret entrée eingabe intro entrar invio giriş retur kpenter numenter ⏎ ↵ ⮐ ↩ ⌤ ⎆ ↲",
     "alt": "alt lalt ralt leftalt rightalt altl altr altgr altgraph opt option ⌥ ⎇",
     "space": "space spacebar spc leertaste espace espacio espaço spazio boşluk mellemrum mellomrom mellanslag ␣",
     "caps": "caps capslock capslk capslck shiftlock feststell feststelltaste verrmaj bloqmayús blocmaiusc ⇪ ⇬ 英数",
@@ -20,8 +21,8 @@ KEYS = {
     "num": "num numlock nmlk numlk numlck verrnum bloqnum blocnum ⇭",
     "scroll": "scroll scrolllock scrlk scrlock scrlck scrolllk rollen défil arrêtdéfil bloqdespl blocscorr",
     "sysreq": "sysreq sysrq sabf systabf syst petsis petsist",
-    "prtsc": "prtsc prtscn prtscr prntscrn printscreen printscrn print prntscr druck imprécran imprécr imppant imprpant stamp "
-             "⎙",
+    "prtsc": "prtsc prtscn prtscr prntscrn printscreen printscrn print prntscr druck imprécran imprécr imppant "
+             "imprpant stamp ⎙",
     "grave": "半角全角 全角半角 半全 ej",
     **{"f%d" % number: "f%d" % number for number in range(1, 11)}}
 # Keys that the 84 have on the keypad alone.
@@ -43,12 +44,15 @@ SHIFTS = {
     "rshift": "rshift rightshift shiftr shiftright rsft"}
 # Keys that the 84 don't have.
 OTHERS = (
-    "win lwin rwin leftwin rightwin windows super lsuper rsuper gui lgui rgui meta cmd command lcmd rcmd os hyper code logo logowindows8 logowindows7 ⌘ ❖ "
-    "⊞ menu app apps application kontextmenü menü menú ≣ ☰ ▤ fn fn1 fn2 fn3 function layer lower raise adjust pause break pausebreak brk "
-    "pauseattn pauseunterbr unterbr pauseuntbr untbr attn pausa pausainterr pausainter interr mute vol vol+ vol↑ vol↓ volup voldown voldn "
-    "volumeup volumedown volume play pauseplay playpause next prev previous stop media mail calc power sleep wake eject help "
-    "undo redo copy cut paste 00 000 無変換 変換 かな カタカナひらがな カタカナひらがなローマ字 ひらがな ローマ字 muhenkan henkan "
-    "kana 한영 한자 encoder knob ⏏ ⇓ ⇑ mouse keypad program progrm prog ⏯ ⏭ ⏮ ⏹ 🔇 🔊 🔉 led rgb reset boot " + " ".join("f%d" % number for number in range(11, 25)))
+    "win lwin rwin winkey leftwin rightwin leftgui rightgui leftsuper rightsuper windows super lsuper rsuper gui lgui rgui "
+    "meta cmd command lcmd rcmd ◇ ◆ mo(1) mo(2) mo(3) l1 l2 l3 os hyper "
+    "code logo logowindows8 logowindows7 ⌘ ❖ ⊞ menu app apps application kontextmenü menü menú ≣ ☰ ▤ fn fn1 fn2 fn3 "
+    "function layer lower raise adjust pause break pausebreak brk pauseattn pauseunterbr unterbr pauseuntbr untbr "
+    "attn pausa pausainterr pausainter interr mute vol vol+ vol- vol↑ vol↓ volup voldown voldn volumeup volumedown volume "
+    "play pauseplay playpause next prev previous stop media mail calc power sleep wake eject help undo redo copy cut "
+    "paste 00 000 無変換 変換 かな カタカナひらがな カタカナひらがなローマ字 ひらがな ローマ字 muhenkan henkan kana 한영 한자 encoder knob ⏏ ⇓ ⇑ mouse "
+    "keypad program progrm prog ⏯ ⏭ ⏮ ⏹ 🔇 🔊 🔉 led rgb reset boot "
+    + " ".join("f%d" % number for number in range(11, 25)))
 # Signs that mean nothing beside the words of some keys: the arrow of Backspace, Tab, Enter, Shift or a lock.
 ARROWS = frozenset("↑←→↓⬆⬅➡⬇⇩")
 WITH_ARROWS = frozenset(["backspace", "tab", "enter", "caps", "num", "scroll", "shift", "lshift", "rshift"])
@@ -75,7 +79,7 @@ def plain_form(token: str) -> str:
     """A piece of a legend in lower case; marks in and on the letters of a word are passed over."""
     token = token.replace("\ufe0f", "")
     if len(token) > 1 and any(character.isalnum() for character in token):
-        token = re.sub(r"[._\-/]", "", token) or token
+        token = re.sub(r"[._/]|(?<=\w)-(?=\w)", "", token) or token
         token = "".join(part for part in unicodedata.normalize("NFD", token) if not unicodedata.combining(part))
     return token.lower()
 
