@@ -26,7 +26,7 @@ typedef struct {
     long seed, length, polling, pull, hold, requests, inhibits, keys, rise, latency, period, resend;
     long look, outl, anl, ins, entry_from, entry_to, noise, noisy, noise_width;
     long upset, in_service, place, flip_bank, flip_service, stop_timer, stop_interrupt, scramble;
-    long trace, watch, press, press_at, release_at, low_wire, low_from, low_to, ram, pins_only;
+    long trace, watch, press, press_at, release_at, low_wire, low_from, low_to, ram, pins_only, lag, all_keys;
 } Asked;
 static Asked asked = {.seed = 1, .length = 2000, .pull = 100 * US, .hold = 100 * US, .period = 10 * US, .place = -1,
                       .noise_width = 2 * US, .press = -1, .low_wire = -1};
@@ -67,6 +67,8 @@ static const Word words[] = {
     {"low_wire", &asked.low_wire, 1},     // a wire that something holds low from `low_from` to `low_to` (milliseconds)
     {"low_from", &asked.low_from, 1},     {"low_to", &asked.low_to, 1},
     {"ram", &asked.ram, 1},               // what memory holds at power-on
+    {"lag", &asked.lag, 1},               // how much later data falls than it is pulled, in units of 0.25 microseconds
+    {"all_keys", &asked.all_keys, 1},     // 1: the upset is that all keys go down at once, and up at once
     {"no_host", &asked.pins_only, 1},     // 1: nothing is plugged in
 };
 
@@ -81,11 +83,15 @@ static uint32_t drawn(uint32_t below) { // xorshift64*: a number below the one g
 static Time until_next(long a_second) { return a_second ? 1 + drawn((uint32_t)(2000 * MS / a_second)) : FOREVER; }
 
 // ------------------------------------------------------------------------------------------------ wires and matrix
-typedef struct { bool high, pulls; Time pulled, noisy_until; } Wire; // somebody pulls it now, or did last at `pulled`
+typedef struct {
+    bool high, pulls;   // somebody pulls it now
+    Time pulled, free;  // when it was last pulled, and when it was last free
+    Time noisy_until;
+} Wire;
 typedef struct { Time at; uint8_t port, value; } Write;
 
 static Time now;
-static Wire wire[2] = {{true, false, -FOREVER, 0}, {true, false, -FOREVER, 0}};
+static Wire wire[2] = {{true, false, -FOREVER, 0, 0}, {true, false, -FOREVER, 0, 0}};
 static uint8_t port[3] = {0xFF, 0xFF, 0xFF}; // what the pins of the bus, port 1 and port 2 show
 static Write writes[4];
 static int pending;
@@ -248,10 +254,13 @@ static void type_step(void) { // one key after another, never two edges within t
     }
 }
 
+static Time lag(int which) { return which == DATA ? asked.lag : 0; }
+
 static void wire_step(int which, bool pulls) {
     Wire *at = &wire[which];
     at->pulls = pulls || now < at->noisy_until;
-    if (at->pulls) at->pulled = now;
+    if (!at->pulls) at->free = now;
+    else if (now - at->free > lag(which)) at->pulled = now;
     at->high = now - at->pulled > asked.rise;
 }
 
@@ -295,6 +304,7 @@ static Time next_event(Time at) {
     if (pending) at = sooner(at, writes[0].at > now ? writes[0].at : now + 1);
     for (int i = 0; i < 2; i++) {
         at = sooner(at, wire[i].noisy_until);
+        if (wire[i].pulls) at = sooner(at, wire[i].free + lag(i) + 1);
         if (!wire[i].pulls && !wire[i].high) at = sooner(at, wire[i].pulled + asked.rise + 1);
     }
     if (asked.pins_only) return at;
@@ -308,7 +318,10 @@ static void run_to(Time at) {
     bool quiet = false; // nothing has changed in the last step
     while (now < at) {
         if (quiet) now = next_event(at) - 1;
-        for (int i = 0; i < 2; i++) if (wire[i].pulls) wire[i].pulled = now;
+        for (int i = 0; i < 2; i++) {
+            if (!wire[i].pulls) wire[i].free = now;
+            else if (now - wire[i].free > lag(i)) wire[i].pulled = now;
+        }
         Host before = host;
         bool levels = wire[CLOCK].high, level_of_data = wire[DATA].high, pulls = wire[CLOCK].pulls, pulls_data = wire[DATA].pulls;
         world_step();
@@ -552,7 +565,14 @@ static unsigned past_the_program(void) { // a place behind which there are zeros
     return last + drawn(2048 - last);
 }
 
+static void press_all(void) {
+    for (int place = 0; place < 96; place++) key[place] = rom[0x300 + place] != 0;
+    run_chip(100 * MS);
+    memset(key, 0, sizeof key);
+}
+
 static void upset(void) {
+    if (asked.all_keys) { press_all(); return; }
     while (chip.in_service != (bool)asked.in_service) if (!step()) return;
     for (long steps = drawn(asked.in_service ? 150 : 20); steps && chip.in_service == (bool)asked.in_service; steps--) step();
     if (asked.scramble) {
