@@ -9,6 +9,7 @@ from lists import matrix
 from tables import HERE, Key, Node, Part, nets_of
 
 SYMBOLS = Path("/usr/share/kicad/symbols")
+FOOTPRINTS = Path("/usr/share/kicad/footprints")
 DOCS = HERE.parent / "docs"
 SUPPLY = ("+5V", "GND")
 # The words of BOARD.md's tables of pins, and the net that they mean; {} is what the brackets match.
@@ -269,6 +270,16 @@ def _kicad_symbol(name: str) -> Tree:
     symbols = _library(library)
     extends = named(symbols[symbol], "extends")
     return symbols[extends[0][1]] if extends else symbols[symbol]
+
+
+def footprints_are(board: Board) -> Faults:
+    """Each type's footprint is one of KiCad's, with a pad for each pin."""
+    for part_type in {part.type.name: part.type for part in board.parts.values()}.values():
+        folder, name = part_type.footprint.split(":")
+        path = FOOTPRINTS / (folder + ".pretty") / (name + ".kicad_mod")
+        pads = re.findall(r'\(pad "?(\w+)"? ', path.read_text(encoding="utf-8")) if path.is_file() else []
+        if {pin.number for pin in part_type.pins.values()} - set(pads):
+            yield "%s: KiCad's footprint %s has no such pads" % (part_type.name, part_type.footprint)
 
 
 def like_kicad(board: Board) -> Faults:
