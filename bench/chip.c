@@ -308,8 +308,8 @@ static Time next_event(Time at) {
         if (!wire[i].pulls && !wire[i].high) at = sooner(at, wire[i].pulled + asked.rise + 1);
     }
     if (asked.pins_only) return at;
-    Time due[] = {host.until, host.until - 5 * US, host.sample_at, host.next_request, host.next_inhibit, host.next_noise, next_key,
-                  host.awaits ? host.reply_by : FOREVER, asked.polling ? host.next_poll : FOREVER};
+    Time due[] = {host.until, host.until - 5 * US, host.sample_at, host.next_request, host.next_inhibit, host.next_noise,
+                  next_key, host.awaits ? host.reply_by : FOREVER, asked.polling ? host.next_poll : FOREVER};
     for (size_t i = 0; i < sizeof due / sizeof *due; i++) at = sooner(at, due[i]);
     return at;
 }
@@ -323,10 +323,10 @@ static void run_to(Time at) {
             else if (now - wire[i].free > lag(i)) wire[i].pulled = now;
         }
         Host before = host;
-        bool levels = wire[CLOCK].high, level_of_data = wire[DATA].high, pulls = wire[CLOCK].pulls, pulls_data = wire[DATA].pulls;
+        bool was[] = {wire[CLOCK].high, wire[DATA].high, wire[CLOCK].pulls, wire[DATA].pulls};
         world_step();
-        quiet = !memcmp(&before, &host, sizeof host) && levels == wire[CLOCK].high && level_of_data == wire[DATA].high &&
-                pulls == wire[CLOCK].pulls && pulls_data == wire[DATA].pulls;
+        bool is[] = {wire[CLOCK].high, wire[DATA].high, wire[CLOCK].pulls, wire[DATA].pulls};
+        quiet = !memcmp(&before, &host, sizeof host) && !memcmp(was, is, sizeof was);
     }
 }
 
@@ -411,12 +411,12 @@ static void operate(unsigned digit, uint8_t value) {
 }
 
 static bool is_long(uint8_t b) { // two cycles?
-    static const uint8_t singles[] = {0x02, 0x08, 0x09, 0x0A, 0x39, 0x3A, 0x80, 0x81, 0x83, 0x90, 0x91, 0x93, 0xA3, 0xB3, 0xE3, 0x03, 0x13,
-        0x23, 0x43, 0x53, 0xD3, 0x16, 0x26, 0x36, 0x46, 0x56, 0x76, 0x86, 0x96, 0xB6, 0xC6, 0xE6, 0xF6, 0x88, 0x89, 0x8A, 0x98, 0x99, 0x9A, 0xB0, 0xB1};
-    if ((b & 15) == 4 || (b & 0x1F) == 0x12 || (b & 0xF8) == 0xB8 || (b & 0xF8) == 0xE8) return true;
-    if ((b & 0xCC) == 0x0C && (b < 0x40)) return (b & 0xF0) != 0x10 && (b & 0xF0) != 0x20;
-    if ((b & 0xEC) == 0x8C) return true;
-    return memchr(singles, b, sizeof singles) != NULL;
+    static const uint8_t singles[] = {
+        0x02, 0x03, 0x08, 0x09, 0x0A, 0x13, 0x16, 0x23, 0x26, 0x36, 0x39, 0x3A, 0x43, 0x46, 0x53, 0x56, 0x76, 0x80, 0x81, 0x83, 0x86,
+        0x88, 0x89, 0x8A, 0x90, 0x91, 0x93, 0x96, 0x98, 0x99, 0x9A, 0xA3, 0xB0, 0xB1, 0xB3, 0xB6, 0xC6, 0xD3, 0xE3, 0xE6, 0xF6};
+    bool jumps = (b & 15) == 4 || (b & 0x1F) == 0x12 || (b & 0xF8) == 0xE8;
+    bool expander = (b & 0x0C) == 0x0C && (b >> 4 == 0 || b >> 4 == 3 || b >> 4 == 8 || b >> 4 == 9);
+    return jumps || expander || (b & 0xF8) == 0xB8 || memchr(singles, b, sizeof singles);
 }
 
 // The rows that work on a cell: a register, or what R0 or R1 points at.
@@ -664,7 +664,7 @@ static bool ask(char *word) {
 
 int main(int argc, char **argv) {
     if (argc < 2) return fail("words are IMAGE NAME=NUMBER ..", "words");
-    if (!read_hex(argv[1])) return fail("no HEX file of 2,048 places at most", argv[1]);
+    if (!read_hex(argv[1])) return fail("can't be read, or is no HEX file", argv[1]);
     for (int i = 2; i < argc; i++)
         if (!ask(argv[i])) return fail("no such word", argv[i]);
     noise_state = 0x9E3779B97F4A7C15ULL * (uint64_t)(asked.seed + 1);

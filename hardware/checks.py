@@ -13,10 +13,25 @@ FOOTPRINTS = Path("/usr/share/kicad/footprints")
 DOCS = HERE.parent / "docs"
 SUPPLY = ("+5V", "GND")
 # The words of BOARD.md's tables of pins, and the net that they mean; {} is what the brackets match.
-GOES = ((r"the clock wire$", "CLOCK"), (r"the data wire$", "DATA"), (r"ground", "GND"), (r"\+5 V", "+5V"), (r"row (\d)", "ROW{}"),
-        (r"crystal", "XTAL{}"), (r"1 microfarad", "RESET"), (r"47 ohms to the (clock|data) wire", "PLUG_{}"), (r"decoder, input ([A-D])", "COL_{}"), (r"column (\d+)", "COL{}"),
-        (r"processor, (P1\.\d)", "{}"), (r"the clock wire's buffer", "CLOCK_OUT"), (r"the data wire's buffer", "DATA_OUT"),
-        (r"(Scroll|Num|Caps) Lock's buffer", "{}"), (r"(Scroll|Num|Caps) Lock's light", "LED_{}"), (r"open", None))
+GOES = (
+    (r"the clock wire$", "CLOCK"),
+    (r"the data wire$", "DATA"),
+    (r"the clock wire's buffer", "CLOCK_OUT"),
+    (r"the data wire's buffer", "DATA_OUT"),
+    (r"47 ohms to the (clock|data) wire", "PLUG_{}"),
+    (r"ground", "GND"),
+    (r"\+5 V", "+5V"),
+    (r"row (\d)", "ROW{}"),
+    (r"column (\d+)", "COL{}"),
+    (r"decoder, input ([A-D])", "COL_{}"),
+    (r"processor, (P1\.\d)", "{}"),
+    (r"crystal", "XTAL{}"),
+    (r"1 microfarad", "RESET"),
+    (r"(Scroll|Num|Caps) Lock's buffer", "{}"),
+    (r"(Scroll|Num|Caps) Lock's light", "LED_{}"),
+    (r"open", None),
+)
+PARTS_ROW = re.compile(r"^\| ((?:[A-Z]+\d+(?: to [A-Z]+\d+)?(?:, )?)+) \| ([^|]+?) \| (\d+) \|", re.MULTILINE)
 
 
 class Board:
@@ -159,8 +174,8 @@ def port_two_works(board: Board) -> Faults:
             yield "the %s wire isn't clamped to both supplies" % wire
     for pin in ("P2.4", "P2.5", "P2.6"):
         cathode = buffers.get(board.net("U1", pin))
-        lights = [part for part in board.of_type("led") if part.value == pins[pin] and cathode and part.nets.get("K") == cathode]
-        if len(lights) != 1 or not board.has(("resistor",), first="+5V", second=lights[0].nets.get("A")):
+        lights = [part for part in board.of_type("led") if part.value == pins[pin] and part.nets.get("K") == cathode]
+        if cathode is None or len(lights) != 1 or not board.has(("resistor",), first="+5V", second=lights[0].nets.get("A")):
             yield "%s doesn't light %s through its buffer and a resistor" % (pin, pins[pin])
 
 
@@ -220,7 +235,7 @@ def page_pins(board: Board, page: str) -> Faults:
 def page_parts(board: Board, page: str) -> Faults:
     """BOARD.md's table of parts: each part in one row, with the row's count and value."""
     left = dict(board.parts)
-    for references, value, count in re.findall(r"^\| ((?:[A-Z]+\d+(?: to [A-Z]+\d+)?(?:, )?)+) \| ([^|]+?) \| (\d+) \|", page, re.M):
+    for references, value, count in PARTS_ROW.findall(page):
         names: List[str] = []
         for first, last in re.findall(r"([A-Z]+\d+)(?: to ([A-Z]+\d+))?", references):
             letters, begin = re.match(r"([A-Z]+)(\d+)", first).groups()

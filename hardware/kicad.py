@@ -6,7 +6,8 @@ from typing import Any, Dict, List, Set, Tuple
 from drawing import SHEET, Line, Placed, Shape, ends, placed, shape
 from tables import Key, Nets, Node, Part, Type, nets_of
 
-KINDS = {"in": "input", "out": "output", "io": "bidirectional", "oc": "open_collector", "power": "power_in", "passive": "passive"}
+KINDS = {"in": "input", "out": "output", "io": "bidirectional", "oc": "open_collector", "power": "power_in",
+         "passive": "passive"}
 SPACE = uuid.UUID("6b626434-3800-4000-8000-000000000000")
 LIBRARY = "kbd48"
 SMALL = "(effects (font (size 1 1)))"
@@ -40,14 +41,14 @@ def _symbol(part_type: Type, drawn: Shape) -> str:
 
 
 def _properties(reference: str, value: str, footprint: str, order: str, x: float, y: float, above: float = 2.54) -> str:
-    fields = [("Reference", reference, y - above, SMALL), ("Value", value, y + above, SMALL), ("Footprint", footprint, y, HIDDEN),
-              ("Datasheet", "", y, HIDDEN)] + [("Order", order, y, HIDDEN)] * bool(order)
+    fields = [("Reference", reference, y - above, SMALL), ("Value", value, y + above, SMALL),
+              ("Footprint", footprint, y, HIDDEN), ("Datasheet", "", y, HIDDEN)] + [("Order", order, y, HIDDEN)] * bool(order)
     return "\n  ".join('(property "%s" "%s" (id %d) (at %g %g 0) %s)' % (name, text, number, x, at, effects)
                        for number, (name, text, at, effects) in enumerate(fields))
 
 
-FLAG = ('(symbol "flag" (power) (pin_numbers hide) (pin_names (offset 0) hide) (in_bom no) (on_board no)\n  %s\n  (symbol "flag_1_1"\n   '
-        '(pin power_out line (at 0 0 90) (length 2.54) (name "flag" %s) (number "1" %s))))')
+FLAG = ('(symbol "flag" (power) (pin_numbers hide) (pin_names (offset 0) hide) (in_bom no) (on_board no)\n  %s\n'
+        '  (symbol "flag_1_1"\n   (pin power_out line (at 0 0 90) (length 2.54) (name "flag" %s) (number "1" %s))))')
 
 
 def _label(net: str, x: float, y: float, side: int) -> str:
@@ -76,7 +77,8 @@ def _flags() -> Tuple[List[str], List[str]]:
     body, paths = [], []
     for number, net in enumerate(("+5V", "GND"), 1):
         x, y, name = 25.4 * number, 25.4, "#FLG%d" % number
-        body.append('(symbol (lib_id "%s:flag") (at %g %g 0) (unit 1) (in_bom no) (on_board no) (uuid %s)\n  %s (pin "1" (uuid %s)))' % (
+        body.append('(symbol (lib_id "%s:flag") (at %g %g 0) (unit 1) (in_bom no) (on_board no) (uuid %s)\n'
+                    '  %s (pin "1" (uuid %s)))' % (
             LIBRARY, x, y, _id(name), _properties(name, "flag", "", "", x, y), _id(name, 1)))
         body.append(_label(net, x, y, 1))
         paths.append('(path "/%s" (reference "%s") (unit 1) (value "flag") (footprint ""))' % (_id(name), name))
@@ -97,7 +99,8 @@ def library(parts: List[Part]) -> str:
 
 def library_table() -> str:
     """The project's table of libraries."""
-    return '(sym_lib_table\n  (lib (name "%s")(type "KiCad")(uri "${KIPRJMOD}/%s.kicad_sym")(options "")(descr ""))\n)\n' % (LIBRARY, LIBRARY)
+    place = "${KIPRJMOD}/%s.kicad_sym" % LIBRARY
+    return '(sym_lib_table\n  (lib (name "%s")(type "KiCad")(uri "%s")(options "")(descr ""))\n)\n' % (LIBRARY, place)
 
 
 def schematic(parts: List[Part], keys: List[Key]) -> str:
@@ -119,10 +122,12 @@ def netlist(parts: List[Part]) -> str:
     """The netlist."""
     numbers = {part.reference: part.type.pins for part in parts}
     lines = ['(export (version "E")', " (components"]
-    lines += ['  (comp (ref "%s") (value "%s") (footprint "%s"))' % (part.reference, part.value, part.type.footprint) for part in parts]
+    lines += ['  (comp (ref "%s") (value "%s") (footprint "%s"))' % (part.reference, part.value, part.type.footprint)
+              for part in parts]
     lines += [" )", " (nets"]
     for code, (net, nodes) in enumerate(sorted(nets_of(parts).items()), 1):
-        pins = "".join(' (node (ref "%s") (pin "%s"))' % (reference, numbers[reference][pin].number) for reference, pin in sorted(nodes))
+        pins = "".join(' (node (ref "%s") (pin "%s"))' % (reference, numbers[reference][pin].number)
+                       for reference, pin in sorted(nodes))
         lines.append('  (net (code "%d") (name "%s")%s)' % (code, net, pins))
     return "\n".join(lines + [" ))", ""])
 
