@@ -346,6 +346,7 @@ typedef struct {
     Time request_at, entry_late;
 } Chip;
 static Chip chip = {.latch = {0xFF, 0xFF, 0xFF}};
+static Time last_entry, longest_tick; // from one interrupt's entry to the next
 static Time x; // the cycle in which the instruction began, in tenths
 
 static uint8_t psw(void) { return (uint8_t)(chip.c << 7 | chip.ac << 6 | chip.f0 << 5 | chip.bank << 4 | 8 | chip.sp); }
@@ -538,6 +539,8 @@ static bool step(void) { // whether there was an instruction
     unsigned cycles = 2;
     if (chip.request && chip.enabled && !chip.in_service && x >= chip.request_at + chip.entry_late) {
         chip.request = false;
+        if (last_entry && x - last_entry > longest_tick) longest_tick = x - last_entry;
+        last_entry = x;
         call(7);
         chip.in_service = true;
     } else {
@@ -690,6 +693,7 @@ int main(int argc, char **argv) {
     }
     run_chip(500 * MS + drawn(20 * MS));
     upset();
-    printf("works=%d\n", works_again());
+    bool works = works_again();
+    printf("works=%d longest=%ld\n", works, (long)(longest_tick / US));
     return 0;
 }
