@@ -26,7 +26,7 @@ typedef struct {
     long seed, length, polling, pull, hold, requests, inhibits, keys, rise, latency, period, resend;
     long look, outl, anl, ins, entry_from, entry_to, noise, noisy, noise_width;
     long upset, in_service, place, flip_bank, flip_service, stop_timer, stop_interrupt, scramble;
-    long trace, watch, press, press_at, release_at, low_wire, low_from, low_to, ram, pins_only, lag, all_keys;
+    long trace, watch, press, press_at, release_at, low_wire, low_from, low_to, ram, pins_only, lag, all_keys, flip_bit, reset;
 } Asked;
 static Asked asked = {.seed = 1, .length = 2000, .pull = 100 * US, .hold = 100 * US, .period = 10 * US, .place = -1,
                       .noise_width = 2 * US, .press = -1, .low_wire = -1};
@@ -69,6 +69,8 @@ static const Word words[] = {
     {"ram", &asked.ram, 1},               // what memory holds at power-on
     {"lag", &asked.lag, 1},               // how much later data falls than it is pulled, in units of 0.25 microseconds
     {"all_keys", &asked.all_keys, 1},     // 1: the upset is that all keys go down at once, and up at once
+    {"flip_bit", &asked.flip_bit, 1},     // a bit of this cell of data memory flips; -1: of any
+    {"reset", &asked.reset, 1},           // 1: after the upset the host sends FF
     {"no_host", &asked.pins_only, 1},     // 1: nothing is plugged in
 };
 
@@ -592,6 +594,7 @@ static void upset(void) {
         chip.enabled = drawn(2);
         chip.runs = drawn(2);
     }
+    if (asked.flip_bit) chip.ram[asked.flip_bit > 0 ? asked.flip_bit & 127 : drawn(128)] ^= (uint8_t)(1 << drawn(8));
     chip.bank ^= asked.flip_bank;
     chip.in_service ^= asked.flip_service;
     chip.runs &= !asked.stop_timer;
@@ -603,6 +606,11 @@ static void upset(void) {
 
 // After an upset: does a key that is pressed and let go give its bytes, and is EE echoed?
 static bool works_again(void) {
+    if (asked.reset) {
+        run_chip(100 * MS);
+        host.wants = true;
+        host.byte = 0xFF;
+    }
     run_chip(1500 * MS);
     counted = (Counted){0};
     first_due = last_due;
