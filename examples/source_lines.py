@@ -39,7 +39,7 @@ def length(statement):
 
 
 def read_line(text, place):
-    """A line, where the lines before it end at a place."""
+    """A line, if the lines before it end at this place."""
     said = text.split(";")[0].strip()
     label = re.match("(" + NAME + r")[ \t]*:", said, re.IGNORECASE)
     statement = said[label.end():].strip() if label else said
@@ -59,6 +59,11 @@ def read_source(source):
         line = read_line(text, place)
         place = line.place + line.bytes
         yield line
+
+
+def labels_of(lines):
+    """The labels that lines define, as the lines spell them, with their places."""
+    return ((line.label, line.place) for line in lines if line.label)
 
 
 def names_of(lines):
