@@ -4,6 +4,7 @@ from __future__ import annotations
 import os
 import re
 import subprocess
+import sys
 from dataclasses import dataclass
 from typing import Any, Optional
 
@@ -11,6 +12,27 @@ HEXADECIMAL = {"pc", "a", "psw", "t", "pre", "p1", "p2", "bus"}
 CELLS = 128
 # The state of the processor, by the names of the state text.
 State = dict[str, Any]
+
+
+class Unanswered(Exception):
+    """There are no vectors, for this reason."""
+
+
+def program_here(top: str) -> str:
+    """The program that the launcher in this folder calls: the proved one, or else the unproved build, which is made first
+    if there is none. KBD48 names another."""
+    if "KBD48" in os.environ:
+        return os.environ["KBD48"]
+    if not os.path.isfile(os.path.join(top, "crates.txt")):
+        return os.path.join(top, "bin", "kbd48")
+    out = os.path.join(top, "crates", "kbd48", "out")
+    asked = ["sh", "-c", 'here=$1 && . "$1/launcher/kept.sh" && stands "$2"', "sh", top, out]
+    if subprocess.run(asked, check=False).returncode == 0:
+        return os.path.join(out, "kbd48")
+    if subprocess.run([os.path.join(top, "try"), "--build"], check=False).returncode != 0:
+        raise Unanswered("there is no program to ask")
+    print("vectors: NOT PROVED: the vectors come from a build of which nothing is proved", file=sys.stderr)
+    return os.path.join(out, "unproved", "kbd48")
 
 
 def hex_text(image: dict[int, int]) -> str:
@@ -43,7 +65,7 @@ def state_of(lines: list[str]) -> State:
 
 @dataclass(frozen=True)
 class Seen:
-    """A step as `probe` shows it: the state before the step before, and state and memory before and behind the step."""
+    """A step as `probe` shows it: the state before the step before, and state and memory before and after the step."""
 
     earlier: State
     before: State
@@ -66,12 +88,15 @@ class Kbd48:
         return path
 
     def call(self, *words: str) -> Optional[str]:
-        """What the program prints, or None where it refuses."""
-        done = subprocess.run([self.program, *words], capture_output=True, check=False, encoding="ascii")
+        """What the program prints, or None if it refuses."""
+        try:
+            done = subprocess.run([self.program, *words], capture_output=True, check=False, encoding="ascii")
+        except OSError as error:
+            raise Unanswered(f"{self.program}: {error.strerror}") from error
         return done.stdout if done.returncode == 0 else None
 
     def seen(self, image: dict[int, int], keys: str, steps: int) -> Optional[Seen]:
-        """The step behind so many steps of an image on the board under a key file, or None where the run ends before."""
+        """The step after so many steps of an image on the board under a key file, or None if the run ends before."""
         memory = ["ram %02X" % cell for cell in range(CELLS)]
         script = ["step %d" % (steps - 1), "show", "step 1", "show", *memory, "step 1", "show", *memory]
         text = self.call("probe", self.written("image.hex", hex_text(image)), self.layout, self.written("keys", keys),
@@ -96,7 +121,9 @@ class Texts:
     def __init__(self, kbd48: Kbd48):
         image = {2 * first: first for first in range(256)}
         image[511] = 0xFF
-        listed = kbd48.call("list", kbd48.written("image.hex", hex_text(image))) or ""
+        listed = kbd48.call("list", kbd48.written("image.hex", hex_text(image)))
+        if listed is None:
+            raise Unanswered(f"{kbd48.program} gives no listing")
         self.texts: list[str] = []
         lines = iter(listed.splitlines())
         for _ in range(256):

@@ -7,6 +7,8 @@ from typing import Any, Optional
 
 # Where a program begins; the places below are free for the first jump and the entries of interrupts.
 BEGIN = 0x010
+# The carries in the status.
+C, AC = 0x80, 0x40
 # The pressed keys' edges are done by then; a key file's stamp 0 is cycle 4,096.
 LATER = 2240
 # Instructions of one byte that change nothing of what a program sets afterwards: one of them stands at place 0.
@@ -55,6 +57,9 @@ class Wanted:
     # The levels of the clock and data wires (T0 and T1), where one is wanted.
     t0: Optional[int] = None
     t1: Optional[int] = None
+    # A, and C and AC in the status, where they are wanted.
+    accumulator: Optional[int] = None
+    carries: Optional[int] = None
     # Whether bit 11 of the counter is set; the place of the step.
     high: bool = False
     place: int = 0x200
@@ -162,13 +167,16 @@ class Program:
         self.put(0x23, second), self.put(0x3A)
         self.put(0x23, self.chance.byte()), self.put(0x02)
 
-    def flags(self) -> None:
-        """F1, the external interrupt's mark, and the status."""
+    def flags(self, wanted: Wanted) -> None:
+        """F1, the external interrupt's mark, and the status with the wanted carries."""
         if self.chance.often(0.5):
             self.put(0xB5)
         if self.chance.often(0.3):
             self.put(0x05)
-        self.put(0x23, self.chance.byte()), self.put(0xD7)
+        status = self.chance.byte()
+        if wanted.carries is not None:
+            status = status & ~(C | AC) | wanted.carries
+        self.put(0x23, status), self.put(0xD7)
 
     def approach(self, how: str) -> list[int]:
         """The instruction right before the step."""
@@ -201,7 +209,7 @@ class Program:
             waits = (self.chance.one_of(30, 31) if near == "step" else 32 + self.chance.below(last)) - rest
         for _ in range(waits):
             self.put(0x00)
-        self.accumulator = self.chance.byte()
+        self.accumulator = self.chance.byte() if wanted.accumulator is None else wanted.accumulator
         self.put(0x23, self.accumulator)
         if due_by_fall:
             self.put(0x9A, 0xFD)
@@ -224,6 +232,6 @@ def program_of(chance: Chance, wanted: Wanted, names: list[str]) -> Program:
         program.flag_cleared()
     program.memory()
     program.ports(wanted)
-    program.flags()
+    program.flags(wanted)
     program.finish(wanted)
     return program

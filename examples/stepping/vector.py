@@ -4,7 +4,7 @@ from __future__ import annotations
 from typing import Any, Optional
 
 from .machine import Kbd48, Seen, State, Texts
-from .program import Chance, Program, Wanted, program_of
+from .program import AC, C, Chance, Program, Wanted, program_of
 
 CLOCK, DATA = 1, 2
 # First bytes of the instructions to which a wire, the timer or a request matters.
@@ -12,8 +12,11 @@ OF_T0, OF_T1 = {0x26, 0x36}, {0x46, 0x56}
 OF_TIMER = {0x25, 0x35, 0x42, 0x45, 0x55, 0x62, 0x65}
 OF_SERVICE = {0x25, 0x35, 0x83, 0x93, *range(0x04, 0x100, 0x20), *range(0x14, 0x100, 0x20)}
 READS_PAGE = {0xA3, 0xB3}
-INS, JTF, MOVP3, DIS_TCNTI, RETR = 0x08, 0x16, 0xE3, 0x35, 0x93
-
+INS, JTF, MOVP3, DIS_TCNTI, RETR, DA = 0x08, 0x16, 0xE3, 0x35, 0x93, 0x57
+# What DA A finds, in turn: the digits of A from and to, the high one first, and the carries. The first four tell most: it
+# adds 6 with AC clear, and with AC set; it adds 60 for the carry of the low digit, for C, and for the high digit.
+DECIMAL = [((9, 9), (10, 15), 0), ((0, 8), (0, 9), C | AC), ((0, 8), (10, 15), C), ((10, 15), (0, 9), AC),
+           ((0, 8), (10, 15), AC), ((0, 9), (0, 9), C), ((0, 15), (10, 15), C | AC), ((0, 9), (0, 9), 0)]
 
 # Instructions that do different things in different states come again in each turn.
 RICH = [0x08, 0x16, 0x26, 0x35, 0x36, 0x46, 0x55, 0x56, 0x57, 0x57, 0x57, 0x62, 0x86, 0x93, 0xA3, 0xB3]
@@ -30,6 +33,11 @@ def place_for(chance: Chance, first: int, long: bool, turn: int) -> int:
     if at_end or kind < 4:
         return 0x2FF + (chance.below(5) << 8) - before_end
     return 0x204 + chance.below(0x5F0)
+
+
+def digit(chance: Chance, least: int, most: int) -> int:
+    """A digit from the least to the most."""
+    return least + chance.below(most - least + 1)
 
 
 def wanted_for(chance: Chance, texts: Texts, first: int, turn: int) -> Wanted:
@@ -52,6 +60,10 @@ def wanted_for(chance: Chance, texts: Texts, first: int, turn: int) -> Wanted:
         wanted.flag = odd
     if first == INS and odd:
         wanted.keys = True
+    if first == DA:
+        high, low, wanted.carries = DECIMAL[turn % len(DECIMAL)]
+        wanted.accumulator = digit(chance, *high) << 4 | digit(chance, *low)
+        wanted.near = "" if wanted.near == "due" else wanted.near
     if first in OF_T0:
         wanted.t0, wanted.approach = int(not odd), ""
     if first in OF_T1:
