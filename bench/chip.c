@@ -119,14 +119,16 @@ static Counted counted;
 enum { EXPECTED = 4096 };
 static uint8_t expected[EXPECTED];
 static unsigned first_due, last_due;
-static bool started; // AA has come once
+static bool started; // a byte has come
 
 static bool is_odd(int byte) { return __builtin_parity((unsigned)byte); }
 
 static void take(int byte) { // a whole byte of the keyboard's
+    bool aa_due = first_due != last_due && expected[first_due % EXPECTED] == 0xAA;
     host.awaits = false;
+    started = true;
     if (byte == 0xEE) { counted.echoes++; return; }
-    if (byte == 0xAA) { counted.resets += started; started = true; return; }
+    if (byte == 0xAA && !aa_due) { counted.resets++; return; }
     if (byte == 0xFE) { counted.refused++; return; }
     for (unsigned ahead = first_due; ahead != last_due; ahead++)
         if (expected[ahead % EXPECTED] == byte) {
@@ -687,6 +689,7 @@ int main(int argc, char **argv) {
     host.next_inhibit = until_next(asked.inhibits);
     host.next_noise = 500 * MS + until_next(asked.noise);
     next_key = 500 * MS;
+    expect(0xAA); // the power-on test has ended well
     if (!asked.upset) {
         bool whole = run_chip(asked.length * MS);
         if (asked.watch) return whole ? 0 : 1;
