@@ -241,6 +241,15 @@ static Time next_key;
 static int typed = -1; // the place of the key that is down
 static uint8_t rom[2048];
 
+// Whether a place is that of a key with a make and a break: its code is in page 3, and it isn't among the make-only ones.
+static bool is_key(int place) { return rom[0x300 + place] && !(rom[0x3C1 + place / 8] >> place % 8 & 1); }
+enum { PLACES = 96 };
+static int first_key(void) {
+    int place = 0;
+    while (place < PLACES && !is_key(place)) place++;
+    return place;
+}
+
 static void expect(uint8_t byte) { expected[last_due++ % EXPECTED] = byte; counted.codes++; }
 
 static void type_step(void) { // one key after another, never two edges within twenty milliseconds
@@ -252,7 +261,7 @@ static void type_step(void) { // one key after another, never two edges within t
         expect(rom[0x300 + typed]);
         typed = -1;
     } else {
-        do typed = (int)drawn(96); while (!rom[0x300 + typed] || rom[0x3C1 + typed / 8] >> typed % 8 & 1);
+        do typed = (int)drawn(PLACES); while (!is_key(typed));
         key[typed] = true;
         expect(rom[0x300 + typed]);
     }
@@ -573,14 +582,14 @@ static unsigned past_the_program(void) { // a place behind which there are zeros
 }
 
 static void press_all(void) {
-    for (int place = 0; place < 96; place++) key[place] = rom[0x300 + place] != 0;
+    for (int place = 0; place < PLACES; place++) key[place] = rom[0x300 + place] != 0;
     run_chip(100 * MS);
     memset(key, 0, sizeof key);
 }
 
 static void upset(void) {
     if (asked.all_keys) { press_all(); return; }
-    while (chip.in_service != (bool)asked.in_service) if (!step()) return;
+    for (long steps = 100000; steps && chip.in_service != (bool)asked.in_service; steps--) if (!step()) return;
     for (long steps = drawn(asked.in_service ? 150 : 20); steps && chip.in_service == (bool)asked.in_service; steps--) step();
     if (asked.scramble) {
         for (unsigned cell = 0; cell < 128; cell++) chip.ram[cell] = (uint8_t)drawn(256);
@@ -616,8 +625,7 @@ static bool works_again(void) {
     run_chip(1500 * MS);
     counted = (Counted){0};
     first_due = last_due;
-    int place = 0;
-    while (!rom[0x300 + place] || rom[0x3C1 + place / 8] >> place % 8 & 1) place++;
+    int place = first_key();
     key[place] = true;
     expect(rom[0x300 + place]);
     run_chip(50 * MS);
@@ -685,6 +693,7 @@ int main(int argc, char **argv) {
     memset(chip.ram, (int)asked.ram, sizeof chip.ram);
     host.sample_at = host.until = FOREVER;
     if (asked.trace) return trace_steps();
+    if (!asked.pins_only && first_key() == PLACES) return fail("it has no codes of keys at 300 to 35F", argv[1]);
     host.next_request = 500 * MS + until_next(asked.requests);
     host.next_inhibit = until_next(asked.inhibits);
     host.next_noise = 500 * MS + until_next(asked.noise);
