@@ -252,15 +252,19 @@ static int first_key(void) {
 
 static void expect(uint8_t byte) { expected[last_due++ % EXPECTED] = byte; counted.codes++; }
 
+static void let_go(void) {
+    if (typed < 0) return;
+    key[typed] = false;
+    expect(0xF0);
+    expect(rom[0x300 + typed]);
+    typed = -1;
+}
+
 static void type_step(void) { // one key after another, never two edges within twenty milliseconds
     if (now < next_key) return;
     next_key = now + 30 * MS + drawn(60 * MS);
-    if (typed >= 0) {
-        key[typed] = false;
-        expect(0xF0);
-        expect(rom[0x300 + typed]);
-        typed = -1;
-    } else {
+    if (typed >= 0) let_go();
+    else {
         do typed = (int)drawn(PLACES); while (!is_key(typed));
         key[typed] = true;
         expect(rom[0x300 + typed]);
@@ -704,6 +708,8 @@ int main(int argc, char **argv) {
         if (asked.watch) return whole ? 0 : 1;
         asked.requests = asked.inhibits = asked.noise = asked.keys = 0; // then what is still on its way comes
         host.next_request = host.next_inhibit = FOREVER;
+        whole &= run_chip(50 * MS);
+        let_go(); // the key is seen by now, and doesn't repeat yet
         whole &= run_chip(250 * MS);
         counted.lost += last_due - first_due;
         printf("ran=%d started=%d requests=%ld collided=%ld garbled=%ld codes=%ld lost=%ld extra=%ld resets=%ld refused=%ld echoes=%ld "
