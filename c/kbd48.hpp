@@ -49,7 +49,7 @@ public:
     bool take(uint16_t &word) { return is_there(kbd48_take(&handle, &word), KBD48_NO_WORD); }
     bool next(kbd48_item &item) { return is_there(kbd48_next(&handle, &item), KBD48_NOTHING_SAID); }
 
-    // Looks, which make no step.
+    // Looks, which make no step. They are const, and yet one call at a time may have a keyboard.
     bool interrupt() const { return shown<bool>(kbd48_interrupt); }
     uint64_t rises() const { return shown<uint64_t>(kbd48_rises); }
     uint64_t cycle() const { return shown<uint64_t>(kbd48_cycle); }
