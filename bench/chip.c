@@ -26,7 +26,7 @@ typedef struct {
     long seed, length, polling, pull, hold, requests, inhibits, keys, rise, latency, period, resend;
     long look, outl, anl, ins, entry_from, entry_to, noise, noisy, noise_width;
     long upset, in_service, place, flip_bank, flip_service, stop_timer, stop_interrupt, scramble;
-    long trace, watch, press, press_at, release_at, low_wire, low_from, low_to, ram, pins_only;
+    long trace, watch, press, press_at, release_at, low_wire, low_from, low_to, ram, pins_only, lag, all_keys, flip_bit, reset;
 } Asked;
 static Asked asked = {.seed = 1, .length = 2000, .pull = 100 * US, .hold = 100 * US, .period = 10 * US, .place = -1,
                       .noise_width = 2 * US, .press = -1, .low_wire = -1};
@@ -67,6 +67,10 @@ static const Word words[] = {
     {"low_wire", &asked.low_wire, 1},     // a wire that something holds low from `low_from` to `low_to` (milliseconds)
     {"low_from", &asked.low_from, 1},     {"low_to", &asked.low_to, 1},
     {"ram", &asked.ram, 1},               // what memory holds at power-on
+    {"lag", &asked.lag, 1},               // how much later data falls than it is pulled, in units of 0.25 microseconds
+    {"all_keys", &asked.all_keys, 1},     // 1: the upset is that all keys go down at once, and up at once
+    {"flip_bit", &asked.flip_bit, 1},     // a bit of this cell of data memory flips; -1: of any
+    {"reset", &asked.reset, 1},           // 1: after the upset the host sends FF
     {"no_host", &asked.pins_only, 1},     // 1: nothing is plugged in
 };
 
@@ -81,11 +85,15 @@ static uint32_t drawn(uint32_t below) { // xorshift64*: a number below the one g
 static Time until_next(long a_second) { return a_second ? 1 + drawn((uint32_t)(2000 * MS / a_second)) : FOREVER; }
 
 // ------------------------------------------------------------------------------------------------ wires and matrix
-typedef struct { bool high, pulls; Time pulled, noisy_until; } Wire; // somebody pulls it now, or did last at `pulled`
+typedef struct {
+    bool high, pulls;   // somebody pulls it now
+    Time pulled, free;  // when it was last pulled, and when it was last free
+    Time noisy_until;
+} Wire;
 typedef struct { Time at; uint8_t port, value; } Write;
 
 static Time now;
-static Wire wire[2] = {{true, false, -FOREVER, 0}, {true, false, -FOREVER, 0}};
+static Wire wire[2] = {{true, false, -FOREVER, 0, 0}, {true, false, -FOREVER, 0, 0}};
 static uint8_t port[3] = {0xFF, 0xFF, 0xFF}; // what the pins of the bus, port 1 and port 2 show
 static Write writes[4];
 static int pending;
@@ -248,10 +256,13 @@ static void type_step(void) { // one key after another, never two edges within t
     }
 }
 
+static Time lag(int which) { return which == DATA ? asked.lag : 0; }
+
 static void wire_step(int which, bool pulls) {
     Wire *at = &wire[which];
     at->pulls = pulls || now < at->noisy_until;
-    if (at->pulls) at->pulled = now;
+    if (!at->pulls) at->free = now;
+    else if (now - at->free > lag(which)) at->pulled = now;
     at->high = now - at->pulled > asked.rise;
 }
 
@@ -295,11 +306,12 @@ static Time next_event(Time at) {
     if (pending) at = sooner(at, writes[0].at > now ? writes[0].at : now + 1);
     for (int i = 0; i < 2; i++) {
         at = sooner(at, wire[i].noisy_until);
+        if (wire[i].pulls) at = sooner(at, wire[i].free + lag(i) + 1);
         if (!wire[i].pulls && !wire[i].high) at = sooner(at, wire[i].pulled + asked.rise + 1);
     }
     if (asked.pins_only) return at;
-    Time due[] = {host.until, host.until - 5 * US, host.sample_at, host.next_request, host.next_inhibit, host.next_noise, next_key,
-                  host.awaits ? host.reply_by : FOREVER, asked.polling ? host.next_poll : FOREVER};
+    Time due[] = {host.until, host.until - 5 * US, host.sample_at, host.next_request, host.next_inhibit, host.next_noise,
+                  next_key, host.awaits ? host.reply_by : FOREVER, asked.polling ? host.next_poll : FOREVER};
     for (size_t i = 0; i < sizeof due / sizeof *due; i++) at = sooner(at, due[i]);
     return at;
 }
@@ -308,12 +320,15 @@ static void run_to(Time at) {
     bool quiet = false; // nothing has changed in the last step
     while (now < at) {
         if (quiet) now = next_event(at) - 1;
-        for (int i = 0; i < 2; i++) if (wire[i].pulls) wire[i].pulled = now;
+        for (int i = 0; i < 2; i++) {
+            if (!wire[i].pulls) wire[i].free = now;
+            else if (now - wire[i].free > lag(i)) wire[i].pulled = now;
+        }
         Host before = host;
-        bool levels = wire[CLOCK].high, level_of_data = wire[DATA].high, pulls = wire[CLOCK].pulls, pulls_data = wire[DATA].pulls;
+        bool was[] = {wire[CLOCK].high, wire[DATA].high, wire[CLOCK].pulls, wire[DATA].pulls};
         world_step();
-        quiet = !memcmp(&before, &host, sizeof host) && levels == wire[CLOCK].high && level_of_data == wire[DATA].high &&
-                pulls == wire[CLOCK].pulls && pulls_data == wire[DATA].pulls;
+        bool is[] = {wire[CLOCK].high, wire[DATA].high, wire[CLOCK].pulls, wire[DATA].pulls};
+        quiet = !memcmp(&before, &host, sizeof host) && !memcmp(was, is, sizeof was);
     }
 }
 
@@ -333,6 +348,7 @@ typedef struct {
     Time request_at, entry_late;
 } Chip;
 static Chip chip = {.latch = {0xFF, 0xFF, 0xFF}};
+static Time last_entry, longest_tick; // from one interrupt's entry to the next
 static Time x; // the cycle in which the instruction began, in tenths
 
 static uint8_t psw(void) { return (uint8_t)(chip.c << 7 | chip.ac << 6 | chip.f0 << 5 | chip.bank << 4 | 8 | chip.sp); }
@@ -398,12 +414,12 @@ static void operate(unsigned digit, uint8_t value) {
 }
 
 static bool is_long(uint8_t b) { // two cycles?
-    static const uint8_t singles[] = {0x02, 0x08, 0x09, 0x0A, 0x39, 0x3A, 0x80, 0x81, 0x83, 0x90, 0x91, 0x93, 0xA3, 0xB3, 0xE3, 0x03, 0x13,
-        0x23, 0x43, 0x53, 0xD3, 0x16, 0x26, 0x36, 0x46, 0x56, 0x76, 0x86, 0x96, 0xB6, 0xC6, 0xE6, 0xF6, 0x88, 0x89, 0x8A, 0x98, 0x99, 0x9A, 0xB0, 0xB1};
-    if ((b & 15) == 4 || (b & 0x1F) == 0x12 || (b & 0xF8) == 0xB8 || (b & 0xF8) == 0xE8) return true;
-    if ((b & 0xCC) == 0x0C && (b < 0x40)) return (b & 0xF0) != 0x10 && (b & 0xF0) != 0x20;
-    if ((b & 0xEC) == 0x8C) return true;
-    return memchr(singles, b, sizeof singles) != NULL;
+    static const uint8_t singles[] = {
+        0x02, 0x03, 0x08, 0x09, 0x0A, 0x13, 0x16, 0x23, 0x26, 0x36, 0x39, 0x3A, 0x43, 0x46, 0x53, 0x56, 0x76, 0x80, 0x81, 0x83, 0x86,
+        0x88, 0x89, 0x8A, 0x90, 0x91, 0x93, 0x96, 0x98, 0x99, 0x9A, 0xA3, 0xB0, 0xB1, 0xB3, 0xB6, 0xC6, 0xD3, 0xE3, 0xE6, 0xF6};
+    bool jumps = (b & 15) == 4 || (b & 0x1F) == 0x12 || (b & 0xF8) == 0xE8;
+    bool expander = (b & 0x0C) == 0x0C && (b >> 4 == 0 || b >> 4 == 3 || b >> 4 == 8 || b >> 4 == 9);
+    return jumps || expander || (b & 0xF8) == 0xB8 || memchr(singles, b, sizeof singles);
 }
 
 // The rows that work on a cell: a register, or what R0 or R1 points at.
@@ -525,6 +541,8 @@ static bool step(void) { // whether there was an instruction
     unsigned cycles = 2;
     if (chip.request && chip.enabled && !chip.in_service && x >= chip.request_at + chip.entry_late) {
         chip.request = false;
+        if (last_entry && x - last_entry > longest_tick) longest_tick = x - last_entry;
+        last_entry = x;
         call(7);
         chip.in_service = true;
     } else {
@@ -552,7 +570,14 @@ static unsigned past_the_program(void) { // a place behind which there are zeros
     return last + drawn(2048 - last);
 }
 
+static void press_all(void) {
+    for (int place = 0; place < 96; place++) key[place] = rom[0x300 + place] != 0;
+    run_chip(100 * MS);
+    memset(key, 0, sizeof key);
+}
+
 static void upset(void) {
+    if (asked.all_keys) { press_all(); return; }
     while (chip.in_service != (bool)asked.in_service) if (!step()) return;
     for (long steps = drawn(asked.in_service ? 150 : 20); steps && chip.in_service == (bool)asked.in_service; steps--) step();
     if (asked.scramble) {
@@ -569,6 +594,7 @@ static void upset(void) {
         chip.enabled = drawn(2);
         chip.runs = drawn(2);
     }
+    if (asked.flip_bit) chip.ram[asked.flip_bit > 0 ? asked.flip_bit & 127 : drawn(128)] ^= (uint8_t)(1 << drawn(8));
     chip.bank ^= asked.flip_bank;
     chip.in_service ^= asked.flip_service;
     chip.runs &= !asked.stop_timer;
@@ -580,6 +606,11 @@ static void upset(void) {
 
 // After an upset: does a key that is pressed and let go give its bytes, and is EE echoed?
 static bool works_again(void) {
+    if (asked.reset) {
+        run_chip(100 * MS);
+        host.wants = true;
+        host.byte = 0xFF;
+    }
     run_chip(1500 * MS);
     counted = (Counted){0};
     first_due = last_due;
@@ -644,7 +675,7 @@ static bool ask(char *word) {
 
 int main(int argc, char **argv) {
     if (argc < 2) return fail("words are IMAGE NAME=NUMBER ..", "words");
-    if (!read_hex(argv[1])) return fail("no HEX file of 2,048 places at most", argv[1]);
+    if (!read_hex(argv[1])) return fail("can't be read, or is no HEX file", argv[1]);
     for (int i = 2; i < argc; i++)
         if (!ask(argv[i])) return fail("no such word", argv[i]);
     noise_state = 0x9E3779B97F4A7C15ULL * (uint64_t)(asked.seed + 1);
@@ -670,6 +701,7 @@ int main(int argc, char **argv) {
     }
     run_chip(500 * MS + drawn(20 * MS));
     upset();
-    printf("works=%d\n", works_again());
+    bool works = works_again();
+    printf("works=%d longest=%ld\n", works, (long)(longest_tick / US));
     return 0;
 }

@@ -9,13 +9,29 @@ from lists import matrix
 from tables import HERE, Key, Node, Part, nets_of
 
 SYMBOLS = Path("/usr/share/kicad/symbols")
+FOOTPRINTS = Path("/usr/share/kicad/footprints")
 DOCS = HERE.parent / "docs"
 SUPPLY = ("+5V", "GND")
 # The words of BOARD.md's tables of pins, and the net that they mean; {} is what the brackets match.
-GOES = ((r"the clock wire$", "CLOCK"), (r"the data wire$", "DATA"), (r"ground", "GND"), (r"\+5 V", "+5V"), (r"row (\d)", "ROW{}"),
-        (r"crystal", "XTAL{}"), (r"1 microfarad", "RESET"), (r"47 ohms to the (clock|data) wire", "PLUG_{}"), (r"decoder, input ([A-D])", "COL_{}"), (r"column (\d+)", "COL{}"),
-        (r"processor, (P1\.\d)", "{}"), (r"the clock wire's buffer", "CLOCK_OUT"), (r"the data wire's buffer", "DATA_OUT"),
-        (r"(Scroll|Num|Caps) Lock's buffer", "{}"), (r"(Scroll|Num|Caps) Lock's light", "LED_{}"), (r"open", None))
+GOES = (
+    (r"the clock wire$", "CLOCK"),
+    (r"the data wire$", "DATA"),
+    (r"the clock wire's buffer", "CLOCK_OUT"),
+    (r"the data wire's buffer", "DATA_OUT"),
+    (r"47 ohms to the (clock|data) wire", "PLUG_{}"),
+    (r"ground", "GND"),
+    (r"\+5 V", "+5V"),
+    (r"row (\d)", "ROW{}"),
+    (r"column (\d+)", "COL{}"),
+    (r"decoder, input ([A-D])", "COL_{}"),
+    (r"processor, (P1\.\d)", "{}"),
+    (r"crystal", "XTAL{}"),
+    (r"1 microfarad", "RESET"),
+    (r"(Scroll|Num|Caps) Lock's buffer", "{}"),
+    (r"(Scroll|Num|Caps) Lock's light", "LED_{}"),
+    (r"open", None),
+)
+PARTS_ROW = re.compile(r"^\| ((?:[A-Z]+\d+(?: to [A-Z]+\d+)?(?:, )?)+) \| ([^|]+?) \| (\d+) \|", re.MULTILINE)
 
 
 class Board:
@@ -158,8 +174,8 @@ def port_two_works(board: Board) -> Faults:
             yield "the %s wire isn't clamped to both supplies" % wire
     for pin in ("P2.4", "P2.5", "P2.6"):
         cathode = buffers.get(board.net("U1", pin))
-        lights = [part for part in board.of_type("led") if part.value == pins[pin] and cathode and part.nets.get("K") == cathode]
-        if len(lights) != 1 or not board.has(("resistor",), first="+5V", second=lights[0].nets.get("A")):
+        lights = [part for part in board.of_type("led") if part.value == pins[pin] and part.nets.get("K") == cathode]
+        if cathode is None or len(lights) != 1 or not board.has(("resistor",), first="+5V", second=lights[0].nets.get("A")):
             yield "%s doesn't light %s through its buffer and a resistor" % (pin, pins[pin])
 
 
@@ -219,7 +235,7 @@ def page_pins(board: Board, page: str) -> Faults:
 def page_parts(board: Board, page: str) -> Faults:
     """BOARD.md's table of parts: each part in one row, with the row's count and value."""
     left = dict(board.parts)
-    for references, value, count in re.findall(r"^\| ((?:[A-Z]+\d+(?: to [A-Z]+\d+)?(?:, )?)+) \| ([^|]+?) \| (\d+) \|", page, re.M):
+    for references, value, count in PARTS_ROW.findall(page):
         names: List[str] = []
         for first, last in re.findall(r"([A-Z]+\d+)(?: to ([A-Z]+\d+))?", references):
             letters, begin = re.match(r"([A-Z]+)(\d+)", first).groups()
@@ -269,6 +285,16 @@ def _kicad_symbol(name: str) -> Tree:
     symbols = _library(library)
     extends = named(symbols[symbol], "extends")
     return symbols[extends[0][1]] if extends else symbols[symbol]
+
+
+def footprints_are(board: Board) -> Faults:
+    """Each type's footprint is one of KiCad's, with a pad for each pin."""
+    for part_type in {part.type.name: part.type for part in board.parts.values()}.values():
+        folder, name = part_type.footprint.split(":")
+        path = FOOTPRINTS / (folder + ".pretty") / (name + ".kicad_mod")
+        pads = re.findall(r'\(pad "?(\w+)"? ', path.read_text(encoding="utf-8")) if path.is_file() else []
+        if {pin.number for pin in part_type.pins.values()} - set(pads):
+            yield "%s: KiCad's footprint %s has no such pads" % (part_type.name, part_type.footprint)
 
 
 def like_kicad(board: Board) -> Faults:

@@ -54,7 +54,7 @@ def _two_pins(part_type: Type) -> Shape:
 
 
 def _chip(pins: List[Pin]) -> Shape:
-    """A box with the pins as on the part, seen from above: the first half goes down the left side, the rest up the right one."""
+    """A box with the pins as on the part, seen from above: half of them down the left side, the rest up the right one."""
     high = (len(pins) + 1) // 2
     wide, top = 6 * GRID, -GRID * (high // 2)
     lines, ends, sides = [box(-wide, top - GRID, wide, top + GRID * high)], {}, {}
@@ -82,7 +82,8 @@ def placed(parts: List[Part], keys: List[Key]) -> List[Placed]:
     chips = [part for part in parts if part.type.name not in SHAPES]
     in_matrix = {"%s%d" % (letter, number) for number in range(1, len(keys) + 1) for letter in ("SW", "D")}
     small = [part for part in parts if part.type.name in SHAPES and part.reference not in in_matrix]
-    items = list(_grid(chips, 24 * GRID, 34 * GRID, (28 * GRID, 0), 1)) + list(_grid(small, 140 * GRID, 12 * GRID, (20 * GRID, 4 * GRID), 13))
+    items = list(_grid(chips, 24 * GRID, 34 * GRID, (28 * GRID, 0), 1))
+    items += _grid(small, 140 * GRID, 12 * GRID, (20 * GRID, 4 * GRID), 13)
     by_reference = {part.reference: part for part in parts}
     for number, key in enumerate(keys, 1):
         x, y = (16 + 17 * key.column) * GRID, (72 + 4 * key.row) * GRID

@@ -2,7 +2,7 @@
 from pathlib import Path
 from typing import Dict
 
-from kicad import netlist, schematic
+from kicad import library, library_table, netlist, schematic
 from lists import matrix, parts_list
 from picture import picture
 from tables import read_board, read_layout
@@ -13,4 +13,5 @@ def made(layout: Path) -> Dict[str, str]:
     keys = read_layout(layout)
     parts = read_board(keys)
     return {"board.kicad_sch": schematic(parts, keys), "board.svg": picture(parts, keys), "board.net": netlist(parts),
-            "parts.csv": parts_list(parts), "matrix.txt": matrix(keys)}
+            "parts.csv": parts_list(parts), "matrix.txt": matrix(keys),
+            "kbd48.kicad_sym": library(parts), "sym-lib-table": library_table()}

@@ -6,8 +6,10 @@ from typing import Any, Dict, List, Set, Tuple
 from drawing import SHEET, Line, Placed, Shape, ends, placed, shape
 from tables import Key, Nets, Node, Part, Type, nets_of
 
-KINDS = {"in": "input", "out": "output", "io": "bidirectional", "oc": "open_collector", "power": "power_in", "passive": "passive"}
+KINDS = {"in": "input", "out": "output", "io": "bidirectional", "oc": "open_collector", "power": "power_in",
+         "passive": "passive"}
 SPACE = uuid.UUID("6b626434-3800-4000-8000-000000000000")
+LIBRARY = "kbd48"
 SMALL = "(effects (font (size 1 1)))"
 HIDDEN = "(effects (font (size 1 1)) hide)"
 
@@ -34,19 +36,19 @@ def _symbol(part_type: Type, drawn: Shape) -> str:
         pins.append('(pin %s line (at %g %g %d) (length %g) (name "%s" %s) (number "%s" %s))' % (
             KINDS[pin.kind], x, -y, 0 if side < 0 else 180, length, pin.name, SMALL, pin.number, SMALL))
     names = "(pin_numbers hide) (pin_names (offset 0) hide)" if len(part_type.pins) == 2 else "(pin_names (offset 0.5))"
-    return '(symbol "kbd48:%s" %s (in_bom yes) (on_board yes)\n  %s\n  (symbol "%s_1_1"\n   %s))' % (
+    return '(symbol "%s" %s (in_bom yes) (on_board yes)\n  %s\n  (symbol "%s_1_1"\n   %s))' % (
         part_type.name, names, _properties("U", part_type.name, "", "", 0, 0), part_type.name, "\n   ".join(bodies + pins))
 
 
 def _properties(reference: str, value: str, footprint: str, order: str, x: float, y: float, above: float = 2.54) -> str:
-    fields = [("Reference", reference, y - above, SMALL), ("Value", value, y + above, SMALL), ("Footprint", footprint, y, HIDDEN),
-              ("Datasheet", "", y, HIDDEN)] + [("Order", order, y, HIDDEN)] * bool(order)
+    fields = [("Reference", reference, y - above, SMALL), ("Value", value, y + above, SMALL),
+              ("Footprint", footprint, y, HIDDEN), ("Datasheet", "", y, HIDDEN)] + [("Order", order, y, HIDDEN)] * bool(order)
     return "\n  ".join('(property "%s" "%s" (id %d) (at %g %g 0) %s)' % (name, text, number, x, at, effects)
                        for number, (name, text, at, effects) in enumerate(fields))
 
 
-FLAG = ('(symbol "kbd48:flag" (power) (pin_numbers hide) (pin_names (offset 0) hide) (in_bom no) (on_board no)\n  %s\n  (symbol "flag_1_1"\n   '
-        '(pin power_out line (at 0 0 90) (length 2.54) (name "flag" %s) (number "1" %s))))')
+FLAG = ('(symbol "flag" (power) (pin_numbers hide) (pin_names (offset 0) hide) (in_bom no) (on_board no)\n  %s\n'
+        '  (symbol "flag_1_1"\n   (pin power_out line (at 0 0 90) (length 2.54) (name "flag" %s) (number "1" %s))))')
 
 
 def _label(net: str, x: float, y: float, side: int) -> str:
@@ -59,8 +61,8 @@ def _instance(item: Placed) -> List[str]:
     part, drawn = item.part, shape(item.part.type)
     above = 2.54 if len(part.type.pins) == 2 else max(abs(y) for line in drawn.lines for _, y in line) + 2.54
     pins = " ".join('(pin "%s" (uuid %s))' % (pin.number, _id(part.reference, pin.number)) for pin in part.type.pins.values())
-    lines = ['(symbol (lib_id "kbd48:%s") (at %g %g 0) (unit 1) (in_bom yes) (on_board yes) (uuid %s)\n  %s\n  %s)' % (
-        part.type.name, item.x, item.y, _id(part.reference),
+    lines = ['(symbol (lib_id "%s:%s") (at %g %g 0) (unit 1) (in_bom yes) (on_board yes) (uuid %s)\n  %s\n  %s)' % (
+        LIBRARY, part.type.name, item.x, item.y, _id(part.reference),
         _properties(part.reference, part.value, part.type.footprint, part.order, item.x, item.y, above), pins)]
     for pin, (x, y) in ends(item).items():
         if pin not in part.nets:
@@ -75,25 +77,42 @@ def _flags() -> Tuple[List[str], List[str]]:
     body, paths = [], []
     for number, net in enumerate(("+5V", "GND"), 1):
         x, y, name = 25.4 * number, 25.4, "#FLG%d" % number
-        body.append('(symbol (lib_id "kbd48:flag") (at %g %g 0) (unit 1) (in_bom no) (on_board no) (uuid %s)\n  %s (pin "1" (uuid %s)))' % (
-            x, y, _id(name), _properties(name, "flag", "", "", x, y), _id(name, 1)))
+        body.append('(symbol (lib_id "%s:flag") (at %g %g 0) (unit 1) (in_bom no) (on_board no) (uuid %s)\n'
+                    '  %s (pin "1" (uuid %s)))' % (
+            LIBRARY, x, y, _id(name), _properties(name, "flag", "", "", x, y), _id(name, 1)))
         body.append(_label(net, x, y, 1))
         paths.append('(path "/%s" (reference "%s") (unit 1) (value "flag") (footprint ""))' % (_id(name), name))
     return body, paths
 
 
+def _symbols(parts: List[Part]) -> List[str]:
+    """The symbols of the types, and of the flag."""
+    types = {part.type.name: part.type for part in parts}
+    return [_symbol(part_type, shape(part_type)) for part_type in types.values()] + [
+        FLAG % (_properties("#FLG", "flag", "", "", 0, 0), SMALL, SMALL)]
+
+
+def library(parts: List[Part]) -> str:
+    """The symbols as a library, which KiCad compares with the schematic's own."""
+    return "\n".join(["(kicad_symbol_lib (version 20211014) (generator kbd48)", *_symbols(parts), ")", ""])
+
+
+def library_table() -> str:
+    """The project's table of libraries."""
+    place = "${KIPRJMOD}/%s.kicad_sym" % LIBRARY
+    return '(sym_lib_table\n  (lib (name "%s")(type "KiCad")(uri "%s")(options "")(descr ""))\n)\n' % (LIBRARY, place)
+
+
 def schematic(parts: List[Part], keys: List[Key]) -> str:
     """The schematic."""
     items = placed(parts, keys)
-    types = {part.type.name: part.type for part in parts}
     body, paths = _flags()
     for item in items:
         body += _instance(item)
         part = item.part
         paths.append('(path "/%s" (reference "%s") (unit 1) (value "%s") (footprint "%s"))' % (
             _id(part.reference), part.reference, part.value, part.type.footprint))
-    symbols = [_symbol(part_type, shape(part_type)) for part_type in types.values()] + [
-        FLAG % (_properties("#FLG", "flag", "", "", 0, 0), SMALL, SMALL)]
+    symbols = [symbol.replace('(symbol "', '(symbol "%s:' % LIBRARY, 1) for symbol in _symbols(parts)]
     return '\n'.join(['(kicad_sch (version 20211123) (generator kbd48) (uuid %s) (paper "%s")' % (_id("sheet"), SHEET),
                       '(title_block (title "kbd48: the board"))', "(lib_symbols", *symbols, ")", *body,
                       '(sheet_instances (path "/" (page "1")))', "(symbol_instances", *paths, "))", ""])
@@ -103,10 +122,12 @@ def netlist(parts: List[Part]) -> str:
     """The netlist."""
     numbers = {part.reference: part.type.pins for part in parts}
     lines = ['(export (version "E")', " (components"]
-    lines += ['  (comp (ref "%s") (value "%s") (footprint "%s"))' % (part.reference, part.value, part.type.footprint) for part in parts]
+    lines += ['  (comp (ref "%s") (value "%s") (footprint "%s"))' % (part.reference, part.value, part.type.footprint)
+              for part in parts]
     lines += [" )", " (nets"]
     for code, (net, nodes) in enumerate(sorted(nets_of(parts).items()), 1):
-        pins = "".join(' (node (ref "%s") (pin "%s"))' % (reference, numbers[reference][pin].number) for reference, pin in sorted(nodes))
+        pins = "".join(' (node (ref "%s") (pin "%s"))' % (reference, numbers[reference][pin].number)
+                       for reference, pin in sorted(nodes))
         lines.append('  (net (code "%d") (name "%s")%s)' % (code, net, pins))
     return "\n".join(lines + [" ))", ""])
 

@@ -6,7 +6,7 @@ from drawing import SHAPES, Placed, ends, placed, shape
 from tables import Key, Part
 
 MARGIN = 12
-HEAD = """<svg xmlns="http://www.w3.org/2000/svg" viewBox="%g %g %g %g" font-family="Helvetica, Arial, sans-serif" font-size="1.6">
+HEAD = """<svg xmlns="http://www.w3.org/2000/svg" viewBox="%g %g %g %g" font-family="Helvetica, Arial, sans-serif">
 <title>The board: schematic</title>
 <rect x="%g" y="%g" width="%g" height="%g" fill="#fff"/>
 <g fill="none" stroke="#222" stroke-width="0.25">"""

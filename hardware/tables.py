@@ -56,7 +56,10 @@ def _paragraphs(path: Path) -> List[Tuple[int, List[str]]]:
     """The words of each line with those of the indented lines under it, and the line's number."""
     paragraphs: List[Tuple[int, List[str]]] = []
     for number, line in enumerate(path.read_text(encoding="utf-8").splitlines(), 1):
-        words = shlex.split(line, comments=True)
+        try:
+            words = shlex.split(line, comments=True)
+        except ValueError as fault:
+            raise Refused("%s: line %d: %s" % (path.name, number, fault)) from fault
         if words and line[0] == " " and paragraphs:
             paragraphs[-1][1].extend(words)
         elif words:

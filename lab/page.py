@@ -3,6 +3,7 @@
 from __future__ import annotations
 
 import base64
+import csv
 import gzip
 import hashlib
 import json
@@ -13,6 +14,7 @@ LAB = Path(__file__).resolve().parent
 ROOT = LAB.parent
 PAGE = LAB / "lab.html"
 MOST_BYTES = 900_000
+MODULES = ("kbd48_c", "kbd48_call")
 
 # The examples that the page has, and what they are called when that differs.
 EXAMPLES = (
@@ -21,8 +23,6 @@ EXAMPLES = (
     "four_keys.asm four_keys.hex four_keys.keys four_keys.script four_keys.cert wrong_parity.script unset_cell.asm run_on.asm "
     "timer.asm delay.asm delay.hex delay.cert us84.hex kernel_delay.cert every_instruction.asm"
 ).split()
-# The sections of docs/FORMATS.md that have a table of faults, and the kind of file that a refusal names.
-FAULTS = {"Key files": "keys", "`debug`": "script", "`cert`": "cert", "HEX files": "hex", "Assembler sources": "asm", "Layouts": "layout"}
 IMPORT = re.compile(r"^import [^;]*? from '(\.[^']+)';\n", re.MULTILINE)
 
 
@@ -69,15 +69,11 @@ def examples() -> dict[str, str]:
 
 
 def faults() -> dict[str, dict[str, str]]:
-    """The faults of each kind of file, by number, in the words of docs/FORMATS.md."""
-    sections = re.split(r"^## ", (ROOT / "docs/FORMATS.md").read_text(encoding="utf-8"), flags=re.MULTILINE)
-    found = {}
-    for heading, kind in FAULTS.items():
-        section = next((it for it in sections if it.startswith(heading)), "")
-        rows = dict(re.findall(r"^\| (\d+) \| (.*?) \|$", section.split("| N | fault |", 1)[-1], re.MULTILINE))
-        if "1" not in rows:
-            raise Broken(f"docs/FORMATS.md: no table of faults in the section {heading}")
-        found[kind] = {number: words.replace("`", "") for number, words in rows.items()}
+    """The faults of each kind of file, by number, in words."""
+    found: dict[str, dict[str, str]] = {}
+    with open(ROOT / "docs/faults.tsv", encoding="utf-8", newline="") as table:
+        for row in csv.DictReader(table, delimiter="\t", quoting=csv.QUOTE_NONE):
+            found.setdefault(row["kind"], {})[row["number"]] = row["in words"].replace("`", "")
     return found
 
 
@@ -123,6 +119,29 @@ def page(keyboard: str, program: str, sources: str) -> str:
     if len(made.encode()) > MOST_BYTES:
         raise Broken(f"the page has {len(made.encode())} bytes, more than {MOST_BYTES}")
     return made
+
+
+def sources() -> str:
+    """A checksum of what the modules are made of: the code of the crates, what they export, and the tools of lab/wasm."""
+    lines = (ROOT / "crates.txt").read_text(encoding="utf-8").splitlines()
+    rows = (line.partition("#")[0].partition(":") for line in lines)
+    uses = {head.split()[0]: rest.split() for head, colon, rest in rows if colon}
+    mine: set[str] = set()
+
+    def take(name: str) -> None:
+        if name in uses and name not in mine:
+            mine.add(name)
+            for it in uses[name]:
+                take(it)
+
+    for name in MODULES:
+        take(name)
+    files = [path for name in mine for path in (ROOT / "crates" / name / "src").rglob("*.rt")]
+    files += [*(LAB / "wasm").glob("*.[cp]*"), LAB / "wasm/keeping_clang", ROOT / "c/kbd48.h"]
+    counted = hashlib.sha256()
+    for path in sorted(it for it in files if it.is_file()):
+        counted.update(f"\0{path.relative_to(ROOT)}\0".encode() + path.read_bytes())
+    return counted.hexdigest()[:32]
 
 
 def kept() -> tuple[str, str, str]:

@@ -33,8 +33,12 @@ export class KeyboardPane {
       tell(byId('layout-fault'), `${name} wasn't opened: ${explained(said)?.words ?? said.text}`, false);
       return;
     }
-    byId('layout-fault').hidden = true;
     this.keys = keysOf(text);
+    if (this.keys.length === 0) {
+      tell(byId('layout-fault'), `${name} is right, but no key of it can be drawn: the page reads keys that are tables [[key]]`, false);
+      return;
+    }
+    byId('layout-fault').hidden = true;
     this.held.clear();
     this.stuck.clear();
     this.#draw();

@@ -26,7 +26,7 @@ export function explained(answer) {
   found = /^timing: line (\d+) fault (\d+) stamps (-?\d+) (-?\d+)/.exec(last);
   if (found) return { kind: 'keys', line: Number(found[1]), words: `line ${found[1]}: ${faultText('keys', found[2])} (${found[3]} and ${found[4]})` };
   found = /^input: text byte (\d+)/.exec(last);
-  if (found) return { kind: 'text', words: `the layout has no key for byte ${found[1]} of the text` };
+  if (found) return { kind: 'text', words: `byte ${found[1]}: ${faultText('text', '1')}` };
   found = /^input: (\w+) too long/.exec(last);
   if (found) return { kind: found[1], words: `the ${found[1]} file is too long` };
   found = /^stuck: pc (\w+) byte (\w+)/.exec(last);

@@ -1,4 +1,4 @@
-// Files in a link: packed into the part of the address behind `#`, which no server sees.
+// Files in a link: packed into the part of the address after `#`, which no server sees.
 
 const KEY = '#files=';
 
@@ -23,7 +23,7 @@ export async function filesOf(hash) {
   try {
     const text = new TextDecoder().decode(await unpacked(bytesOf(hash.slice(KEY.length).replaceAll('-', '+').replaceAll('_', '/'))));
     const shared = JSON.parse(text);
-    if (Object.entries(shared).every(([name, file]) => /^[\w.-]+$/.test(name) && typeof file === 'string')) return shared;
+    if (Object.entries(shared).every(([name, file]) => /^[A-Za-z0-9][\w.-]*$/.test(name) && typeof file === 'string')) return shared;
   } catch {
     // It is told below, whatever was wrong with it.
   }

@@ -39,7 +39,14 @@ export class Waveform {
   /** Keeps what is shown now, whatever passes. */
   set paused(paused) {
     const { edges, bytes, cycle } = this.source();
-    this.shown = paused ? { edges: [...edges], bytes: [...bytes], cycle } : null;
+    this.show(paused ? { edges: [...edges], bytes: [...bytes], cycle } : null);
+  }
+
+  /** Shows these edges and bytes, or again what passes. */
+  show(shown) {
+    this.shown = shown;
+    this.back = 0;
+    this.drawn = '';
   }
 
   draw() {

@@ -1,11 +1,13 @@
 // What passes between keyboard and PC while one types, and what the PC says.
-import { byId, hex, make, tell } from './dom.js';
-import { put } from './files.js';
+import { byId, fill, hex, make, tell } from './dom.js';
+import { named, onFile, put } from './files.js';
 import { CYCLES_OF_A_MS, FIRST_STAMP } from './live.js';
 import { explained, kbd48 } from './program.js';
+import { readTrace } from './vcd.js';
 import { Waveform } from './waveform.js';
 
 const SHOWN = 200; // lines
+const LIVE = 'what I type';
 const STEP = 160; // pixels
 // Each command with the bytes that the PC writes: to port 60h, or to 64h.
 const COMMANDS = [
@@ -21,7 +23,7 @@ const SCREEN = 1500; // characters
 export class WiresPane {
   /** `live()` answers the keyboard that runs. */
   constructor(live, layoutName) {
-    Object.assign(this, { live, layoutName, drawn: -1 });
+    Object.assign(this, { live, layoutName, drawn: -1, still: null });
     this.wave = new Waveform(byId('wave'), live);
     for (const [words, ...bytes] of COMMANDS) {
       const button = make('button', { type: 'button', textContent: words });
@@ -41,6 +43,10 @@ export class WiresPane {
     byId('zoom-out').onclick = () => this.wave.zoomBy(0.5);
     byId('wave-back').onclick = () => this.wave.move(STEP);
     byId('wave-on').onclick = () => this.wave.move(-STEP);
+    const list = () => fill(byId('shown'), [LIVE, ...named('.keys')], LIVE);
+    list();
+    onFile(({ isNew }) => { if (isNew) list(); });
+    byId('shown').onchange = ({ target }) => this.#show(target.value);
     byId('session').onclick = () => {
       put('session.keys', live().keyFile());
       tell(byId('judged'), 'session.keys is in the workbench');
@@ -52,6 +58,21 @@ export class WiresPane {
     const text = byId('any-byte').value;
     if (/^[0-9A-Fa-f]{2}$/.test(text)) this.live().order(port, Number.parseInt(text, 16));
     else tell(byId('judged'), `${text || 'nothing'} is no byte of two hexadecimal digits`, false);
+  }
+
+  // The run of a key file on the layout that is open: its wires, bytes and log, as the program prints them.
+  #show(keys) {
+    this.drawn = -1;
+    this.still = null;
+    this.wave.show(null);
+    if (keys === LIVE) return;
+    const trace = kbd48(['trace', this.layoutName(), keys]), run = kbd48(['run', this.layoutName(), keys]);
+    if (trace.exit !== 0) tell(byId('judged'), `${keys}: ${explained(trace)?.words}`, false);
+    else {
+      const { edges, bytes, cycle } = readTrace(trace.text);
+      this.still = { bytes, lines: run.text.trimEnd().split('\n').map(line => `tick ${line}`) };
+      this.wave.show({ edges, bytes, cycle });
+    }
   }
 
   // What was done so far as a key file, under the model and under the firmware.
@@ -68,11 +89,11 @@ export class WiresPane {
     this.wave.draw();
     const clock = `${(stamp / CYCLES_OF_A_MS / 1000).toFixed(1)} s of keyboard time`;
     if (byId('clock-text').textContent !== clock) byId('clock-text').textContent = clock;
-    const many = bytes.length + items.length;
+    const many = this.still ? 0 : bytes.length + items.length;
     if (many === this.drawn) return;
     this.drawn = many;
-    write(byId('bytes'), bytes.slice(-SHOWN).map(byte => `${at(byte.begin)}  ${byte.sender === 'host' ? 'PC → keyboard' : 'keyboard → PC'}  ${hex(byte.byte)}`));
-    write(byId('log'), items.slice(-SHOWN).map(item => `${at(item.cycle)}  ${item.words}`));
+    write(byId('bytes'), (this.still?.bytes ?? bytes).slice(-SHOWN).map(byte => `${at(byte.begin)}  ${byte.sender === 'host' ? 'PC → keyboard' : 'keyboard → PC'}  ${hex(byte.byte)}`));
+    write(byId('log'), this.still?.lines ?? items.slice(-SHOWN).map(item => `${at(item.cycle)}  ${item.words}`));
   }
 }
 

@@ -1,6 +1,6 @@
 // Files, and what the program makes of them.
 import { byId, fill, make, save, tell } from './dom.js';
-import { files, named, onFile, put } from './files.js';
+import { edited, files, onFile, put } from './files.js';
 import { EXIT, explained, kbd48 } from './program.js';
 import { linkOf } from './share.js';
 import { readTrace } from './vcd.js';
@@ -72,7 +72,9 @@ export class WorkbenchPane {
 
   /** Runs one command, and a second one beside it. */
   run(text, beside) {
-    const words = text.trim().split(/\s+/), before = performance.now(), said = kbd48(words), took = performance.now() - before;
+    const words = text.trim().split(/\s+/), refused = this.#assemble(words);
+    if (refused) return;
+    const before = performance.now(), said = kbd48(words), took = performance.now() - before;
     byId('answer').textContent = said.text;
     const other = beside ? kbd48(beside.trim().split(/\s+/)).text : null;
     byId('other').hidden = other === null;
@@ -80,6 +82,22 @@ export class WorkbenchPane {
     this.#tell(words, said, other, took);
     this.#trace(said);
     this.#keep(words, said);
+  }
+
+  // Makes the image of each source that was edited here, if the words name the image. Whether one was refused.
+  #assemble(words) {
+    for (const image of words.filter(word => word.endsWith('.hex'))) {
+      const source = image.replace(/hex$/, 'asm');
+      if (!edited.has(source)) continue;
+      const said = kbd48(['asm', source]);
+      if (said.exit !== EXIT.DONE) {
+        byId('answer').textContent = said.text;
+        this.#tell(['asm', source], said, null, 0);
+        return true;
+      }
+      put(image, said.text);
+    }
+    return false;
   }
 
   #tell(words, said, other, took) {

@@ -60,6 +60,11 @@ async function wires() {
   await says('judged', /zz is no byte/);
   await browser.click('#judge');
   await says('judged', /print the same \d+ lines/);
+  await put('shown', 'noisy_line.keys');
+  await says('log', /tick \d+ port AA[^]*word 1E61/);
+  await says('bytes', /PC → keyboard {2}FE/);
+  await put('shown', 'what I type');
+  await says('log', /the PC writes EE/);
   await browser.click('#pause');
   await browser.click('#zoom-in');
   await browser.click('#wave-back');
@@ -108,7 +113,7 @@ async function workbench() {
   await put('text', 'MOV A,#5\nloop: DEC B\nJMP loop\n');
   await put('words', 'asm own1.asm');
   await browser.click('#do');
-  await says('told', /exit 3: line 2: the operands fit no row/);
+  await says('told', /exit 3: line 2: the instruction has no such operands/);
   assert.equal(await browser.evaluate('(it => it.value.slice(it.selectionStart, it.selectionEnd))(document.getElementById("text"))'), 'loop: DEC B');
   await put('text', 'MOV A,#5\nloop: DEC A\nJMP loop\n');
   await browser.click('#do');
@@ -117,6 +122,10 @@ async function workbench() {
   await put('words', 'step own1.hex 3');
   await browser.click('#do');
   await says('answer', /pc 002 a 04 /);
+  await browser.evaluate('lab.workbench.open("own1.asm")');
+  await put('text', 'MOV A,#9\nloop: DEC A\nJMP loop\n');
+  await browser.click('#do');
+  await says('answer', /pc 002 a 08 /);
   await browser.evaluate('lab.workbench.open("typing_hi.keys"); document.querySelector("#offers button").click()');
   await says('told', /both print the same/);
   await put('words', 'trace us84.toml typing_hi.keys');
@@ -134,7 +143,7 @@ async function brokenLayout() {
   await put('text', whole.replace('column = 0', 'column = 12'));
   await only('keyboard');
   await put('layout', 'sixty.toml');
-  await says('layout-fault', /sixty\.toml wasn't opened: entry 1 of the layout: place out of range/);
+  await says('layout-fault', /sixty\.toml wasn't opened: entry 1 of the layout: /);
   await put('layout', 'us84.toml');
 }
 
@@ -145,7 +154,7 @@ async function shareLink() {
   await says('shared', /carries own1.asm/);
   const link = await browser.evaluate('location.href');
   await go(link);
-  assert.equal(await browser.evaluate('document.getElementById("text").value'), 'MOV A,#5\nloop: DEC A\nJMP loop\n');
+  assert.equal(await browser.evaluate('document.getElementById("text").value'), 'MOV A,#9\nloop: DEC A\nJMP loop\n');
   await go(`${url}#files=AAAA`);
   await says('trouble', /the link is broken/);
 }
@@ -204,7 +213,7 @@ async function narrow() {
 // The part of one processor that the page takes with all panes open: at rest, and while somebody types.
 async function load(typing) {
   await browser.evaluate('document.querySelectorAll("#panes button").forEach(button => lab.show(button.dataset.pane, true))');
-  await browser.send('Performance.enable');
+  await browser.send('Performance.enable', { timeDomain: 'threadTicks' });
   const took = async () => (await browser.send('Performance.getMetrics')).metrics.find(it => it.name === 'TaskDuration').value;
   await browser.evaluate('document.getElementById("board").focus()');
   await browser.wait(500);

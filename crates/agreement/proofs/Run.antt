@@ -3,14 +3,14 @@ use Rattle.std.proofs.Common.{◌≡◌, ℕ, true, false, Some, List, refl, ap,
 use Rattle.std.proofs.lemmas.List.Elements.{All-replicate}
 use Rattle.fw_compile.specs.Image.{image_of}
 use Rattle.fw_kernel.specs.declared.labels.TheConstants.{TICK}
-use Rattle.fw_logic.proofs.Executing.{before_first, all_fit, all_late}
+use Rattle.fw_logic.proofs.Executing.{begins_dark, every_fit, every_late}
 use Rattle.fw_logic.proofs.Laws.{comes_as}
 use Rattle.fw_logic.proofs.Passing.{Passes}
-use Rattle.fw_logic.proofs.Turns.{IsMain}
+use Rattle.fw_logic.proofs.Waking.{Wakes, wakes}
 use Rattle.fw_logic.specs.Executed.{IsFit, LooksLate}
 use Rattle.board_lines.specs.declared.event.Edge.{Edge}
 use Rattle.board_lines.specs.declared.event.HostEvent.{HostEvent}
-use Rattle.joint_run.specs.Joint.{Beside, joint_board}
+use Rattle.joint_run.specs.Joint.{Beside, beside_at_start, joint_board}
 use Rattle.joint_run.specs.Run.{World, joint_step, run_at}
 use Rattle.joint_run.specs.Starts.{at_tick, calm, Comes}
 use Rattle.key_file.specs.Accepted.{IsLawfulFor}
@@ -48,8 +48,8 @@ module _ (layout : KeyLayout) (history : KeyHistory) (fine : IsKeyLayout layout)
     abbrev from : World Beside
     from = switched_on edges events m
 
-    main : IsMain false from.cpu
-    main = record { place = refl; stays = refl }
+    wake : Wakes (joint_board edges events) bytes (has_kernel layout) from
+    wake = wakes (joint_board edges events) bytes (has_kernel layout) m small.long beside_at_start
 
     comes_first : Comes (joint_board edges events) TICK bytes from (λ e. at_tick (joint_board edges events) TICK e ≡ true)
     comes_first =
@@ -62,20 +62,20 @@ module _ (layout : KeyLayout) (history : KeyHistory) (fine : IsKeyLayout layout)
     stays_dark : (k : ℕ) (one next : World Beside) → calm (joint_board edges events) TICK bytes k from ≡ Some one
         → at_tick (joint_board edges events) TICK one ≡ false
         → joint_step (joint_board edges events) bytes one ≡ Some next → next.cpu.p1 ≡ 255
-    stays_dark = before_first (joint_board edges events) bytes (has_kernel layout) from main comes_first
+    stays_dark = begins_dark (joint_board edges events) bytes (has_kernel layout) from wake comes_first
 
     -- each state of the run is fit, where each tick start has its way through the tick
     stays_fit : ((k : ℕ) (w : World Beside) → run_at (joint_board edges events) bytes from k ≡ Some w
         → at_tick (joint_board edges events) TICK w ≡ true → Passes (joint_board edges events) bytes w)
         → (k : ℕ) (w : World Beside) → run_at (joint_board edges events) bytes from k ≡ Some w → IsFit bytes w.cpu
-    stays_fit = all_fit (joint_board edges events) bytes (has_kernel layout) from main comes_first
+    stays_fit = every_fit (joint_board edges events) bytes (has_kernel layout) from wake comes_first
 
     -- and looks late
     looks_late : ((k : ℕ) (w : World Beside) → run_at (joint_board edges events) bytes from k ≡ Some w
         → at_tick (joint_board edges events) TICK w ≡ true → Passes (joint_board edges events) bytes w)
         → (k : ℕ) (w next : World Beside) → run_at (joint_board edges events) bytes from k ≡ Some w
         → joint_step (joint_board edges events) bytes w ≡ Some next → LooksLate bytes w.cpu next.cpu
-    looks_late = all_late (joint_board edges events) bytes (has_kernel layout) from main comes_first
+    looks_late = every_late (joint_board edges events) bytes (has_kernel layout) from wake comes_first
 
 pub every_memory : AnyMemoryLaw
 every_memory layout history fine ok m small = (

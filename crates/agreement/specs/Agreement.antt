@@ -41,7 +41,8 @@ AgreementLaw =
 abbrev pub switched_on : List Edge → List HostEvent → Cpu → World Beside
 switched_on edges events m = power_on (joint_board edges events) m beside_at_start
 
--- and whatever the part holds when it is switched on: any bytes in data memory, A and T, any carries and prescaler
+-- and whatever the part holds when it is switched on: any bytes in data memory, A and T, any carries and prescaler, and
+-- an interrupt that is marked as in service or none
 abbrev pub AnyMemoryLaw : Type 0
 AnyMemoryLaw =
     (layout : KeyLayout) (history : KeyHistory) → IsKeyLayout layout → IsLawfulFor layout history

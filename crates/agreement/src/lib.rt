@@ -57,7 +57,8 @@ pub fn every_tick()
 /// state of the joint run the instruction that comes next is in the chip's own 2,048 bytes, in a row of sixteen that the
 /// HEX text has, and of the kernel's kinds. So the run never enables the clock's output on T0, drives the bus or accesses
 /// memory outside, uses the port expander, reads the pins of ports 1 and 2, reads the timer, enables the external
-/// interrupt, or calls: of the stack's eight entries the service alone takes one. And where a look at the clock wire comes
+/// interrupt, or calls: of the stack's eight entries the service takes one, and power-on, whose RETR ends a service that
+/// is marked. And where a look at the clock wire comes
 /// next after a row that puts port 2, a chip samples the wire at least 7 fifths of a cycle, 3.5 microseconds, after it
 /// has put the port. Nothing is done when it is called; the laws are its contract.
 pub fn keeps_to_the_board()

@@ -20,7 +20,8 @@ IsLogBrokenOff s before after = IsTextBrokenOff Outcome (IsOutcome s) (λ run. l
 abbrev pub IsLogBrokenAt : Story → Shown → Shown → ℕ → Type 0
 IsLogBrokenAt s before after k = IsBrokenBehind before after (log_text (log_at s k)) (log_text (step_says s k))
 
--- and the probes have looked at the states up to the one that this step led to
+-- and the probes have looked at the states up to the one that this step led to. Of a sink that doesn't tell what it
+-- took the step may be any
 abbrev pub HaveLookedToBreak : Story → Shown → Shown → List Watch → List Watch → Type 0
 HaveLookedToBreak s before after first probes = BrokeOff Stamp s (IsLogBrokenAt s before after) first probes
 

@@ -70,8 +70,9 @@ impl<F: Feed> Board<F> {
     /// put, whole and alone.
     ///
     /// On Ok the sink has taken the whole text of the log, its count of faults is as it was, and the probes have
-    /// looked at each state. A failure comes only where a put failed: then the sink has the text of the whole log up
-    /// to that put, and the probes have looked at the states up to the one of the step that said the line.
+    /// looked at each state. A failure comes only if a put failed. A sink that tells what it took has the text of the
+    /// whole log up to that put, and the probes have looked at the states up to the one of the step that said the
+    /// line.
     pub fn run_to<K: Sink>(
         self,
         out: &mut K,

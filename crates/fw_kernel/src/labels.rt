@@ -117,8 +117,11 @@ pub const REST: u16 = 0x292;
 /// What isn't 00 at power-on.
 pub const POWER: u16 = 0x29a;
 
-/// Power-on's first block: data memory is cleared.
-pub const BLANK: u16 = 0x2ad;
+/// Both ports are let go, and a service that is marked ends.
+pub const RESTART: u16 = 0x2ac;
+
+/// Data memory is cleared.
+pub const BLANK: u16 = 0x2bb;
 
 /// The columns' changes in order.
 pub const EDGES: u16 = 0x409;

@@ -54,9 +54,19 @@ REPLY    EQU 4BH
 LAST     EQU 4CH
 LIGHTS   EQU 4DH
 FN       EQU 4EH
+BACK     EQU 0BBH           ; where `blank` is in page 2
 
+; -- power-on, and the way back of a processor whose counter was upset: through the free places, which are NOP, it comes
+; to 000 in any state. Interrupts and the timer are switched off; the lower half and bank 0 are selected.
+; needs: nothing. leaves: no interrupt but one that is in service; bank 0; the timer stands still.
+; cycles: 7.
         ORG 0
-        JMP blank
+        DIS TCNTI           ; 0: a request that is latched is cleared, too
+        DIS I               ; 1
+        STOP TCNT           ; 2
+        SEL MB0             ; 3
+        SEL RB0             ; 4
+        JMP restart         ; 5
 
 ; -- tick: the timer's interrupt. The next overflow is 2,048 cycles after the last, since the prescaler goes on.
 ; needs: nothing. leaves: R0 = HELD, R1 = CHANGED, R3 = 12; the first column is selected.
@@ -262,13 +272,13 @@ e_data: DEC A               ; 260
 
 ; -- start: power-on. Times are the cycles since reset; the first overflow comes with the end of cycle 4,093.
 ; needs: the state that blank leaves; R0 of power. leaves: register bank 1, the timer's interrupt enabled.
-; cycles: 3 to power; from begin 33.
+; cycles: 3 to power; from begin 11.
         ORG 0F2H
-start:  SEL RB1             ; 390
-        JMP power           ; 391
-begin:  MOV A,#8EH          ; 413: 114 counts of 32 cycles until the first overflow
-        MOV T,A             ; 415
-pause:  DJNZ R0,pause       ; 416 to 443
+start:  SEL RB1             ; 413
+        JMP power           ; 414
+begin:  MOV A,#8EH          ; 435: 114 counts of 32 cycles until the first overflow
+        MOV T,A             ; 437
+pause:  DJNZ R0,pause       ; 438 to 443
         EN TCNTI            ; 444: the overflow asks for the tick
         STRT T              ; 445: the prescaler is 0 when cycle 446 begins
 
@@ -578,30 +588,44 @@ a_over: MOV A,@R1
         MOV @R1,A
         JMP edges
 
-; -- power: what isn't 00 at power-on; the timer's request is cleared. Times are the cycles since reset.
+; -- power: what isn't 00 at power-on. Times are the cycles since reset.
 ; needs: nothing. leaves: TEST, LAST, RATE, R0.
-; cycles: 20.
-power:  MOV R1,#TEST        ; 393
-        MOV @R1,#64         ; 395
-        MOV R1,#LAST        ; 397
-        MOV @R1,#0AAH       ; 399
-        MOV A,#60H          ; 401
-        MOVP3 A,@A          ; 403
-        MOV R1,#RATE        ; 405
-        MOV @R1,A           ; 407
-        DIS TCNTI           ; 408: no request is left that was latched at power-on
-        MOV R0,#14          ; 409
-        JMP begin           ; 411
+; cycles: 19.
+power:  MOV R1,#TEST        ; 416
+        MOV @R1,#64         ; 418
+        MOV R1,#LAST        ; 420
+        MOV @R1,#0AAH       ; 422
+        MOV A,#60H          ; 424
+        MOVP3 A,@A          ; 426
+        MOV R1,#RATE        ; 428
+        MOV @R1,A           ; 430
+        MOV R0,#3           ; 431
+        JMP begin           ; 433
 
-; -- blank: power-on's first block. A part that is switched on holds anything in data memory, A and the carries.
-; needs: the state after reset. leaves: A, both carries and all of data memory 0.
-; cycles: 390 with the jump to it.
-blank:  MOV R0,#7FH         ; 2
-        CLR A               ; 4
-        ADD A,#0            ; 5: no carry
-fill:   MOV @R0,A           ; 7 + 3 for each cell, from the last to 01
+; -- restart: both ports are FF; RETR ends the service of an interrupt, if one is marked, with a way back to blank that is
+; written here.
+; needs: bank 0. leaves: both latches FF, the flags clear, nothing on the stack, no service.
+; cycles: 18.
+restart: MOV A,#0FFH        ; 7
+        OUTL P2,A           ; 9: both wires are let go
+        OUTL P1,A           ; 11
+        MOV R0,#8           ; 13: the stack's first entry
+        MOV @R0,#BACK       ; 15: the counter's low byte
+        INC R0              ; 17
+        MOV @R0,#2          ; 18: its page, with a clear status
+        MOV A,#1            ; 20
+        MOV PSW,A           ; 22: one entry is on the stack
+        RETR                ; 23
+
+; -- blank: data memory is cleared. A part that is switched on holds anything in it, in A and in the carries.
+; needs: bank 0. leaves: A, both carries and all of data memory 0.
+; cycles: 388.
+blank:  MOV R0,#7FH         ; 25
+        CLR A               ; 27
+        ADD A,#0            ; 28: no carry
+fill:   MOV @R0,A           ; 30 + 3 for each cell, from the last to 01
         DJNZ R0,fill        ; R0, which is cell 00, ends at 0
-        JMP start           ; 388
+        JMP start           ; 411
 
 ; -- tables: behind the layout's, the delays by bits 5 and 6 of the rate, the periods by bits 0 to 4, in ticks.
         ORG 3CEH

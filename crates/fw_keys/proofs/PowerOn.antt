@@ -18,7 +18,7 @@ use Rattle.fw_keys.proofs.Begun.{started_is}
 module _ (d : Board) (bytes : List ℕ) (hk : HasKernel bytes) (small : All IsByte bytes)
     (low : (p1 p2 c : ℕ) (s : d.State) → (d.pins p1 p2 c s).bus < 256) (m : Cpu) (fine : IsFine m)
     (board : d.State) where
-  reset_fine : IsFine (reset_in m)
+  reset_fine : IsFine (record (reset_in m) { svc = m.svc })
   reset_fine =
       record {
         pc = omega arith;

@@ -105,7 +105,7 @@ module _ (d : Board) (bytes : List ℕ) where
       by false b c e h = absurd cc
 
   -- so the way to the next start begins with a step, from a state that is none
-  steps_first : (w next : World d.State) → (IsStart w → ⊥) → Comes d TICK bytes w IsStart
+  pub steps_first : (w next : World d.State) → (IsStart w → ⊥) → Comes d TICK bytes w IsStart
       → joint_step d bytes w ≡ Some next → Comes d TICK bytes next IsStart
   steps_first w next off c step = by c.steps c.run
     where

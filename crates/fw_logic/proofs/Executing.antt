@@ -1,6 +1,7 @@
 -- Every state of a run, from power-on and through each of its ticks: what is executed there.
-use Rattle.std.proofs.Common.{◌≡◌, ◌<◌, ◌⊎◌, ℕ, suc, zero, ◌%◌, List, false, Some, None}
-use Rattle.std.proofs.Common.{refl, ◌∙◌, subst, arith, inl, inr}
+use Rattle.std.proofs.Common.{◌≡◌, ◌≤◌, ◌<◌, ◌⊎◌, ℕ, suc, zero, ◌+◌, ◌-◌, ◌%◌, List, Bool, true, false, Some, None}
+use Rattle.std.proofs.Common.{nat_lt, refl, ap, sym, ◌∙◌, subst, arith, inl, inr}
+use Rattle.std.proofs.lemmas.Bool.Decides.{nat_tests}
 use Rattle.std.specs.declared.option.Option.{Option}
 use Rattle.fw_kernel.specs.declared.labels.TheConstants.{TICK}
 use Rattle.fw_kernel.specs.Places.{HasKernel}
@@ -13,6 +14,7 @@ use Rattle.fw_logic.proofs.Between.{IsStart, Resting, Working, WorksOn, works_on
 use Rattle.fw_logic.proofs.Between.{start_place, along, no_start, step_of}
 use Rattle.fw_logic.proofs.Late.{main_late, serve_late}
 use Rattle.fw_logic.proofs.Passing.{Passes}
+use Rattle.fw_logic.proofs.Waking.{Wakes, waking}
 use Rattle.fw_logic.proofs.Turns.{IsMain, IsServing, main_fit, service_fit}
 
 module _ (d : Board) (bytes : List ℕ) (has : HasKernel bytes) (from : World d.State) (main : IsMain false from.cpu)
@@ -108,3 +110,51 @@ module _ (d : Board) (bytes : List ℕ) (has : HasKernel bytes) (from : World d.
         by (inl h) = serves h.serving
         by (inr (inl h)) = main_late bytes has false w.cpu next.cpu h.main
         by (inr (inr h)) = serves h.0
+
+-- the same of the run from power-on, whose first steps come before the main program
+module _ (d : Board) (bytes : List ℕ) (has : HasKernel bytes) (from : World d.State) (wake : Wakes d bytes has from)
+    (first : Comes d TICK bytes from (IsStart d bytes)) where
+  from_main : Comes d TICK bytes wake.to (IsStart d bytes)
+  from_main = wake.comes first
+
+  -- up to the first start port 1 is as reset leaves it
+  pub begins_dark : (k : ℕ) (one next : World d.State) → calm d TICK bytes k from ≡ Some one
+      → at_tick d TICK one ≡ false → joint_step d bytes one ≡ Some next → next.cpu.p1 ≡ 255
+  begins_dark k one next run off step = by (nat_lt k (waking d bytes has)) refl
+    where
+      by : (b : Bool) → nat_lt k (waking d bytes has) ≡ b → next.cpu.p1 ≡ 255
+      by true e = ((wake.calm_early k one (grind (arith, nat_tests, e)) run).next next step).1
+      by false e =
+          let j : ℕ = k - 16 in
+          let far : 16 ≤ k = grind (arith, nat_tests, e) in
+          let sum : 16 + j ≡ k = omega (arith, far) in
+          before_first d bytes has wake.to wake.main from_main j one next
+          (sym (wake.calm_on j) ∙ ap (λ i. calm d TICK bytes i from) sum ∙ run) off step
+          ∙ wake.dark
+
+  module _ (passes : (k : ℕ) (w : World d.State) → run_at d bytes from k ≡ Some w → IsStart d bytes w
+      → Passes d bytes w) where
+    passes_main : (k : ℕ) (w : World d.State) → run_at d bytes wake.to k ≡ Some w → IsStart d bytes w → Passes d bytes w
+    passes_main k w run = passes (16 + k) w (wake.on k ∙ run)
+
+    later : (k : ℕ) (w : World d.State) → run_at d bytes from k ≡ Some w → nat_lt k (waking d bytes has) ≡ false
+        → run_at d bytes wake.to (k - 16) ≡ Some w
+    later k w run e =
+        let far : 16 ≤ k = grind (arith, nat_tests, e) in
+        let sum : 16 + (k - 16) ≡ k = omega (arith, far) in
+        sym (wake.on (k - 16)) ∙ ap (run_at d bytes from) sum ∙ run
+
+    pub every_fit : (k : ℕ) (w : World d.State) → run_at d bytes from k ≡ Some w → IsFit bytes w.cpu
+    every_fit k w run = by (nat_lt k (waking d bytes has)) refl
+      where
+        by : (b : Bool) → nat_lt k (waking d bytes has) ≡ b → IsFit bytes w.cpu
+        by true e = (wake.early k w (grind (arith, nat_tests, e)) run).fit
+        by false e = all_fit d bytes has wake.to wake.main from_main passes_main (k - 16) w (later k w run e)
+
+    pub every_late : (k : ℕ) (w next : World d.State) → run_at d bytes from k ≡ Some w
+        → joint_step d bytes w ≡ Some next → LooksLate bytes w.cpu next.cpu
+    every_late k w next run step = by (nat_lt k (waking d bytes has)) refl
+      where
+        by : (b : Bool) → nat_lt k (waking d bytes has) ≡ b → LooksLate bytes w.cpu next.cpu
+        by true e = ((wake.early k w (grind (arith, nat_tests, e)) run).next next step).0
+        by false e = all_late d bytes has wake.to wake.main from_main passes_main (k - 16) w next (later k w run e) step

@@ -37,4 +37,5 @@ pub mod Selecting
 pub mod Sweep
 pub mod Written
 pub mod Late
+pub mod Waking
 pub mod Executing

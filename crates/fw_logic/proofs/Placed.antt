@@ -15,10 +15,10 @@ use Rattle.fw_logic.proofs.Following.{is_steady, keeps_column, nexts}
 use Rattle.fw_kernel.specs.Places.{is_table}
 use Rattle.fw_logic.proofs.Kernel.{byte_in, kernel_row}
 
--- by pages of 64 places, whose bits they are: power-on and the waiting loop; and the service
+-- by pages of 64 places, whose bits they are: power-on from `blank` on and the waiting loop; and the service
 abbrev main_places : List ℕ
 main_places =
-    1 ∷ 0 ∷ 0 ∷ 2138083923094142976 ∷ 0 ∷ 0 ∷ 0 ∷ 0 ∷ 0 ∷ 0 ∷ 12855169238695936 ∷ 0 ∷ 0 ∷ 0 ∷ 0 ∷ 0 ∷ 0 ∷ 0 ∷ 0 ∷ 0 ∷ 0 ∷ 0 ∷ 0 ∷ 0 ∷ 0 ∷ 0 ∷ 0 ∷ 0 ∷ 0 ∷ 0 ∷ 0 ∷ 0 ∷ []
+    0 ∷ 0 ∷ 0 ∷ 2138083923094142976 ∷ 0 ∷ 0 ∷ 0 ∷ 0 ∷ 0 ∷ 0 ∷ 7493996056301010944 ∷ 11 ∷ 0 ∷ 0 ∷ 0 ∷ 0 ∷ 0 ∷ 0 ∷ 0 ∷ 0 ∷ 0 ∷ 0 ∷ 0 ∷ 0 ∷ 0 ∷ 0 ∷ 0 ∷ 0 ∷ 0 ∷ 0 ∷ 0 ∷ 0 ∷ []
 
 abbrev service_places : List ℕ
 service_places =

@@ -2,7 +2,9 @@
 use Rattle.std.proofs.Common.{◌≡◌, ◌≤◌, ℕ, ◌+◌, ◌*◌, List, [], ◌∷◌, Bool, true, false, refl, ap, sym, ◌∙◌, subst}
 use Rattle.std.proofs.Common.{arith, inr, slice_index, length, drop, get_or}
 use Rattle.std.proofs.lemmas.List.{drop_all}
-use Rattle.mcs48_isa.specs.declared.operation.Op.TheVariants.{Control}
+use Rattle.mcs48_isa.specs.declared.operation.Decoded.{Decoded}
+use Rattle.mcs48_isa.specs.declared.operation.FlowOp.TheVariants.{Retr}
+use Rattle.mcs48_isa.specs.declared.operation.Op.TheVariants.{Control, Flow}
 use Rattle.mcs48_isa.specs.declared.operation.ControlOp.TheVariants.{EnTcnti, StrtT}
 use Rattle.mcs48_core.specs.Cpu.{Cpu}
 use Rattle.mcs48_core.specs.Reset.{reset_cpu, reset_in}
@@ -55,10 +57,57 @@ pub record IsFirst (d : Board) (bytes : List ℕ) (board : d.State) (w : World d
 module _ (d : Board) (bytes : List ℕ) (has : HasKernel bytes) where
   -- a processor with these cells, after reset
   abbrev reset_with : Cpu → (ℕ → ℕ) → Cpu
-  reset_with m f = reset_in (record m { ram = before f 0 128 [] })
+  reset_with m f = record (reset_in (record m { ram = before f 0 128 [] })) { svc = m.svc }
 
-  abbrev reset_at : Cpu → (ℕ → ℕ) → d.State → Stage d.State
+  abbrev pub reset_at : Cpu → (ℕ → ℕ) → d.State → Stage d.State
   reset_at m f board = record { cpu = reset_with m f; board = board; off = 0 }
+
+  -- the way back to `blank` is on the stack, and RETR is next
+  abbrev back_cells : (ℕ → ℕ) → ℕ → ℕ
+  back_cells f = put (put (put f 0 9) 8 187) 9 2
+
+  abbrev back_cpu : Cpu → (ℕ → ℕ) → Bool → Cpu
+  back_cpu m f last = record (reset_by m.bus) {
+    pc = 698;
+    a = 1;
+    sp = 1;
+    ram = before (back_cells f) 0 128 [];
+    t = m.t;
+    pre = m.pre;
+    svc = m.svc;
+    last_t1 = last;
+  }
+
+  abbrev IsBack : Cpu → (ℕ → ℕ) → d.State → Stage d.State → Type 0
+  IsBack m f board e =
+      (e.cpu ≡ back_cpu m f e.cpu.last_t1) × (e.off ≡ 23) × (e.board ≡ after_cycles 23 0 (d.cycle 255) board)
+
+  -- at `blank` nothing is on the stack, and no interrupt is in service
+  abbrev pub blank_at : Cpu → (ℕ → ℕ) → Bool → d.State → Stage d.State
+  blank_at m f last board = record {
+    cpu = record (reset_by m.bus) {
+      pc = 699;
+      a = 1;
+      ram = before (back_cells f) 0 128 [];
+      t = m.t;
+      pre = m.pre;
+      last_t1 = last;
+    };
+    board = after_cycles 25 0 (d.cycle 255) board;
+    off = 25;
+  }
+
+  returns : (m : Cpu) (f : ℕ → ℕ) (board : d.State) (last : Bool) (Q : World d.State → Type 0)
+      → ((last' : Bool) → Comes d TICK bytes (world_at 0 (blank_at m f last' board)) Q)
+      → Comes d TICK bytes
+      (record { cpu = back_cpu m f last; board = after_cycles 23 0 (d.cycle 255) board; cycle = 23 }) Q
+  returns m f board last Q rest =
+      let at : World d.State =
+      record { cpu = back_cpu m f last; board = after_cycles 23 0 (d.cycle 255) board; cycle = 23 } in
+      let r : Decoded = record { op = Flow Retr; len = 1; cycles = 2 } in
+      let row = (has_rows true bytes has 698 r refl).0 in
+      comes_by d TICK bytes Q at (record { cpu = (blank_at m f (seen d at).t1 board).cpu; cycles = 2 }) refl
+      (stepped_is bytes (seen d at) at.cpu r (inr (refl, refl)) row) (rest (seen d at).t1)
 
   -- the timer is written and stands still; its interrupt isn't enabled yet, and no request is latched
   abbrev set_cpu : ℕ → ℕ → Bool → Cpu
@@ -69,9 +118,9 @@ module _ (d : Board) (bytes : List ℕ) (has : HasKernel bytes) where
   IsSet bus pre board e =
       (e.cpu ≡ set_cpu bus pre e.cpu.last_t1) × (e.off ≡ 444) × (e.board ≡ after_cycles 444 0 (d.cycle 255) board)
 
-  sets : (m : Cpu) (f : ℕ → ℕ) (board : d.State)
-      → Path d (kernel_in false bytes) 0 (Until 250 ∷ []) (reset_at m f board) (IsSet m.bus m.pre board)
-  sets m f board = (refl, refl, refl)
+  sets : (m : Cpu) (f : ℕ → ℕ) (board : d.State) (last : Bool)
+      → Path d (kernel_in false bytes) 0 (Until 250 ∷ []) (blank_at m f last board) (IsSet m.bus m.pre board)
+  sets m f board last = (refl, refl, refl)
 
   -- EN TCNTI and STRT T
   starts : (bus pre : ℕ) (board : d.State) (last : Bool) (Q : World d.State → Type 0)
@@ -98,12 +147,12 @@ module _ (d : Board) (bytes : List ℕ) (has : HasKernel bytes) where
         cycles = 1;
       }) refl (ap (λ r. executed r bytes (seen d next) on) row') (rest (seen d next).t1))
 
-  first_from : (m : Cpu) (f : ℕ → ℕ) (board : d.State)
-      → Comes d TICK bytes (world_at 0 (reset_at m f board)) (IsFirst d bytes board)
-  first_from m f board =
+  from_blank : (m : Cpu) (f : ℕ → ℕ) (board : d.State) (last : Bool)
+      → Comes d TICK bytes (world_at 0 (blank_at m f last board)) (IsFirst d bytes board)
+  from_blank m f board last =
       let h =
       sound d (kernel_in false bytes) (has_rows false bytes has) 0 (Until 250 ∷ []) (IsSet m.bus m.pre board)
-      (reset_at m f board) (sets m f board) (inr (refl, refl)) in
+      (blank_at m f last board) (sets m f board last) (inr (refl, refl)) in
       let k : Cpu = record (reset_by m.bus) { a = 142 } in
       let b : d.State = after_cycles 446 0 (d.cycle 255) board in
       let e = h.end in
@@ -113,7 +162,7 @@ module _ (d : Board) (bytes : List ℕ) (has : HasKernel bytes) where
       ∙ ap (λ o. world_at 0 (record { cpu = set_cpu m.bus m.pre e.cpu.last_t1; board = e.board; off = o })) h.goal.1
       ∙ ap (λ v. world_at 0 (record { cpu = set_cpu m.bus m.pre e.cpu.last_t1; board = v; off = 444 })) h.goal.2 in
       comes_then d TICK bytes (λ w. w ≡ world_at 0 e) (IsFirst d bytes board)
-      (world_at 0 (reset_at m f board))
+      (world_at 0 (blank_at m f last board))
       (record { steps = h.steps; end = world_at 0 e; run = h.run; goal = refl })
       (λ w is. subst (λ v. Comes d TICK bytes v (IsFirst d bytes board)) (sym (is ∙ same))
       (starts m.bus m.pre board e.cpu.last_t1 (IsFirst d bytes board)
@@ -136,6 +185,34 @@ module _ (d : Board) (bytes : List ℕ) (has : HasKernel bytes) where
         most = i.most;
       })
       (begins d bytes has (powered bytes) empty_ring k b 446 142 0 false last (omega arith) (omega arith)))))
+
+  -- a state by its parts, and a run from a state that is another
+  world_as : (e : Stage d.State) (c : Cpu) (n : ℕ) (b : d.State) → e.cpu ≡ c → e.off ≡ n → e.board ≡ b
+      → world_at 0 e ≡ record { cpu = c; board = b; cycle = 0 + n }
+  world_as e c n b cpu off board =
+      ap (λ c. record { cpu = c; board = e.board; cycle = 0 + e.off }) cpu
+      ∙ ap (λ n. record { cpu = c; board = e.board; cycle = 0 + n }) off
+      ∙ ap (λ b. record { cpu = c; board = b; cycle = 0 + n }) board
+
+  comes_at : (v w : World d.State) → w ≡ v → (board : d.State) → Comes d TICK bytes v (IsFirst d bytes board)
+      → Comes d TICK bytes w (IsFirst d bytes board)
+  comes_at v w is board h = subst (λ u. Comes d TICK bytes u (IsFirst d bytes board)) (sym is) h
+
+  first_from : (m : Cpu) (f : ℕ → ℕ) (board : d.State)
+      → Comes d TICK bytes (world_at 0 (reset_at m f board)) (IsFirst d bytes board)
+  first_from m f board =
+      let h =
+      sound d (kernel_in false bytes) (has_rows false bytes has) 0 (Until 698 ∷ []) (IsBack m f board)
+      (reset_at m f board) (refl, refl, refl) (inr (refl, refl)) in
+      let e = h.end in
+      let there : World d.State =
+      record { cpu = back_cpu m f e.cpu.last_t1; board = after_cycles 23 0 (d.cycle 255) board; cycle = 23 } in
+      let same : world_at 0 e ≡ there =
+      world_as e (back_cpu m f e.cpu.last_t1) 23 (after_cycles 23 0 (d.cycle 255) board) h.goal.0 h.goal.1 h.goal.2 in
+      comes_then d TICK bytes (λ w. w ≡ world_at 0 e) (IsFirst d bytes board) (world_at 0 (reset_at m f board))
+      (record { steps = h.steps; end = world_at 0 e; run = h.run; goal = refl })
+      (λ w is. comes_at (world_at 0 e) w is board (comes_at there (world_at 0 e) same board
+      (returns m f board e.cpu.last_t1 (IsFirst d bytes board) (λ last. from_blank m f board last))))
 
   -- so it is whatever the processor held before
   pub first_start : (m : Cpu) → length m.ram ≡ 128 → (board : d.State)

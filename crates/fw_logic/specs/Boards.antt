@@ -5,9 +5,9 @@ use Rattle.mcs48_core.specs.Cpu.{Cpu}
 use Rattle.mcs48_core.specs.Reset.{reset_in}
 use Rattle.joint_run.specs.Run.{Board, World}
 
--- a processor that held this, after reset, on a board, at cycle 0
+-- a processor that held this, after reset, on a board, at cycle 0; it may have left an interrupt marked as in service
 abbrev pub power_on : (d : Board) → Cpu → d.State → World d.State
-power_on d m board = record { cpu = reset_in m; board = board; cycle = 0 }
+power_on d m board = record { cpu = record (reset_in m) { svc = m.svc }; board = board; cycle = 0 }
 
 -- a board whose state is a number; the pins, by both latches, the cycle and the state, may show anything
 abbrev pub numbered : (ℕ → ℕ → ℕ → ℕ → Pins) → (ℕ → ℕ → ℕ → ℕ) → Board

@@ -5,7 +5,7 @@ use Rattle.std.specs.declared.option.Option.{Option}
 use Rattle.mcs48_isa.specs.declared.operation.Op.{Op}
 use Rattle.mcs48_isa.specs.declared.operation.Op.TheVariants.{Moves, Alu, Unary, Flow, PortIo, Control}
 use Rattle.mcs48_isa.specs.declared.operation.MoveOp.TheVariants.{MovAN, MovAR, MovAI, MovRA, MovIA, MovRN, MovIN}
-use Rattle.mcs48_isa.specs.declared.operation.MoveOp.TheVariants.{MovTA, XchR, XchI, Movp, Movp3}
+use Rattle.mcs48_isa.specs.declared.operation.MoveOp.TheVariants.{MovPswA, MovTA, XchR, XchI, Movp, Movp3}
 use Rattle.mcs48_isa.specs.declared.operation.AluOp.TheVariants.{AddR, AddI, AddN, AnlR, AnlN, OrlR, OrlI, OrlN}
 use Rattle.mcs48_isa.specs.declared.operation.AluOp.TheVariants.{XrlR, XrlI, XrlN}
 use Rattle.mcs48_isa.specs.declared.operation.UnaryOp.TheVariants.{IncA, IncR, IncI, DecA, ClrA, CplA, SwapA}
@@ -14,14 +14,15 @@ use Rattle.mcs48_isa.specs.declared.operation.UnaryOp.TheVariants.{ClrF0, CplF0,
 use Rattle.mcs48_isa.specs.declared.operation.FlowOp.TheVariants.{Jmp, Retr, Djnz, Jb, Jc, Jnc, Jz, Jnz}
 use Rattle.mcs48_isa.specs.declared.operation.FlowOp.TheVariants.{Jt0, Jnt0, Jt1, Jnt1, Jf0, Jf1}
 use Rattle.mcs48_isa.specs.declared.operation.PortOp.TheVariants.{InsBus, OutlP1, OutlP2, AnlP2, OrlP2}
-use Rattle.mcs48_isa.specs.declared.operation.ControlOp.TheVariants.{Nop, EnTcnti, DisTcnti, SelRb1, StrtT}
+use Rattle.mcs48_isa.specs.declared.operation.ControlOp.TheVariants.{Nop, DisI, EnTcnti, DisTcnti, SelRb0, SelRb1, SelMb0}
+use Rattle.mcs48_isa.specs.declared.operation.ControlOp.TheVariants.{StrtT, StopTcnt}
 use Rattle.mcs48_isa.specs.declared.operation.Decoded.{Decoded}
 use Rattle.mcs48_core.specs.Cpu.{Cpu}
 use Rattle.mcs48_core.specs.Step.{row_at}
 
 -- the kinds of row that the kernel has: none drives the bus, T0 or the port expander's pins, reads the pins of port 1 or
 -- 2, reads the timer or tests its flag, enables the external interrupt, counts T1, leaves the lower half of the program,
--- calls, or writes the status
+-- or calls. The status is written at power-on alone
 abbrev pub is_kernels : Op → Bool
 is_kernels (Moves (MovAN n)) = true
 is_kernels (Moves (MovAR r)) = true
@@ -30,6 +31,7 @@ is_kernels (Moves (MovRA r)) = true
 is_kernels (Moves (MovIA i)) = true
 is_kernels (Moves (MovRN r n)) = true
 is_kernels (Moves (MovIN i n)) = true
+is_kernels (Moves MovPswA) = true
 is_kernels (Moves MovTA) = true
 is_kernels (Moves (XchR r)) = true
 is_kernels (Moves (XchI i)) = true
@@ -83,10 +85,14 @@ is_kernels (PortIo OutlP2) = true
 is_kernels (PortIo (AnlP2 n)) = true
 is_kernels (PortIo (OrlP2 n)) = true
 is_kernels (Control Nop) = true
+is_kernels (Control DisI) = true
 is_kernels (Control EnTcnti) = true
 is_kernels (Control DisTcnti) = true
+is_kernels (Control SelRb0) = true
 is_kernels (Control SelRb1) = true
+is_kernels (Control SelMb0) = true
 is_kernels (Control StrtT) = true
+is_kernels (Control StopTcnt) = true
 is_kernels op = false
 
 -- whether some byte of n from a place on isn't 0; a HEX text has the rows of sixteen places in which one isn't, so a

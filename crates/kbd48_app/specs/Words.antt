@@ -188,7 +188,7 @@ leaves_probes (Some (Board wanted)) = false
 leaves_probes (Some (Sample count)) = false
 leaves_probes command = true
 
--- commands that take all their memory before the first step of their run
+-- commands that lack memory only before anything is put and before a probe has looked
 abbrev pub takes_memory_first : Option Command → Bool
 takes_memory_first (Some (OverPair (OverRun (Log ticks steps)))) = true
 takes_memory_first (Some (OverPair (OverRun Trace))) = true

@@ -139,8 +139,8 @@ pub fn kbd48<F: Shelf, K: Sink>(
     // Memory: never where the first fetch fails, or finds a file that is too long.
     ensures memory { IfSome (F.told shelf.old) (λ told.
         result ≡ Exit.Memory → may_lack (planned words.now) told ≡ true) }
-    // Memory, in `run`, `trace`, `board` and `sample`: only before the run's first step. No probe has looked, and one
-    // line is all that is said.
+    // Memory, in `run`, `trace`, `board` and `sample`: only before anything is put. No probe has looked, and one line is
+    // all that is said.
     ensures memory_first { takes_memory_first (asked words.now) ≡ true → result ≡ Exit.Memory
         → (map (λ b. watch b) probes.new.items ≡ map (λ b. watch b) probes.old.items)
         × TakesAll (K.shown out.old).taken (K.shown out.new).taken (line_of Refusal.Memory) }

@@ -1,6 +1,8 @@
 -- Going on by quiet steps and a step behind them, with the interrupt line watched: no quiet step raises it.
 use Rattle.std.proofs.Common.{◌≡◌, ◌≤◌, ◌<◌, ℕ, zero, suc, ◌+◌, Bool, true, false, not, ◌&&◌}
 use Rattle.std.proofs.Common.{drop, None, Some, Ok, Err, refl, ap, sym, ◌∙◌, arith}
+use Rattle.std.proofs.lemmas.Bool.Decides.{nat_tests}
+use Rattle.std.specs.Prelude.{◌==◌, ◌||◌}
 use Rattle.joint_glide.specs.Quiet.{AreQuiet, HasGone}
 use Rattle.std.specs.declared.option.Option.{Option}
 use Rattle.joint_feed.specs.Stories.{state_at}
@@ -14,11 +16,12 @@ use Rattle.mcs48_core.specs.declared.stepping.Stuck.{Stuck}
 use Rattle.live_board.proofs.Calling.{stuck_at}
 use Rattle.live_board.proofs.Stepping.{counted, no_further, one_on}
 use Rattle.live_board.proofs.Watching.{GoesOnSo, before_on, goes_more, goes_still, rose_here}
-use Rattle.live_board.specs.Answers.{raises}
 use Rattle.live_board.specs.Calls.{place_of}
 use Rattle.live_board.specs.Pasts.{Past, gone_on, story_of}
+use Rattle.live_board.specs.Rising.{irq_of, rose}
 use Rattle.live_board.specs.Running.{HasRun}
 use Rattle.live_board.specs.Standing.{Stands}
+use Rattle.live_board.specs.declared.irq.Irq.{Irq}
 use Rattle.live_board.specs.declared.parts.Parts.{Parts as Keyboard}
 use Rattle.live_board.specs.declared.ran.RunEnd.TheVariants as ends
 
@@ -40,9 +43,13 @@ quiet_after due tick (suc n) old new h =
     record { outside = ap (λ (m : Machine). m.outside) q.parts ∙ a.outside; later = omega (arith, c, l) }
 
 -- a line that stays as it is doesn't rise
-steady : (b : Bool) → (not b && b) ≡ false
-steady true = refl
-steady false = refl
+same_number : (n : ℕ) → (n == n) ≡ true
+same_number n = grind (arith, nat_tests)
+
+pub steady : (i : Irq) → rose i i ≡ false
+steady i =
+    ap (λ b. i.up && (not i.up || not b)) (same_number i.filled)
+    ∙ (elim i.up as (λ b. (b && (not b || false)) ≡ false) [ true ↦ refl | false ↦ refl ])
 
 pub goes_quietly : (p : Past) (old : Keyboard) (cycles : ℕ) (watched : Bool) (k : Keyboard) (tick n : ℕ) (m : Machine)
     → GoesOnSo p old cycles watched k
@@ -54,22 +61,22 @@ goes_quietly p old cycles watched k tick (suc n) m so h room =
     let some = q.some in
     let at = ap (λ (x : Machine). x.cycle) q.parts in
     let here : Keyboard = record k { joint = between } in
-    let next : Keyboard = record { joint = m; due = k.due; seen = q.seen } in
+    let next : Keyboard = record k { joint = m; seen = q.seen } in
     let before : GoesOnSo p old cycles watched here =
     goes_quietly p old cycles watched k tick n between so h.1 (omega (arith, at, some, room)) in
     let left : k.due.edges.items ≡ drop q.seen.edges k.due.edges.items = ap (λ e. drop e k.due.edges.items) (sym q.edges) in
     let t : Stands (gone_on p m.steps) next = one_on (gone_on p between.steps) here before.stands next q.step q.run left refl in
     let steps = (counted k.due between m q.seen q.step).1 in
-    let flat : (not (raises between.outside.desk.port.core) && raises m.outside.desk.port.core) ≡ false =
-    ap (λ (o : Outside). not (raises between.outside.desk.port.core) && raises o.desk.port.core) (ap (λ (x : Machine). x.outside) q.parts)
-    ∙ steady (raises between.outside.desk.port.core) in
+    let flat : rose (irq_of between.outside.desk.port) (irq_of m.outside.desk.port) ≡ false =
+    ap (λ (o : Outside). rose (irq_of between.outside.desk.port) (irq_of o.desk.port)) (ap (λ (x : Machine). x.outside) q.parts)
+    ∙ steady (irq_of between.outside.desk.port) in
     goes_still p old cycles watched next (record k { joint = m }) refl refl
     (goes_more p old cycles watched here next before t steps (omega (arith, at, some, room)) (λ is. flat))
 
 -- quiet steps, which end before so many cycles have passed
 module _ (k : Keyboard) (count : ℕ) (last : Machine) (quiet : AreQuiet k.due 2048 count k.joint last) where
-  pub same_line : raises last.outside.desk.port.core ≡ raises k.joint.outside.desk.port.core
-  same_line = ap (λ (o : Outside). raises o.desk.port.core) (quiet_after k.due 2048 count k.joint last quiet).outside
+  pub same_line : irq_of last.outside.desk.port ≡ irq_of k.joint.outside.desk.port
+  same_line = ap (λ (o : Outside). irq_of o.desk.port) (quiet_after k.due 2048 count k.joint last quiet).outside
 
   pub only_later : k.joint.cycle ≤ last.cycle
   only_later = (quiet_after k.due 2048 count k.joint last quiet).later
@@ -88,41 +95,42 @@ module _ (k new : Keyboard) (most : ℕ) (g : HasGone k.due 2048 most k.joint (O
     abbrev before : Keyboard
     before = record k { joint = g.last }
 
-    so_last : GoesOnSo p old cycles watched before
+    pub so_last : GoesOnSo p old cycles watched before
     so_last = let within = g.within in goes_quietly p old cycles watched k 2048 g.count g.last so g.quiet (omega (arith, within, room))
 
     last_room : g.last.cycle < old.joint.cycle + cycles
     last_room = let within = g.within in omega (arith, within, room)
 
-    one_step : new.joint.steps ≡ suc g.last.steps
+    pub one_step : new.joint.steps ≡ suc g.last.steps
     one_step = (counted k.due g.last new.joint new.seen g.step).1
 
     pub stands_on : Stands (gone_on p new.joint.steps) new
     stands_on = one_on (gone_on p g.last.steps) before so_last.stands new g.step g.run left same
 
-    pub goes_all : (watched ≡ true → (not (raises k.joint.outside.desk.port.core) && raises new.joint.outside.desk.port.core) ≡ false)
+    pub goes_all : (watched ≡ true → rose (irq_of k.joint.outside.desk.port) (irq_of new.joint.outside.desk.port) ≡ false)
         → GoesOnSo p old cycles watched new
     goes_all flat =
         goes_more p old cycles watched before new so_last stands_on one_step last_room
-        (λ is. ap (λ x. not x && raises new.joint.outside.desk.port.core) (same_line k g.count g.last g.quiet) ∙ flat is)
+        (λ is. ap (λ x. rose x (irq_of new.joint.outside.desk.port)) (same_line k g.count g.last g.quiet) ∙ flat is)
 
-    pub has_risen : (watched ≡ true) × (raises k.joint.outside.desk.port.core ≡ false) × (raises new.joint.outside.desk.port.core ≡ true)
+    pub has_risen : (watched ≡ true) × (rose (irq_of k.joint.outside.desk.port) (irq_of new.joint.outside.desk.port) ≡ true)
         → HasRun p old cycles watched ends.Rose new
-    has_risen rose = record {
+    has_risen risen = record {
       stands = stands_on;
       before = before_on p old cycles watched before new so_last stands_on one_step last_room;
       ends = (
-        rose.0,
+        risen.0,
         g.last.steps,
         one_step,
         so_last.more,
-        so_last.calm rose.0,
-        rose_here p old cycles watched before new so_last stands_on one_step last_room (same_line k g.count g.last g.quiet ∙ rose.1) rose.2,
+        so_last.calm risen.0,
+        rose_here p old cycles watched before new so_last stands_on one_step last_room
+            (ap (λ x. rose x (irq_of new.joint.outside.desk.port)) (same_line k g.count g.last g.quiet) ∙ risen.1),
       );
     }
 
 -- and the processor is stuck behind them
-stuck_same : (due : Due) (old new : Machine) (stuck : Stuck) (o : Option (World Beside)) → IsJointStep due old o (Err stuck) new → new ≡ old
+pub stuck_same : (due : Due) (old new : Machine) (stuck : Stuck) (o : Option (World Beside)) → IsJointStep due old o (Err stuck) new → new ≡ old
 stuck_same due old new stuck None h = h.1
 stuck_same due old new stuck (Some w) h = absurd h
 

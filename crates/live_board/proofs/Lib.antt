@@ -6,3 +6,4 @@ pub mod Stepping
 pub mod Calling
 pub mod Watching
 pub mod Gliding
+mod Tallying

@@ -1,5 +1,5 @@
 -- One joint step goes on with the run of the past.
-use Rattle.std.proofs.Common.{◌≡◌, ◌≤◌, ℕ, suc, ◌+◌, ◌-◌, List, [], length, take, drop, Some}
+use Rattle.std.proofs.Common.{◌≡◌, ◌≤◌, ℕ, suc, ◌+◌, ◌-◌, List, [], ◌++◌, length, take, drop, Some}
 use Rattle.std.proofs.Common.{None, Ok, Err, refl, ap, sym, subst, ◌∙◌, arith}
 use Rattle.std.specs.List.{All}
 use Rattle.std.proofs.lemmas.List.{drop_all, length-drop, take_all}
@@ -9,17 +9,18 @@ use Rattle.board_lines.specs.declared.event.Edge.{Edge}
 use Rattle.board_lines.specs.declared.event.HostEvent.{HostEvent}
 use Rattle.joint_run.specs.Due.{due_step, made_first, powered_on, IsJointStep}
 use Rattle.joint_run.specs.History.{GoesOn, IsFirstOfRun, IsInRun, IsStepOfRun}
-use Rattle.joint_run.specs.Joint.{Beside, joint_board, joint_start}
+use Rattle.joint_run.specs.Joint.{Beside, joint_board, joint_start, log_of}
 use Rattle.joint_run.specs.Run.{World, run_at}
 use Rattle.joint_run.specs.declared.due.Due.{Due}
 use Rattle.joint_run.specs.declared.due.Seen.{Seen}
 use Rattle.joint_run.specs.declared.machine.Machine.{Machine}
 use Rattle.joint_feed.proofs.Counts.{done_few, made_few}
 use Rattle.joint_feed.proofs.Feeding.{drop_more}
-use Rattle.joint_feed.proofs.Going.{IsMade, made as step_made}
+use Rattle.joint_feed.proofs.Going.{IsMade, made as step_made, same_state}
 use Rattle.joint_feed.specs.Stories.{state_at}
 use Rattle.mcs48_core.specs.Reset.{reset_cpu}
 use Rattle.mcs48_core.specs.declared.stepping.Stuck.{Stuck}
+use Rattle.live_board.specs.Calls.{Says}
 use Rattle.live_board.specs.Pasts.{Past, gone_on, state_of, story_of, untouched}
 use Rattle.live_board.specs.Standing.{Stands}
 use Rattle.live_board.specs.declared.parts.Parts.{Parts as Keyboard}
@@ -147,6 +148,20 @@ module _ (p : Past) (old : Keyboard) (s : Stands p old) (new : Keyboard)
           events_reached = later_events s.world.cycle on.next.cycle p.events cycle s.reached.events_reached;
         };
       }
+
+  -- what the step says is what it puts behind the log
+  pub says_one : Says p (gone_on p new.joint.steps) new.seen.items.items
+  says_one w v from to =
+      let goes = on p.edges p.events old.due old.joint new.joint new.seen s.made s.world s.made_within
+      s.order s.in_run s.edges_wait no_host is run in
+      let image = image_same p.edges p.events old.due old.joint new.joint new.seen s.made s.world s.made_within
+      s.order s.in_run s.edges_wait no_host is run ∙ s.image in
+      let first : s.world ≡ w = same_state (sym (here p old s) ∙ from) in
+      let there : state_of (gone_on p new.joint.steps) ≡ Some goes.next =
+      subst (λ bytes. run_at (joint_board p.edges p.events) bytes joint_start new.joint.steps ≡ Some goes.next) image goes.in_run.run in
+      let next : goes.next ≡ v = same_state (sym there ∙ to) in
+      ap (λ (u : World Beside). log_of u.board) (sym next) ∙ goes.log
+      ∙ ap (λ (u : World Beside). log_of u.board ++ new.seen.items.items) first
 
 -- a step takes its cycles, and is one
 pub counted : (due : Due) (old new : Machine) (seen : Seen)

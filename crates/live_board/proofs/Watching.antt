@@ -1,5 +1,5 @@
 -- Going on, step by step, with the interrupt line watched.
-use Rattle.std.proofs.Common.{◌≡◌, ◌≤◌, ◌<◌, ℕ, suc, ◌+◌, Bool, true, false, not, ◌&&◌, Some}
+use Rattle.std.proofs.Common.{◌≡◌, ◌≤◌, ◌<◌, ℕ, suc, ◌+◌, Bool, true, false, ◌&&◌, Some}
 use Rattle.std.proofs.Common.{refl, ap, sym, subst, ◌∙◌, ◌⊎◌, inl, inr, ltb, arith}
 use Rattle.std.proofs.lemmas.Bool.Decides.{nat_tests}
 use Rattle.joint_run.specs.Joint.{Beside}
@@ -10,16 +10,17 @@ use Rattle.joint_run.specs.declared.due.Due.{Due}
 use Rattle.joint_run.specs.declared.machine.Machine.{Machine}
 use Rattle.live_board.proofs.Calling.{stands_still}
 use Rattle.live_board.proofs.Stepping.{here}
-use Rattle.live_board.specs.Answers.{line_in, raises}
 use Rattle.live_board.specs.Pasts.{Past, gone_on, state_of, story_of}
+use Rattle.live_board.specs.Rising.{irq_in, irq_of, rose}
 use Rattle.live_board.specs.Running.{AreBefore, IsCalm, rises}
 use Rattle.live_board.specs.Standing.{Stands}
+use Rattle.live_board.specs.declared.irq.Irq.{Irq}
 use Rattle.live_board.specs.declared.parts.Parts.{Parts as Keyboard}
 
 -- the line as the machine has it is that of the state
-pub line_here : (p : Past) (k : Keyboard) (s : Stands p k) → raises k.joint.outside.desk.port.core ≡ line_in (state_of p)
+pub line_here : (p : Past) (k : Keyboard) (s : Stands p k) → irq_of k.joint.outside.desk.port ≡ irq_in (state_of p)
 line_here p k s =
-    ap (λ o. raises o.desk.port.core) s.in_run.outside ∙ sym (ap line_in (here p k s))
+    ap (λ o. irq_of o.desk.port) s.in_run.outside ∙ sym (ap irq_in (here p k s))
 
 -- the run so far, from a past on
 pub record GoesOnSo (p : Past) (old : Keyboard) (cycles : ℕ) (watched : Bool) (k : Keyboard) : Type 0 where
@@ -44,15 +45,15 @@ last_or_before j k l =
     ] refl
 
 -- whether the step from here raises it
-rise_is : (p : Past) (k new : Keyboard)
+pub rise_is : (p : Past) (k new : Keyboard)
     → Stands (gone_on p k.joint.steps) k → Stands (gone_on p new.joint.steps) new → new.joint.steps ≡ suc k.joint.steps
-    → rises p k.joint.steps ≡ (not (raises k.joint.outside.desk.port.core) && raises new.joint.outside.desk.port.core)
+    → rises p k.joint.steps ≡ rose (irq_of k.joint.outside.desk.port) (irq_of new.joint.outside.desk.port)
 rise_is p k new s t steps =
     let a = line_here (gone_on p k.joint.steps) k s in
-    let b : raises new.joint.outside.desk.port.core ≡ line_in (state_at (story_of p) (suc k.joint.steps)) =
-    line_here (gone_on p new.joint.steps) new t ∙ ap (λ n. line_in (state_at (story_of p) n)) steps in
-    ap (λ x. not x && line_in (state_at (story_of p) (suc k.joint.steps))) (sym a)
-    ∙ ap (λ x. not (raises k.joint.outside.desk.port.core) && x) (sym b)
+    let b : irq_of new.joint.outside.desk.port ≡ irq_in (state_at (story_of p) (suc k.joint.steps)) =
+    line_here (gone_on p new.joint.steps) new t ∙ ap (λ n. irq_in (state_at (story_of p) n)) steps in
+    ap (λ x. rose x (irq_in (state_at (story_of p) (suc k.joint.steps)))) (sym a)
+    ∙ ap (λ x. rose (irq_of k.joint.outside.desk.port) x) (sym b)
 
 module _ (p : Past) (old : Keyboard) (cycles : ℕ) (watched : Bool) (k new : Keyboard)
     (so : GoesOnSo p old cycles watched k) (t : Stands (gone_on p new.joint.steps) new)
@@ -70,7 +71,7 @@ module _ (p : Past) (old : Keyboard) (cycles : ℕ) (watched : Bool) (k new : Ke
             omega (arith, room, at, c)
       ]
 
-  pub calm_on : (watched ≡ true → (not (raises k.joint.outside.desk.port.core) && raises new.joint.outside.desk.port.core) ≡ false)
+  pub calm_on : (watched ≡ true → rose (irq_of k.joint.outside.desk.port) (irq_of new.joint.outside.desk.port) ≡ false)
       → watched ≡ true → IsCalm p old.joint.steps new.joint.steps
   calm_on flat is j from to =
       let to_last : j < suc k.joint.steps = omega (arith, to, steps) in
@@ -79,7 +80,7 @@ module _ (p : Past) (old : Keyboard) (cycles : ℕ) (watched : Bool) (k new : Ke
         | inr e ↦ ap (rises p) e ∙ rise_is p k new so.stands t steps ∙ flat is
       ]
 
-  pub goes_more : (watched ≡ true → (not (raises k.joint.outside.desk.port.core) && raises new.joint.outside.desk.port.core) ≡ false)
+  pub goes_more : (watched ≡ true → rose (irq_of k.joint.outside.desk.port) (irq_of new.joint.outside.desk.port) ≡ false)
       → GoesOnSo p old cycles watched new
   goes_more flat = record {
     stands = t;
@@ -88,37 +89,35 @@ module _ (p : Past) (old : Keyboard) (cycles : ℕ) (watched : Bool) (k new : Ke
     calm = calm_on flat;
   }
 
-  pub rose_here : raises k.joint.outside.desk.port.core ≡ false
-      → raises new.joint.outside.desk.port.core ≡ true → rises p k.joint.steps ≡ true
-  rose_here was is =
-      rise_is p k new so.stands t steps ∙ ap (λ x. not x && raises new.joint.outside.desk.port.core) was ∙ is
+  pub rose_here : rose (irq_of k.joint.outside.desk.port) (irq_of new.joint.outside.desk.port) ≡ true
+      → rises p k.joint.steps ≡ true
+  rose_here is = rise_is p k new so.stands t steps ∙ is
 
 -- where only what was said has changed
 pub goes_still : (p : Past) (old : Keyboard) (cycles : ℕ) (watched : Bool) (k new : Keyboard)
     → new.joint ≡ k.joint → new.due ≡ k.due → GoesOnSo p old cycles watched k → GoesOnSo p old cycles watched new
 goes_still p old cycles watched k new joint due so =
-    let base : GoesOnSo p old cycles watched (record { joint = k.joint; due = k.due; seen = new.seen }) = record {
-      stands = stands_still (gone_on p k.joint.steps) k (record { joint = k.joint; due = k.due; seen = new.seen })
+    let base : GoesOnSo p old cycles watched (record new { joint = k.joint; due = k.due }) = record {
+      stands = stands_still (gone_on p k.joint.steps) k (record new { joint = k.joint; due = k.due })
           refl refl so.stands.none_waits so.stands;
       more = so.more;
       before = so.before;
       calm = so.calm;
     } in
-    subst (λ (d : Due). GoesOnSo p old cycles watched (record { joint = new.joint; due = d; seen = new.seen })) (sym due)
-    (subst (λ (j : Machine). GoesOnSo p old cycles watched (record { joint = j; due = k.due; seen = new.seen })) (sym joint) base)
+    subst (λ (d : Due). GoesOnSo p old cycles watched (record new { due = d })) (sym due)
+    (subst (λ (j : Machine). GoesOnSo p old cycles watched (record new { joint = j; due = k.due })) (sym joint) base)
 
 -- where the step wasn't told as a rise
-pub flat_of : (watched was is r : Bool) (old new : Bool)
-    → r ≡ (watched && (not was && is)) → r ≡ false → was ≡ old → is ≡ new → watched ≡ true → (not old && new) ≡ false
-flat_of watched was is r old new told flat before after w =
-    ap (λ x. not x && new) (sym before) ∙ ap (λ x. not was && x) (sym after) ∙ ap (λ x. x && (not was && is)) (sym w) ∙ sym told ∙ flat
+pub flat_of : (watched r : Bool) (was is old new : Irq)
+    → r ≡ (watched && rose was is) → r ≡ false → was ≡ old → is ≡ new → watched ≡ true → rose old new ≡ false
+flat_of watched r was is old new told flat before after w =
+    ap (λ x. rose x new) (sym before) ∙ ap (λ x. rose was x) (sym after) ∙ ap (λ x. x && rose was is) (sym w) ∙ sym told ∙ flat
 
 -- and where it was
-both_true : (a b c : Bool) → (a && (not b && c)) ≡ true → (a ≡ true) × (b ≡ false) × (c ≡ true)
-both_true true false true h = (refl, refl, refl)
-both_true true false false h = absurd (cc h)
-both_true true true c h = absurd (cc h)
-both_true false b c h = absurd (cc h)
+both_true : (a b : Bool) → (a && b) ≡ true → (a ≡ true) × (b ≡ true)
+both_true true true h = (refl, refl)
+both_true true false h = absurd (cc h)
+both_true false b h = absurd (cc h)
 
-pub rose_of : (watched was is r : Bool) → r ≡ (watched && (not was && is)) → r ≡ true → (watched ≡ true) × (was ≡ false) × (is ≡ true)
-rose_of watched was is r told rose = both_true watched was is (sym told ∙ rose)
+pub rose_of : (watched r : Bool) (was is : Irq) → r ≡ (watched && rose was is) → r ≡ true → (watched ≡ true) × (rose was is ≡ true)
+rose_of watched r was is told risen = both_true watched (rose was is) (sym told ∙ risen)

@@ -5,4 +5,6 @@ pub mod Answers
 pub mod Looks
 pub mod Acts
 pub mod Calls
+pub mod Rising
 pub mod Running
+pub mod Heard

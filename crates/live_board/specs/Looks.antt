@@ -14,7 +14,9 @@ registers_of s = record {
   output_port = s.output_port;
 }
 
--- a copy: the same machine, by the same edges that wait
+-- a copy: the same machine, by the same edges that wait, with the same items kept and the same rises counted
 pub record IsCopied (old new : Keyboard) : Type 0 where
   pub joint : new.joint ≡ old.joint
   pub edges : new.due.edges.items ≡ old.due.edges.items
+  pub heard : new.heard ≡ old.heard
+  pub rises : new.rises ≡ old.rises

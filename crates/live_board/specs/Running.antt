@@ -1,13 +1,13 @@
 -- A call that goes on until so many cycles have passed, or until the interrupt line rises.
-use Rattle.std.specs.Prelude.{◌≡◌, ◌≤◌, ◌<◌, ◌^◌, ◌+◌, ℕ, suc, Bool, true, false, not, ◌&&◌, List, None, Some}
+use Rattle.std.specs.Prelude.{◌≡◌, ◌≤◌, ◌<◌, ◌^◌, ◌+◌, ℕ, suc, Bool, true, false, List, None, Some}
 use Rattle.std.specs.declared.result.Result.{Result}
 use Rattle.board_lines.specs.declared.event.HostAct.TheVariants.{Mask}
 use Rattle.joint_feed.specs.Stories.{state_at}
 use Rattle.joint_run.specs.Joint.{Beside}
 use Rattle.joint_run.specs.Run.{World}
-use Rattle.live_board.specs.Answers.{line_in}
 use Rattle.live_board.specs.Calls.{IsActed, place_of}
 use Rattle.live_board.specs.Pasts.{Past, gone_on, state_of, story_of, untouched}
+use Rattle.live_board.specs.Rising.{irq_in, rose}
 use Rattle.live_board.specs.Standing.{Stands}
 use Rattle.live_board.specs.declared.parts.Parts.{Parts as Keyboard}
 use Rattle.live_board.specs.declared.ran.RunEnd.{RunEnd}
@@ -16,7 +16,7 @@ use Rattle.live_board.specs.declared.refused.Refused.{Refused}
 
 -- the step behind the first j steps raises the interrupt line
 abbrev pub rises : Past → ℕ → Bool
-rises p j = not (line_in (state_at (story_of p) j)) && line_in (state_at (story_of p) (suc j))
+rises p j = rose (irq_in (state_at (story_of p) j)) (irq_in (state_at (story_of p) (suc j)))
 
 -- none of the steps from one on and before another raises it
 abbrev pub IsCalm : Past → ℕ → ℕ → Type 0

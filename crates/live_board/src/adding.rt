@@ -4,6 +4,7 @@ ghost use Rattle.std.specs.Prelude.{◌≡◌, ◌-◌, ◌∷◌, [], OnOk};
 ghost use Rattle.host_turn.specs.Host.{waits};
 ghost use Rattle.live_board.specs.Acts.{IsAnswered};
 ghost use Rattle.live_board.specs.Calls.{IsActed, IsKeyed, Says};
+ghost use Rattle.live_board.specs.Heard.{IsTold};
 ghost use Rattle.live_board.specs.Pasts.{Past, acted};
 ghost use Rattle.live_board.specs.Standing.{Stands};
 
@@ -41,6 +42,7 @@ impl Parts {
         ensures said { OnOk result ((p : Past) → Stands p self.old
             → Says p (acted p (self.old.joint.cycle - 4096) act) self.new.seen.items.items) }
         ensures answered { OnOk result (IsAnswered act self.new.seen.items.items) }
+        ensures told { IsTold act self.old result self.new }
     {
         let cycle = self.joint.cycle();
         if cycle < STAMP_0 {
@@ -69,6 +71,7 @@ impl Parts {
     /// The key at a place goes down or up. It is made before the next step; no step is made yet.
     pub(crate) fn key(&mut self, place: Place, down: bool) -> Result<(), Refused>
         ensures keyed { IsKeyed place down self.old result self.new }
+        ensures untold { (self.new.heard ≡ self.old.heard) × (self.new.rises ≡ self.old.rises) }
     {
         let cycle = self.joint.cycle();
         if cycle < STAMP_0 {

@@ -1,12 +1,15 @@
 //! What goes on for some time.
 
-ghost use Rattle.std.specs.Prelude.{◌≡◌, ◌≤◌, ◌<◌, ◌^◌, ◌+◌, drop, not, ◌&&◌, OnErr, OnOk};
+ghost use Rattle.std.specs.Prelude.{◌≡◌, ◌≤◌, ◌<◌, ◌^◌, ◌+◌, drop, ◌&&◌, OnErr, OnOk};
 ghost use Rattle.joint_glide.specs.Quiet.{HasGone};
 ghost use Rattle.joint_run.specs.Due.{told};
+ghost use Rattle.live_board.specs.Heard.{HasToldAll, heard_all, rise};
 ghost use Rattle.live_board.specs.Pasts.{Past};
+ghost use Rattle.live_board.specs.Rising.{irq_of, rose};
 ghost use Rattle.live_board.specs.Running.{HasRun};
 ghost use Rattle.live_board.specs.Standing.{Stands};
 
+use crate::irq::Irq;
 use crate::parts::{LAST, Parts};
 use crate::ran::{Ran, RunEnd};
 use mcs48_core::Stuck;
@@ -14,11 +17,11 @@ use mcs48_core::Stuck;
 /// No place of a program, which has 2,048: quiet steps stop at none.
 const NO_PLACE: u16 = 2048;
 
-/// Whether the interrupt line rose, where it is watched: it was down, and is up.
-fn has_risen(watched: bool, was: bool, is: bool) -> bool
-    ensures { result ≡ (watched && (not was && is)) }
+/// Whether the interrupt line rose and is watched.
+fn has_risen(watched: bool, was: Irq, is: Irq) -> bool
+    ensures { result ≡ (watched && rose was is) }
 {
-    watched && !was && is
+    watched && was.rises_to(is)
 }
 
 /// In how many cycles quiet steps may be made, so that the step behind them begins before so many cycles from this one on
@@ -36,16 +39,20 @@ impl Parts {
     /// Joint steps by the events that wait: quiet ones, in at most `most` cycles together, and then one of any kind, which
     /// is told in `seen`. Where the processor is stuck the steps before stand.
     #[inline(always)]
-    fn glide(&mut self, most: u64) -> Result<(), Stuck>
+    fn glide(&mut self, most: u64, was: Irq) -> Result<(), Stuck>
         requires near { self.old.joint.cycle + most < 2 ^ 62 }
+        requires few { self.old.rises < 2 ^ 63 }
         ensures gone { HasGone self.old.due 2048 most self.old.joint (told result self.new.seen) self.new.joint }
         ensures some { OnOk result (0 < self.new.seen.cycles) }
         ensures edges { OnOk result (self.new.due.edges.items ≡ drop self.new.seen.edges self.old.due.edges.items) }
         ensures host { self.new.due.host ≡ self.old.due.host }
+        ensures kept { OnOk result (self.new.heard ≡ heard_all self.old.heard self.new.seen.items.items) }
+        ensures risen { OnOk result (self.new.rises ≡ self.old.rises + rise was (irq_of self.new.joint.outside.desk.port)) }
         ensures unchanged { OnErr result (self.new.due ≡ self.old.due) }
+        ensures untold { OnErr result ((self.new.heard ≡ self.old.heard) × (self.new.rises ≡ self.old.rises)) }
     {
         joint_glide::go_on(&mut self.joint, &self.due, &mut self.seen, NO_PLACE, most)?;
-        self.drop_made();
+        self.end_step(was);
         Ok(())
     }
 
@@ -53,23 +60,25 @@ impl Parts {
     fn go_on(&mut self, cycles: u64, watched: bool) -> RunEnd
         ensures later { self.old.joint.cycle ≤ self.new.joint.cycle }
         ensures run { (p : Past) → Stands p self.old → HasRun p self.old cycles watched result self.new }
+        ensures told { (p : Past) → Stands p self.old → HasToldAll p self.old self.new }
     {
         let start = self.joint.cycle();
-        let mut up = self.interrupt();
+        let mut was = self.irq();
+        self.rises = 0;
         'steps: while self.joint.cycle() - start < cycles {
             let cycle = self.joint.cycle();
             if cycle >= LAST {
                 return RunEnd::Over;
             }
-            match self.glide(room(cycles - (cycle - start), cycle)) {
+            match self.glide(room(cycles - (cycle - start), cycle), was) {
                 Err(stuck) => return RunEnd::Stuck(stuck),
                 Ok(()) => {}
             }
-            let now = self.interrupt();
-            if has_risen(watched, up, now) {
+            let now = self.irq();
+            if has_risen(watched, was, now) {
                 return RunEnd::Rose;
             }
-            up = now;
+            was = now;
         }
         RunEnd::Passed
     }
@@ -78,6 +87,7 @@ impl Parts {
     pub(crate) fn run(&mut self, cycles: u64, watched: bool) -> Ran
         ensures cycles { self.old.joint.cycle + result.cycles ≡ self.new.joint.cycle }
         ensures run { (p : Past) → Stands p self.old → HasRun p self.old cycles watched result.end self.new }
+        ensures told { (p : Past) → Stands p self.old → HasToldAll p self.old self.new }
     {
         let start = self.joint.cycle();
         let end = self.go_on(cycles, watched);

@@ -4,12 +4,14 @@ ghost use Rattle.std.specs.Prelude.{◌≡◌, ◌+◌, ◌-◌, [], IfOk};
 ghost use Rattle.board_lines.specs.declared.event.HostAct.TheVariants.{Read60, Status, Take};
 ghost use Rattle.live_board.specs.Acts.{masking_of, write_of};
 ghost use Rattle.live_board.specs.Calls.{IsActed, IsKeyed, Tells};
+ghost use Rattle.live_board.specs.Heard.{HasToldAll, IsTold, after_next, next_of};
 ghost use Rattle.live_board.specs.Looks.{IsCopied};
 ghost use Rattle.live_board.specs.Pasts.{Past, acted};
 ghost use Rattle.live_board.specs.Running.{HasRun, IsOpened};
 ghost use Rattle.live_board.specs.Standing.{Stands};
 
 use crate::answers::{read_in, status_in, taken_in};
+use crate::heard::Next;
 use crate::parts::Parts;
 use crate::ran::Ran;
 use crate::refused::Refused;
@@ -37,6 +39,7 @@ impl Keyboard {
     /// The host writes a byte to a port, in one joint step. Refused where the controller's input buffer is full.
     pub fn write(&mut self, port: Port, byte: u8) -> Result<(), Refused>
         ensures acted { IsActed (write_of port byte) self.old result self.new }
+        ensures told { IsTold (write_of port byte) self.old result self.new }
     {
         match port {
             Port::P60 => self.parts.act(HostAct::Write60(byte)),
@@ -47,6 +50,7 @@ impl Keyboard {
     /// The host reads port 60h, in one joint step: the last byte that the controller put out, 00 at first.
     pub fn read60(&mut self) -> Result<u8, Refused>
         ensures acted { IsActed Read60 self.old result self.new }
+        ensures told { IsTold Read60 self.old result self.new }
         ensures byte { IfOk result (λ byte. (p : Past) → Stands p self.old
             → Tells (λ t. t.read) p (acted p (self.old.joint.cycle - 4096) Read60) byte) }
     {
@@ -60,6 +64,7 @@ impl Keyboard {
     /// The host reads the status at port 64h, in one joint step.
     pub fn status(&mut self) -> Result<u8, Refused>
         ensures acted { IsActed Status self.old result self.new }
+        ensures told { IsTold Status self.old result self.new }
         ensures byte { IfOk result (λ byte. (p : Past) → Stands p self.old
             → Tells (λ t. t.status) p (acted p (self.old.joint.cycle - 4096) Status) byte) }
     {
@@ -73,6 +78,7 @@ impl Keyboard {
     /// A program takes the next word from the buffer of INT 09h, in one joint step; none where it is empty.
     pub fn take(&mut self) -> Result<Option<u16>, Refused>
         ensures acted { IsActed Take self.old result self.new }
+        ensures told { IsTold Take self.old result self.new }
         ensures word { IfOk result (λ word. (p : Past) → Stands p self.old
             → Tells (λ t. t.taken) p (acted p (self.old.joint.cycle - 4096) Take) word) }
     {
@@ -87,6 +93,7 @@ impl Keyboard {
     /// masked, as at first. One joint step.
     pub fn bios(&mut self, on: bool) -> Result<(), Refused>
         ensures acted { IsActed (masking_of on) self.old result self.new }
+        ensures told { IsTold (masking_of on) self.old result self.new }
     {
         if on {
             self.parts.act(HostAct::Unmask)
@@ -98,6 +105,7 @@ impl Keyboard {
     /// The key at a place goes down or up. It is made before the next step; no step is made yet.
     pub fn key(&mut self, place: Place, down: bool) -> Result<(), Refused>
         ensures keyed { IsKeyed place down self.old result self.new }
+        ensures untold { (self.new.heard ≡ self.old.heard) × (self.new.rises ≡ self.old.rises) }
     {
         self.parts.key(place, down)
     }
@@ -107,6 +115,7 @@ impl Keyboard {
     pub fn run(&mut self, cycles: u64, watched: bool) -> Ran
         ensures cycles { self.old.joint.cycle + result.cycles ≡ self.new.joint.cycle }
         ensures run { (p : Past) → Stands p self.old → HasRun p self.old cycles watched result.end self.new }
+        ensures told { (p : Past) → Stands p self.old → HasToldAll p self.old self.new }
     {
         self.parts.run(cycles, watched)
     }
@@ -119,6 +128,15 @@ impl Keyboard {
     {
         let parts = Parts::open(alloc, image)?;
         Ok(Keyboard { parts })
+    }
+
+    /// What was said next since the caller was last handed something, in the order of the log. Sixty-four items are kept;
+    /// if more are said, those behind them are lost, until that was handed out too.
+    pub fn hand_out(&mut self) -> Next
+        ensures next { result ≡ next_of self.old.heard }
+        ensures after { self.new ≡ record self.old { heard = after_next self.old.heard } }
+    {
+        self.parts.heard.hand_out()
     }
 
     /// A keyboard of its own in the same state, with memory of its own: it stands in every past in which this one does,

@@ -9,6 +9,8 @@
 mod adding;
 mod answers;
 mod going;
+mod heard;
+mod irq;
 mod keyboard;
 mod law;
 mod looks;
@@ -16,6 +18,7 @@ mod parts;
 mod ran;
 mod refused;
 
+pub use heard::Next;
 pub use keyboard::Keyboard;
 pub use law::stories_grow_at_end;
 pub use looks::Registers;

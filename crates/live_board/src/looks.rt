@@ -79,8 +79,9 @@ impl Keyboard {
     /// How many edges of keys wait for a step, at most four.
     pub fn edges_waiting(&self) -> usize
         ensures count { result ≡ length self.now.due.edges.items }
+        ensures range { result ≤ 4 }
     {
-        self.parts.due.edges.len()
+        self.parts.due.edges.as_slice().len()
     }
 
     /// How many words wait in the buffer of INT 09h, at most 15.
@@ -105,6 +106,13 @@ impl Keyboard {
             → result ≡ wires (latch_of s.world.cpu.p2) s.world.board.pc }
     {
         self.parts.joint.lines()
+    }
+
+    /// How many times the interrupt line rose in the last call that made a step.
+    pub fn rises(&self) -> u64
+        ensures rises { result ≡ self.now.rises }
+    {
+        self.parts.rises
     }
 
     /// How many cycles of 2.5 microseconds have passed since power-on; stamp 0 is cycle 4,096.

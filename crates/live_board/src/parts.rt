@@ -1,14 +1,18 @@
 //! The keyboard's parts, and their joint step.
 
-ghost use Rattle.std.specs.Prelude.{◌≡◌, ◌≤◌, ◌<◌, ◌^◌, ◌∷◌, [], drop, length, IfOk, OnErr, OnOk};
+ghost use Rattle.std.specs.Prelude.{◌≡◌, ◌≤◌, ◌<◌, ◌+◌, ◌^◌, ◌∷◌, [], drop, length, IfOk, OnErr, OnOk};
 ghost use Rattle.joint_run.specs.Due.{due_step, told, IsJointStep};
 ghost use Rattle.joint_run.specs.History.{IsStepOfRun};
 ghost use Rattle.live_board.specs.Answers.{line_in, raises};
+ghost use Rattle.live_board.specs.Heard.{heard_all, rise};
 ghost use Rattle.live_board.specs.Looks.{IsCopied};
 ghost use Rattle.live_board.specs.Pasts.{Past, state_of, untouched};
+ghost use Rattle.live_board.specs.Rising.{irq_of};
 ghost use Rattle.live_board.specs.Running.{IsOpened};
 ghost use Rattle.live_board.specs.Standing.{Stands};
 
+use crate::heard::Heard;
+use crate::irq::Irq;
 use arrayvec::ArrayVec;
 use board_lines::{Edge, HostAct};
 use int09::Bios;
@@ -23,12 +27,15 @@ pub(crate) const STAMP_0: u64 = 4096;
 /// From this cycle on no step is made.
 pub(crate) const LAST: u64 = 1 << 62;
 
-/// The joint machine, the events that its next step is handed, and what its last step did.
+/// The joint machine, the events that its next step is handed, and what its last step did; what is kept of the log until
+/// the caller takes it, and how often the interrupt line rose in the last call that made a step.
 #[derive(Drop)]
 pub struct Parts {
     pub joint: Joint,
     pub due: Due,
     pub seen: Seen,
+    pub heard: Heard,
+    pub rises: u64,
 }
 
 /// These edges as a list of their own.
@@ -54,6 +61,8 @@ impl Parts {
                 host: ArrayVec::new(),
             },
             seen: Seen::nothing(),
+            heard: Heard::nothing(),
+            rises: 0,
         })
     }
 
@@ -81,6 +90,8 @@ impl Parts {
                 host: ArrayVec::new(),
             },
             seen: Seen::nothing(),
+            heard: self.heard.copied(),
+            rises: self.rises,
         })
     }
 
@@ -91,10 +102,39 @@ impl Parts {
         ensures host { self.new.due.host ≡ self.old.due.host }
         ensures joint { self.new.joint ≡ self.old.joint }
         ensures seen { self.new.seen ≡ self.old.seen }
+        ensures heard { self.new.heard ≡ self.old.heard }
+        ensures rises { self.new.rises ≡ self.old.rises }
     {
         if self.seen.edges > 0 {
             let left = edge_list(&self.due.edges.as_slice()[self.seen.edges as usize..]);
             self.due.edges = left;
+        }
+    }
+
+    /// A step is done, before which the interrupt line was so: the edges that it made wait no longer, what it said
+    /// is kept, and whether the line rose is counted.
+    pub(crate) fn end_step(&mut self, was: Irq)
+        requires made { self.old.seen.edges ≤ length self.old.due.edges.items }
+        requires near { self.old.rises < 2 ^ 63 }
+        ensures edges { self.new.due.edges.items ≡ drop self.old.seen.edges self.old.due.edges.items }
+        ensures host { self.new.due.host ≡ self.old.due.host }
+        ensures joint { self.new.joint ≡ self.old.joint }
+        ensures seen { self.new.seen ≡ self.old.seen }
+        ensures kept { self.new.heard ≡ heard_all self.old.heard self.old.seen.items.items }
+        ensures risen { self.new.rises ≡ self.old.rises + rise was (irq_of self.old.joint.outside.desk.port) }
+    {
+        self.drop_made();
+        self.heard.add_all(self.seen.items.as_slice());
+        self.count_rise(was);
+    }
+
+    /// If the interrupt line rose in the last step, before which it was so, that is counted.
+    fn count_rise(&mut self, was: Irq)
+        requires near { self.old.rises < 2 ^ 63 }
+        ensures { self.new ≡ record self.old { rises = self.old.rises + rise was (irq_of self.old.joint.outside.desk.port) } }
+    {
+        if was.rises_to(self.irq()) {
+            self.rises += 1;
         }
     }
 
@@ -109,10 +149,15 @@ impl Parts {
         ensures few { OnOk result (self.new.seen.cycles < 3) }
         ensures edges { OnOk result (self.new.due.edges.items ≡ drop self.new.seen.edges self.old.due.edges.items) }
         ensures host { self.new.due.host ≡ self.old.due.host }
+        ensures kept { OnOk result (self.new.heard ≡ heard_all self.old.heard self.new.seen.items.items) }
+        ensures risen { OnOk result (self.new.rises ≡ rise (irq_of self.old.joint.outside.desk.port) (irq_of self.new.joint.outside.desk.port)) }
         ensures unchanged { OnErr result ((self.new.joint ≡ self.old.joint) × (self.new.due ≡ self.old.due)) }
+        ensures untold { OnErr result ((self.new.heard ≡ self.old.heard) × (self.new.rises ≡ self.old.rises)) }
     {
+        let was = self.irq();
         self.joint.step_into(&self.due, &mut self.seen)?;
-        self.drop_made();
+        self.rises = 0;
+        self.end_step(was);
         Ok(())
     }
 
@@ -123,5 +168,15 @@ impl Parts {
     {
         let controller = self.joint.controller();
         controller.output_full() && controller.interrupt_enabled()
+    }
+
+    /// The interrupt line, with the cycle in which the output buffer was last filled.
+    pub(crate) fn irq(&self) -> Irq
+        ensures irq { result ≡ irq_of self.now.joint.outside.desk.port }
+    {
+        Irq {
+            up: self.interrupt(),
+            filled: self.joint.outside().desk.port.filled,
+        }
     }
 }

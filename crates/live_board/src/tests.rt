@@ -1,8 +1,9 @@
-use crate::{Keyboard, Refused, RunEnd};
+use crate::{Keyboard, Next, Refused, RunEnd};
 use board_lines::Place;
 use ctl_core::Port;
 use fw_kernel::KERNEL;
 use mcs48_isa::Image;
+use pc_tables::Item;
 use std::alloc::AllocError;
 
 /// The cycles of a second.
@@ -64,6 +65,33 @@ fn looks_change_nothing_and_show_what_the_ports_would_read(
     assert!(rt; keyboard.rows(0) == 0xff && keyboard.rows(12) == 0xff);
     assert!(rt; keyboard.run(1, false).end == RunEnd::Passed && keyboard.rows(0) == 0xfe);
     assert!(rt; keyboard.edges_waiting() == 0 && keyboard.words_waiting() == 0);
+    Ok(())
+}
+
+#[test]
+fn what_is_said_is_handed_out_in_order_and_rises_are_counted(
+    rt: HostRuntime,
+) -> Result<(), AllocError> {
+    let image = Image { bytes: KERNEL };
+    let mut keyboard = Keyboard::open(rt.alloc(), &image)?;
+    assert!(rt; keyboard.hand_out() == Next::Nothing);
+    assert!(rt; keyboard.run(SECOND, false).end == RunEnd::Passed && keyboard.rises() == 1);
+    assert!(rt; keyboard.hand_out() == Next::Nothing);
+    assert!(rt; keyboard.write(Port::P64, 0xaa).is_ok() && keyboard.rises() == 0);
+    assert!(rt; keyboard.read60() == Ok(0xaa) && keyboard.rises() == 1 && keyboard.interrupt());
+    assert!(rt; matches!(keyboard.hand_out(), Next::Said(said) if said.item == Item::Read(0xaa)));
+    assert!(rt; keyboard.read60() == Ok(0x55) && keyboard.rises() == 0 && !keyboard.interrupt());
+    assert!(rt; keyboard.write(Port::P64, 0xfe).is_ok() && keyboard.run(64, false).cycles > 63);
+    assert!(rt; matches!(keyboard.hand_out(), Next::Said(said) if said.item == Item::Read(0x55)));
+    assert!(rt; matches!(keyboard.hand_out(), Next::Said(said) if said.item == Item::Pulse(0x0e)));
+    assert!(rt; keyboard.hand_out() == Next::Nothing);
+    for _ in 0..70u8 {
+        assert!(rt; keyboard.status().is_ok());
+    }
+    for _ in 0..64u8 {
+        assert!(rt; matches!(keyboard.hand_out(), Next::Said(_)));
+    }
+    assert!(rt; keyboard.hand_out() == Next::Lost && keyboard.hand_out() == Next::Nothing);
     Ok(())
 }
 

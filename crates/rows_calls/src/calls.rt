@@ -25,7 +25,11 @@ impl Outcome {
 /// A shelf with the layout and these files.
 pub fn shelf_with(alloc: Global, named: &[(&str, &[u8])]) -> Result<MemShelf, AllocError> {
     let mut files = Vec::new(alloc);
-    for (name, file) in [("layout", LAYOUT)].iter().chain(named) {
+    files.push((
+        String::from_str(alloc, "layout")?,
+        Vec::from_slice(alloc, LAYOUT)?,
+    ))?;
+    for (name, file) in named {
         files.push((
             String::from_str(alloc, name)?,
             Vec::from_slice(alloc, file)?,

@@ -78,16 +78,16 @@ fn steps_at_once_lead_where_single_steps_lead(rt: HostRuntime) -> Result<(), Fai
     let at_once = printed(
         &rt,
         alloc,
-        &["step 91923", "show", "step 1", "show"],
+        &["step 91966", "show", "step 1", "show"],
         &mut probes,
     )?;
     let singly = printed(
         &rt,
         alloc,
-        &["arm 0 FFF 00", "step 91923", "show", "step 1", "show"],
+        &["arm 0 FFF 00", "step 91966", "show", "step 1", "show"],
         &mut probes,
     )?;
-    assert!(rt; singly.as_slice().starts_with(b"armed 0\nat 91923\n"));
+    assert!(rt; singly.as_slice().starts_with(b"armed 0\nat 91966\n"));
     assert!(rt; singly.as_slice().ends_with(at_once.as_slice()));
     Ok(())
 }

@@ -6,7 +6,7 @@ use crate::typing_hi::TYPING_HI;
 use arrayvec::ArrayVec;
 use board_lines::{Edge, HostEvent};
 use fw_compile::compile;
-use fw_kernel::labels::BLANK;
+use fw_kernel::labels::RESTART;
 use fw_kernel::{KERNEL, TICK};
 use fw_logic::at_tick;
 use int09::Bios;
@@ -14,7 +14,7 @@ use joint_run::{Due, Joint};
 use key_file::{History, read_history};
 use layout_reader::{Layout, us84_layout};
 use mcs48_asm::assemble;
-use mcs48_core::{Mcu, Pins, reset};
+use mcs48_core::{Count, Mcu, Pins, reset};
 use mcs48_isa::Image;
 use pc_tables::item_line;
 use std::alloc::{AllocError, Global};
@@ -57,7 +57,7 @@ fn any_prescaler(drawn: u8) -> u8
 }
 
 /// A processor after reset in a part that held what the seed gives: any data memory, A, T, carries, prescaler, timer
-/// request, bus latch and last level of T1.
+/// request, bus latch and last level of T1, and an interrupt marked as in service or not.
 fn switched_on(mut seed: u32) -> Mcu {
     let mut mcu = reset();
     for cell in mcu.ram.iter_mut() {
@@ -70,6 +70,7 @@ fn switched_on(mut seed: u32) -> Mcu {
     mcu.rq = draw(&mut seed) >= 0x80;
     mcu.bus = draw(&mut seed);
     mcu.last_t1 = draw(&mut seed) >= 0x80;
+    mcu.svc = draw(&mut seed) >= 0x80;
     mcu
 }
 
@@ -103,10 +104,56 @@ fn any_memory_comes_to_one_first_tick(rt: HostRuntime) -> Result<(), Fail> {
     Ok(())
 }
 
+/// Any status byte: flags, register bank and stack pointer; its bit 3 is always 1.
+fn any_status(drawn: u8) -> u8
+    ensures { result / 8 % 2 ≡ 1 }
+{
+    drawn / 16 * 16 + 8 + drawn % 8
+}
+
+/// A processor whose counter came to 000 through the free places in what the seed gives: also any status, F1, memory bank,
+/// timer, interrupts and mark of a service, and any latches of ports 1 and 2. No interrupt is entered there.
+fn upset(seed: u32) -> Mcu {
+    let mut mcu = switched_on(seed);
+    let mut more = seed.wrapping_mul(77);
+    mcu.psw = any_status(draw(&mut more));
+    mcu.f1 = draw(&mut more) >= 0x80;
+    mcu.mb = draw(&mut more) >= 0x80;
+    mcu.tf = draw(&mut more) >= 0x80;
+    mcu.run = match draw(&mut more) % 3 {
+        0 => Count::Off,
+        1 => Count::Timer,
+        _ => Count::Counter,
+    };
+    mcu.ext_on = draw(&mut more) >= 0x80;
+    mcu.tim_on = draw(&mut more) >= 0x80;
+    mcu.svc = draw(&mut more) >= 0x80;
+    mcu.rq = mcu.svc && draw(&mut more) >= 0x80;
+    mcu.p1 = draw(&mut more);
+    mcu.p2 = draw(&mut more);
+    mcu
+}
+
+/// Of 200 such processors each comes to its first tick start when one after reset does, and in the same state.
+#[test]
+fn any_state_at_000_comes_to_one_first_tick(rt: HostRuntime) -> Result<(), Fail> {
+    let mut cleared = reset();
+    let start = to_first_start(&mut cleared)?;
+    for seed in 1..201 {
+        let mut mcu = upset(seed);
+        assert_eq!(rt; to_first_start(&mut mcu)?, start, "seed {seed}");
+        assert!(rt; mcu.svc && mcu.pc == TICK && mcu.psw == cleared.psw && mcu.a == cleared.a);
+        assert!(rt; mcu.t == cleared.t && mcu.pre == cleared.pre && mcu.rq == cleared.rq);
+        assert!(rt; mcu.p1 == cleared.p1 && mcu.p2 == cleared.p2 && mcu.ram == cleared.ram);
+        assert!(rt; !mcu.mb && !mcu.ext_on && mcu.tim_on && mcu.run == cleared.run);
+    }
+    Ok(())
+}
+
 /// Where the kernel leaves program memory free, up to its end.
 const FREE: usize = 0x500;
 
-/// The source of a program that leaves a part as this one stands, and then jumps where the kernel's first instruction
+/// The source of a program that leaves a part as this one stands, and then jumps where the kernel's first jump
 /// does: prescaler, T, data memory, carries and A, in this order. R0 and R1 are cells 0 and 1.
 fn source_leaving(alloc: Global, part: &Mcu) -> Result<String, AllocError> {
     let mut text = String::from_str(
@@ -123,7 +170,7 @@ fn source_leaving(alloc: Global, part: &Mcu) -> Result<String, AllocError> {
         text.push_str(format!(in alloc; " MOV R0,#{cell}\n MOV @R0,#{value}\n")?.as_str())?;
     }
     text.push_str(format!(in alloc;
-        " MOV A,#{psw}\n MOV PSW,A\n MOV R1,#{one}\n MOV R0,#{zero}\n MOV A,#{a}\n JMP {BLANK}\n"
+        " MOV A,#{psw}\n MOV PSW,A\n MOV R1,#{one}\n MOV R0,#{zero}\n MOV A,#{a}\n JMP {RESTART}\n"
     )?.as_str())?;
     Ok(text)
 }
@@ -144,25 +191,25 @@ fn image_leaving(
     Ok(image)
 }
 
-/// Goes on to where the kernel's first instruction has jumped, with no event. Answers how many cycles later than at
-/// power-on that instruction began, which takes two cycles.
-fn to_blank(joint: &mut Joint) -> Result<u64, Fail> {
+/// Goes on to where the kernel's first jump leads, with no event. Answers how many cycles later than at power-on the
+/// kernel is there, which takes seven cycles.
+fn to_restart(joint: &mut Joint) -> Result<u64, Fail> {
     let none = Due {
         edges: ArrayVec::new(),
         host: ArrayVec::new(),
     };
     for _ in 0..2000 {
-        if joint.mcu().pc == BLANK || joint.cycle() > 5000 {
+        if joint.mcu().pc == RESTART || joint.cycle() > 5000 {
             break;
         }
         joint.step(&none)?;
     }
-    Ok(joint.cycle().saturating_sub(2))
+    Ok(joint.cycle().saturating_sub(7))
 }
 
-/// The processor stands where the kernel's first instruction has jumped, and holds what the part held.
+/// The processor stands where the kernel's first jump leads, and holds what the part held.
 fn holds(mcu: &Mcu, part: &Mcu) -> bool {
-    mcu.pc == BLANK
+    mcu.pc == RESTART
         && mcu.ram == part.ram
         && mcu.a == part.a
         && mcu.t == part.t
@@ -239,7 +286,7 @@ fn check_parts(rt: &impl Abort, alloc: Global, first: u32) -> Result<(), Fail> {
         let part = switched_on(seed);
         let image = image_leaving(rt, alloc, &layout, &part)?;
         let mut joint = Joint::power_on(&image, Bios::new(alloc)?);
-        let later = to_blank(&mut joint)?;
+        let later = to_restart(&mut joint)?;
         assert!(rt; holds(joint.mcu(), &part), "seed {seed}");
         let (text, starts) = log_of(alloc, &mut joint, &history, later)?;
         assert!(rt; text.as_slice() == log.as_bytes(), "seed {seed}");

@@ -46,7 +46,7 @@ module _ (u : Halt) (s : Story) (old p new : Course) (before : List Watch) (d : 
     pub none_there : state_at s (suc made.gone.last.steps) ≡ None
     none_there =
         let g = before_stuck.dozed.onward.going in
-        no_further s here new.joint stuck g.standing.on g.accepted.thin g.accepted.edges_in_order made.gone.run
+        no_further s here new.joint stuck g.standing.on g.accepted.lawful.thin g.accepted.lawful.edges_in_order made.gone.run
 
   module _ (lines : Lines) (answer : Bool) (made : HasMadeSome u lines rest p answer new) where
     before_last : HasSlept u s old p before made.made.gone.last

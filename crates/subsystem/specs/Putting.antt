@@ -28,6 +28,7 @@ step_lines s k = map (in_tick (length (starts_among s (suc k)) - 1)) (step_says 
 abbrev pub IsLogBrokenAt : Story → Shown → Shown → ℕ → Type 0
 IsLogBrokenAt s before after k = IsBrokenBehind before after (log_text (told_by s k)) (log_text (step_lines s k))
 
--- and the probes have looked at the states up to the one that this step led to
+-- and the probes have looked at the states up to the one that this step led to. Of a sink that doesn't tell what it
+-- took the step may be any
 abbrev pub HaveLookedToBreak : Story → Shown → Shown → List Watch → List Watch → Type 0
 HaveLookedToBreak s before after first probes = BrokeOff TickStart s (IsLogBrokenAt s before after) first probes

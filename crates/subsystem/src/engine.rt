@@ -104,9 +104,9 @@ impl<F: Feed> Engine<F> {
     /// log that arose in the step is put, whole and alone.
     ///
     /// On Ok the sink has taken the whole text of the log, which is the one that the model expects for the layout, its
-    /// count of faults is as it was, and the probes have looked at each state. A failure comes only where a put failed:
-    /// then the sink has the text of the whole log up to that put, and the probes have looked at the states up to the one of
-    /// the step that said the line.
+    /// count of faults is as it was, and the probes have looked at each state. A failure comes only if a put failed. A sink
+    /// that tells what it took has the text of the whole log up to that put, and the probes have looked at the states up to
+    /// the one of the step that said the line.
     pub fn run_to<K: Sink>(
         self,
         out: &mut K,

@@ -3,6 +3,13 @@ use Rattle.host_turn.specs.Host.{waits}
 use Rattle.joint_run.specs.Due.{due_step}
 use Rattle.joint_run.specs.declared.due.Due.{Due}
 use Rattle.live_board.proofs.Calling.{acted_on, acted_stuck, answered_here, says_on, stands_still, stuck_at}
+use Rattle.live_board.proofs.Watching.{line_here}
+use Rattle.live_board.specs.Heard.{rise}
+use Rattle.live_board.specs.Pasts.{acted, state_of}
+use Rattle.live_board.specs.Rising.{irq_in, irq_of}
+use Rattle.live_board.specs.Standing.{Stands}
+use Rattle.live_board.specs.declared.irq.Irq.{Irq}
+use Rattle.live_board.specs.declared.parts.Parts.{Parts as Keyboard}
 use Rattle.live_board.proofs.parts.Parts.act.Goals as goal
 
 pub returns-in-Ok-clause-acted : goal.returns-in-Ok-clause-acted
@@ -37,6 +44,31 @@ returns-in-Ok-clause-said c =
     c.one_event-self.ensures ∙ ap (λ n. record { stamp = n - 4096; act = act } ∷ []) cycle in
     let e = c.in-Ok.ensures in
     λ p s. says_on k act late room due c.step.new.self.joint c.step.new.self.seen only e.some e.step p s refl e.run
+
+pub returns-in-Ok-clause-told : goal.returns-in-Ok-clause-told
+returns-in-Ok-clause-told c =
+    let k = c.args.self.now in
+    let act = c.args.act in
+    let cycle = c.cycle-cycle.ensures.cycle in
+    let not_early = c.if-cycle-lt-STAMP_0.false in
+    let late : 4096 ≤ k.joint.cycle = omega (arith, cycle, not_early) in
+    let room : waits act k.joint.outside.desk.port.core ≡ false = sym c.waits.ensures ∙ c.if-waits.false in
+    let due : Due = record { edges = k.due.edges; host = c.one_event-self.result } in
+    let only : due.host.items ≡ record { stamp = k.joint.cycle - 4096; act = act } ∷ [] =
+    c.one_event-self.ensures ∙ ap (λ n. record { stamp = n - 4096; act = act } ∷ []) cycle in
+    let e = c.in-Ok.ensures in
+    let new : Keyboard = record c.step.new.self { due = record c.step.new.self.due { host = c.new-self.result } } in
+    λ p s.
+    let t : Stands (acted p (k.joint.cycle - 4096) act) new =
+    acted_on k act late room due c.step.new.self.joint c.step.new.self.seen only e.some
+    e.step p s refl e.run new refl e.edges c.new-self.ensures in
+    record {
+      items = c.step.new.self.seen.items.items;
+      said = says_on k act late room due c.step.new.self.joint c.step.new.self.seen only e.some e.step p s refl e.run;
+      kept = e.kept;
+      risen = e.risen ∙ ap (λ (x : Irq). rise x (irq_of new.joint.outside.desk.port)) (line_here p k s)
+          ∙ ap (rise (irq_in (state_of p))) (line_here (acted p (k.joint.cycle - 4096) act) new t);
+    }
 
 pub returns-in-Ok-clause-answered : goal.returns-in-Ok-clause-answered
 returns-in-Ok-clause-answered c =

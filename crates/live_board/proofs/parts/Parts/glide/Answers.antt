@@ -3,8 +3,8 @@ use Rattle.joint_feed.proofs.Counts.{made_few}
 use Rattle.joint_feed.proofs.Going.{made}
 use Rattle.live_board.proofs.parts.Parts.glide.Goals as goal
 
-pub drop_made-requires : goal.drop_made-requires
-drop_made-requires c =
+pub end_step-requires-clause-made : goal.end_step-requires-clause-made
+end_step-requires-clause-made c =
     let k = c.args.self.now in
     let g = c.in_ok-go_on.ensures.gone in
     let m = made k.due g.last c.go_on.new.seen c.go_on.new.joint g.step in

@@ -1,15 +1,23 @@
-use Rattle.std.proofs.Common.{sym, ◌∙◌, arith}
+use Rattle.std.proofs.Common.{refl, ap, sym, ◌∙◌, arith}
 use Rattle.live_board.proofs.Gliding.{cycles_on, goes_all, has_risen, has_stuck, stuck_later}
-use Rattle.live_board.proofs.Watching.{flat_of, goes_first, rose_of}
+use Rattle.live_board.proofs.Tallying.{rise_few, tally_first, tally_on, tally_stuck}
+use Rattle.live_board.proofs.Watching.{flat_of, goes_first, goes_still, rose_of}
+use Rattle.live_board.specs.Rising.{irq_of, rose}
 use Rattle.live_board.proofs.parts.Parts.go_on.Goals as goal
 
 pub steps-init : goal.steps-init
-steps-init c = record {
-  start = c.cycle-start.ensures.cycle;
-  later = omega arith;
-  line = c.interrupt-up.ensures.line;
-  so_far = λ p s. goes_first p c.args.self.now c.args.cycles c.args.watched s;
-}
+steps-init c =
+    let start = c.cycle-start.ensures.cycle in
+    let old = c.args.self.now in
+    record {
+      start = c.cycle-start.ensures.cycle;
+      later = omega arith;
+      line = c.irq-was.ensures.irq;
+      few = omega (arith, start);
+      so_far = λ p s. goes_still p old c.args.cycles c.args.watched old (record old { rises = 0 }) refl refl
+          (goes_first p old c.args.cycles c.args.watched s);
+      told = λ p s. tally_first p old (record old { rises = 0 }) refl refl refl;
+    }
 
 pub steps-preserved : goal.steps-preserved
 steps-preserved c =
@@ -26,12 +34,20 @@ steps-preserved c =
     record {
       start = inv.start;
       later = omega (arith, later, more);
-      line = c.interrupt-now.ensures.line;
+      line = c.irq-now.ensures.irq;
       so_far = λ p s.
           goes_all k new c.room.result e.gone p old c.args.cycles c.args.watched (inv.so_far p s)
           (omega (arith, within, now, start, later)) e.edges e.host
-          (flat_of c.args.watched c.steps.up c.interrupt-now.result c.has_risen.result _ _ c.has_risen.ensures
-          c.if-has_risen.false inv.line c.interrupt-now.ensures.line);
+          (flat_of c.args.watched c.has_risen.result c.steps.was c.irq-now.result _ _ c.has_risen.ensures
+          c.if-has_risen.false inv.line c.irq-now.ensures.irq);
+      few =
+          let before = inv.few in
+          let risen = e.risen in
+          let once = rise_few c.steps.was (irq_of new.joint.outside.desk.port) in
+          omega (arith, before, risen, once, more);
+      told = λ p s.
+          tally_on k new c.room.result e.gone p old c.args.cycles c.args.watched (inv.so_far p s)
+          (omega (arith, within, now, start, later)) e.edges e.host c.steps.was inv.line e.kept e.risen (inv.told p s);
     }
 
 pub steps-smaller : goal.steps-smaller
@@ -54,6 +70,36 @@ returns-then-cycle-ge-LAST-clause-run c =
     λ p s.
     let so = inv.so_far p s in
     record { stands = so.stands; before = so.before; ends = (omega (arith, over, at), omega (arith, test, now, start, later), so.calm) }
+
+pub returns-then-cycle-ge-LAST-clause-told : goal.returns-then-cycle-ge-LAST-clause-told
+returns-then-cycle-ge-LAST-clause-told c = c.steps.invariant.told
+
+pub returns-in-Err-clause-told : goal.returns-in-Err-clause-told
+returns-in-Err-clause-told c =
+    let inv = c.steps.invariant in
+    let e = c.in-Err.ensures in
+    let later = inv.later in
+    let start = inv.start in
+    let now = c.cycle.ensures.cycle in
+    let within = c.room.ensures.within in
+    λ p s.
+    tally_stuck c.steps.self c.glide.new.self c.room.result c.in-Err.stuck e.gone e.untold.0 e.untold.1 p
+    c.args.self.now c.args.cycles c.args.watched (inv.so_far p s) (omega (arith, within, now, start, later)) (inv.told p s)
+
+pub returns-then-has_risen-clause-told : goal.returns-then-has_risen-clause-told
+returns-then-has_risen-clause-told c =
+    let inv = c.steps.invariant in
+    let e = c.in-Ok.ensures in
+    let later = inv.later in
+    let start = inv.start in
+    let now = c.cycle.ensures.cycle in
+    let within = c.room.ensures.within in
+    λ p s.
+    tally_on c.steps.self c.glide.new.self c.room.result e.gone p c.args.self.now c.args.cycles c.args.watched (inv.so_far p s)
+    (omega (arith, within, now, start, later)) e.edges e.host c.steps.was inv.line e.kept e.risen (inv.told p s)
+
+pub returns-clause-told : goal.returns-clause-told
+returns-clause-told c = c.steps.invariant.told
 
 pub returns-in-Err-clause-later : goal.returns-in-Err-clause-later
 returns-in-Err-clause-later c =
@@ -89,11 +135,14 @@ returns-then-has_risen-clause-run c =
     let start = inv.start in
     let now = c.cycle.ensures.cycle in
     let within = c.room.ensures.within in
-    let rose = rose_of c.args.watched c.steps.up c.interrupt-now.result c.has_risen.result c.has_risen.ensures c.if-has_risen.true in
+    let risen = rose_of c.args.watched c.has_risen.result c.steps.was c.irq-now.result c.has_risen.ensures c.if-has_risen.true in
     λ p s.
     has_risen c.steps.self c.glide.new.self c.room.result e.gone p c.args.self.now c.args.cycles c.args.watched (inv.so_far p s)
-    (omega (arith, within, now, start, later)) e.edges e.host
-    (rose.0, sym inv.line ∙ rose.1, sym c.interrupt-now.ensures.line ∙ rose.2)
+    (omega (arith, within, now, start, later)) e.edges e.host (
+      risen.0,
+      ap (λ x. rose x (irq_of c.glide.new.self.joint.outside.desk.port)) (sym inv.line)
+          ∙ ap (λ x. rose c.steps.was x) (sym c.irq-now.ensures.irq) ∙ risen.1,
+    )
 
 pub returns-clause-run : goal.returns-clause-run
 returns-clause-run c =

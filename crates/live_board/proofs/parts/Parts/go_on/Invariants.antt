@@ -1,7 +1,8 @@
-use Rattle.std.proofs.Common.{◌≡◌, ◌≤◌, ◌^◌, ◌-◌}
+use Rattle.std.proofs.Common.{◌≡◌, ◌≤◌, ◌+◌, ◌^◌, ◌-◌}
 use Rattle.live_board.proofs.Watching.{GoesOnSo}
-use Rattle.live_board.specs.Answers.{raises}
+use Rattle.live_board.specs.Heard.{HasToldAll}
 use Rattle.live_board.specs.Pasts.{Past}
+use Rattle.live_board.specs.Rising.{irq_of}
 use Rattle.live_board.specs.Standing.{Stands}
 use Rattle.live_board.proofs.parts.Parts.go_on.Given as goal
 
@@ -9,8 +10,10 @@ abbrev pub invariant-steps : goal.invariant-steps
 invariant-steps l = record {
   start : l.start ≡ l.fn.self.joint.cycle;
   later : l.fn.self.joint.cycle ≤ l.self.joint.cycle;
-  line : l.up ≡ raises l.self.joint.outside.desk.port.core;
+  line : l.was ≡ irq_of l.self.joint.outside.desk.port;
+  few : l.self.rises + l.start ≤ l.self.joint.cycle;
   so_far : (p : Past) → Stands p l.fn.self → GoesOnSo p l.fn.self l.cycles l.watched l.self;
+  told : (p : Past) → Stands p l.fn.self → HasToldAll p l.fn.self l.self;
 }
 
 abbrev pub decreases-steps : goal.decreases-steps

@@ -14,4 +14,7 @@ returns c =
     let e : Edge = record { stamp = k.joint.cycle - 4096; place = c.args.place; down = c.args.down } in
     let items = c.push.ensures.items
     ∙ ap (λ n. k.due.edges.items ++ record { stamp = n - 4096; place = c.args.place; down = c.args.down } ∷ []) cycle in
-    record { keyed = (late, omega (arith, long, room), λ p s. keyed_on p k _ e late refl refl items refl s) }
+    record {
+      keyed = (late, omega (arith, long, room), λ p s. keyed_on p k _ e late refl refl items refl s);
+      untold = (refl, refl);
+    }

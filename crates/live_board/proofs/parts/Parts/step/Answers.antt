@@ -3,8 +3,8 @@ use Rattle.joint_feed.proofs.Counts.{made_few}
 use Rattle.joint_feed.proofs.Going.{made}
 use Rattle.live_board.proofs.parts.Parts.step.Goals as goal
 
-pub drop_made-requires : goal.drop_made-requires
-drop_made-requires c =
+pub end_step-requires-clause-made : goal.end_step-requires-clause-made
+end_step-requires-clause-made c =
     let k = c.args.self.now in
     let m = made k.due k.joint c.step_into.new.seen c.step_into.new.self c.in_ok-step_into.ensures.step in
     let some = m.seen_so.edges in

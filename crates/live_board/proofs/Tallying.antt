@@ -1,0 +1,151 @@
+-- What a run says is kept, and the rises of the line are counted.
+use Rattle.std.proofs.Common.{◌≡◌, ◌≤◌, ◌<◌, ℕ, zero, suc, ◌+◌, Bool, true, false, List, [], ◌∷◌, ◌++◌, drop, append_assoc}
+use Rattle.std.proofs.Common.{Ok, Err, refl, ap, sym, subst, ◌∙◌, arith}
+use Rattle.std.specs.Prelude.{if◌then◌else◌}
+use Rattle.std.proofs.lemmas.List.{append-nil}
+use Rattle.host_turn.specs.declared.stamped.Stamped.{Stamped}
+use Rattle.joint_glide.specs.Quiet.{AreQuiet, HasGone}
+use Rattle.joint_feed.proofs.Going.{same_state}
+use Rattle.joint_feed.specs.Stories.{state_at}
+use Rattle.joint_run.specs.Due.{due_step}
+use Rattle.joint_run.specs.Joint.{Beside, log_of}
+use Rattle.joint_run.specs.Run.{World}
+use Rattle.joint_run.specs.declared.machine.Machine.{Machine}
+use Rattle.joint_run.specs.declared.outside.Outside.{Outside}
+use Rattle.mcs48_core.specs.declared.stepping.Stuck.{Stuck}
+use Rattle.live_board.proofs.Gliding.{goes_quietly, one_step, same_line, so_last, stands_on, steady, stuck_same}
+use Rattle.live_board.proofs.Stepping.{counted, here, one_on, says_one}
+use Rattle.live_board.proofs.Watching.{GoesOnSo, rise_is}
+use Rattle.live_board.specs.Calls.{Says}
+use Rattle.live_board.specs.Heard.{HasToldAll, heard_all, heard_one, rise, rises_in}
+use Rattle.live_board.specs.Pasts.{Past, gone_on, story_of}
+use Rattle.live_board.specs.Rising.{irq_of, rose}
+use Rattle.live_board.specs.Running.{rises}
+use Rattle.live_board.specs.Standing.{Stands}
+use Rattle.live_board.specs.declared.heard.Heard.{Heard}
+use Rattle.live_board.specs.declared.irq.Irq.{Irq}
+use Rattle.live_board.specs.declared.parts.Parts.{Parts as Keyboard}
+
+-- a line that stays as it is doesn't rise, and it rises once at most
+still_rise : (i : Irq) → rise i i ≡ 0
+still_rise i = ap (λ (b : Bool). if b then 1 else 0) (steady i)
+
+once : (b : Bool) → (if b then 1 else 0) ≤ 1
+once true = omega arith
+once false = omega arith
+
+pub rise_few : (was is : Irq) → rise was is ≤ 1
+rise_few was is = once (rose was is)
+
+-- what is said in two parts is said
+heard_more : (h : Heard) (a b : List Stamped) → heard_all (heard_all h a) b ≡ heard_all h (a ++ b)
+heard_more h [] b = refl
+heard_more h (said ∷ a) b = heard_more (heard_one h said) a b
+
+-- before the first step
+pub tally_first : (p : Past) (old k : Keyboard) → k.joint ≡ old.joint → k.heard ≡ old.heard → k.rises ≡ 0 → HasToldAll p old k
+tally_first p old k joint heard none =
+    let at = ap (λ (m : Machine). m.steps) joint in
+    record {
+      steps = 0;
+      made = omega (arith, at);
+      items = [];
+      said = λ w v from to.
+          let same : w ≡ v = same_state (sym from ∙ ap (λ n. state_at (story_of p) n) (sym at) ∙ to) in
+          ap (λ (u : World Beside). log_of u.board) (sym same) ∙ sym (append-nil (log_of w.board));
+      kept = heard;
+      risen = none;
+    }
+
+-- where nothing of it has changed
+pub tally_still : (p : Past) (old k new : Keyboard)
+    → new.joint ≡ k.joint → new.heard ≡ k.heard → new.rises ≡ k.rises → HasToldAll p old k → HasToldAll p old new
+tally_still p old k new joint heard same h =
+    let at = ap (λ (m : Machine). m.steps) joint in
+    record {
+      steps = h.steps;
+      made = at ∙ h.made;
+      items = h.items;
+      said = subst (λ n. Says (gone_on p old.joint.steps) (gone_on p n) h.items) (sym at) h.said;
+      kept = heard ∙ h.kept;
+      risen = same ∙ h.risen;
+    }
+
+-- one step more
+tally_more : (p : Past) (old k new : Keyboard) (s : Stands (gone_on p k.joint.steps) k) (t : Stands (gone_on p new.joint.steps) new)
+    → new.joint.steps ≡ suc k.joint.steps → (items : List Stamped) → Says (gone_on p k.joint.steps) (gone_on p new.joint.steps) items
+    → new.heard ≡ heard_all k.heard items
+    → new.rises ≡ k.rises + rise (irq_of k.joint.outside.desk.port) (irq_of new.joint.outside.desk.port)
+    → HasToldAll p old k → HasToldAll p old new
+tally_more p old k new s t steps items said kept risen h =
+    let made = h.made in
+    let mid = here (gone_on p k.joint.steps) k s in
+    let is : rises p (old.joint.steps + h.steps) ≡ _ = ap (rises p) (sym made) ∙ rise_is p k new s t steps in
+    record {
+      steps = suc h.steps;
+      made = omega (arith, made, steps);
+      items = h.items ++ items;
+      said = λ w v from to.
+          said s.world v mid to ∙ ap (λ l. l ++ items) (h.said w s.world from mid) ∙ append_assoc (log_of w.board) h.items items;
+      kept = kept ∙ ap (λ x. heard_all x items) h.kept ∙ heard_more old.heard h.items items;
+      risen = risen
+          ∙ ap (λ n. n + rise (irq_of k.joint.outside.desk.port) (irq_of new.joint.outside.desk.port)) h.risen
+          ∙ ap (λ (b : Bool). rises_in p old.joint.steps h.steps + (if b then 1 else 0)) (sym is);
+    }
+
+-- quiet steps say nothing, and don't raise the line
+pub tally_quiet : (p : Past) (old : Keyboard) (cycles : ℕ) (watched : Bool) (k : Keyboard) (tick n : ℕ) (m : Machine)
+    → GoesOnSo p old cycles watched k → HasToldAll p old k
+    → AreQuiet k.due tick n k.joint m → m.cycle ≤ old.joint.cycle + cycles → HasToldAll p old (record k { joint = m })
+tally_quiet p old cycles watched k tick zero m so told h room = tally_still p old k (record k { joint = m }) h refl refl told
+tally_quiet p old cycles watched k tick (suc n) m so told h room =
+    let between : Machine = h.0 in
+    let q = h.2 in
+    let some = q.some in
+    let at = ap (λ (x : Machine). x.cycle) q.parts in
+    let first : Keyboard = record k { joint = between } in
+    let next : Keyboard = record k { joint = m; seen = q.seen } in
+    let within : between.cycle ≤ old.joint.cycle + cycles = omega (arith, at, some, room) in
+    let before : GoesOnSo p old cycles watched first = goes_quietly p old cycles watched k tick n between so h.1 within in
+    let told_before : HasToldAll p old first = tally_quiet p old cycles watched k tick n between so told h.1 within in
+    let left : k.due.edges.items ≡ drop q.seen.edges k.due.edges.items = ap (λ e. drop e k.due.edges.items) (sym q.edges) in
+    let t : Stands (gone_on p m.steps) next = one_on (gone_on p between.steps) first before.stands next q.step q.run left refl in
+    let steps = (counted k.due between m q.seen q.step).1 in
+    let said : Says (gone_on p between.steps) (gone_on p m.steps) [] =
+    subst (λ (l : List Stamped). Says (gone_on p between.steps) (gone_on p m.steps) l) q.items
+    (says_one (gone_on p between.steps) first before.stands next q.step q.run left refl) in
+    let flat : rise (irq_of between.outside.desk.port) (irq_of m.outside.desk.port) ≡ 0 =
+    ap (λ (o : Outside). rise (irq_of between.outside.desk.port) (irq_of o.desk.port)) (ap (λ (x : Machine). x.outside) q.parts)
+    ∙ still_rise (irq_of between.outside.desk.port) in
+    tally_still p old next (record k { joint = m }) refl refl refl
+    (tally_more p old first next before.stands t steps [] said refl (omega (arith, flat)) told_before)
+
+-- quiet steps and a step behind them
+pub tally_on : (k new : Keyboard) (most : ℕ) (g : HasGone k.due 2048 most k.joint (Ok new.seen) new.joint)
+    (p : Past) (old : Keyboard) (cycles : ℕ) (watched : Bool) (so : GoesOnSo p old cycles watched k)
+    (room : k.joint.cycle + most < old.joint.cycle + cycles)
+    (left : new.due.edges.items ≡ drop new.seen.edges k.due.edges.items) (same : new.due.host ≡ k.due.host) (was : Irq)
+    → was ≡ irq_of k.joint.outside.desk.port → new.heard ≡ heard_all k.heard new.seen.items.items
+    → new.rises ≡ k.rises + rise was (irq_of new.joint.outside.desk.port) → HasToldAll p old k → HasToldAll p old new
+tally_on k new most g p old cycles watched so room left same was line kept risen told =
+    let before : Keyboard = record k { joint = g.last } in
+    let last = so_last k new most g p old cycles watched so room left same in
+    let within = g.within in
+    let told_last : HasToldAll p old before =
+    tally_quiet p old cycles watched k 2048 g.count g.last so told g.quiet (omega (arith, within, room)) in
+    tally_more p old before new last.stands (stands_on k new most g p old cycles watched so room left same)
+    (one_step k new most g p old cycles watched so room left same) new.seen.items.items
+    (says_one (gone_on p g.last.steps) before last.stands new g.step g.run left same) kept
+    (risen ∙ ap (λ (x : Irq). k.rises + rise x (irq_of new.joint.outside.desk.port)) (line ∙ sym (same_line k g.count g.last g.quiet)))
+    told_last
+
+-- and where the processor is stuck behind them
+pub tally_stuck : (k new : Keyboard) (most : ℕ) (stuck : Stuck) → HasGone k.due 2048 most k.joint (Err stuck) new.joint
+    → new.heard ≡ k.heard → new.rises ≡ k.rises → (p : Past) (old : Keyboard) (cycles : ℕ) (watched : Bool)
+    → GoesOnSo p old cycles watched k → k.joint.cycle + most < old.joint.cycle + cycles → HasToldAll p old k → HasToldAll p old new
+tally_stuck k new most stuck g heard same p old cycles watched so room told =
+    let within = g.within in
+    let told_last : HasToldAll p old (record k { joint = g.last }) =
+    tally_quiet p old cycles watched k 2048 g.count g.last so told g.quiet (omega (arith, within, room)) in
+    tally_still p old (record k { joint = g.last }) new
+    (stuck_same k.due g.last new.joint stuck (due_step k.due g.last) g.step) heard same told_last

@@ -1,0 +1,81 @@
+-- What a keyboard keeps of its log until the caller takes it, and how often its interrupt line rose.
+use Rattle.std.specs.Prelude.{◌≡◌, ℕ, zero, suc, ◌+◌, Bool, true, false, not, ◌&&◌, nat_lt, if◌then◌else◌}
+use Rattle.std.specs.Prelude.{List, [], ◌∷◌, ◌++◌, ◌-◌, drop, length, Ok, Err}
+use Rattle.std.specs.declared.result.Result.{Result}
+use Rattle.board_lines.specs.declared.event.HostAct.{HostAct}
+use Rattle.host_turn.specs.declared.stamped.Stamped.{Stamped}
+use Rattle.live_board.specs.Calls.{Says}
+use Rattle.live_board.specs.Pasts.{Past, acted, gone_on, state_of}
+use Rattle.live_board.specs.Rising.{irq_in, rose}
+use Rattle.live_board.specs.Running.{rises}
+use Rattle.live_board.specs.Standing.{Stands}
+use Rattle.live_board.specs.declared.heard.Heard.{Heard}
+use Rattle.live_board.specs.declared.heard.Next.{Next}
+use Rattle.live_board.specs.declared.heard.Next.TheVariants.{Said, Lost, Nothing}
+use Rattle.live_board.specs.declared.irq.Irq.{Irq}
+use Rattle.live_board.specs.declared.parts.Parts.{Parts as Keyboard}
+use Rattle.live_board.specs.declared.refused.Refused.{Refused}
+
+-- there is room for an item: fewer than 64 are kept, and none was lost since all were taken
+abbrev pub has_room : Heard → Bool
+has_room h = not h.lost && nat_lt (length h.items.items) 64
+
+-- an item more is said: it is kept behind the others, or lost
+abbrev pub heard_one : Heard → Stamped → Heard
+heard_one h said = record {
+  items = record { items = if has_room h then h.items.items ++ said ∷ [] else h.items.items };
+  lost = not (has_room h);
+}
+
+-- items more are said, in order
+abbrev pub heard_all : Heard → List Stamped → Heard
+heard_all h [] = h
+heard_all h (said ∷ later) = heard_all (heard_one h said) later
+
+-- what the caller is handed next: the first item; and when there is none, whether others were lost behind those
+abbrev pub next_by : List Stamped → Bool → Next
+next_by (said ∷ later) lost = Said said
+next_by [] true = Lost
+next_by [] false = Nothing
+
+abbrev pub next_of : Heard → Next
+next_of h = next_by h.items.items h.lost
+
+-- after that: what was told is kept no longer
+abbrev pub lost_by : List Stamped → Bool → Bool
+lost_by (said ∷ later) lost = lost
+lost_by [] lost = false
+
+abbrev pub after_next : Heard → Heard
+after_next h = record { items = record { items = drop 1 h.items.items }; lost = lost_by h.items.items h.lost }
+
+-- 1 if the line rose
+abbrev pub rise : Irq → Irq → ℕ
+rise was is = if rose was is then 1 else 0
+
+-- how many of so many steps from one on raise the line
+abbrev pub rises_in : Past → ℕ → ℕ → ℕ
+rises_in p from zero = 0
+rises_in p from (suc n) = rises_in p from n + (if rises p (from + n) then 1 else 0)
+
+-- a call of the host's, from one past to the next by one step: what the step says is kept, and whether it raised the
+-- line is counted
+pub record HasTold (p q : Past) (old new : Keyboard) : Type 0 where
+  pub items : List Stamped
+  pub said : Says p q items
+  pub kept : new.heard ≡ heard_all old.heard items
+  pub risen : new.rises ≡ rise (irq_in (state_of p)) (irq_in (state_of q))
+
+-- a run of so many steps: what they say is kept, and the rises of the line among them are counted
+pub record HasToldAll (p : Past) (old new : Keyboard) : Type 0 where
+  pub steps : ℕ
+  pub made : new.joint.steps ≡ old.joint.steps + steps
+  pub items : List Stamped
+  pub said : Says (gone_on p old.joint.steps) (gone_on p new.joint.steps) items
+  pub kept : new.heard ≡ heard_all old.heard items
+  pub risen : new.rises ≡ rises_in p old.joint.steps steps
+
+-- the host's call adds to what is kept, and counts the rises of its step; or it is refused, and they are as they were
+abbrev pub IsTold : {X : Type 0} → HostAct → Keyboard → Result X Refused → Keyboard → Type 0
+IsTold act old (Ok answer) new = (p : Past) → Stands p old → HasTold p (acted p (old.joint.cycle - 4096) act) old new
+IsTold act old (Err refused) new = (new.heard ≡ old.heard) × (new.rises ≡ old.rises)

@@ -1,0 +1,22 @@
+-- The interrupt line, and when it rises.
+use Rattle.std.specs.Prelude.{Bool, false, not, ◌&&◌, ◌||◌, ◌==◌, Some, None}
+use Rattle.std.specs.declared.option.Option.{Option}
+use Rattle.ctl_link.specs.declared.port.Port.{Port}
+use Rattle.ctl_wire.specs.declared.wire.Wire.{Wire}
+use Rattle.joint_run.specs.Joint.{Beside}
+use Rattle.joint_run.specs.Run.{World}
+use Rattle.live_board.specs.Answers.{raises}
+use Rattle.live_board.specs.declared.irq.Irq.{Irq}
+
+-- whether it is up, and the cycle in which the output buffer was last filled
+abbrev pub irq_of : Port Wire → Irq
+irq_of p = record { up = raises p.core; filled = p.filled }
+
+abbrev pub irq_in : Option (World Beside) → Irq
+irq_in None = record { up = false; filled = 0 }
+irq_in (Some w) = irq_of w.board.pc.side.port
+
+-- it rises in a step: it is up after it, and was down before it, or in it, since the output buffer, which was full, was
+-- read and filled again
+abbrev pub rose : Irq → Irq → Bool
+rose was is = is.up && (not was.up || not (was.filled == is.filled))
