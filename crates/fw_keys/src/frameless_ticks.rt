@@ -15,8 +15,8 @@ pub fn power_on()
 /// start, 2,048 cycles later give or take one, at which it shows that keyboard and its layers a tick of the model later,
 /// by the edges that the columns showed, each in its layer. In the image a place has codes in both layers or in neither:
 /// one without is the Fn key's. Without a frame are the ticks of the power-on test, those at whose looks the clock is low,
-/// and those at whose looks both wires are high while nothing is offered. Nothing is done when it is called; the law is
-/// its contract.
+/// those at whose looks both wires are high while nothing is offered, and those in which data is low at its first look and
+/// high at its second. Nothing is done when it is called; the law is its contract.
 pub fn every_frameless_tick()
     ensures frameless { FramelessLaw }
 {}

@@ -4,8 +4,8 @@ use fw_kernel::labels::{
     AGAIN, BEGIN, BEGINS, BLANK, CLEAR, COLUMN, COMMAND, CUT, DEFAULT, DONE, DROP, EDGE, EDGES,
     ENDS, ENTER, ENTER2, ENTERED, FIRE, FN_DOWN, FN_UP, FOOT, GOT, IDLE, INHIBITED, LAMPS, LAYERS,
     LOOKS, MORE, MOVED, O_DUE, OFFER, PARAMETER, POWER, PRESS, PULLED, R_ACK, R_CELL, R_PARITY,
-    R_STOP, READ, READY, RECEIVE, RELEASE, REPEAT, RESET, REST, ROW, ROWS, S_CELL, S_STOP, SCAN,
-    SEND, SENT, SILENT, START, TESTED, TESTING, TICK, WAIT, WAITING,
+    R_STOP, READ, READY, RECEIVE, RELEASE, REPEAT, RESET, REST, RESTART, ROW, ROWS, S_CELL, S_STOP,
+    SCAN, SEND, SENT, SILENT, START, TESTED, TESTING, TICK, WAIT, WAITING,
 };
 use fw_kernel::{KERNEL, SOURCE};
 use mcs48_asm::assemble;
@@ -19,7 +19,7 @@ fn the_source_is_the_kernels(rt: HostRuntime) -> Result<(), Fail> {
 }
 
 /// The labels' names and places.
-static LABELS: [(&str, u16); 60] = [
+static LABELS: [(&str, u16); 61] = [
     ("tick", TICK),
     ("read", READ),
     ("offer", OFFER),
@@ -59,6 +59,7 @@ static LABELS: [(&str, u16); 60] = [
     ("again", AGAIN),
     ("rest", REST),
     ("power", POWER),
+    ("restart", RESTART),
     ("blank", BLANK),
     ("edges", EDGES),
     ("column", COLUMN),
