@@ -119,14 +119,16 @@ static Counted counted;
 enum { EXPECTED = 4096 };
 static uint8_t expected[EXPECTED];
 static unsigned first_due, last_due;
-static bool started; // AA has come once
+static bool started; // a byte has come
 
 static bool is_odd(int byte) { return __builtin_parity((unsigned)byte); }
 
 static void take(int byte) { // a whole byte of the keyboard's
+    bool aa_due = first_due != last_due && expected[first_due % EXPECTED] == 0xAA;
     host.awaits = false;
+    started = true;
     if (byte == 0xEE) { counted.echoes++; return; }
-    if (byte == 0xAA) { counted.resets += started; started = true; return; }
+    if (byte == 0xAA && !aa_due) { counted.resets++; return; }
     if (byte == 0xFE) { counted.refused++; return; }
     for (unsigned ahead = first_due; ahead != last_due; ahead++)
         if (expected[ahead % EXPECTED] == byte) {
@@ -239,18 +241,31 @@ static Time next_key;
 static int typed = -1; // the place of the key that is down
 static uint8_t rom[2048];
 
+// Whether a place is that of a key with a make and a break: its code is in page 3, and it isn't among the make-only ones.
+static bool is_key(int place) { return rom[0x300 + place] && !(rom[0x3C1 + place / 8] >> place % 8 & 1); }
+enum { PLACES = 96 };
+static int first_key(void) {
+    int place = 0;
+    while (place < PLACES && !is_key(place)) place++;
+    return place;
+}
+
 static void expect(uint8_t byte) { expected[last_due++ % EXPECTED] = byte; counted.codes++; }
+
+static void let_go(void) {
+    if (typed < 0) return;
+    key[typed] = false;
+    expect(0xF0);
+    expect(rom[0x300 + typed]);
+    typed = -1;
+}
 
 static void type_step(void) { // one key after another, never two edges within twenty milliseconds
     if (now < next_key) return;
     next_key = now + 30 * MS + drawn(60 * MS);
-    if (typed >= 0) {
-        key[typed] = false;
-        expect(0xF0);
-        expect(rom[0x300 + typed]);
-        typed = -1;
-    } else {
-        do typed = (int)drawn(96); while (!rom[0x300 + typed] || rom[0x3C1 + typed / 8] >> typed % 8 & 1);
+    if (typed >= 0) let_go();
+    else {
+        do typed = (int)drawn(PLACES); while (!is_key(typed));
         key[typed] = true;
         expect(rom[0x300 + typed]);
     }
@@ -571,14 +586,14 @@ static unsigned past_the_program(void) { // a place behind which there are zeros
 }
 
 static void press_all(void) {
-    for (int place = 0; place < 96; place++) key[place] = rom[0x300 + place] != 0;
+    for (int place = 0; place < PLACES; place++) key[place] = rom[0x300 + place] != 0;
     run_chip(100 * MS);
     memset(key, 0, sizeof key);
 }
 
 static void upset(void) {
     if (asked.all_keys) { press_all(); return; }
-    while (chip.in_service != (bool)asked.in_service) if (!step()) return;
+    for (long steps = 100000; steps && chip.in_service != (bool)asked.in_service; steps--) if (!step()) return;
     for (long steps = drawn(asked.in_service ? 150 : 20); steps && chip.in_service == (bool)asked.in_service; steps--) step();
     if (asked.scramble) {
         for (unsigned cell = 0; cell < 128; cell++) chip.ram[cell] = (uint8_t)drawn(256);
@@ -614,8 +629,7 @@ static bool works_again(void) {
     run_chip(1500 * MS);
     counted = (Counted){0};
     first_due = last_due;
-    int place = 0;
-    while (!rom[0x300 + place] || rom[0x3C1 + place / 8] >> place % 8 & 1) place++;
+    int place = first_key();
     key[place] = true;
     expect(rom[0x300 + place]);
     run_chip(50 * MS);
@@ -683,15 +697,19 @@ int main(int argc, char **argv) {
     memset(chip.ram, (int)asked.ram, sizeof chip.ram);
     host.sample_at = host.until = FOREVER;
     if (asked.trace) return trace_steps();
+    if (!asked.pins_only && first_key() == PLACES) return fail("it has no codes of keys at 300 to 35F", argv[1]);
     host.next_request = 500 * MS + until_next(asked.requests);
     host.next_inhibit = until_next(asked.inhibits);
     host.next_noise = 500 * MS + until_next(asked.noise);
     next_key = 500 * MS;
+    expect(0xAA); // the power-on test has ended well
     if (!asked.upset) {
         bool whole = run_chip(asked.length * MS);
         if (asked.watch) return whole ? 0 : 1;
         asked.requests = asked.inhibits = asked.noise = asked.keys = 0; // then what is still on its way comes
         host.next_request = host.next_inhibit = FOREVER;
+        whole &= run_chip(50 * MS);
+        let_go(); // the key is seen by now, and doesn't repeat yet
         whole &= run_chip(250 * MS);
         counted.lost += last_due - first_due;
         printf("ran=%d started=%d requests=%ld collided=%ld garbled=%ld codes=%ld lost=%ld extra=%ld resets=%ld refused=%ld echoes=%ld "

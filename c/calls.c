@@ -12,7 +12,7 @@
         } \
     } while (0)
 
-static uint8_t layout[65536], hex[32768];
+static uint8_t layout[65537], hex[32768];
 static size_t layout_length, hex_length;
 
 static size_t read_file(const char *name, uint8_t *to, size_t most) {
@@ -43,6 +43,19 @@ static void empty_handle(void) {
     CHECK(kbd48_wires(&k, &up, &data) == KBD48_NOT_OPEN && up && !data);
     number = 7;
     CHECK(kbd48_cycle(&k, &number) == KBD48_NOT_OPEN && number == 7);
+    kbd48 other = KBD48_EMPTY;
+    kbd48_registers registers = {7, 7, 7, 7};
+    kbd48_processor inside = {.counter = 7};
+    kbd48_item item = {7, 7, 7};
+    uint8_t edges = 7;
+    number = 7;
+    CHECK(kbd48_rises(&k, &number) == KBD48_NOT_OPEN && number == 7);
+    CHECK(kbd48_next(&k, &item) == KBD48_NOT_OPEN && item.kind == 7);
+    CHECK(kbd48_copy(&k, &other) == KBD48_NOT_OPEN && !other.at);
+    CHECK(kbd48_look(&k, &registers) == KBD48_NOT_OPEN && registers.status == 7 && registers.output_port == 7);
+    CHECK(kbd48_inside(&k, &inside) == KBD48_NOT_OPEN && inside.counter == 7);
+    CHECK(kbd48_waiting(&k, &edges, &byte) == KBD48_NOT_OPEN && edges == 7 && byte == 7);
+    CHECK(kbd48_column(&k, 0, &byte) == KBD48_NOT_OPEN && kbd48_cell(&k, 0, &byte) == KBD48_NOT_OPEN && byte == 7);
 }
 
 static void bad_texts(void) {
@@ -52,8 +65,92 @@ static void bad_texts(void) {
     CHECK(kbd48_open_layout(no_layout, sizeof no_layout - 1, &k, &fault) == KBD48_BAD_TEXT && !k.at);
     CHECK(fault.place == 0 && fault.number == 1);
     CHECK(kbd48_open_hex(no_hex, sizeof no_hex - 1, &k, &fault) == KBD48_BAD_TEXT && fault.place == 2);
+    fault.place = fault.number = 9;
     CHECK(kbd48_open_hex(hex, 16385, &k, &fault) == KBD48_TOO_LONG && !k.at);
+    CHECK(kbd48_open_layout(layout, 65537, &k, &fault) == KBD48_TOO_LONG && !k.at);
+    CHECK(fault.place == 9 && fault.number == 9);
     CHECK(!strcmp(kbd48_text(KBD48_ROSE), "the interrupt line rose") && !strcmp(kbd48_text(99), "no such status"));
+}
+
+/* The looks change nothing, and show what the stepping calls would read. */
+static void looks(kbd48 *k) {
+    kbd48_registers registers;
+    kbd48_processor inside;
+    uint64_t before, after;
+    uint8_t byte, edges, words;
+    CHECK(kbd48_cycle(k, &before) == KBD48_DONE);
+    CHECK(kbd48_look(k, &registers) == KBD48_DONE && registers.status == 0x15 && registers.output == 0xaa);
+    CHECK(registers.command_byte == 0x45 && registers.output_port == 0xcf);
+    CHECK(kbd48_inside(k, &inside) == KBD48_DONE && inside.counter < 2048 && inside.stack < 8);
+    CHECK(inside.prescaler < 32 && inside.counts == 1 && (inside.p2 & 0x70) == 0x70); /* no light */
+    CHECK(kbd48_cell(k, 127, &byte) == KBD48_DONE && kbd48_cell(k, 128, &byte) == KBD48_NO_SUCH_CELL);
+    CHECK(kbd48_column(k, 11, &byte) == KBD48_DONE && byte == 0xff);
+    CHECK(kbd48_column(k, 12, &byte) == KBD48_NO_SUCH_PLACE);
+    CHECK(kbd48_waiting(k, &edges, &words) == KBD48_DONE && edges == 0 && words == 0);
+    CHECK(kbd48_cycle(k, &after) == KBD48_DONE && before == after);
+}
+
+/* AA waits and the controller has a command: the read makes the line fall and rise in one step. */
+static void a_rise_within_a_step(kbd48 *k) {
+    kbd48_item item;
+    uint64_t rises, passed;
+    kbd48_place place;
+    uint8_t byte;
+    bool up;
+    CHECK(kbd48_write(k, 0x64, 0xaa) == KBD48_DONE);
+    CHECK(kbd48_rises(k, &rises) == KBD48_DONE && rises == 0);
+    CHECK(kbd48_interrupt(k, &up) == KBD48_DONE && up);
+    CHECK(kbd48_read60(k, &byte) == KBD48_DONE && byte == 0xaa);
+    CHECK(kbd48_interrupt(k, &up) == KBD48_DONE && up);
+    CHECK(kbd48_rises(k, &rises) == KBD48_DONE && rises == 1);
+    CHECK(kbd48_read60(k, &byte) == KBD48_DONE && byte == 0x55);
+    CHECK(kbd48_write(k, 0x64, 0xd1) == KBD48_DONE && kbd48_run(k, 8, false, &passed, &place) == KBD48_DONE);
+    CHECK(kbd48_write(k, 0x60, 0xdf) == KBD48_DONE && kbd48_run(k, 8, false, &passed, &place) == KBD48_DONE);
+    CHECK(kbd48_write(k, 0x64, 0xfe) == KBD48_DONE && kbd48_run(k, 8, false, &passed, &place) == KBD48_DONE);
+    static const struct { uint8_t kind, value; } said[] = {
+        {KBD48_ITEM_READ, 0xaa}, {KBD48_ITEM_READ, 0x55},
+        {KBD48_ITEM_OUTPUT, 0xdf}, {KBD48_ITEM_PULSE, 0x0e},
+    };
+    for (size_t i = 0; i < sizeof said / sizeof *said; i++) {
+        CHECK(kbd48_next(k, &item) == KBD48_DONE);
+        CHECK(item.kind == said[i].kind && item.value == said[i].value);
+    }
+    CHECK(kbd48_next(k, &item) == KBD48_NOTHING_SAID);
+}
+
+/* A copy answers as the original does, and goes its own way. */
+static int32_t a_copy(kbd48 *k) {
+    kbd48 copy = KBD48_EMPTY;
+    kbd48_place place;
+    uint64_t passed, as_many;
+    uint8_t byte = 0, same = 1, rows;
+    int32_t status = kbd48_copy(k, &copy);
+    if (status != KBD48_DONE) {
+        CHECK(status == KBD48_NO_MEMORY && !copy.at);
+        return status;
+    }
+    a_rise_within_a_step(&copy);
+    CHECK(kbd48_key(&copy, 0, true) == KBD48_DONE && kbd48_run(&copy, 4, false, &passed, &place) == KBD48_DONE);
+    CHECK(kbd48_column(&copy, 0, &rows) == KBD48_DONE && rows == 0xfe);
+    CHECK(kbd48_column(k, 0, &rows) == KBD48_DONE && rows == 0xff);
+    status = kbd48_copy(k, &copy); /* closes the first copy, or leaves it */
+    CHECK(status == KBD48_DONE || status == KBD48_NO_MEMORY);
+    if (status == KBD48_DONE) {
+        kbd48 twin = KBD48_EMPTY;
+        status = kbd48_copy(&copy, &twin);
+        CHECK(status == KBD48_DONE || status == KBD48_NO_MEMORY);
+        if (status == KBD48_DONE) {
+            CHECK(kbd48_read60(&copy, &byte) == KBD48_DONE && kbd48_read60(&twin, &same) == KBD48_DONE && byte == same);
+            CHECK(kbd48_write(&copy, 0x60, 0xee) == KBD48_DONE && kbd48_write(&twin, 0x60, 0xee) == KBD48_DONE);
+            CHECK(kbd48_run(&copy, 40000, true, &passed, &place) == KBD48_ROSE);
+            CHECK(kbd48_run(&twin, 40000, true, &as_many, &place) == KBD48_ROSE && passed == as_many);
+            CHECK(kbd48_read60(&copy, &byte) == KBD48_DONE && kbd48_read60(&twin, &same) == KBD48_DONE);
+            CHECK(byte == 0xee && same == 0xee);
+            CHECK(kbd48_close(&twin) == KBD48_DONE);
+        }
+    }
+    CHECK(kbd48_close(&copy) == KBD48_DONE);
+    return status;
 }
 
 static int32_t a_session(void) {
@@ -75,6 +172,8 @@ static int32_t a_session(void) {
     CHECK(kbd48_cycle(&k, &cycle) == KBD48_DONE && cycle > 4096 && cycle < 4100);
     CHECK(kbd48_run(&k, 400000, true, &passed, &place) == KBD48_ROSE && passed < 140000);
     CHECK(kbd48_interrupt(&k, &up) == KBD48_DONE && up);
+    looks(&k);
+    int32_t copied = a_copy(&k);
     CHECK(kbd48_status(&k, &byte) == KBD48_DONE && (byte & 1));
     CHECK(kbd48_read60(&k, &byte) == KBD48_DONE && byte == 0xaa);
     CHECK(kbd48_interrupt(&k, &up) == KBD48_DONE && !up);
@@ -99,7 +198,7 @@ static int32_t a_session(void) {
     CHECK(kbd48_run(&k, 400000, false, &passed, &place) == KBD48_DONE);
     CHECK(kbd48_take(&k, &word) == KBD48_DONE || kbd48_take(&k, &word) == KBD48_NO_WORD);
     CHECK(kbd48_close(&k) == KBD48_DONE && !k.at && kbd48_close(&k) == KBD48_NOT_OPEN);
-    return status;
+    return status == KBD48_DONE ? copied : status;
 }
 
 static void a_stuck_one(void) {
@@ -109,9 +208,11 @@ static void a_stuck_one(void) {
     kbd48_place place = {9, 9};
     uint64_t passed;
     uint8_t byte;
+    kbd48_processor inside;
     CHECK(kbd48_open_hex(stuck, sizeof stuck - 1, &k, &fault) == KBD48_DONE);
     CHECK(kbd48_run(&k, 10, false, &passed, &place) == KBD48_STUCK && passed == 0);
     CHECK(place.counter == 0 && place.byte == 1);
+    CHECK(kbd48_inside(&k, &inside) == KBD48_DONE && inside.counter == 0 && inside.byte == 1);
     CHECK(kbd48_read60(&k, &byte) == KBD48_EARLY && kbd48_key(&k, 0, true) == KBD48_EARLY);
     CHECK(kbd48_close(&k) == KBD48_DONE);
 }

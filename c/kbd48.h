@@ -25,6 +25,8 @@
 extern "C" {
 #endif
 
+#define KBD48_VERSION "1.0.0"
+
 /* A keyboard, or none. */
 typedef struct {
     void *at;
@@ -34,9 +36,9 @@ typedef struct {
 enum {
     KBD48_DONE = 0,           /* it was done */
     KBD48_NOT_OPEN = 1,       /* the handle is empty */
-    KBD48_NO_MEMORY = 2,      /* memory is wanting */
+    KBD48_NO_MEMORY = 2,      /* there is no memory */
     KBD48_BAD_TEXT = 3,       /* the layout or the HEX text has a fault */
-    KBD48_TOO_LONG = 4,       /* the HEX text has more than 16,384 bytes */
+    KBD48_TOO_LONG = 4,       /* the HEX text has more than 16,384 bytes, or the layout more than 65,536 */
     KBD48_NO_SUCH_PLACE = 5,  /* the matrix has the places 0 to 95 */
     KBD48_NO_SUCH_PORT = 6,   /* the controller has the ports 0x60 and 0x64 */
     KBD48_FULL = 7,           /* the input buffer is full, or four edges wait for a step */
@@ -44,15 +46,19 @@ enum {
     KBD48_EARLY = 9,          /* the program stuck in its first 4,096 cycles, before stamp 0 */
     KBD48_OVER = 10,          /* 2 to the 62nd cycles are done, and no more are counted */
     KBD48_NO_WORD = 11,       /* the buffer of INT 09h is empty */
-    KBD48_ROSE = 12           /* the interrupt line rose */
+    KBD48_ROSE = 12,          /* the interrupt line rose */
+    KBD48_NO_SUCH_CELL = 13,  /* data memory has the cells 0 to 127 */
+    KBD48_NOTHING_SAID = 14,  /* nothing was said since something was last handed out */
+    KBD48_LOST = 15           /* more was said than is kept */
 };
 
 /* The same in words; a text for every number. */
 static inline const char *kbd48_text(int32_t status) {
     static const char *const texts[] = {
-        "done", "the handle is empty", "memory is wanting", "the text has a fault", "the text is too long",
+        "done", "the handle is empty", "there is no memory", "the text has a fault", "the text is too long",
         "no such place", "no such port", "no room", "the processor is stuck", "stuck before stamp 0",
-        "the count of cycles is at its end", "no word", "the interrupt line rose",
+        "the count of cycles is at its end", "no word", "the interrupt line rose", "no such cell",
+        "nothing was said", "more was said than is kept",
     };
     return status >= 0 && (size_t)status < sizeof texts / sizeof *texts ? texts[status] : "no such status";
 }
@@ -70,10 +76,10 @@ typedef struct {
     uint8_t byte;
 } kbd48_place;
 
-/* Opens a keyboard of this layout (TOML) at `handle`, and closes the one that was there: its firmware is compiled, the
+/* Opens a keyboard of this layout (TOML, at most 65,536 bytes) at `handle`, and closes the one that was there: its firmware is compiled, the
    board is powered on, 4,096 cycles pass, which is stamp 0, and INT 09h is masked. Takes all memory that the keyboard
-   takes: no other call but kbd48_open_hex takes any. On KBD48_BAD_TEXT `fault` says where, and on any failure the
-   handle is as it was. */
+   takes: no other call but kbd48_open_hex and kbd48_copy takes any. On KBD48_BAD_TEXT `fault` says where; on any other
+   status `fault` is as it was, and on any failure the handle is. */
 int32_t kbd48_open_layout(const uint8_t *text, size_t length, kbd48 *handle, kbd48_fault *fault);
 
 /* The same with a program memory as an Intel HEX text of at most 16,384 bytes, of any program. One that sticks in its
@@ -82,6 +88,11 @@ int32_t kbd48_open_hex(const uint8_t *text, size_t length, kbd48 *handle, kbd48_
 
 /* Frees the keyboard, and leaves the handle empty. */
 int32_t kbd48_close(kbd48 *handle);
+
+/* Opens a copy of the keyboard of `from` at `to`, and closes the one that was there. The copy is in the same state and
+   has memory of its own: the same calls give the same answers. On any failure `to` is as it was. Keep a copy to go back
+   to, or open one board up to its AA and copy it for each machine. */
+int32_t kbd48_copy(kbd48 *from, kbd48 *to);
 
 /* The key at a place, 0 to 95 (eight times its column and its row), goes down or up. The edge is made before the next
    step; no step is made yet. KBD48_FULL where four edges wait already: run a step first. */
@@ -110,9 +121,48 @@ int32_t kbd48_bios(kbd48 *handle, bool on);
    KBD48_NO_WORD says that the buffer is empty. */
 int32_t kbd48_take(kbd48 *handle, uint16_t *word);
 
+/* What the log says, item by item. */
+enum {
+    KBD48_ITEM_PORT = 0,        /* INT 09h read this byte from port 0x60 */
+    KBD48_ITEM_READ = 1,        /* kbd48_read60 read this byte */
+    KBD48_ITEM_WORD = 2,        /* INT 09h entered this word into its buffer */
+    KBD48_ITEM_BEEP = 3,        /* the buffer had no room, or it was an overrun */
+    KBD48_ITEM_OVERRUN = 4,     /* the keyboard's queue had overrun */
+    KBD48_ITEM_LIGHTS = 5,      /* the lights are these now: 01 Scroll, 02 Num, 04 Caps */
+    KBD48_ITEM_TAKEN = 6,       /* kbd48_take took this word */
+    KBD48_ITEM_TAKEN_NONE = 7,  /* kbd48_take found the buffer empty */
+    KBD48_ITEM_STATUS = 8,      /* kbd48_status read this byte */
+    KBD48_ITEM_OUTPUT = 9,      /* the output port is this byte now: 02 is the gate of A20, a 0 in 01 resets */
+    KBD48_ITEM_PULSE = 10,      /* these of its four low lines were pulsed: each 0 bit; bit 0 is reset */
+    KBD48_ITEM_BROKE = 11,      /* Ctrl with Scroll Lock emptied the buffer */
+    KBD48_ITEM_PAUSE = 12,      /* Ctrl with Num Lock began a pause */
+    KBD48_ITEM_RESUME = 13,     /* a key ended it */
+    KBD48_ITEM_PRINT = 14,      /* Shift with the print key */
+    KBD48_ITEM_BOOT = 15,       /* Ctrl, Alt and Del */
+    KBD48_ITEM_SYS_MAKE = 16,   /* SysReq went down */
+    KBD48_ITEM_SYS_BREAK = 17   /* SysReq went up */
+};
+
+typedef struct {
+    uint64_t cycle; /* the cycle in which it was said */
+    uint8_t kind;   /* one of KBD48_ITEM_... */
+    uint16_t value; /* the byte or the word, or 0 */
+} kbd48_item;
+
+/* Hands out what was said next, in the order of the log, and makes no step. KBD48_NOTHING_SAID when all was handed out.
+   Sixty-four items are kept; if more are said, all behind them are lost, until KBD48_LOST says so, once, after the 64th. */
+int32_t kbd48_next(kbd48 *handle, kbd48_item *item);
+
+/* The calls from here on make no step and change nothing. */
+
 /* Whether the interrupt line (IRQ 1) is up: the output buffer is full, and its interrupt is enabled. It stays up until
    port 0x60 is read. */
 int32_t kbd48_interrupt(kbd48 *handle, bool *up);
+
+/* How often the line rose in the last call that made a step. It may fall and rise within one step, so that it is up before
+   and after: if you read AA while the controller has a command, its answer follows in the same cycle. An interrupt
+   controller in edge mode needs each rise. */
+int32_t kbd48_rises(kbd48 *handle, uint64_t *rises);
 
 /* The lights: 01 Scroll Lock, 02 Num Lock, 04 Caps Lock. */
 int32_t kbd48_lights(kbd48 *handle, uint8_t *lights);
@@ -123,6 +173,44 @@ int32_t kbd48_wires(kbd48 *handle, bool *clock, bool *data);
 
 /* How many cycles have passed since power-on. A stamp of a key file counts from cycle 4,096. */
 int32_t kbd48_cycle(kbd48 *handle, uint64_t *cycle);
+
+/* What the controller's registers are now. */
+typedef struct {
+    uint8_t status;       /* what port 0x64 would read */
+    uint8_t output;       /* what port 0x60 would read: the last byte that was put out, 00 at first. It isn't taken */
+    uint8_t command_byte; /* 01 interrupt on, 04 system flag, 10 keyboard disabled, 40 translation */
+    uint8_t output_port;  /* the last byte for the output port, CF at first: bit 1 is the gate of A20 */
+} kbd48_registers;
+
+int32_t kbd48_look(kbd48 *handle, kbd48_registers *registers);
+
+/* How many edges of keys wait for a step, at most 4, and how many words in the buffer of INT 09h, at most 15. */
+int32_t kbd48_waiting(kbd48 *handle, uint8_t *edges, uint8_t *words);
+
+/* The keys of a column of the matrix, 0 to 11, as the keyboard's processor reads them: bit k is row k, 0 for down. An
+   edge that waits isn't made yet. */
+int32_t kbd48_column(kbd48 *handle, uint8_t number, uint8_t *rows);
+
+/* The keyboard's processor, an 8049. */
+typedef struct {
+    uint16_t counter;   /* the program counter, 0 to 4,095 */
+    uint8_t byte;       /* the byte of the program there */
+    uint8_t a;          /* the accumulator */
+    bool carry, half_carry, f0, f1;
+    bool register_bank; /* true: bank 1 */
+    bool memory_bank;   /* bit 11 of the next JMP or CALL */
+    uint8_t stack;      /* the stack pointer, 0 to 7 */
+    uint8_t t;          /* the timer */
+    uint8_t prescaler;  /* 0 to 31 machine cycles */
+    uint8_t counts;     /* 0 the timer is off, 1 it counts machine cycles, 2 it counts falls of T1 */
+    bool timer_flag, external_on, timer_on, request, service;
+    uint8_t p1, p2, bus; /* the latches of the ports and of the bus */
+} kbd48_processor;
+
+int32_t kbd48_inside(kbd48 *handle, kbd48_processor *shown);
+
+/* A byte of the processor's data memory, 0 to 127. */
+int32_t kbd48_cell(kbd48 *handle, uint8_t number, uint8_t *byte);
 
 #ifdef __cplusplus
 }

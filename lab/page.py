@@ -17,12 +17,13 @@ MOST_BYTES = 900_000
 MODULES = ("kbd48_c", "kbd48_call")
 
 # The examples that the page has, and what they are called when that differs.
-EXAMPLES = (
-    "us84.toml sixty.toml sixty_fn.toml four_keys.toml typing_hi.keys capital_a.keys held_key.keys caps_lock.keys host.keys "
-    "ctrl_alt_del.keys noisy_line.keys broken_frame.keys sixty_fn.keys right_ctrl.keys hello.text make_code.keys make_code.script "
-    "four_keys.asm four_keys.hex four_keys.keys four_keys.script four_keys.cert wrong_parity.script unset_cell.asm run_on.asm "
-    "timer.asm delay.asm delay.hex delay.cert us84.hex kernel_delay.cert every_instruction.asm"
-).split()
+EXAMPLES = """
+    us84.toml sixty.toml sixty_fn.toml four_keys.toml typing_hi.keys capital_a.keys held_key.keys caps_lock.keys
+    host.keys ctrl_alt_del.keys noisy_line.keys broken_frame.keys sixty_fn.keys right_ctrl.keys hello.text
+    make_code.keys make_code.script four_keys.asm four_keys.hex four_keys.keys four_keys.script four_keys.cert
+    wrong_parity.script unset_cell.asm run_on.asm timer.asm delay.asm delay.hex delay.cert us84.hex
+    kernel_delay.cert every_instruction.asm
+""".split()
 IMPORT = re.compile(r"^import [^;]*? from '(\.[^']+)';\n", re.MULTILINE)
 
 
@@ -122,7 +123,7 @@ def page(keyboard: str, program: str, sources: str) -> str:
 
 
 def sources() -> str:
-    """A checksum of what the modules are made of: the code of the crates, what they export, and the tools of lab/wasm."""
+    """A checksum of what the modules are made of: the crates' code, what they export, and the tools of lab/wasm."""
     lines = (ROOT / "crates.txt").read_text(encoding="utf-8").splitlines()
     rows = (line.partition("#")[0].partition(":") for line in lines)
     uses = {head.split()[0]: rest.split() for head, colon, rest in rows if colon}

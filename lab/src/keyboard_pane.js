@@ -61,7 +61,10 @@ export class KeyboardPane {
       const { x, y, width, height } = few ? { x: key.place >> 3, y: key.place & 7, width: 1, height: 1 } : SHAPES[key.name];
       const element = make('div', { className: isWhite(key.sends) ? 'white' : 'grey' });
       const unit = 100 / Math.max(wide, few ? 8 : 0), row = 100 / Math.max(high, few ? 4 : 0);
-      Object.assign(element.style, { left: `${x * unit}%`, top: `calc(${y * row}% + 3px)`, width: `calc(${width * unit}% - 3px)`, height: `calc(${height * row}% - 6px)` });
+      Object.assign(element.style, {
+        left: `${x * unit}%`, top: `calc(${y * row}% + 3px)`,
+        width: `calc(${width * unit}% - 3px)`, height: `calc(${height * row}% - 6px)`,
+      });
       element.dataset.key = key.name;
       this.drawn.set(key.name, element);
       this.board.append(element);

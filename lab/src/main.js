@@ -48,6 +48,7 @@ class Lab {
     this.live.onWord = word => pc.word(word);
     byId('screen').textContent = '▁';
     byId('masked').checked = false;
+    this.wires?.begin();
   }
 
   show(name, shown, scrolled = true) {

@@ -8,6 +8,12 @@ import { listLines, placeOf, sourceLines } from './source.js';
 
 const KERNEL = 'kernel.asm';
 const STOPS = ['place', 'register', 'cell', 'byte']; // the probes, by their numbers
+// How the other breakpoints are written: what is looked at, and the byte that it must have.
+const FORMS = {
+  register: /^R([0-7])\s*=\s*([0-9A-F]{2})$/i,
+  cell: /^([0-7][0-9A-F])\s*=\s*([0-9A-F]{2})$/i,
+  byte: /^(keyboard|host|PC)\s+([0-9A-F]{2})$/i,
+};
 const ROW = 16;
 
 export class ProcessorPane {
@@ -94,7 +100,7 @@ export class ProcessorPane {
       const place = placeOf(said, this.code.labels);
       return place === null ? null : `${hex(place, 3)} 00`;
     }
-    const found = { register: /^R([0-7])\s*=\s*([0-9A-F]{2})$/i, cell: /^([0-7][0-9A-F])\s*=\s*([0-9A-F]{2})$/i, byte: /^(keyboard|host|PC)\s+([0-9A-F]{2})$/i }[kind].exec(said);
+    const found = FORMS[kind].exec(said);
     if (!found) return null;
     const first = kind === 'byte' ? Number(found[1].toLowerCase() !== 'keyboard') : Number.parseInt(found[1], 16);
     return `${hex(first, 3)} ${found[2]}`;

@@ -22,7 +22,10 @@ export function explained(answer) {
   let found = /^input: (\w+) line (\d+) fault (\d+)/.exec(last);
   if (found) return { kind: found[1], line: Number(found[2]), words: `line ${found[2]}: ${faultText(found[1], found[3])}` };
   found = /^input: layout entry (\d+) fault (\d+)/.exec(last);
-  if (found) return { kind: 'layout', entry: Number(found[1]), words: `${found[1] === '0' ? 'the layout' : `entry ${found[1]} of the layout`}: ${faultText('layout', found[2])}` };
+  if (found) {
+    const entry = found[1] === '0' ? 'the layout' : `entry ${found[1]} of the layout`;
+    return { kind: 'layout', words: `${entry}: ${faultText('layout', found[2])}` };
+  }
   found = /^timing: line (\d+) fault (\d+) stamps (-?\d+) (-?\d+)/.exec(last);
   if (found) return { kind: 'keys', line: Number(found[1]), words: `line ${found[1]}: ${faultText('keys', found[2])} (${found[3]} and ${found[4]})` };
   found = /^input: text byte (\d+)/.exec(last);
@@ -31,8 +34,13 @@ export function explained(answer) {
   if (found) return { kind: found[1], words: `the ${found[1]} file is too long` };
   found = /^stuck: pc (\w+) byte (\w+)/.exec(last);
   if (found) return { words: `the processor is stuck at ${found[1]}: the byte ${found[2]} begins no instruction` };
-  return { [EXIT.WORDS]: { words: 'these words are no command of kbd48' }, [EXIT.READ]: { words: 'a file that the words name is not here' },
-    [EXIT.WRITE]: { words: 'the text is longer than the page can hold' }, [EXIT.MEMORY]: { words: 'there is no memory left' } }[answer.exit] ?? null;
+  const words = {
+    [EXIT.WORDS]: 'these words are no command of kbd48',
+    [EXIT.READ]: 'a file that the words name is not here',
+    [EXIT.WRITE]: 'the text is longer than the page can hold',
+    [EXIT.MEMORY]: 'there is no memory left',
+  }[answer.exit];
+  return words ? { words } : null;
 }
 
 const faultText = (kind, number) => FAULTS[kind]?.[number] ?? `fault ${number}`;

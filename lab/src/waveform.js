@@ -18,7 +18,9 @@ export class Waveform {
     }, { passive: false });
     canvas.addEventListener('pointermove', event => { if (event.buttons) this.move(event.movementX); });
     canvas.addEventListener('keydown', event => {
-      const act = { ArrowLeft: () => this.move(80), ArrowRight: () => this.move(-80), '+': () => this.zoomBy(2), '-': () => this.zoomBy(0.5) }[event.key];
+      const act = {
+        ArrowLeft: () => this.move(80), ArrowRight: () => this.move(-80), '+': () => this.zoomBy(2), '-': () => this.zoomBy(0.5),
+      }[event.key];
       if (!act) return;
       event.preventDefault();
       act();

@@ -54,6 +54,12 @@ export class WiresPane {
     byId('judge').onclick = () => this.#judge();
   }
 
+  /** Another keyboard runs. */
+  begin() {
+    byId('shown').value = LIVE;
+    this.#show(LIVE);
+  }
+
   #any(port) {
     const text = byId('any-byte').value;
     if (/^[0-9A-Fa-f]{2}$/.test(text)) this.live().order(port, Number.parseInt(text, 16));

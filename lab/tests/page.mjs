@@ -137,6 +137,19 @@ async function workbench() {
   await says('told', /exit 5: a file that the words name is not here/);
 }
 
+async function secondLayer() {
+  await only('keyboard');
+  await put('layout', 'sixty_fn.toml');
+  await browser.until('lab.live.stamp > 200000');
+  await browser.click('#sticky');
+  await browser.click('[data-key=sysreq]');
+  assert.equal(await browser.evaluate('document.querySelector("[data-key=\\"1\\"]").textContent'), 'F1');
+  await browser.click('[data-key="1"]');
+  await browser.until('lab.live.items.some(item => item.words === "word 3B00")');
+  assert.equal(await browser.evaluate('document.querySelectorAll("#board .down").length'), 0, 'what sticks is let go after the next key');
+  await browser.click('#sticky');
+}
+
 async function brokenLayout() {
   await browser.evaluate('lab.workbench.open("sixty.toml")');
   const whole = await browser.evaluate('document.getElementById("text").value');
@@ -237,6 +250,7 @@ try {
   await processor();
   await contrast();
   await workbench();
+  await secondLayer();
   await brokenLayout();
   await shareLink();
   const many = await lessons();

@@ -1,5 +1,5 @@
-/* The heap of a module without a C library: blocks of powers of two, each behind a head of 16 bytes. A freed block goes to
-   the list of its size. Memory grows by pages of 64 KiB. */
+/* The heap of a module without a C library: blocks of powers of two, each after a head of 16 bytes. A freed block goes
+   to the list of its size. Memory grows by pages of 64 KiB. */
 typedef unsigned long long u64;
 typedef __SIZE_TYPE__ size_t;
 

@@ -1,8 +1,8 @@
 """Makes of a WebAssembly module with a 64-bit memory one with a 32-bit memory that does the same.
 
-Each address loses its upper half just before its use; pointers stay 64 bits wide everywhere else, so the exports keep their
-types. It holds as long as memory has less than 4 GiB, which a 32-bit memory has. What isn't known is refused. The format is
-that of the WebAssembly Core Specification 3.0, chapter 5."""
+Each address loses its upper half just before its use; pointers stay 64 bits wide everywhere else, so the exports keep
+their types. It holds as long as memory has less than 4 GiB, which a 32-bit memory has. What isn't known is refused. The
+format is that of the WebAssembly Core Specification 3.0, chapter 5."""
 
 from __future__ import annotations
 
@@ -123,7 +123,8 @@ class Body:
             out += self.instruction()
         spare = [(1, kind) for kind, _ in self.spare]
         declared = [*self.locals, *spare]
-        return unsigned(len(declared)) + b"".join(unsigned(count) + bytes([kind]) for count, kind in declared) + bytes(out)
+        head = b"".join(unsigned(count) + bytes([kind]) for count, kind in declared)
+        return unsigned(len(declared)) + head + bytes(out)
 
     def instruction(self) -> bytes:
         reader, start = self.reader, self.reader.at
@@ -224,7 +225,9 @@ def lower(data: bytes) -> bytes:
             out = data[start:end]
         elif kind in (TABLE, MEMORY):
             count = reader.unsigned()
-            out = unsigned(count) + b"".join((bytes([reader.byte()]) if kind == TABLE else b"") + limits(reader) for _ in range(count))
+            out = unsigned(count)
+            for _ in range(count):
+                out += (bytes([reader.byte()]) if kind == TABLE else b"") + limits(reader)
         elif kind in (ELEMENT, DATA):
             out = segments(reader, kind)
         elif kind == CODE:

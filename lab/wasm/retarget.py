@@ -1,7 +1,8 @@
 """Compiles the LLVM module of a proved static library, which is for x86-64, to WebAssembly with a 64-bit memory.
 
-Rattle's text is memory of bytes, offsets of bytes and pointers of 64 bits for both, so the data layout, the triple and four
-attributes are all that differs. No proof covers this step, as none covers what LLVM makes of the module for x86-64."""
+Rattle's text is memory of bytes, offsets of bytes and pointers of 64 bits for both, so the data layout, the triple and
+four attributes are all that differs. No proof covers this step, as none covers what LLVM makes of the module for
+x86-64."""
 
 from __future__ import annotations
 
@@ -16,9 +17,9 @@ STACK = 1 << 20  # first in memory, so that an overflow ends below 0, which trap
 TARGET = "--target=wasm64-unknown-unknown"
 # The flags with which Rattle compiles for wasm64 itself.
 FLAGS = [TARGET, "-mcpu=lime1", "-O3", "-ffunction-sections", "-fdata-sections", "-Wno-override-module"]
-for _flag in ("-expand-div-rem-bits=64", "-expand-fp-convert-bits=64", "-disable-machine-licm", "-disable-postra-machine-licm",
-              "-sink-common-insts=false"):
-    FLAGS += ["-mllvm", _flag]
+OF_LLVM = "expand-div-rem-bits=64 expand-fp-convert-bits=64 disable-machine-licm disable-postra-machine-licm"
+for _flag in f"{OF_LLVM} sink-common-insts=false".split():
+    FLAGS += ["-mllvm", f"-{_flag}"]
 OF_X86 = re.compile(r' "(probe-stack|stack-probe-size|target-cpu|target-features)"="[^"]*"')
 FOREIGN = re.compile(r"llvm\.x86[\w.]*|\bmodule asm\b.*|\basm (?:sideeffect|alignstack|inteldialect|\")")
 
@@ -52,11 +53,15 @@ def retarget(toolchain: Path, module: Path, out: Path, exports: list[str]) -> No
     asked = run(clang, TARGET, "-xc", "-", "-S", "-emit-llvm", "-o", "-", text="int nothing;")
     with tempfile.TemporaryDirectory() as folder:
         work = Path(folder)
-        run(clang, "-Wno-override-module", "-x", "ir", module, "-S", "-emit-llvm", "-Xclang", "-disable-llvm-passes", "-o", work / "x86.ll")
+        text = ["-S", "-emit-llvm", "-Xclang", "-disable-llvm-passes"]
+        run(clang, "-Wno-override-module", "-x", "ir", module, *text, "-o", work / "x86.ll")
         (work / "wasm.ll").write_text(retargeted((work / "x86.ll").read_text(), asked))
         run(clang, *FLAGS, "-c", "-x", "ir", work / "wasm.ll", "-o", work / "library.o")
+        objects = [work / "library.o"]
         for part in PARTS:
-            run(clang, *FLAGS, "-fwrapv", "-ffreestanding", "-Wall", "-Wextra", "-Werror", "-c", HERE / part, "-o", work / f"{part}.o")
-        run(linker, "-flavor", "wasm", "-mwasm64", "--no-entry", "--stack-first", "-z", f"stack-size={STACK}", "--gc-sections",
-            "--strip-all", "--fatal-warnings", *[f"--export={name}" for name in exports], "-o", out, work / "library.o",
-            *[work / f"{part}.o" for part in PARTS])
+            objects.append(work / f"{part}.o")
+            warnings = ["-Wall", "-Wextra", "-Werror"]
+            run(clang, *FLAGS, "-fwrapv", "-ffreestanding", *warnings, "-c", HERE / part, "-o", objects[-1])
+        layout = ["--no-entry", "--stack-first", "-z", f"stack-size={STACK}", "--gc-sections", "--strip-all"]
+        exported = [f"--export={name}" for name in exports]
+        run(linker, "-flavor", "wasm", "-mwasm64", *layout, "--fatal-warnings", *exported, "-o", out, *objects)

@@ -7,6 +7,7 @@ from __future__ import annotations
 
 import re
 from dataclasses import dataclass, field
+from functools import cached_property
 from pathlib import Path
 
 from . import asm, cert, hexfile, keys, layout, script, typed
@@ -51,7 +52,7 @@ class Fault:
     def data(self):
         return self.files[self.kind]
 
-    @property
+    @cached_property
     def lines(self):
         """The lines of the file, as the program splits it."""
         return [it.removesuffix(b"\r").decode(errors="replace") for it in self.data.split(b"\n")]
@@ -93,7 +94,15 @@ def explained(said, words):
     fault = Fault(kind, int(found["number"] or found["late"]), int(found["at"] or found["line"]), stamps, files)
     place, text = KINDS[kind].place(fault) if hasattr(KINDS[kind], "place") else (f"line {fault.at}", fault.text)
     head = f"{named[kind]}, {place}: {shown(text)}" if text else f"{named[kind]}, {place}"
-    return [head, table()[kind, fault.number][1], *(mark(fault) or KINDS[kind].hints(fault))]
+    return [head, table()[kind, fault.number][1], *(mark(fault) or guessed(fault))]
+
+
+def guessed(fault):
+    """What is probably meant. A file of any bytes may have misled the guess; then there is none."""
+    try:
+        return KINDS[fault.kind].hints(fault)
+    except (ValueError, LookupError, TypeError, RecursionError):
+        return []
 
 
 def mark(fault):

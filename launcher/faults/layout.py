@@ -2,6 +2,7 @@
 from __future__ import annotations
 
 import re
+from functools import lru_cache
 from pathlib import Path
 
 from .near import meant
@@ -18,15 +19,17 @@ SECOND = [*FIRST, "fn", "fn_sends", "make_only"]
 HEADER = re.compile(r"""\s*\[\[\s*["']?key["']?\s*\]\]""")
 
 
+@lru_cache(maxsize=1)
 def names():
     """The names of all keys, which the sample layout has."""
     return re.findall(r'^key = "([^"]+)"', SAMPLE.read_text(encoding="utf-8"), re.MULTILINE)
 
 
-def tree(fault):
-    """What the file says, or None if it can't be read here."""
+@lru_cache(maxsize=1)
+def tree(data):
+    """What a file says, or None if it can't be read here."""
     try:
-        return tomllib.loads(fault.data.decode("utf-8-sig")) if tomllib else None
+        return tomllib.loads(data.decode("utf-8-sig")) if tomllib else None
     except (ValueError, RecursionError):
         return None
 
@@ -43,7 +46,7 @@ def span(fault):
 
 
 def entry(fault, number):
-    found = tree(fault)
+    found = tree(fault.data)
     try:
         return dict(found["key"][number - 1] if number else found)
     except (TypeError, KeyError, IndexError, ValueError):

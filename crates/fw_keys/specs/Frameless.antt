@@ -4,6 +4,7 @@ use Rattle.std.specs.Prelude.{All, drop, length, slice_index, slice_index_or, bi
 use Rattle.std.specs.declared.option.Option.{Option}
 use Rattle.mcs48_core.specs.declared.levels.Pins.{Pins}
 use Rattle.mcs48_core.specs.Cpu.{Cpu}
+use Rattle.mcs48_core.specs.Step.{takes_timer}
 use Rattle.fw_kernel.specs.declared.labels.TheConstants.{TICK}
 use Rattle.fw_kernel.specs.Places.{HasKernel}
 use Rattle.joint_run.specs.Run.{Board, World}
@@ -123,3 +124,16 @@ PowersOn bytes = (pins : ℕ → ℕ → ℕ → ℕ → Pins) (tick : ℕ → �
 
 abbrev pub PowerOnLaw : Type 0
 PowerOnLaw = (bytes : List ℕ) → HasKernel bytes → All IsByte bytes → PowersOn bytes
+
+-- a program that comes there from any state at 000 that enters no interrupt, pulls no wire and lights no light, where the
+-- pin INT is high: whatever the status with its register bank, the memory bank, the stack, the timer, both interrupts, the
+-- mark of a service and data memory are. The start comes when it does from power-on
+abbrev pub Restarts : List ℕ → Type 0
+Restarts bytes = (pins : ℕ → ℕ → ℕ → ℕ → Pins) (tick : ℕ → ℕ → ℕ → ℕ) (m : Cpu) (board : ℕ)
+    → IsFine m → ((p1 p2 c s : ℕ) → (pins p1 p2 c s).bus < 256) → ((p1 p2 c s : ℕ) → (pins p1 p2 c s).int_pin ≡ true)
+    → m.pc ≡ 0 → m.p2 ≡ 255 → m.clk ≡ false → takes_timer m ≡ false
+    → Comes (numbered pins tick) TICK bytes (record { cpu = m; board = board; cycle = 0 })
+    (λ w. FromPowerOn bytes w.cpu × (4096 ≤ w.cycle) × (w.cycle ≤ 4097))
+
+abbrev pub RestartLaw : Type 0
+RestartLaw = (bytes : List ℕ) → HasKernel bytes → All IsByte bytes → Restarts bytes

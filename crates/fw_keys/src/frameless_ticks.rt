@@ -1,14 +1,23 @@
 //! Laws of power-on and of the ticks without a frame.
 
-ghost use Rattle.fw_keys.specs.Frameless.{FramelessLaw, KeepsFrameless, PowerOnLaw, PowersOn};
+ghost use Rattle.fw_keys.specs.Frameless.{
+  FramelessLaw,
+  KeepsFrameless,
+  PowerOnLaw,
+  PowersOn,
+  RestartLaw,
+};
 
 use fw_kernel::KERNEL;
 use mcs48_isa::Image;
 
 /// From power-on, whatever the pins show, the run comes to a tick start at which data memory shows the model's keyboard
-/// at power-on, with the image's rate byte. Nothing is done when it is called; the law is its contract.
+/// at power-on, with the image's rate byte. So it does from any state at 000, where a counter comes that was upset:
+/// whatever the register bank, the stack, the mark of a service, the timer, both interrupts and data memory are, if it
+/// enters no interrupt there and neither wire is pulled. Nothing is done when it is called; the laws are its contract.
 pub fn power_on()
     ensures powers_on { PowerOnLaw }
+    ensures restarts { RestartLaw }
 {}
 
 /// Every tick without a frame: from a tick start at which data memory shows a keyboard the run comes to the next tick

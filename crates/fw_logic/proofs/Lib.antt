@@ -17,6 +17,7 @@ pub mod Service
 pub mod Frame
 pub mod Serves
 pub mod Starting
+pub mod Restarting
 pub mod Columns
 pub mod Looks
 pub mod Cells

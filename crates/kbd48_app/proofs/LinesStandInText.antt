@@ -1,7 +1,9 @@
 -- A line of the log stands in the text that is printed of it.
 use Rattle.std.proofs.Common.{◌≡◌, ℕ, suc, zero, ◌+◌, ◌-◌, ◌<◌, List, [], ◌∷◌, ◌++◌, length, inl}
-use Rattle.std.proofs.Common.{inr, Ok, ap, sym, ◌∙◌, subst, arith, append_assoc}
+use Rattle.std.proofs.Common.{inr, Ok, refl, ap, sym, ◌∙◌, subst, arith, append_assoc}
 use Rattle.std.specs.Prelude.{if◌then◌else◌, slice_index_or, Contains}
+use Rattle.std.specs.Fmt.{decimal}
+use Rattle.pc_tables.specs.Items.{text_of}
 use Rattle.board_lines.specs.Cadence.{listed}
 use Rattle.board_lines.specs.declared.event.Edge.{Edge}
 use Rattle.board_probes.specs.Probes.{Watch}
@@ -17,20 +19,37 @@ use Rattle.subsystem.specs.Agreement.{IsAsExpected}
 use Rattle.subsystem.specs.Running.{Outcome}
 use Rattle.subsystem.specs.Texts.{line_text, log_text}
 use Rattle.kbd48_app.specs.Answers.{Left, MayAnswerRun}
-use Rattle.kbd48_app.specs.InTime.{HasLine, IsPrintedInTime, PrintsLog}
+use Rattle.kbd48_app.specs.InTime.{EndsLine, HasLine, IsPrintedInTime, PrintsLog}
 use Rattle.kbd48_app.specs.RunTexts.{IsRunText, start_lines, text_of_run}
 use Rattle.kbd48_app.specs.declared.words.RunCommand.{RunCommand}
 use Rattle.kbd48_app.specs.declared.words.RunCommand.TheVariants.{Log, Expect, Trace}
+
+-- what ends a line goes on to end one
+ends_then : (xs ys : List ℕ) → EndsLine xs → EndsLine ys → EndsLine (xs ++ ys)
+ends_then [] ys e f = f
+ends_then (x ∷ []) [] e f = e
+ends_then (x ∷ []) (y ∷ ys) e f = f
+ends_then (x ∷ y ∷ xs) ys e f = ends_then (y ∷ xs) ys e f
+
+-- a line ends in LF
+ends_in : (xs : List ℕ) → EndsLine (xs ++ 10 ∷ [])
+ends_in [] = refl
+ends_in (x ∷ []) = refl
+ends_in (x ∷ y ∷ xs) = ends_in (y ∷ xs)
+
+line_ends : (line : LogLine) → EndsLine (line_text line)
+line_ends line = ends_in (decimal line.tick ++ 32 ∷ text_of line.item)
 
 line_in : (lines : List LogLine) (line : LogLine) (k : ℕ) → k < length lines → slice_index_or lines k line ≡ line
     → HasLine (log_text lines) line
 line_in [] line k l e = absurd (omega (arith, l))
 line_in (x ∷ xs) line zero l e =
-    record { before = []; behind = log_text xs; is = ap (λ v. line_text v ++ log_text xs) e }
+    record { before = []; begins = tt; behind = log_text xs; is = ap (λ v. line_text v ++ log_text xs) e }
 line_in (x ∷ xs) line (suc k) l e =
     let h = line_in xs line k (omega (arith, l)) e in
     record {
       before = line_text x ++ h.before;
+      begins = ends_then (line_text x) h.before (line_ends x) h.begins;
       behind = h.behind;
       is = ap (λ v. line_text x ++ v) h.is
           ∙ sym (append_assoc (line_text x) h.before (line_text line ++ h.behind));
@@ -40,6 +59,7 @@ line_in (x ∷ xs) line (suc k) l e =
 line_more : (text more : List ℕ) (line : LogLine) → HasLine text line → HasLine (text ++ more) line
 line_more text more line h = record {
   before = h.before;
+  begins = h.begins;
   behind = h.behind ++ more;
   is = ap (λ v. v ++ more) h.is ∙ append_assoc h.before (line_text line ++ h.behind) more
       ∙ ap (λ v. h.before ++ v) (append_assoc (line_text line) h.behind more);

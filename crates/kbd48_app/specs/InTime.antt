@@ -1,5 +1,5 @@
 -- `run` and `expect` print in time what a key sends.
-use Rattle.std.specs.Prelude.{◌≡◌, ◌≤◌, ◌<◌, ℕ, suc, ◌+◌, ◌-◌, ◌*◌, ◌/◌, List, ◌++◌, length, Ok, Some, slice_get}
+use Rattle.std.specs.Prelude.{◌≡◌, ◌≤◌, ◌<◌, ℕ, suc, ◌+◌, ◌-◌, ◌*◌, ◌/◌, List, [], ◌∷◌, ◌++◌, length, Ok, Some, slice_get}
 use Rattle.board_lines.specs.Cadence.{listed}
 use Rattle.board_lines.specs.declared.event.Edge.{Edge}
 use Rattle.board_probes.specs.Probes.{Watch}
@@ -18,9 +18,16 @@ use Rattle.kbd48_app.specs.RunTexts.{IsRunText}
 use Rattle.kbd48_app.specs.declared.words.RunCommand.{RunCommand}
 use Rattle.kbd48_app.specs.declared.words.RunCommand.TheVariants.{Log, Expect, Trace}
 
--- a line stands in a text
+-- a text is empty or ends in LF
+abbrev pub EndsLine : List ℕ → Type 0
+EndsLine [] = Unit {0}
+EndsLine (x ∷ []) = x ≡ 10
+EndsLine (x ∷ y ∷ ys) = EndsLine (y ∷ ys)
+
+-- a line stands in a text, whole and with its LF: what is before it is empty or ends in LF
 pub record HasLine (text : List ℕ) (line : LogLine) : Type 0 where
   pub before : List ℕ
+  pub begins : EndsLine before
   pub behind : List ℕ
   pub is : text ≡ before ++ (line_text line ++ behind)
 

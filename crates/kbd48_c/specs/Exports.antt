@@ -7,6 +7,7 @@ use Rattle.joint_run.specs.Joint.{latch_of}
 use Rattle.pc_wires.specs.Wires.{wires}
 use Rattle.live_board.specs.Answers.{Told}
 use Rattle.live_board.specs.Calls.{IsActed, IsKeyed, Tells}
+use Rattle.live_board.specs.Heard.{HasToldAll, IsTold}
 use Rattle.live_board.specs.Pasts.{Past, acted}
 use Rattle.live_board.specs.Running.{HasRun}
 use Rattle.live_board.specs.Standing.{Stands}
@@ -45,9 +46,12 @@ Calls {X} call k status after = (answer : Result X Refused) × (status ≡ statu
 abbrev pub IsLeft : ℤ → Keyboard → ℤ → Keyboard → Type 0
 IsLeft why k status after = (status ≡ why) × (after ≡ k)
 
--- the host's call
+-- the host's call, and what is kept and counted of its step
+abbrev pub Acts : {X : Type 0} → HostAct → Keyboard → Result X Refused → Keyboard → Type 0
+Acts act k answer after = IsActed act k answer after × IsTold act k answer after
+
 abbrev pub HasActed : HostAct → Keyboard → ℤ → Keyboard → Type 0
-HasActed act = Calls {X = Unit {0}} (IsActed act)
+HasActed act = Calls {X = Unit {0}} (Acts act)
 
 -- a key at a place, of which there are 96
 abbrev pub HasPressed : ℕ → Bool → Keyboard → ℤ → Keyboard → Type 0
@@ -64,7 +68,7 @@ HasWritten port byte k status after =
 -- a read: the byte is written where it was made, and is what the log says of it; else what stood there stays
 abbrev pub IsReadAs : HostAct → (Told → Option ℕ) → ℕ → ℕ → Keyboard → Result ℕ Refused → Keyboard → Type 0
 IsReadAs act f before byte k answer after =
-    IsActed act k answer after × OnErr answer (byte ≡ before)
+    Acts act k answer after × OnErr answer (byte ≡ before)
     × IfOk answer (λ b. (byte ≡ b) × ((p : Past) → Stands p k → Tells f p (acted p (k.joint.cycle - 4096) act) b))
 
 abbrev pub HasRead : HostAct → (Told → Option ℕ) → ℕ → ℕ → Keyboard → ℤ → Keyboard → Type 0
@@ -85,7 +89,7 @@ word_after (Err refused) before = before
 abbrev pub HasTaken : ℕ → ℕ → Keyboard → ℤ → Keyboard → Type 0
 HasTaken before word k status after =
     (answer : Result (Option ℕ) Refused) × (status ≡ taken_status answer) × (word ≡ word_after answer before)
-    × IsActed Take k answer after
+    × Acts Take k answer after
     × IfOk answer (λ w. (p : Past) → Stands p k → Tells (λ t. t.taken) p (acted p (k.joint.cycle - 4096) Take) w)
 
 -- a run: so many cycles passed, and where the processor is stuck the place is written
@@ -93,6 +97,7 @@ abbrev pub HasGone : ℕ → Bool → ℕ → Spot → Spot → Keyboard → ℤ
 HasGone cycles watched passed before spot k status after =
     (end : RunEnd) × (status ≡ run_status end) × (k.joint.cycle + passed ≡ after.joint.cycle)
     × (spot ≡ spot_after end before) × ((p : Past) → Stands p k → HasRun p k cycles watched end after)
+    × ((p : Past) → Stands p k → HasToldAll p k after)
 
 -- the lights are those of the state in which the keyboard is
 abbrev pub HasShownLights : ℕ → Keyboard → ℤ → Keyboard → Type 0

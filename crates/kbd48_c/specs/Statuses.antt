@@ -44,6 +44,15 @@ no_word = pos 11
 abbrev pub rose : ℤ
 rose = pos 12
 
+abbrev pub no_such_cell : ℤ
+no_such_cell = pos 13
+
+abbrev pub nothing_said : ℤ
+nothing_said = pos 14
+
+abbrev pub lost_some : ℤ
+lost_some = pos 15
+
 -- why a call did nothing
 abbrev pub refused_status : Refused → ℤ
 refused_status refusals.Early = early

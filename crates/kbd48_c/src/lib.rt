@@ -6,8 +6,11 @@
 #![tactic(auto)]
 
 mod calls;
+mod copying;
 mod going;
 mod handle;
+mod items;
+mod looks;
 mod opening;
 mod pointer;
 mod status;

@@ -1,6 +1,8 @@
 //! Opening a keyboard over a text.
 
-ghost use Rattle.std.specs.Prelude.{◌≡◌, ◌<◌, ◌≤◌, ◌⊎◌, length};
+ghost use Rattle.std.specs.Prelude.{◌≡◌, ◌<◌, ◌≤◌, ◌⊎◌, length, Err};
+ghost use Rattle.hexfile.specs.Hex.{hex_of};
+ghost use Rattle.hexfile.specs.declared.fault.HexFault.{HexFault};
 ghost use Rattle.kbd48_c.specs.Opening.{HasOpened, HasOpenedHex, HasOpenedLayout, IsHexFault, IsLayoutFault};
 ghost use Rattle.kbd48_c.specs.Statuses.{bad_text, done, no_memory, too_long};
 
@@ -15,6 +17,9 @@ use std::alloc::Global;
 
 /// How long a HEX text may be, in bytes.
 const MOST_HEX: usize = 16384;
+
+/// How long a layout's text may be, in bytes.
+const MOST_LAYOUT: usize = 65536;
 
 /// Where a text has its first fault, and the number of the rule that it breaks.
 #[repr(C)]
@@ -56,6 +61,8 @@ pub extern "C" fn kbd48_open_hex(
     ensures long { 16384 < length text.now → result ≡ too_long }
     ensures only { result ≡ too_long → 16384 < length text.now }
     ensures status { (result ≡ done) ⊎ (result ≡ no_memory) ⊎ (result ≡ bad_text) ⊎ (result ≡ too_long) }
+    ensures untouched { (result ≡ bad_text → ⊥) → fault.new ≡ fault.old }
+    ensures faulty { (h : HexFault) → hex_of text.now ≡ Err h → (result ≡ bad_text) ⊎ (result ≡ too_long) }
 {
     if text.len() > MOST_HEX {
         return TOO_LONG;
@@ -70,7 +77,7 @@ pub extern "C" fn kbd48_open_hex(
     }
 }
 
-/// Opens a keyboard of a layout, from its text, and closes the one that was there.
+/// Opens a keyboard of a layout, from its text of at most 65,536 bytes, and closes the one that was there.
 #[unsafe(no_mangle)]
 pub extern "C" fn kbd48_open_layout(
     alloc: Global,
@@ -81,8 +88,14 @@ pub extern "C" fn kbd48_open_layout(
     ensures opened { result ≡ done → HasOpenedLayout text.now handle.new.keyboard }
     ensures refused { (result ≡ done → ⊥) → handle.new.keyboard ≡ handle.old.keyboard }
     ensures fault { result ≡ bad_text → IsLayoutFault text.now fault.new }
-    ensures status { (result ≡ done) ⊎ (result ≡ no_memory) ⊎ (result ≡ bad_text) }
+    ensures long { 65536 < length text.now → result ≡ too_long }
+    ensures only { result ≡ too_long → 65536 < length text.now }
+    ensures status { (result ≡ done) ⊎ (result ≡ no_memory) ⊎ (result ≡ bad_text) ⊎ (result ≡ too_long) }
+    ensures untouched { (result ≡ bad_text → ⊥) → fault.new ≡ fault.old }
 {
+    if text.len() > MOST_LAYOUT {
+        return TOO_LONG;
+    }
     match read_layout(alloc, text) {
         Ok(layout) => open(alloc, &compile(&layout), handle),
         Err(LayoutFault::Entry { entry, number }) => {

@@ -31,6 +31,12 @@ pub(crate) const NO_WORD: i32 = 11;
 
 pub(crate) const ROSE: i32 = 12;
 
+pub(crate) const NO_SUCH_CELL: i32 = 13;
+
+pub(crate) const NOTHING_SAID: i32 = 14;
+
+pub(crate) const LOST: i32 = 15;
+
 /// The status of a call that was refused.
 pub(crate) fn refused_status(refused: Refused) -> i32
     ensures { result ≡ refused_status refused }

@@ -1,16 +1,20 @@
 //! What C sees, call by call.
 
 use crate::calls::{kbd48_bios, kbd48_key, kbd48_read60, kbd48_status, kbd48_take, kbd48_write};
+use crate::copying::kbd48_copy;
 use crate::going::{Spot, kbd48_run};
 use crate::handle::Handle;
+use crate::items::{Said, kbd48_next, kbd48_rises};
+use crate::looks::{kbd48_cell, kbd48_column, kbd48_look, kbd48_waiting};
 use crate::opening::{Fault, kbd48_open_hex, kbd48_open_layout};
 use crate::status::{
-    BAD_TEXT, DONE, EARLY, FULL, NO_SUCH_PLACE, NO_SUCH_PORT, NO_WORD, NOT_OPEN, ROSE, STUCK,
-    TOO_LONG,
+    BAD_TEXT, DONE, EARLY, FULL, LOST, NO_SUCH_CELL, NO_SUCH_PLACE, NO_SUCH_PORT, NO_WORD,
+    NOT_OPEN, NOTHING_SAID, ROSE, STUCK, TOO_LONG,
 };
 use crate::views::{kbd48_close, kbd48_cycle, kbd48_interrupt, kbd48_lights, kbd48_wires};
 use fw_kernel::KERNEL;
 use hexfile::write_hex;
+use live_board::Registers;
 use mcs48_isa::Image;
 use std::alloc::AllocError;
 
@@ -128,8 +132,14 @@ fn a_text_with_a_fault_opens_nothing(rt: HostRuntime) -> Result<(), AllocError> 
     assert!(rt; fault.place == 0 && fault.number == 1);
     assert!(rt; kbd48_open_hex(alloc, b":00000001FF\n:0", &mut handle, &mut fault) == BAD_TEXT);
     assert!(rt; fault.place == 2);
-    let long = Vec::from_elem(alloc, b'0', 16385)?;
-    assert!(rt; kbd48_open_hex(alloc, long.as_slice(), &mut handle, &mut fault) == TOO_LONG);
+    let long = Vec::from_elem(alloc, b'\n', 65537)?;
+    assert!(rt;
+        kbd48_open_hex(alloc, &long.as_slice()[..16385], &mut handle, &mut fault) == TOO_LONG
+    );
+    assert!(rt; kbd48_open_layout(alloc, long.as_slice(), &mut handle, &mut fault) == TOO_LONG);
+    assert!(rt;
+        kbd48_open_layout(alloc, &long.as_slice()[1..], &mut handle, &mut fault) == BAD_TEXT
+    );
     assert!(rt; kbd48_cycle(alloc, &mut handle, &mut cycle) == NOT_OPEN);
     Ok(())
 }
@@ -153,6 +163,98 @@ fn a_program_that_sticks_says_where(rt: HostRuntime) {
     assert!(rt; passed == 0 && spot.counter == 0 && spot.byte == 1);
     assert!(rt; kbd48_read60(alloc, &mut handle, &mut byte) == EARLY);
     assert!(rt; kbd48_key(alloc, &mut handle, 0, true) == EARLY);
+}
+
+/// The controller's registers, before they are looked at.
+fn no_registers() -> Registers {
+    Registers {
+        status: 7,
+        output: 7,
+        command_byte: 7,
+        output_port: 7,
+    }
+}
+
+#[test]
+fn looks_take_nothing_and_a_copy_goes_its_own_way(rt: HostRuntime) -> Result<(), AllocError> {
+    let alloc = rt.alloc();
+    let text = write_hex(alloc, &Image { bytes: KERNEL })?;
+    let (mut handle, mut copy) = (Handle::none(alloc), Handle::none(alloc));
+    let mut fault = Fault {
+        place: 0,
+        number: 0,
+    };
+    let mut spot = Spot {
+        counter: 0,
+        byte: 0,
+    };
+    let mut registers = no_registers();
+    let (mut passed, mut byte, mut edges, mut words) = (0u64, 9u8, 9u8, 9u8);
+    assert!(rt;
+        kbd48_look(alloc, &mut handle, &mut registers) == NOT_OPEN && registers.status == 7
+    );
+    assert!(rt; kbd48_copy(alloc, &mut handle, &mut copy) == NOT_OPEN);
+    assert!(rt; kbd48_open_hex(alloc, text.as_slice(), &mut handle, &mut fault) == DONE);
+    assert!(rt; kbd48_run(alloc, &mut handle, SECOND, true, &mut passed, &mut spot) == ROSE);
+    assert!(rt; kbd48_look(alloc, &mut handle, &mut registers) == DONE);
+    assert!(rt; registers.status == 0x15 && registers.output == 0xaa);
+    assert!(rt; registers.command_byte == 0x45 && registers.output_port == 0xcf);
+    assert!(rt; kbd48_copy(alloc, &mut handle, &mut copy) == DONE);
+    assert!(rt; kbd48_read60(alloc, &mut handle, &mut byte) == DONE && byte == 0xaa);
+    assert!(rt; kbd48_look(alloc, &mut copy, &mut registers) == DONE && registers.status == 0x15);
+    assert!(rt; kbd48_key(alloc, &mut handle, 95, true) == DONE);
+    assert!(rt; kbd48_waiting(alloc, &mut handle, &mut edges, &mut words) == DONE);
+    assert!(rt; edges == 1 && words == 0);
+    assert!(rt; kbd48_run(alloc, &mut handle, 1, false, &mut passed, &mut spot) == DONE);
+    assert!(rt; kbd48_column(alloc, &mut handle, 11, &mut byte) == DONE && byte == 0x7f);
+    assert!(rt; kbd48_column(alloc, &mut handle, 12, &mut byte) == NO_SUCH_PLACE && byte == 0x7f);
+    assert!(rt; kbd48_cell(alloc, &mut handle, 128, &mut byte) == NO_SUCH_CELL && byte == 0x7f);
+    assert!(rt; kbd48_cell(alloc, &mut handle, 127, &mut byte) == DONE);
+    Ok(())
+}
+
+#[test]
+fn a_rise_within_a_step_is_counted_and_what_is_said_is_handed_out(
+    rt: HostRuntime,
+) -> Result<(), AllocError> {
+    let alloc = rt.alloc();
+    let text = write_hex(alloc, &Image { bytes: KERNEL })?;
+    let mut handle = Handle::none(alloc);
+    let mut fault = Fault {
+        place: 0,
+        number: 0,
+    };
+    let mut spot = Spot {
+        counter: 0,
+        byte: 0,
+    };
+    let mut said = Said {
+        cycle: 0,
+        kind: 99,
+        value: 99,
+    };
+    let (mut passed, mut rises, mut byte) = (0u64, 9u64, 0u8);
+    assert!(rt; kbd48_rises(alloc, &mut handle, &mut rises) == NOT_OPEN && rises == 9);
+    assert!(rt; kbd48_next(alloc, &mut handle, &mut said) == NOT_OPEN && said.kind == 99);
+    assert!(rt; kbd48_open_hex(alloc, text.as_slice(), &mut handle, &mut fault) == DONE);
+    assert!(rt; kbd48_run(alloc, &mut handle, SECOND, false, &mut passed, &mut spot) == DONE);
+    assert!(rt; kbd48_rises(alloc, &mut handle, &mut rises) == DONE && rises == 1);
+    assert!(rt; kbd48_write(alloc, &mut handle, 0x64, 0xaa) == DONE);
+    assert!(rt; kbd48_rises(alloc, &mut handle, &mut rises) == DONE && rises == 0);
+    assert!(rt; kbd48_read60(alloc, &mut handle, &mut byte) == DONE && byte == 0xaa);
+    assert!(rt; kbd48_rises(alloc, &mut handle, &mut rises) == DONE && rises == 1);
+    assert!(rt; kbd48_next(alloc, &mut handle, &mut said) == DONE);
+    assert!(rt; said.kind == 1 && said.value == 0xaa && said.cycle > SECOND);
+    assert!(rt; kbd48_next(alloc, &mut handle, &mut said) == NOTHING_SAID && said.kind == 1);
+    for _ in 0..70u8 {
+        assert!(rt; kbd48_status(alloc, &mut handle, &mut byte) == DONE);
+    }
+    for _ in 0..64u8 {
+        assert!(rt; kbd48_next(alloc, &mut handle, &mut said) == DONE && said.kind == 8);
+    }
+    assert!(rt; kbd48_next(alloc, &mut handle, &mut said) == LOST);
+    assert!(rt; kbd48_next(alloc, &mut handle, &mut said) == NOTHING_SAID);
+    Ok(())
 }
 
 /// A value that may go to another thread.

@@ -1,0 +1,87 @@
+// The keyboard for C++ from C++11 on: an object that opens, copies, moves and closes it. The calls are those of kbd48.h,
+// which has their units and ranges. A status that no caller can go on from is thrown as Kbd48::Error.
+#ifndef KBD48_HPP
+#define KBD48_HPP
+#include "kbd48.h"
+#include <cstdint>
+#include <stdexcept>
+#include <string>
+#include <utility>
+
+class Kbd48 {
+public:
+    struct Error : std::runtime_error {
+        int32_t status;
+        explicit Error(int32_t why) : std::runtime_error(kbd48_text(why)), status(why) {}
+    };
+
+    // Of a text with a fault: where, and which rule it breaks.
+    struct TextFault : Error {
+        kbd48_fault fault;
+        TextFault(int32_t why, kbd48_fault where) : Error(why), fault(where) {}
+    };
+
+    static Kbd48 of_layout(const std::string &text) { return opened(kbd48_open_layout, text); }
+    static Kbd48 of_hex(const std::string &text) { return opened(kbd48_open_hex, text); }
+
+    Kbd48(const Kbd48 &other) { need(kbd48_copy(&other.handle, &handle)); }
+    Kbd48(Kbd48 &&other) noexcept { std::swap(handle.at, other.handle.at); }
+    Kbd48 &operator=(Kbd48 other) noexcept {
+        std::swap(handle.at, other.handle.at);
+        return *this;
+    }
+    ~Kbd48() { kbd48_close(&handle); }
+
+    // Steps. A write says whether there was room for it, a key too; a run whether the line rose.
+    bool key(uint8_t place, bool down) { return roomy(kbd48_key(&handle, place, down)); }
+    bool write(uint8_t port, uint8_t byte) { return roomy(kbd48_write(&handle, port, byte)); }
+    uint8_t read60() { return shown<uint8_t>(kbd48_read60); }
+    uint8_t status() { return shown<uint8_t>(kbd48_status); }
+    void bios(bool on) { need(kbd48_bios(&handle, on)); }
+    bool run(uint64_t cycles, bool watched = false) {
+        uint64_t passed;
+        kbd48_place place;
+        int32_t why = kbd48_run(&handle, cycles, watched, &passed, &place);
+        return why == KBD48_ROSE || (need(why), false);
+    }
+
+    // The next word or item; false if there is none. KBD48_LOST is thrown.
+    bool take(uint16_t &word) { return is_there(kbd48_take(&handle, &word), KBD48_NO_WORD); }
+    bool next(kbd48_item &item) { return is_there(kbd48_next(&handle, &item), KBD48_NOTHING_SAID); }
+
+    // Looks, which make no step. They are const, and yet one call at a time may have a keyboard.
+    bool interrupt() const { return shown<bool>(kbd48_interrupt); }
+    uint64_t rises() const { return shown<uint64_t>(kbd48_rises); }
+    uint64_t cycle() const { return shown<uint64_t>(kbd48_cycle); }
+    uint8_t lights() const { return shown<uint8_t>(kbd48_lights); }
+    kbd48_registers registers() const { return shown<kbd48_registers>(kbd48_look); }
+    kbd48_processor processor() const { return shown<kbd48_processor>(kbd48_inside); }
+
+private:
+    mutable kbd48 handle = KBD48_EMPTY; // a look goes through it too, and leaves it as it was
+
+    Kbd48() = default;
+
+    static void need(int32_t status) {
+        if (status != KBD48_DONE) throw Error(status);
+    }
+    static bool is_there(int32_t status, int32_t none) { return status != none && (need(status), true); }
+    static bool roomy(int32_t status) { return is_there(status, KBD48_FULL); }
+
+    template <class T> T shown(int32_t (*call)(kbd48 *, T *)) const {
+        T value;
+        need(call(&handle, &value));
+        return value;
+    }
+
+    static Kbd48 opened(int32_t (*open)(const uint8_t *, size_t, kbd48 *, kbd48_fault *), const std::string &text) {
+        Kbd48 keyboard;
+        kbd48_fault fault = {0, 0};
+        int32_t status = open(reinterpret_cast<const uint8_t *>(text.data()), text.size(), &keyboard.handle, &fault);
+        if (status == KBD48_BAD_TEXT) throw TextFault(status, fault);
+        need(status);
+        return keyboard;
+    }
+};
+
+#endif

@@ -1,0 +1,234 @@
+//! The keyboard for Rust 1.82 or later, over `libkbd48.a`. It needs no crate: put this file into your own as `mod kbd48;`,
+//! and link with `-L DIST -l static=kbd48`. The calls are those of `kbd48.h`, which has their units and ranges.
+#![allow(dead_code)]
+
+use std::cell::UnsafeCell;
+use std::ffi::c_void;
+use std::{fmt, ptr};
+
+/// Why a call did nothing, or why a run ended early.
+#[derive(Clone, Copy, Debug, PartialEq, Eq)]
+pub enum Error {
+    NoMemory,
+    /// The text breaks the rule of this number at this entry of a layout, or line of a HEX text.
+    BadText { place: u32, number: u32 },
+    TooLong,
+    NoSuchPlace,
+    NoSuchPort,
+    Full,
+    /// The keyboard's processor is at a byte that begins no instruction.
+    Stuck,
+    Early,
+    Over,
+    NoSuchCell,
+    /// More was said than is kept.
+    Lost,
+}
+
+impl fmt::Display for Error {
+    fn fmt(&self, to: &mut fmt::Formatter) -> fmt::Result {
+        write!(to, "{self:?}")
+    }
+}
+
+impl std::error::Error for Error {}
+
+/// The controller's registers.
+#[repr(C)]
+#[derive(Clone, Copy, Debug, Default, PartialEq, Eq)]
+pub struct Registers {
+    pub status: u8,
+    pub output: u8,
+    pub command_byte: u8,
+    pub output_port: u8,
+}
+
+/// What was said, with its cycle. The kinds are those of `kbd48.h`.
+#[repr(C)]
+#[derive(Clone, Copy, Debug, Default, PartialEq, Eq)]
+pub struct Item {
+    pub cycle: u64,
+    pub kind: u8,
+    pub value: u16,
+}
+
+/// How a run ended: how many cycles passed, and whether the interrupt line rose in its last step.
+#[derive(Clone, Copy, Debug, PartialEq, Eq)]
+pub struct Ran {
+    pub passed: u64,
+    pub rose: bool,
+}
+
+#[repr(C)]
+struct Handle {
+    at: *mut c_void,
+}
+
+#[repr(C)]
+#[derive(Default)]
+struct Fault {
+    place: u32,
+    number: u32,
+}
+
+#[repr(C)]
+#[derive(Default)]
+struct Place {
+    counter: u16,
+    byte: u8,
+}
+
+type Open = unsafe extern "C" fn(*const u8, usize, *mut Handle, *mut Fault) -> i32;
+
+unsafe extern "C" {
+    fn kbd48_open_layout(text: *const u8, length: usize, handle: *mut Handle, fault: *mut Fault) -> i32;
+    fn kbd48_open_hex(text: *const u8, length: usize, handle: *mut Handle, fault: *mut Fault) -> i32;
+    fn kbd48_copy(from: *mut Handle, to: *mut Handle) -> i32;
+    fn kbd48_close(handle: *mut Handle) -> i32;
+    fn kbd48_key(handle: *mut Handle, place: u8, down: bool) -> i32;
+    fn kbd48_run(handle: *mut Handle, cycles: u64, watched: bool, passed: *mut u64, place: *mut Place) -> i32;
+    fn kbd48_write(handle: *mut Handle, port: u8, byte: u8) -> i32;
+    fn kbd48_read60(handle: *mut Handle, byte: *mut u8) -> i32;
+    fn kbd48_bios(handle: *mut Handle, on: bool) -> i32;
+    fn kbd48_take(handle: *mut Handle, word: *mut u16) -> i32;
+    fn kbd48_next(handle: *mut Handle, item: *mut Item) -> i32;
+    fn kbd48_look(handle: *mut Handle, registers: *mut Registers) -> i32;
+    fn kbd48_interrupt(handle: *mut Handle, up: *mut bool) -> i32;
+    fn kbd48_rises(handle: *mut Handle, rises: *mut u64) -> i32;
+    fn kbd48_lights(handle: *mut Handle, lights: *mut u8) -> i32;
+    fn kbd48_cycle(handle: *mut Handle, cycle: *mut u64) -> i32;
+}
+
+/// An answer by its status. Statuses that a call takes for an answer never come here.
+fn judged(status: i32, fault: Fault) -> Result<(), Error> {
+    Err(match status {
+        0 => return Ok(()),
+        2 => Error::NoMemory,
+        3 => Error::BadText { place: fault.place, number: fault.number },
+        4 => Error::TooLong,
+        5 => Error::NoSuchPlace,
+        6 => Error::NoSuchPort,
+        7 => Error::Full,
+        8 => Error::Stuck,
+        9 => Error::Early,
+        10 => Error::Over,
+        13 => Error::NoSuchCell,
+        15 => Error::Lost,
+        other => unreachable!("status {other} of an open keyboard"),
+    })
+}
+
+fn done(status: i32) -> Result<(), Error> {
+    judged(status, Fault::default())
+}
+
+/// A keyboard. A look goes through its handle too, so it is no `Sync`.
+pub struct Keyboard {
+    handle: UnsafeCell<Handle>,
+}
+
+// One call at a time has it, and it owns all that it leads to.
+unsafe impl Send for Keyboard {}
+
+impl Drop for Keyboard {
+    fn drop(&mut self) {
+        unsafe { kbd48_close(self.handle.get()) };
+    }
+}
+
+impl Keyboard {
+    pub fn of_layout(text: &[u8]) -> Result<Keyboard, Error> {
+        Keyboard::opened(kbd48_open_layout, text)
+    }
+
+    pub fn of_hex(text: &[u8]) -> Result<Keyboard, Error> {
+        Keyboard::opened(kbd48_open_hex, text)
+    }
+
+    /// A keyboard of its own in the same state.
+    pub fn copied(&self) -> Result<Keyboard, Error> {
+        let copy = Keyboard::none();
+        done(unsafe { kbd48_copy(self.handle.get(), copy.handle.get()) }).map(|()| copy)
+    }
+
+    pub fn key(&mut self, place: u8, down: bool) -> Result<(), Error> {
+        done(unsafe { kbd48_key(self.handle.get(), place, down) })
+    }
+
+    pub fn run(&mut self, cycles: u64, watched: bool) -> Result<Ran, Error> {
+        let (mut passed, mut place) = (0, Place::default());
+        match unsafe { kbd48_run(self.handle.get(), cycles, watched, &mut passed, &mut place) } {
+            12 => Ok(Ran { passed, rose: true }),
+            status => done(status).map(|()| Ran { passed, rose: false }),
+        }
+    }
+
+    pub fn write(&mut self, port: u8, byte: u8) -> Result<(), Error> {
+        done(unsafe { kbd48_write(self.handle.get(), port, byte) })
+    }
+
+    pub fn read60(&mut self) -> Result<u8, Error> {
+        let mut byte = 0;
+        done(unsafe { kbd48_read60(self.handle.get(), &mut byte) }).map(|()| byte)
+    }
+
+    pub fn bios(&mut self, on: bool) -> Result<(), Error> {
+        done(unsafe { kbd48_bios(self.handle.get(), on) })
+    }
+
+    /// The next word of the buffer of INT 09h, if there is one.
+    pub fn take(&mut self) -> Result<Option<u16>, Error> {
+        let mut word = 0;
+        match unsafe { kbd48_take(self.handle.get(), &mut word) } {
+            11 => Ok(None),
+            status => done(status).map(|()| Some(word)),
+        }
+    }
+
+    /// What was said next, if anything was.
+    pub fn next_said(&mut self) -> Result<Option<Item>, Error> {
+        let mut item = Item::default();
+        match unsafe { kbd48_next(self.handle.get(), &mut item) } {
+            14 => Ok(None),
+            status => done(status).map(|()| Some(item)),
+        }
+    }
+
+    pub fn registers(&self) -> Registers {
+        self.look(kbd48_look)
+    }
+
+    pub fn interrupt(&self) -> bool {
+        self.look(kbd48_interrupt)
+    }
+
+    pub fn rises(&self) -> u64 {
+        self.look(kbd48_rises)
+    }
+
+    pub fn lights(&self) -> u8 {
+        self.look(kbd48_lights)
+    }
+
+    pub fn cycle(&self) -> u64 {
+        self.look(kbd48_cycle)
+    }
+
+    fn none() -> Keyboard {
+        Keyboard { handle: UnsafeCell::new(Handle { at: ptr::null_mut() }) }
+    }
+
+    fn opened(open: Open, text: &[u8]) -> Result<Keyboard, Error> {
+        let (keyboard, mut fault) = (Keyboard::none(), Fault::default());
+        let status = unsafe { open(text.as_ptr(), text.len(), keyboard.handle.get(), &mut fault) };
+        judged(status, fault).map(|()| keyboard)
+    }
+
+    /// A look at an open keyboard, which is always done.
+    fn look<T: Default>(&self, call: unsafe extern "C" fn(*mut Handle, *mut T) -> i32) -> T {
+        let mut shown = T::default();
+        let status = unsafe { call(self.handle.get(), &mut shown) };
+        debug_assert_eq!(status, 0);
+        shown
+    }
+}

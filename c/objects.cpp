@@ -1,0 +1,37 @@
+// The C++ header: a keyboard is opened, run, copied, moved and closed, and what fails is thrown.
+#include "kbd48.hpp"
+#include <cstdio>
+#include <fstream>
+#include <iterator>
+
+static int failed(int line) {
+    std::fprintf(stderr, "c/objects.cpp:%d failed\n", line);
+    return 1;
+}
+
+#define CHECK(x) \
+    do { \
+        if (!(x)) return failed(__LINE__); \
+    } while (0)
+
+int main() {
+    std::ifstream file("examples/us84.toml");
+    std::string text((std::istreambuf_iterator<char>(file)), std::istreambuf_iterator<char>());
+    Kbd48 first = Kbd48::of_layout(text);
+    CHECK(first.run(400000, true) && first.interrupt() && first.rises() == 1);
+    CHECK(first.registers().status == 0x15 && first.registers().output == 0xaa);
+    Kbd48 copy = first;
+    CHECK(first.read60() == 0xaa && !first.interrupt() && copy.interrupt());
+    Kbd48 moved = std::move(copy);
+    copy = first;
+    CHECK(moved.read60() == 0xaa && moved.cycle() == first.cycle());
+    kbd48_item item;
+    CHECK(moved.next(item) && item.kind == KBD48_ITEM_READ && item.value == 0xaa && !moved.next(item));
+    CHECK(moved.key(34, true) && moved.run(400000, true) && moved.read60() == 0x23 && !copy.run(4000, true));
+    try {
+        Kbd48::of_layout("format = ");
+        return failed(__LINE__);
+    } catch (const Kbd48::TextFault &thrown) {
+        CHECK(thrown.status == KBD48_BAD_TEXT && thrown.fault.number == 1);
+    }
+}

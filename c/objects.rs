@@ -1,0 +1,23 @@
+//! The Rust file: a keyboard is opened, run, copied and dropped, and what fails is an error.
+mod kbd48;
+
+use kbd48::{Error, Keyboard};
+
+fn main() -> Result<(), Box<dyn std::error::Error>> {
+    let mut first = Keyboard::of_layout(&std::fs::read("examples/us84.toml")?)?;
+    assert!(first.run(400_000, true)?.rose && first.interrupt() && first.rises() == 1);
+    assert_eq!((first.registers().status, first.registers().output), (0x15, 0xaa));
+    let mut copy = first.copied()?;
+    assert_eq!(first.read60()?, 0xaa);
+    assert!(!first.interrupt() && copy.interrupt());
+    assert_eq!(copy.read60()?, 0xaa);
+    assert_eq!(copy.cycle(), first.cycle());
+    let said = copy.next_said()?.expect("the read was said");
+    assert_eq!((said.kind, said.value, copy.next_said()?), (1, 0xaa, None));
+    copy.key(34, true)?;
+    assert!(copy.run(400_000, true)?.rose);
+    assert_eq!(std::thread::spawn(move || copy.read60()).join().unwrap()?, 0x23);
+    assert_eq!(first.key(96, true), Err(Error::NoSuchPlace));
+    assert_eq!(Keyboard::of_layout(b"format = ").err(), Some(Error::BadText { place: 0, number: 1 }));
+    Ok(())
+}

@@ -1,0 +1,141 @@
+//! What was said since the caller was last handed something.
+
+ghost use Rattle.std.specs.Prelude.{◌≡◌, None};
+ghost use Rattle.kbd48_c.specs.Exports.{Through, held_status, shown_of};
+ghost use Rattle.kbd48_c.specs.Items.{HasHandedOut, item_after, kind_of, next_status, said_of, value_of};
+ghost use Rattle.kbd48_c.specs.Statuses.{done};
+
+use crate::handle::Handle;
+use crate::status::{DONE, LOST, NOT_OPEN, NOTHING_SAID};
+use host_turn::Stamped;
+use live_board::{Keyboard, Next};
+use pc_tables::Item;
+use std::alloc::Global;
+
+/// An item of the log: the cycle in which it was said, its kind, and its byte or word.
+#[repr(C)]
+#[derive(Drop)]
+pub struct Said {
+    pub cycle: u64,
+    pub kind: u8,
+    pub value: u16,
+}
+
+/// The kind of an item, as a number.
+fn kind(item: Item) -> u8
+    ensures { result ≡ kind_of item }
+{
+    match item {
+        Item::Port(_) => 0,
+        Item::Read(_) => 1,
+        Item::Word(_) => 2,
+        Item::Beep => 3,
+        Item::Overrun => 4,
+        Item::Lights(_) => 5,
+        Item::Taken(Some(_)) => 6,
+        Item::Taken(None) => 7,
+        Item::Status(_) => 8,
+        Item::Output(_) => 9,
+        Item::Pulse(_) => 10,
+        Item::Broke => 11,
+        Item::Pause => 12,
+        Item::Resume => 13,
+        Item::Print => 14,
+        Item::Boot => 15,
+        Item::SysMake => 16,
+        Item::SysBreak => 17,
+    }
+}
+
+/// The byte or the word of an item, or 0.
+fn value(item: Item) -> u16
+    ensures { result ≡ value_of item }
+{
+    match item {
+        Item::Port(byte) => u16::from(byte),
+        Item::Read(byte) => u16::from(byte),
+        Item::Word(word) => word,
+        Item::Beep => 0,
+        Item::Overrun => 0,
+        Item::Lights(lights) => u16::from(lights),
+        Item::Taken(Some(word)) => word,
+        Item::Taken(None) => 0,
+        Item::Status(byte) => u16::from(byte),
+        Item::Output(byte) => u16::from(byte),
+        Item::Pulse(lines) => u16::from(lines),
+        Item::Broke => 0,
+        Item::Pause => 0,
+        Item::Resume => 0,
+        Item::Print => 0,
+        Item::Boot => 0,
+        Item::SysMake => 0,
+        Item::SysBreak => 0,
+    }
+}
+
+/// An item with its cycle, as C has it.
+fn as_said(said: Stamped) -> Said
+    ensures { result ≡ said_of said }
+{
+    Said {
+        cycle: said.cycle,
+        kind: kind(said.item),
+        value: value(said.item),
+    }
+}
+
+/// What is handed out, where something is, and the status that says so.
+fn put_item(next: Next, item: &mut Said) -> i32
+    ensures tells { result ≡ next_status next }
+    ensures handed { item.new ≡ item_after next item.old }
+{
+    match next {
+        Next::Said(said) => {
+            *item = as_said(said);
+            DONE
+        }
+        Next::Lost => LOST,
+        Next::Nothing => NOTHING_SAID,
+    }
+}
+
+/// What was said next.
+fn put_next(keyboard: &mut Keyboard, item: &mut Said) -> i32
+    ensures handed { HasHandedOut item.old item.new keyboard.old result keyboard.new }
+{
+    let next = keyboard.hand_out();
+    put_item(next, item)
+}
+
+/// Hands out what was said next since something was last handed out.
+#[unsafe(no_mangle)]
+pub extern "C" fn kbd48_next(alloc: Global, handle: &mut Handle, item: &mut Said) -> i32
+    ensures handed { Through (HasHandedOut item.old item.new) handle.old.keyboard result handle.new.keyboard }
+    ensures none { handle.old.keyboard ≡ None → item.new ≡ item.old }
+{
+    match handle.take(alloc) {
+        Some(mut keyboard) => {
+            let status = put_next(&mut *keyboard, item);
+            *handle = Handle::holding(keyboard);
+            status
+        }
+        None => NOT_OPEN,
+    }
+}
+
+/// How many times the interrupt line rose in the last call that made a step.
+#[unsafe(no_mangle)]
+pub extern "C" fn kbd48_rises(alloc: Global, handle: &mut Handle, rises: &mut u64) -> i32
+    ensures rises { rises.new ≡ shown_of (λ k. k.rises) handle.old.keyboard rises.old }
+    ensures unchanged { handle.new.keyboard ≡ handle.old.keyboard }
+    ensures status { result ≡ held_status done handle.old.keyboard }
+{
+    match handle.take(alloc) {
+        Some(keyboard) => {
+            *rises = keyboard.rises();
+            *handle = Handle::holding(keyboard);
+            DONE
+        }
+        None => NOT_OPEN,
+    }
+}
