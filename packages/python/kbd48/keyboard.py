@@ -1,0 +1,356 @@
+"""A keyboard as an object, and what its calls answer."""
+from __future__ import annotations
+
+import ctypes as c
+from enum import IntEnum
+from typing import Any, Callable, Iterator, NamedTuple, Optional, Tuple, Type, Union
+
+from . import library
+from .library import LIBRARY
+
+VERSION = "@VERSION@"
+
+
+class Status(IntEnum):
+    """What a function of the library answers."""
+
+    DONE = 0
+    NOT_OPEN = 1
+    NO_MEMORY = 2
+    BAD_TEXT = 3
+    TOO_LONG = 4
+    NO_SUCH_PLACE = 5
+    NO_SUCH_PORT = 6
+    FULL = 7
+    STUCK = 8
+    EARLY = 9
+    OVER = 10
+    NO_WORD = 11
+    ROSE = 12
+    NO_SUCH_CELL = 13
+    NOTHING_SAID = 14
+    LOST = 15
+
+
+TEXTS = {
+    Status.NOT_OPEN: "the keyboard is closed",
+    Status.NO_MEMORY: "there is no memory",
+    Status.BAD_TEXT: "the text has a fault",
+    Status.TOO_LONG: "the text is too long",
+    Status.NO_SUCH_PLACE: "the matrix has the places 0 to 95",
+    Status.NO_SUCH_PORT: "the controller has the ports 0x60 and 0x64",
+    Status.STUCK: "the keyboard's processor is at a byte that begins no instruction",
+    Status.EARLY: "the program stuck before stamp 0",
+    Status.OVER: "the count of cycles is at its end",
+    Status.NO_SUCH_CELL: "data memory has the cells 0 to 127",
+    Status.LOST: "more was said than is kept",
+}
+
+
+class ItemKind(IntEnum):
+    """What an item of the log says."""
+
+    PORT = 0
+    READ = 1
+    WORD = 2
+    BEEP = 3
+    OVERRUN = 4
+    LIGHTS = 5
+    TAKEN = 6
+    TAKEN_NONE = 7
+    STATUS = 8
+    OUTPUT = 9
+    PULSE = 10
+    BROKE = 11
+    PAUSE = 12
+    RESUME = 13
+    PRINT = 14
+    BOOT = 15
+    SYS_MAKE = 16
+    SYS_BREAK = 17
+
+
+class Error(Exception):
+    """A call that can't be done. `status` is what the library answered."""
+
+    def __init__(self, status: Status, text: Optional[str] = None):
+        super().__init__(text or TEXTS.get(status, status.name))
+        self.status = status
+
+
+class TextFault(Error):
+    """A layout or a HEX text with a fault: `place` is the entry or the line, counted from 1 (0 is the layout as a whole),
+    and `number` the rule that it breaks (docs/FORMATS.md)."""
+
+    def __init__(self, place: int, number: int):
+        super().__init__(Status.BAD_TEXT, f"the text has fault {number} at entry or line {place}")
+        self.place, self.number = place, number
+
+
+class Stuck(Error):
+    """The keyboard's processor is at a byte that begins no instruction: `counter` is its place, `byte` the byte."""
+
+    def __init__(self, counter: int, byte: int, cycles: int):
+        super().__init__(Status.STUCK, f"the keyboard's processor is stuck at {counter:03X}, at the byte {byte:02X}")
+        self.counter, self.byte, self.cycles = counter, byte, cycles
+
+
+class Ran(NamedTuple):
+    """How many cycles a run made, and whether the interrupt line rose, which ends a watched run."""
+
+    cycles: int
+    rose: bool
+
+
+class Item(NamedTuple):
+    """An item of the log: the cycle in which it was said, what it says, and its byte or word, or 0."""
+
+    cycle: int
+    kind: ItemKind
+    value: int
+
+    @property
+    def stamp(self) -> int:
+        """The cycle as key files count it."""
+        return self.cycle - 4096
+
+
+class Wires(NamedTuple):
+    """The levels of the two wires, true for high."""
+
+    clock: bool
+    data: bool
+
+
+class Waiting(NamedTuple):
+    """How many edges of keys wait for a step, and how many words in the buffer of INT 09h."""
+
+    edges: int
+    words: int
+
+
+class Registers(NamedTuple):
+    """The controller's registers: what ports 0x64 and 0x60 would read, the command byte, and the output port."""
+
+    status: int
+    output: int
+    command_byte: int
+    output_port: int
+
+
+class Processor(NamedTuple):
+    """The keyboard's processor, an 8049. `counts` is 0 if the timer is off, 1 for machine cycles, 2 for falls of T1."""
+
+    counter: int
+    byte: int
+    a: int
+    carry: bool
+    half_carry: bool
+    f0: bool
+    f1: bool
+    register_bank: bool
+    memory_bank: bool
+    stack: int
+    t: int
+    prescaler: int
+    counts: int
+    timer_flag: bool
+    external_on: bool
+    timer_on: bool
+    request: bool
+    service: bool
+    p1: int
+    p2: int
+    bus: int
+
+
+def _unsigned(value: int, bits: int, what: str) -> int:
+    """A number that fits, since ctypes would cut it."""
+    if not 0 <= value < 1 << bits:
+        raise ValueError(f"{what} is from 0 to {(1 << bits) - 1}, and not {value}")
+    return value
+
+
+class Keyboard:
+    """A keyboard with its board, its controller and INT 09h. `of_layout` and `of_hex` open one; `close`, or the end of a
+    `with` block, frees it. Between two calls it is between two steps; a step is one instruction of its processor, one
+    cycle or two."""
+
+    def __init__(self) -> None:
+        self._handle = library.Handle()
+
+    @classmethod
+    def of_layout(cls, text: Union[str, bytes]) -> Keyboard:
+        """A keyboard with the firmware of this layout (TOML), at stamp 0."""
+        return cls._of(LIBRARY.kbd48_open_layout, text)
+
+    @classmethod
+    def of_hex(cls, text: Union[str, bytes]) -> Keyboard:
+        """A keyboard with this program (Intel HEX), at stamp 0, or where the program is stuck before."""
+        return cls._of(LIBRARY.kbd48_open_hex, text)
+
+    @classmethod
+    def _of(cls, call: Callable[..., int], text: Union[str, bytes]) -> Keyboard:
+        data = text.encode() if isinstance(text, str) else bytes(text)
+        keyboard, fault = cls(), library.Fault()
+        status = Status(call(data, len(data), keyboard._handle, fault))
+        if status == Status.BAD_TEXT:
+            raise TextFault(fault.place, fault.number)
+        _need(status)
+        return keyboard
+
+    def copy(self) -> Keyboard:
+        """A second keyboard in the same state. The same calls give the same answers."""
+        other = type(self)()
+        self._done("copy", other._handle)
+        return other
+
+    __copy__ = copy
+
+    def close(self) -> None:
+        """Frees the keyboard. To close it again does nothing."""
+        LIBRARY.kbd48_close(self._handle)
+
+    def __enter__(self) -> Keyboard:
+        return self
+
+    def __exit__(self, *_: Any) -> None:
+        self.close()
+
+    def __del__(self) -> None:
+        self.close()
+
+    # Calls that make steps, or hand something in.
+
+    def key(self, place: int, down: bool) -> bool:
+        """The key at a place, 0 to 95 (eight times its column and its row), goes down or up, before the next step. False
+        if four edges wait already: run a step first."""
+        return self._done("key", _unsigned(place, 8, "a place"), down, unless=Status.FULL)
+
+    def run(self, cycles: int, watched: bool = False) -> Ran:
+        """Makes steps until so many cycles have passed, or one more; if watched, until the interrupt line rises."""
+        passed, place = c.c_uint64(), library.Place()
+        status = self._call("run", _unsigned(cycles, 64, "a number of cycles"), watched, passed, place)
+        if status == Status.STUCK:
+            raise Stuck(place.counter, place.byte, passed.value)
+        if status != Status.ROSE:
+            _need(status)
+        return Ran(passed.value, status == Status.ROSE)
+
+    def write(self, port: int, byte: int) -> bool:
+        """The host writes a byte to port 0x60 or 0x64, in one step. False, and no step, if the input buffer is full."""
+        return self._done("write", _unsigned(port, 8, "a port"), _unsigned(byte, 8, "a byte"), unless=Status.FULL)
+
+    def read60(self) -> int:
+        """The host reads port 0x60, in one step."""
+        return self._shown("read60", c.c_uint8)
+
+    def status(self) -> int:
+        """The host reads the status at port 0x64, in one step. `registers` shows it without a step."""
+        return self._shown("status", c.c_uint8)
+
+    def bios(self, on: bool) -> None:
+        """INT 09h of this project reads each byte, or no longer, from the next step on. One step. At first it is off."""
+        self._done("bios", on)
+
+    def take(self) -> Optional[int]:
+        """A program takes the next word from the buffer of INT 09h, in one step: scan code above, character below. None
+        if there is no word."""
+        word = c.c_uint16()
+        return word.value if self._done("take", word, unless=Status.NO_WORD) else None
+
+    # What was said.
+
+    def next(self) -> Optional[Item]:
+        """The next item of the log, or None if all are handed out. Sixty-four are kept; Error with Status.LOST says, once,
+        that there were more."""
+        item = library.Item()
+        if not self._done("next", item, unless=Status.NOTHING_SAID):
+            return None
+        return Item(item.cycle, ItemKind(item.kind), item.value)
+
+    def items(self) -> Iterator[Item]:
+        """The items of the log that weren't handed out yet."""
+        return iter(self.next, None)
+
+    # Looks, which make no step and change nothing.
+
+    @property
+    def interrupt(self) -> bool:
+        """Whether the interrupt line (IRQ 1) is up."""
+        return self._shown("interrupt", c.c_bool)
+
+    @property
+    def rises(self) -> int:
+        """How often the line rose in the last call that made a step."""
+        return self._shown("rises", c.c_uint64)
+
+    @property
+    def lights(self) -> int:
+        """The lights: 1 Scroll Lock, 2 Num Lock, 4 Caps Lock."""
+        return self._shown("lights", c.c_uint8)
+
+    @property
+    def wires(self) -> Wires:
+        """The levels of the two wires after the last cycle."""
+        return Wires(*self._all_shown("wires", c.c_bool, c.c_bool))
+
+    @property
+    def cycle(self) -> int:
+        """How many cycles have passed since power-on. Stamp 0 of a key file is cycle 4,096."""
+        return self._shown("cycle", c.c_uint64)
+
+    @property
+    def registers(self) -> Registers:
+        """The controller's registers."""
+        return Registers(*self._fields("look", library.Registers))
+
+    @property
+    def waiting(self) -> Waiting:
+        """How many edges of keys, and how many words, wait."""
+        return Waiting(*self._all_shown("waiting", c.c_uint8, c.c_uint8))
+
+    @property
+    def processor(self) -> Processor:
+        """The keyboard's processor."""
+        return Processor(*self._fields("inside", library.Processor))
+
+    def column(self, number: int) -> int:
+        """The keys of a column, 0 to 11, as the processor reads them: bit k is row k, 0 for down."""
+        return self._shown("column", c.c_uint8, _unsigned(number, 8, "a column"))
+
+    def cell(self, number: int) -> int:
+        """A byte of the processor's data memory, 0 to 127."""
+        return self._shown("cell", c.c_uint8, _unsigned(number, 8, "a cell"))
+
+    # How the library is called.
+
+    def _call(self, name: str, *words: Any) -> Status:
+        return Status(getattr(LIBRARY, f"kbd48_{name}")(self._handle, *words))
+
+    def _done(self, name: str, *words: Any, unless: Optional[Status] = None) -> bool:
+        """Whether a call was done, or answered the status that isn't an error."""
+        status = self._call(name, *words)
+        if status != unless:
+            _need(status)
+        return status != unless
+
+    def _all_shown(self, name: str, *kinds: Type[Any]) -> Tuple[Any, ...]:
+        values = [kind() for kind in kinds]
+        self._done(name, *values)
+        return tuple(value.value for value in values)
+
+    def _shown(self, name: str, kind: Type[Any], *words: int) -> Any:
+        value = kind()
+        self._done(name, *words, value)
+        return value.value
+
+    def _fields(self, name: str, kind: Type[c.Structure]) -> Iterator[Any]:
+        value = kind()
+        self._done(name, value)
+        return (getattr(value, field) for field, *_ in kind._fields_)
+
+
+def _need(status: Status) -> None:
+    if status != Status.DONE:
+        raise Error(status)

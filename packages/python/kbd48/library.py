@@ -1,0 +1,82 @@
+"""The functions of libkbd48 with their types, as kbd48.h declares them."""
+from __future__ import annotations
+
+import ctypes as c
+import os
+
+
+class Handle(c.Structure):
+    _fields_ = [("at", c.c_void_p)]
+
+
+class Fault(c.Structure):
+    _fields_ = [("place", c.c_uint32), ("number", c.c_uint32)]
+
+
+class Place(c.Structure):
+    _fields_ = [("counter", c.c_uint16), ("byte", c.c_uint8)]
+
+
+class Item(c.Structure):
+    _fields_ = [("cycle", c.c_uint64), ("kind", c.c_uint8), ("value", c.c_uint16)]
+
+
+class Registers(c.Structure):
+    _fields_ = [(name, c.c_uint8) for name in ("status", "output", "command_byte", "output_port")]
+
+
+class Processor(c.Structure):
+    _fields_ = [
+        ("counter", c.c_uint16),
+        ("byte", c.c_uint8),
+        ("a", c.c_uint8),
+        *((name, c.c_bool) for name in ("carry", "half_carry", "f0", "f1", "register_bank", "memory_bank")),
+        *((name, c.c_uint8) for name in ("stack", "t", "prescaler", "counts")),
+        *((name, c.c_bool) for name in ("timer_flag", "external_on", "timer_on", "request", "service")),
+        *((name, c.c_uint8) for name in ("p1", "p2", "bus")),
+    ]
+
+
+def _to(kind):
+    return c.POINTER(kind)
+
+
+# The parameters behind the handle.
+PARAMETERS = {
+    "close": [],
+    "copy": [_to(Handle)],
+    "key": [c.c_uint8, c.c_bool],
+    "run": [c.c_uint64, c.c_bool, _to(c.c_uint64), _to(Place)],
+    "write": [c.c_uint8, c.c_uint8],
+    "read60": [_to(c.c_uint8)],
+    "status": [_to(c.c_uint8)],
+    "bios": [c.c_bool],
+    "take": [_to(c.c_uint16)],
+    "next": [_to(Item)],
+    "interrupt": [_to(c.c_bool)],
+    "rises": [_to(c.c_uint64)],
+    "lights": [_to(c.c_uint8)],
+    "wires": [_to(c.c_bool), _to(c.c_bool)],
+    "cycle": [_to(c.c_uint64)],
+    "look": [_to(Registers)],
+    "waiting": [_to(c.c_uint8), _to(c.c_uint8)],
+    "column": [c.c_uint8, _to(c.c_uint8)],
+    "inside": [_to(Processor)],
+    "cell": [c.c_uint8, _to(c.c_uint8)],
+}
+
+
+def opened(path: str) -> c.CDLL:
+    """The library at a path, its functions with their types."""
+    library = c.CDLL(path)
+    for name, parameters in PARAMETERS.items():
+        function = getattr(library, f"kbd48_{name}")
+        function.argtypes, function.restype = [_to(Handle), *parameters], c.c_int32
+    for name in ("open_layout", "open_hex"):
+        function = getattr(library, f"kbd48_{name}")
+        function.argtypes, function.restype = [c.c_char_p, c.c_size_t, _to(Handle), _to(Fault)], c.c_int32
+    return library
+
+
+# The library lies beside this file. KBD48_LIBRARY names another.
+LIBRARY = opened(os.environ.get("KBD48_LIBRARY") or os.path.join(os.path.dirname(os.path.abspath(__file__)), "libkbd48.so.1"))

@@ -1,0 +1,88 @@
+"""Tries the module kbd48 as it is installed: try.py LAYOUT STUCK. Somebody types H, i and Enter at the times of
+typing_hi.keys; it prints what `kbd48 run` prints for that file. Before that, what must be refused is refused: STUCK is a
+program that runs into a byte without an instruction."""
+import inspect
+import sys
+
+import kbd48
+from kbd48 import Error, ItemKind, Keyboard, Status, Stuck, TextFault
+
+FIRST_TICK, CYCLES_OF_A_TICK, CYCLES_OF_A_MS = 4096, 2048, 400
+LSHIFT, H, I, ENTER = 41, 34, 23, 40
+STROKES = [(400, LSHIFT, True), (450, H, True), (500, H, False), (550, LSHIFT, False), (600, I, True), (645, I, False),
+           (700, ENTER, True), (745, ENTER, False)]
+
+
+def refusal(call, *words):
+    """What a call raises."""
+    try:
+        call(*words)
+    except (Error, ValueError) as error:
+        return error
+    raise AssertionError(f"{call} takes {words}")
+
+
+def check_refusals(layout, stuck):
+    """Each kind of refusal, with what it says."""
+    fault = refusal(Keyboard.of_layout, "columns = 1")
+    assert isinstance(fault, TextFault) and fault.number > 0, fault
+    with Keyboard.of_layout(layout) as keyboard:
+        for call, words, status in ((keyboard.key, (96, True), Status.NO_SUCH_PLACE), (keyboard.cell, (128,), Status.NO_SUCH_CELL),
+                                    (keyboard.write, (0x61, 0), Status.NO_SUCH_PORT)):
+            assert refusal(call, *words).status == status
+        for call, words in ((keyboard.key, (256, True)), (keyboard.write, (0x60, 256)), (keyboard.run, (-1,))):
+            assert isinstance(refusal(call, *words), ValueError)
+        assert [keyboard.key(0, bool(it % 2)) for it in range(5)] == [True] * 4 + [False]
+        assert keyboard.take() is None and keyboard.run(400).cycles >= 400
+        twin = keyboard.copy()
+        assert twin.run(100_000) == keyboard.run(100_000) and twin.processor == keyboard.processor
+    assert refusal(keyboard.run, 1).status == Status.NOT_OPEN
+    assert twin.cycle > 100_000 and twin.wires.clock in (True, False)
+    found = refusal(Keyboard.of_hex(stuck).run, 100)
+    assert isinstance(found, Stuck) and (found.counter, found.byte) == (0x003, 0x01), found
+
+
+def check_docs():
+    """Each public name has a docstring, and each method says what it answers."""
+    for name in kbd48.__all__:
+        assert name == "VERSION" or inspect.getdoc(getattr(kbd48, name)), name
+    for name, it in vars(Keyboard).items():
+        if not name.startswith("_"):
+            function = it.fget if isinstance(it, property) else getattr(it, "__func__", it)
+            assert function.__doc__ and "return" in function.__annotations__, name
+
+
+def type_hi(layout):
+    """What `kbd48 run` prints for typing_hi.keys."""
+    with Keyboard.of_layout(layout) as keyboard:
+        keyboard.bios(True)
+        for ms, place, down in [*STROKES, (780, None, False)]:
+            left = FIRST_TICK + CYCLES_OF_A_MS * ms - keyboard.cycle
+            keyboard.run(left)
+            if place is not None:
+                assert keyboard.key(place, down)
+            yield from keyboard.items()
+        while keyboard.take() is not None:
+            pass
+        yield from keyboard.items()
+
+
+def text(item):
+    """An item as the log has it."""
+    words = {ItemKind.PORT: f"port {item.value:02X}", ItemKind.WORD: f"word {item.value:04X}",
+             ItemKind.TAKEN: f"taken {item.value:04X}", ItemKind.TAKEN_NONE: "taken none"}
+    return f"{item.stamp // CYCLES_OF_A_TICK} {words[item.kind]}"
+
+
+def main(layout, stuck):
+    with open(layout, "rb") as file:
+        layout = file.read()
+    with open(stuck, "rb") as file:
+        check_refusals(layout, file.read())
+    check_docs()
+    for item in type_hi(layout):
+        print(text(item))
+
+
+if __name__ == "__main__":
+    main(*sys.argv[1:])
