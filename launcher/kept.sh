@@ -33,6 +33,8 @@ untouched() {
 # had to be counted and is right, the time before the counting is kept, so that the next call needs none.
 stands() {
     [ -x "$1/kbd48" ] && [ -f "$1/sources.sum" ] || return 1
+    # A release has no sources that could have changed.
+    [ -e "$here/crates.txt" ] || return 0
     untouched "$1/sources.looked" && return
     { echo "$rt" >"$1/sources.looked.$$"; } 2>/dev/null
     now=$("$here/.ci/sources") || exit 1
