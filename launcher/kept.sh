@@ -37,7 +37,7 @@ stands() {
     [ -e "$here/crates.txt" ] || return 0
     untouched "$1/sources.looked" && return
     { echo "$rt" >"$1/sources.looked.$$"; } 2>/dev/null
-    now=$("$here/.ci/sources") || exit 1
+    now=$("$here/launcher/sources") || exit 1
     kept=$(cat "$1/sources.sum")
     [ -n "$rt" ] || kept=$(echo "$kept" | head -n 1)
     if [ "$now" = "$kept" ]; then
