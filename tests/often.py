@@ -1,6 +1,6 @@
 """often: a program that is loaded once and begun often. Each call is a process of its own, forked where the C library's start
 of the program is called, so nothing of an earlier call is in it; loading and linking, which is most of a start, is done
-once. It needs `cc`. It is no command: bench/hostile reads it."""
+once. It needs `cc`. It is no command: tests/hostile and tests/outputs read it."""
 import os
 import resource
 import select
