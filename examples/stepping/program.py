@@ -57,7 +57,7 @@ class Wanted:
     # The levels of the clock and data wires (T0 and T1), where one is wanted.
     t0: Optional[int] = None
     t1: Optional[int] = None
-    # A, and C and AC in the status, where they are wanted.
+    # A, and C and AC in the status, if they are wanted.
     accumulator: Optional[int] = None
     carries: Optional[int] = None
     # Whether bit 11 of the counter is set; the place of the step.

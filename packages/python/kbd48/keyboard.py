@@ -186,7 +186,7 @@ class Keyboard:
 
     @classmethod
     def of_hex(cls, text: Union[str, bytes]) -> Keyboard:
-        """A keyboard with this program (Intel HEX), at stamp 0, or where the program is stuck before."""
+        """A keyboard with this program (Intel HEX), at stamp 0, or stuck before that."""
         return cls._of(LIBRARY.kbd48_open_hex, text)
 
     @classmethod

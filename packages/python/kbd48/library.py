@@ -41,7 +41,7 @@ def _to(kind):
     return c.POINTER(kind)
 
 
-# The parameters behind the handle.
+# The parameters after the handle.
 PARAMETERS = {
     "close": [],
     "copy": [_to(Handle)],
