@@ -47,9 +47,14 @@ async function keyboard() {
   await says('screen', /QXXX/);
   await browser.mouse('mouseReleased', drawn);
   await shot('keyboard');
-  await browser.stroke('Escape', 40);
-  await browser.stroke('Escape', 40);
-  assert.equal(await browser.evaluate('document.activeElement.id'), 'layout', 'Escape twice leaves the keyboard');
+  // The two must come within half a second, which a loaded machine may miss.
+  let focus = 'board';
+  for (let tries = 0; tries < 10 && focus !== 'layout'; tries++) {
+    await browser.stroke('Escape', 10);
+    await browser.stroke('Escape', 10);
+    focus = await browser.evaluate('document.activeElement.id');
+  }
+  assert.equal(focus, 'layout', 'Escape twice leaves the keyboard');
 }
 
 async function wires() {
