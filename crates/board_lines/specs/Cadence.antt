@@ -29,7 +29,7 @@ abbrev pub begun : (ℕ → ℕ) → ℕ → ℕ → ℕ
 begun starts cycle zero = 0
 begun starts cycle (suc n) = begun starts cycle n + (if nat_le (4096 + starts n) cycle then 1 else 0)
 
--- the tick of what is said in a cycle, where starts 0 to n are known: the number of starts at or before it, less one,
--- or 0 where there is none
+-- the tick of what is said in a cycle, if starts 0 to n are known: the number of starts at or before it, less one,
+-- or 0 if there is none
 abbrev pub tick_of : (ℕ → ℕ) → ℕ → ℕ → ℕ
 tick_of starts n cycle = begun starts cycle (suc n) - 1

@@ -16,6 +16,6 @@ frame_bits byte = false ∷ data_bits byte ++ parity_of byte ∷ true ∷ []
 abbrev pub is_right : List Bool → Bool
 is_right f = not (slice_index_or f 0 true) && slice_index_or f 10 false && is_odd (take 9 (drop 1 f))
 
--- the byte of eleven bits, where start, parity and stop are right
+-- the byte of eleven bits, if start, parity and stop are right
 unfoldable pub byte_of : List Bool → Option ℕ
 byte_of f = if is_right f then Some (value (take 8 (drop 1 f))) else None

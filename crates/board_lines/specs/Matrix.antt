@@ -17,7 +17,7 @@ abbrev pub turned_by : List Edge → List Bool → List Bool
 turned_by [] keys = keys
 turned_by (e ∷ es) keys = turned_by es (turned e.place e.down keys)
 
--- a row's bit on the bus: 0 where its key is down
+-- a row's bit on the bus: 0 if its key is down
 abbrev pub row_bit : List Bool → ℕ → ℕ → ℕ
 row_bit keys column row = if slice_index_or keys (8 * column + row) false then 0 else 2 ^ row
 

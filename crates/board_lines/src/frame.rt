@@ -25,7 +25,7 @@ pub fn frame_of(byte: u8) -> Frame
     }
 }
 
-/// The byte of a frame; None exactly where start, parity or stop is wrong. It is a byte only where the frame is that
+/// The byte of a frame; None exactly if start, parity or stop is wrong. It is a byte only if the frame is that
 /// byte's.
 #[tactic(auto, unfolding(crate::specs::Frame::byte_of))]
 pub fn byte_of(f: Frame) -> Option<u8>

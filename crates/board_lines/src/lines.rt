@@ -1,6 +1,6 @@
 //! The two wires.
 
-/// The levels of the clock wire and the data wire: `true` is high. A wire is low where a side pulls it. Source: PC/AT
+/// The levels of the clock wire and the data wire: `true` is high. A wire is low if a side pulls it. Source: PC/AT
 /// Technical Reference, keyboard interface.
 #[derive(Clone, Copy, Debug, PartialEq, Eq, Default)]
 pub struct Lines {

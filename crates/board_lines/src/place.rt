@@ -24,7 +24,7 @@ impl Model for Place {
 }
 
 impl Place {
-    /// The place in this column (0 to 11) and row (0 to 7); None exactly where one of them is out of range.
+    /// The place in this column (0 to 11) and row (0 to 7); None exactly if one of them is out of range.
     pub fn at(column: u8, row: u8) -> Option<Place>
         ensures place { result ≡ place_at column row }
     {

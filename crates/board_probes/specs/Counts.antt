@@ -9,7 +9,7 @@ use Rattle.board_probes.specs.declared.tally.Arms.{Arms}
 use Rattle.board_probes.specs.Probes.{Watch, listening, met_as, sight_in}
 use Rattle.board_probes.specs.Transfers.{Ear}
 
--- whether a state, if there is one, meets arms of a kind, where so much was heard before
+-- whether a state, if there is one, meets arms of a kind, if so much was heard before
 abbrev pub meets_if : ℕ → Option Arms → Ear → Option (World Beside) → Bool
 meets_if kind arms ear None = false
 meets_if kind arms ear (Some w) = met_as kind arms ear (sight_in w)
@@ -32,7 +32,7 @@ abbrev pub ear_from : Story → ℕ → ℕ → ℕ → Ear → Ear
 ear_from s kind step zero ear = ear
 ear_from s kind step (suc more) ear = ear_from s kind (step + 1) more (hears_if kind (state_at s step) ear)
 
--- the steps behind step k up to step n whose state meets a probe, in their order
+-- the steps after step k up to step n whose state meets a probe, in their order
 abbrev pub met_between : Story → ℕ → ℕ → Watch → List ℕ
 met_between s k n watch = met_from s watch.kind watch.counted.arms (k + 1) (n - k) watch.ear
 

@@ -63,7 +63,7 @@ abbrev pub met_if : ℕ → Option Arms → Cpu → Bool
 met_if kind None m = false
 met_if kind (Some arms) m = met_by kind arms m
 
--- an ear hears a sample that is behind its last one, and no other
+-- an ear hears a sample that is after its last one, and no other
 abbrev pub ear_after : Sight → Ear → Ear
 ear_after sight ear =
     if is_behind sight.cycle ear.last then heard (sample sight.cycle sight.lines) ear else ear
@@ -73,7 +73,7 @@ abbrev pub transfer_heard : Sight → Ear → Option Transfer
 transfer_heard sight ear =
     if is_behind sight.cycle ear.last then completed (sample sight.cycle sight.lines) ear else None
 
--- whether a transfer is what arms wait for: their byte, from the keyboard where `a` is 0, from the host where it is 1
+-- whether a transfer is what arms wait for: their byte, from the keyboard if `a` is 0, from the host if it is 1
 abbrev pub is_awaited : Arms → Transfer → Bool
 is_awaited arms t = (arms.a == (if t.from_host then 1 else 0)) && (arms.b == t.byte)
 
@@ -87,7 +87,7 @@ awaited_if (Some arms) (Some t) = is_awaited arms t
 abbrev pub listening : ℕ → Sight → Ear → Ear
 listening kind sight ear = if kind == line_kind then ear_after sight ear else ear
 
--- whether what is seen meets arms of a kind, where so much was heard before
+-- whether what is seen meets arms of a kind, if so much was heard before
 abbrev pub met_as : ℕ → Option Arms → Ear → Sight → Bool
 met_as kind arms ear sight =
     if kind == line_kind then awaited_if arms (transfer_heard sight ear) else met_if kind arms sight.cpu

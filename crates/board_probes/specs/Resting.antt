@@ -7,7 +7,7 @@ use Rattle.board_probes.specs.Transfers.{wires_at}
 abbrev pub has_level : Bool → Bool → Bool
 has_level level clk = if level then clk else not clk
 
--- a probe rests while the clock has this level: it isn't armed, and where it listens the clock had this level at the
+-- a probe rests while the clock has this level: it isn't armed, and if it listens the clock had this level at the
 -- last sample that it heard
 abbrev pub rests : Bool → Watch → Bool
 rests level watch =

@@ -6,7 +6,7 @@ use Rattle.board_probes.specs.declared.heard.Sample.{Sample}
 use Rattle.board_probes.specs.declared.heard.Fall.{Fall}
 use Rattle.board_probes.specs.Transfers.{Ear, completed, fall_at, heard, is_fall, silence, transfer_by, wires_at}
 
--- the falls among samples, the first of which stands behind these wires
+-- the falls among samples, the first of which is after these wires
 abbrev pub falls_behind : Lines → List Sample → List Fall
 falls_behind before [] = []
 falls_behind before (s ∷ more) =
@@ -35,7 +35,7 @@ abbrev pub KeepsElevenFalls : Type 0
 KeepsElevenFalls = (samples : List Sample)
     → heard_all samples silence ≡ record { last = last_of None samples; falls = last_eleven (falls_among samples) }
 
--- a sample completes a transfer where it is a fall, and the last eleven falls, of which it is the last, are one
+-- a sample completes a transfer if it is a fall, and the last eleven falls, of which it is the last, are one
 abbrev pub CompletesByFalls : Type 0
 CompletesByFalls = (samples : List Sample) (s : Sample)
     → completed s (heard_all samples silence)

@@ -34,7 +34,7 @@ noted step met c = record {
   first = if met then or_step c.first step else c.first;
 }
 
--- there is a first step exactly where one was counted
+-- there is a first step exactly if one was counted
 abbrev pub tells_first : ℕ → Option ℕ → Bool
 tells_first count None = count == 0
 tells_first count (Some first) = nat_lt 0 count

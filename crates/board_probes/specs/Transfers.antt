@@ -25,7 +25,7 @@ is_fall before now = before.clk && not now.clk
 abbrev pub fall_at : Sample → Fall
 fall_at s = record { cycle = s.cycle; dat = s.lines.dat }
 
--- each fall is 32 cycles behind the one before it
+-- each fall is 32 cycles after the one before it
 abbrev pub are_spaced_behind : ℕ → List Fall → Bool
 are_spaced_behind cycle [] = true
 are_spaced_behind cycle (fall ∷ falls) = (fall.cycle == cycle + 32) && are_spaced_behind fall.cycle falls
@@ -81,7 +81,7 @@ abbrev pub completed : Sample → Ear → Option Transfer
 completed s ear =
     if is_fall (wires_at ear.last) s.lines then transfer_by (with_fall (fall_at s) ear.falls) else None
 
--- a sample at this cycle is behind the last one
+-- a sample at this cycle is after the last one
 abbrev pub is_behind : ℕ → Option Sample → Bool
 is_behind cycle None = true
 is_behind cycle (Some s) = nat_lt s.cycle cycle

@@ -19,8 +19,8 @@ const HIGH: Lines = Lines {
 /// clock, which is what a clause sees.
 ///
 /// A fall is a sample with a low clock whose predecessor had a high one; before the first sample both wires are high. A
-/// byte passes with eleven falls, each 32 cycles behind the one before it. Let f0 to f10 be the data wire at them: where f0
-/// is low, f10 high, and f1 to f9 have an odd number of ones, the keyboard sent f1 to f8, the low bit first; where f10 is
+/// byte passes with eleven falls, each 32 cycles after the one before it. Let f0 to f10 be the data wire at them: if f0
+/// is low, f10 high, and f1 to f9 have an odd number of ones, the keyboard sent f1 to f8, the low bit first; if f10 is
 /// low, f9 high, and f0 to f8 have an odd number of ones, the host sent f0 to f7. Nothing else is a transfer.
 #[derive(Drop)]
 pub struct LineDecoder {
@@ -48,7 +48,7 @@ impl LineDecoder {
         }
     }
 
-    /// The wires at the last sample; both are high where there was none.
+    /// The wires at the last sample; both are high if there was none.
     pub fn lines(&self) -> Lines
         ensures lines { result ≡ wires_at self.now.last }
     {
@@ -59,7 +59,7 @@ impl LineDecoder {
         }
     }
 
-    /// Whether a sample at this cycle is behind the last one.
+    /// Whether a sample at this cycle is after the last one.
     pub fn is_behind(&self, cycle: u64) -> bool
         ensures behind { result ≡ is_behind cycle self.now.last }
     {
@@ -70,8 +70,8 @@ impl LineDecoder {
         }
     }
 
-    /// Hears that both wires are high after so many cycles, where they were high at the last sample, and this one is behind
-    /// it. Answers whether that was so; else nothing was heard. It stands in line, since most samples are such.
+    /// Hears that both wires are high after so many cycles, where they were high at the last sample, and this one is after
+    /// it. Answers whether that was so; else nothing was heard. It is in line, since most samples are such.
     #[inline(always)]
     pub(crate) fn hear_high(&mut self, cycle: u64) -> bool
         ensures rises { result ≡ true → is_behind cycle self.old.last ≡ true }
@@ -91,7 +91,7 @@ impl LineDecoder {
     }
 
     /// Hears the wires as they are after so many cycles, more than at the last sample. Answers the transfer that this
-    /// sample completes; None exactly where it completes none.
+    /// sample completes; None exactly if it completes none.
     pub fn sample(&mut self, cycle: u64, line: Lines) -> Option<Transfer>
         requires rises { is_behind cycle self.old.last ≡ true }
         ensures transfer { result ≡ completed (sample cycle line) self.old }

@@ -62,7 +62,7 @@ pub(crate) fn push_fall(falls: &mut ArrayVec<Fall, 11>, fall: Fall)
     falls.push(fall);
 }
 
-/// Whether each of these falls is 32 cycles behind the one before it, the first behind this cycle.
+/// Whether each of these falls is 32 cycles after the one before it, the first after this cycle.
 fn are_spaced_behind(cycle: u64, falls: &[Fall]) -> bool
     ensures { result ≡ are_spaced_behind cycle falls.now }
 {
@@ -74,7 +74,7 @@ fn are_spaced_behind(cycle: u64, falls: &[Fall]) -> bool
     }
 }
 
-/// Whether each of these falls is 32 cycles behind the one before it.
+/// Whether each of these falls is 32 cycles after the one before it.
 fn are_spaced(falls: &[Fall]) -> bool
     ensures { result ≡ are_spaced falls.now }
 {
@@ -85,7 +85,7 @@ fn are_spaced(falls: &[Fall]) -> bool
 }
 
 /// The transfer that these falls are, if there are eleven and they are one: the data wire at them is the keyboard's frame of
-/// a byte; or the host's, whose start bit stands before its first fall, and in whose last bit the keyboard pulls data low.
+/// a byte; or the host's, whose start bit is before its first fall, and in whose last bit the keyboard pulls data low.
 #[tactic(auto, unfolding(board_lines::specs::Frame::byte_of))]
 pub(crate) fn transfer_by(falls: &[Fall]) -> Option<Transfer>
     ensures { result ≡ transfer_by falls.now }

@@ -9,19 +9,19 @@ use crate::tally::{Arms, Counter, Tally};
 use joint_run::Joint;
 use mcs48_core::Mcu;
 
-/// A probe that is hit where the program counter is `a`.
+/// A probe that is hit if the program counter is `a`.
 #[derive(Drop)]
 pub struct AddressProbe {
     counter: Counter,
 }
 
-/// A probe that is hit where register `a`, 0 to 7, of the selected bank is `b`.
+/// A probe that is hit if register `a`, 0 to 7, of the selected bank is `b`.
 #[derive(Drop)]
 pub struct RegisterProbe {
     counter: Counter,
 }
 
-/// A probe that is hit where place `a`, 0 to 127, of data memory is `b`.
+/// A probe that is hit if place `a`, 0 to 127, of data memory is `b`.
 #[derive(Drop)]
 pub struct CellProbe {
     counter: Counter,
@@ -46,7 +46,7 @@ fn register_of(mcu: &Mcu, number: u16) -> u8
     mcu.ram[bank + number as usize]
 }
 
-/// Whether the register of these arms has their value. It stands out of line, so that a look without arms is short.
+/// Whether the register of these arms has their value. It is out of line, so that a look without arms is short.
 #[inline(never)]
 fn holds_register(arms: Arms, mcu: &Mcu) -> bool
     ensures { result ≡ met_by register_kind arms mcu.now }
@@ -54,7 +54,7 @@ fn holds_register(arms: Arms, mcu: &Mcu) -> bool
     arms.a < 8 && register_of(mcu, arms.a) == arms.b
 }
 
-/// The same where there are arms.
+/// The same if there are arms.
 fn has_register(arms: Option<Arms>, mcu: &Mcu) -> bool
     ensures { result ≡ met_if register_kind arms mcu.now }
 {
@@ -64,7 +64,7 @@ fn has_register(arms: Option<Arms>, mcu: &Mcu) -> bool
     }
 }
 
-/// Whether the place of these arms has their value. It stands out of line as well.
+/// Whether the place of these arms has their value. It is out of line as well.
 #[inline(never)]
 fn holds_cell(arms: Arms, mcu: &Mcu) -> bool
     ensures { result ≡ met_by cell_kind arms mcu.now }
@@ -72,7 +72,7 @@ fn holds_cell(arms: Arms, mcu: &Mcu) -> bool
     arms.a < 128 && mcu.ram[arms.a as usize] == arms.b
 }
 
-/// The same where there are arms.
+/// The same if there are arms.
 fn has_cell(arms: Option<Arms>, mcu: &Mcu) -> bool
     ensures { result ≡ met_if cell_kind arms mcu.now }
 {

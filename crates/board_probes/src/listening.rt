@@ -9,8 +9,8 @@ use crate::probe::Probe;
 use crate::tally::{Arms, Counter, Tally};
 use joint_run::Joint;
 
-/// A probe that is hit where a transfer of the byte `b` is completed on the wires: from the keyboard where `a` is 0, from
-/// the host where it is 1. It listens from its first look on, armed or not.
+/// A probe that is hit if a transfer of the byte `b` is completed on the wires: from the keyboard if `a` is 0, from
+/// the host if it is 1. It listens from its first look on, armed or not.
 #[derive(Drop)]
 pub struct LineProbe {
     counter: Counter,
@@ -54,7 +54,7 @@ impl LineProbe {
         }
     }
 
-    /// Looks, whatever the wires are. It stands out of line, since they are high in most looks.
+    /// Looks, whatever the wires are. It is out of line, since they are high in most looks.
     #[inline(never)]
     fn listen(&mut self, step: u64, joint: &Joint) -> bool
         ensures looked { let watch = ⟦<LineProbe as Probe>⟧.watch in

@@ -25,13 +25,13 @@ pub trait Probe: Drop {
         ensures looked { watch self.new ≡ looked step (sight_of joint.now) (watch self.old) }
         ensures hit { result ≡ meets (sight_of joint.now) (watch self.old) };
 
-    /// Whether it rests while the clock has this level: it isn't armed, and where it listens to the wires the clock had this
+    /// Whether it rests while the clock has this level: it isn't armed, and if it listens to the wires the clock had this
     /// level at the last sample that it heard. Then it needn't look at states in which the clock has this level, as long as
     /// it looks at a later one.
     fn rests(&self, clk: bool) -> bool
         ensures rests { result ≡ rests clk (watch self.now) };
 
-    /// How many steps it counted, and the first of them; none exactly where it counted none.
+    /// How many steps it counted, and the first of them; none exactly if it counted none.
     fn tell(&self) -> Tally
         ensures count { result.count ≡ (watch self.now).counted.count }
         ensures first { result.first ≡ (watch self.now).counted.first }
@@ -46,7 +46,7 @@ fn look_one(probe: &mut Box<dyn Probe>, step: u64, joint: &Joint) -> bool
     probe.look(step, joint)
 }
 
-/// The number of the first probe that was met, with one more that was looked at behind it.
+/// The number of the first probe that was met, with one more that was looked at after it.
 fn or_met(hit: Option<usize>, met: bool, number: usize) -> Option<usize>
     ensures { result ≡ or_met hit met number }
 {

@@ -12,7 +12,7 @@ pub struct Arms {
     pub b: u8,
 }
 
-/// How many steps hit since a probe was last armed, and the number of the first of them, None where none did.
+/// How many steps hit since a probe was last armed, and the number of the first of them, None if none did.
 #[derive(Clone, Copy, Debug, PartialEq, Eq, Drop)]
 pub struct Tally {
     pub count: u64,

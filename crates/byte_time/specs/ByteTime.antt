@@ -46,7 +46,7 @@ abbrev pub arriving : Option ℕ → ℕ → Option ℕ
 arriving None byte = Some byte
 arriving (Some bit) byte = None
 
--- the keyboard's byte arrives where it is still under way
+-- the keyboard's byte arrives if it is still under way
 abbrev pub arrived_in : ℕ → ℕ → Link UnderWay → Port UnderWay → Port UnderWay
 arrived_in now byte Free p = p
 arrived_in now byte (Hold since) p = p
@@ -94,7 +94,7 @@ meeting_by false offer earlier later = Idle
 abbrev pub meeting_in : Bool → Option ℕ → Side UnderWay → Side UnderWay → Meeting
 meeting_in tested offer earlier later = meeting_by tested offer earlier.port.link later.port.link
 
--- a byte of the keyboard that has begun is sent where it is still under way after offset 607; else it was broken off
+-- a byte of the keyboard that has begun is sent if it is still under way after offset 607; else it was broken off
 abbrev pub sent_or_cut : ℕ → Link UnderWay → Meeting
 sent_or_cut byte Free = Cut
 sent_or_cut byte (Hold since) = Cut

@@ -18,7 +18,7 @@ pub enum Meeting {
     Cut,
 }
 
-/// What begins in a tick, as its meeting, where `Sent` says that the keyboard's byte begins: by whether the keyboard's
+/// What begins in a tick, as its meeting, if `Sent` says that the keyboard's byte begins: by whether the keyboard's
 /// power-on test had ended at its start, the byte that the keyboard offers, and the link after the offsets 255 and 287.
 pub fn meeting_of(
     tested: bool,
@@ -43,7 +43,7 @@ pub fn meeting_of(
     }
 }
 
-/// The meeting of a tick in which this byte of the keyboard began, by the link after offset 607: it is sent where it is
+/// The meeting of a tick in which this byte of the keyboard began, by the link after offset 607: it is sent if it is
 /// still under way then; else it was broken off.
 pub fn sent_or_cut(byte: u8, last: &Link<UnderWay>) -> Meeting
     ensures meeting { result ≡ sent_or_cut byte last.now }

@@ -62,7 +62,7 @@ commanded WriteOutputPort s = quietly (record s { awaited = Some OutputPort })
 commanded (PulseOutput lines) s = record { did = Pulse lines; state = s }
 commanded Unlisted s = quietly s
 
--- a byte of 60h is the awaited parameter; where none is awaited it is for the keyboard, and clears the disable bit
+-- a byte of 60h is the awaited parameter; if none is awaited it is for the keyboard, and clears the disable bit
 abbrev pub passed : Option Parameter → ℕ → ControllerState → Taken
 passed (Some CommandByte) byte s = quietly (record s { command_byte = byte })
 passed (Some OutputPort) byte s = record { did = Output byte; state = record s { output_port = byte } }
@@ -76,7 +76,7 @@ abbrev pub taken_by : Port → ℕ → ControllerState → Taken
 taken_by P60 byte s = passed s.awaited byte (record s { input = None; awaited = None })
 taken_by P64 byte s = commanded (command_of byte) (record s { input = None; awaited = None })
 
--- the input buffer's byte is taken where there is one
+-- the input buffer's byte is taken if there is one
 abbrev pub taken_from : Option Input → ControllerState → Option Taken
 taken_from None s = None
 taken_from (Some input) s = Some (taken_by input.port input.byte s)

@@ -27,7 +27,7 @@ scan_codes =
     ∷ key 0x74 0x4d ∷ key 0x75 0x48 ∷ key 0x76 0x01 ∷ key 0x77 0x45 ∷ key 0x79 0x4e ∷ key 0x7a 0x51
     ∷ key 0x7b 0x4a ∷ key 0x7c 0x37 ∷ key 0x7d 0x49 ∷ key 0x7e 0x46 ∷ key 0x83 0x41 ∷ key 0x84 0x54 ∷ []
 
--- the scan code of a keyboard code, where a key has it
+-- the scan code of a keyboard code, if a key has it
 abbrev pub scan_of : List KeyCode → ℕ → Option ℕ
 scan_of [] code = None
 scan_of (first ∷ others) code = if first.code == code then Some first.scan else scan_of others code
@@ -36,7 +36,7 @@ scan_of (first ∷ others) code = if first.code == code then Some first.scan els
 abbrev pub own_code : ℕ → Option ℕ
 own_code byte = if nat_lt byte 0x80 then Some byte else None
 
--- the scan code where there is one, else what the byte gives by itself
+-- the scan code if there is one, else what the byte gives by itself
 abbrev pub scan_or : Option ℕ → ℕ → Option ℕ
 scan_or None byte = own_code byte
 scan_or (Some scan) byte = Some scan

@@ -8,7 +8,7 @@ use Rattle.ctl_core.specs.declared.translation.Translated.{Translated}
 use Rattle.ctl_core.specs.declared.controller.Received.{Received}
 use Rattle.ctl_core.specs.declared.controller.Received.TheVariants.{Put, Marked, Bad, GaveUp}
 
--- the byte of a code, with bit 7 set where a break was begun; the mark ends
+-- the byte of a code, with bit 7 set if a break was begun; the mark ends
 abbrev pub coded : Bool → ℕ → Option ℕ → Translated
 coded mark byte (Some code) = record { byte = Some (if mark then with_bit 0x80 code else code); mark = false }
 coded mark byte None = record { byte = Some byte; mark = mark }
@@ -35,7 +35,7 @@ arrived t s =
     let marked = record s { break_mark = t.mark; resends = 0 } in
     option_map_or (λ byte. put_out byte marked) t.byte marked
 
--- the state after a byte came wrong: it is counted where it is asked for again, and nothing else changes
+-- the state after a byte came wrong: it is counted if it is asked for again, and nothing else changes
 abbrev pub after_wrong : ControllerState → ControllerState
 after_wrong s = if asks_again s then record s { resends = s.resends + 1 } else gave_up s
 

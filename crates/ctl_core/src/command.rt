@@ -3,7 +3,7 @@
 ghost use Rattle.std.specs.Prelude.{◌≡◌};
 ghost use Rattle.ctl_core.specs.Commands.{command_of};
 
-/// What the next byte of port 60h is, where a command awaits one: the command byte, or the output port's.
+/// What the next byte of port 60h is, if a command awaits one: the command byte, or the output port's.
 #[derive(Clone, Copy, Debug, PartialEq, Eq, Drop)]
 pub enum Parameter {
     CommandByte,

@@ -36,7 +36,7 @@ pub enum Received {
 /// How often in a row a byte that came wrong is asked for again. Source: our own.
 const MOST_RESENDS: u8 = 3;
 
-/// What is put out where the controller gives up.
+/// What is put out if the controller gives up.
 const GIVEN_UP: u8 = 0xff;
 
 /// The controller without its wires.
@@ -110,7 +110,7 @@ impl Controller {
         }
     }
 
-    /// The host writes a port. It fills the input buffer; where that is full already, nothing changes.
+    /// The host writes a port. It fills the input buffer; if that is full already, nothing changes.
     pub fn host_write(&mut self, port: Port, byte: u8) -> Result<(), InputFull>
         ensures full { IsErr result ↔ IsSome self.old.input }
         ensures status { IfErr result (λ fault. fault.status ≡ status_of self.old) }
@@ -215,7 +215,7 @@ impl Controller {
         self.resends
     }
 
-    /// Takes the byte of the input buffer and does what it says, while the output buffer is empty. `None` exactly where
+    /// Takes the byte of the input buffer and does what it says, while the output buffer is empty. `None` exactly if
     /// the input buffer is empty.
     pub fn take_input(&mut self) -> Option<Did>
         requires output_empty { self.old.output_full ≡ false }

@@ -27,7 +27,7 @@ pub struct Translated {
 }
 
 /// The scan code of a keyboard code, FF for the overrun 00, and the byte itself for a byte below 80 that no key has.
-/// `None` exactly where the byte passes unchanged and leaves the break mark, and for F0.
+/// `None` exactly if the byte passes unchanged and leaves the break mark, and for F0.
 pub fn translate(byte: u8) -> Option<u8>
     ensures code { result ≡ translated byte }
 {

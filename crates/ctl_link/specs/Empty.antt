@@ -12,7 +12,7 @@ is_held (Ask byte since) = false
 is_held (Request byte) = false
 is_held (Busy under_way) = false
 
--- where the output buffer is full, the link is held
+-- if the output buffer is full, the link is held
 abbrev pub fits : {F : Type 0} → Bool → Link F → Bool
 fits full link = not full || is_held link
 

@@ -14,7 +14,7 @@ use Rattle.ctl_link.specs.declared.link.Link.TheVariants.{Free, Hold, Ask, Reque
 abbrev pub port_at_start : (F : Type 0) → Port F
 port_at_start F = record { core = at_start; filled = 0; link = Free; awaits = false; flip = None }
 
--- the cycle of the last filling, after something that was done while the output buffer was empty: now, where it is full
+-- the cycle of the last filling, after something that was done while the output buffer was empty: now, if it is full
 abbrev pub filled_by : ℕ → ControllerState → ℕ → ℕ
 filled_by now s before = if s.output_full then now else before
 
@@ -22,12 +22,12 @@ filled_by now s before = if s.output_full then now else before
 abbrev pub begun : {F : Type 0} → (Option ℕ → F) → Port F → Port F
 begun first p = record p { link = Busy (first p.flip); flip = None }
 
--- a byte of the keyboard is received where it came whole; one that came wrong is asked for again, or given up
+-- a byte of the keyboard is received if it came whole; one that came wrong is asked for again, or given up
 abbrev pub core_after : Option ℕ → ControllerState → ControllerState
 core_after (Some byte) s = after_received s byte true
 core_after None s = after_wrong s
 
--- the link behind it, pulled from now on: by an ask for FE, the resend, where the byte is asked for again; else by a
+-- the link after it, pulled from now on: by an ask for FE, the resend, if the byte is asked for again; else by a
 -- hold
 abbrev pub link_behind : {F : Type 0} → ℕ → Option ℕ → ControllerState → Link F
 link_behind now (Some byte) s = Hold now
@@ -47,7 +47,7 @@ received now byte p = record {
 abbrev pub handed_over : {F : Type 0} → Port F → Port F
 handed_over p = record p { link = Free; awaits = true }
 
--- since when the link is held, where the input may be taken; a free link is held from now on
+-- since when the link is held, if the input may be taken; a free link is held from now on
 abbrev pub held_since : {F : Type 0} → ℕ → Bool → Link F → Option ℕ
 held_since now awaits Free = if awaits then None else Some now
 held_since now awaits (Hold since) = Some since
@@ -80,13 +80,13 @@ took now since t p = record {
   did = t.did;
 }
 
--- the input is taken where it may be, and there is one; else nothing changes
+-- the input is taken if it may be, and there is one; else nothing changes
 abbrev pub took_where : {F : Type 0} → ℕ → Option ℕ → Option Taken → Port F → Settled F
 took_where now None input p = record { port = p; did = Nothing }
 took_where now (Some since) None p = record { port = p; did = Nothing }
 took_where now (Some since) (Some t) p = took now since t p
 
--- the input is taken where the output buffer is empty, the input buffer is full, and the link is held, or is free while
+-- the input is taken if the output buffer is empty, the input buffer is full, and the link is held, or is free while
 -- no reply is awaited
 abbrev pub takes_input : {F : Type 0} → ℕ → Port F → Settled F
 takes_input now p =
@@ -114,7 +114,7 @@ may_break breaks (Ask byte since) = false
 may_break breaks (Request byte) = false
 may_break breaks (Busy under_way) = breaks under_way
 
--- a waiting input breaks it off, where no reply is awaited: the link is held from now on
+-- a waiting input breaks it off, if no reply is awaited: the link is held from now on
 abbrev pub broken_off : {F : Type 0} → (F → Bool) → ℕ → Port F → Port F
 broken_off breaks now p =
     if may_break breaks p.link && not p.awaits && is_some p.core.input then record p { link = Hold now } else p

@@ -63,7 +63,7 @@ impl<F: Drop> Port<F> {
     }
 
     /// A byte of the keyboard has come whole in cycle `now`, or has come wrong (`None`), while the output buffer is
-    /// empty. No reply is awaited any more, and the link is held from this cycle on; but where the byte came wrong and
+    /// empty. No reply is awaited any more, and the link is held from this cycle on; but if the byte came wrong and
     /// the controller doesn't give up, it asks for the byte again from this cycle on.
     pub fn receive(&mut self, now: u64, byte: Option<u8>)
         requires output_empty { self.old.core.output_full ≡ false }
@@ -92,10 +92,10 @@ impl<F: Drop> Port<F> {
         self.awaits = true;
     }
 
-    /// What the controller does by itself at the end of cycle `now`. First it takes its input, where it may: the output
+    /// What the controller does by itself at the end of cycle `now`. First it takes its input, if it may: the output
     /// buffer is empty, and the link is held, or is free while no reply is awaited. Then the link changes by itself: a
-    /// free one is held where the output buffer is full or the keyboard disabled, and a pull of the clock ends once it
-    /// has lasted 64 cycles and nothing stands against it. Answers what the input taken did.
+    /// free one is held if the output buffer is full or the keyboard disabled, and a pull of the clock ends once it
+    /// has lasted 64 cycles and nothing is against it. Answers what the input taken did.
     pub fn settle(&mut self, now: u64) -> Did
         ensures port { self.new ≡ (settled now self.old).port }
         ensures did { result ≡ (settled now self.old).did }
@@ -108,7 +108,7 @@ impl<F: Drop> Port<F> {
         did
     }
 
-    /// The input is taken, where it may be.
+    /// The input is taken, if it may be.
     fn take_input(&mut self, now: u64) -> Did
         ensures port { self.new ≡ (takes_input now self.old).port }
         ensures did { result ≡ (takes_input now self.old).did }
@@ -129,7 +129,7 @@ impl<F: Drop> Port<F> {
         did
     }
 
-    /// Since when the link is held, where the input may be taken; a free link is held from now on.
+    /// Since when the link is held, if the input may be taken; a free link is held from now on.
     fn held_since(&self, now: u64) -> Option<u64>
         ensures { result ≡ held_since now self.now.awaits self.now.link }
     {
@@ -141,7 +141,7 @@ impl<F: Drop> Port<F> {
         }
     }
 
-    /// The output buffer was filled in this cycle, where it is full after something done while it was empty.
+    /// The output buffer was filled in this cycle, if it is full after something done while it was empty.
     fn note_filling(&mut self, now: u64)
         ensures { self.new ≡ record self.old { filled = filled_by now self.old.core self.old.filled } }
     {
@@ -178,7 +178,7 @@ impl<F: Drop> Port<F> {
 }
 
 impl<F: Passing + Drop> Port<F> {
-    /// A waiting input breaks off a byte under way in cycle `now`, where that may still be broken off and no reply is
+    /// A waiting input breaks off a byte under way in cycle `now`, if that may still be broken off and no reply is
     /// awaited: the link is held from this cycle on. Source: PC/AT Technical Reference, keyboard interface.
     pub fn break_off(&mut self, now: u64)
         ensures port { self.new ≡ broken_off F.breaks now self.old }

@@ -46,7 +46,7 @@ with_core core w = record w { port = record w.port { core = core } }
 abbrev pub with_flip : ℕ → WireState → WireState
 with_flip bit w = record w { port = record w.port { flip = Some bit } }
 
--- the settling of a cycle: a waiting input breaks off the keyboard's byte, where it may, and then the controller
+-- the settling of a cycle: a waiting input breaks off the keyboard's byte, if it may, and then the controller
 -- settles
 abbrev pub settling : ℕ → WireState → Settled Wire
 settling now w = settled now (broken_off is_breakable now w.port)

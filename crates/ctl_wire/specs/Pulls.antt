@@ -27,7 +27,7 @@ acts [] w = w
 acts (call ∷ calls) w = acts calls (called call w)
 
 -- what a cycle brings: the host's calls before its look, the levels of the wires at the look, and the host's calls
--- behind it
+-- after it
 pub record Happening : Type 0 where
   pub before : List Call
   pub line : Lines
@@ -46,7 +46,7 @@ wire_cycles happens (suc n) now w = wire_cycles happens n (suc now) (wire_cycle 
 abbrev pub leaves_clock : WireState → Bool
 leaves_clock w = (drive w.port.link).clk
 
--- a pull that a cycle begins lasts 64 cycles at least: it is there after this one and after each of the 63 behind it
+-- a pull that a cycle begins lasts 64 cycles at least: it is there after this one and after each of the 63 after it
 abbrev pub PullsLast : Type 0
 PullsLast =
     (happens : ℕ → Happening) (now n : ℕ) (w : WireState) → leaves_clock w ≡ true

@@ -38,7 +38,7 @@ abbrev pub is_breakable : Wire → Bool
 is_breakable (Recv flip bits) = nat_lt (length bits) 10
 is_breakable (Send byte edges) = false
 
--- what the controller drives while a byte is under way: after falling edge k of its own frame, bit k + 1 of it, where
+-- what the controller drives while a byte is under way: after falling edge k of its own frame, bit k + 1 of it, if
 -- the first edge is 0
 abbrev pub drive_in : Wire → Lines
 drive_in (Recv flip bits) = record { clk = true; dat = true }

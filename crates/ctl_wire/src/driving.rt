@@ -26,7 +26,7 @@ const DATA_PULLED: Lines = Lines {
 };
 
 /// What the controller drives, by its link: it pulls the clock while it holds the keyboard off or has a byte for it; a
-/// request pulls data, which is the start bit; and after each falling edge of its frame the next bit stands on data.
+/// request pulls data, which is the start bit; and after each falling edge of its frame the next bit is on data.
 pub fn drive_of(link: &Link<Wire>) -> Lines
     ensures driven { result ≡ drive link.now }
 {

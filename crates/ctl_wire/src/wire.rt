@@ -11,7 +11,7 @@ use ctl_link::Passing;
 #[derive(Drop)]
 pub enum Wire {
     /// The keyboard sends a byte: the bit that noise turns round in its frame, if any, and the bits that have come so
-    /// far, in order, as they stood on the wires.
+    /// far, in order, as they were on the wires.
     Recv(Option<u8>, Bits),
     /// The controller sends this byte, and so many falling edges have been.
     Send(u8, Edges),

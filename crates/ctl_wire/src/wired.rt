@@ -98,8 +98,8 @@ impl CtlWire {
         &self.port.core
     }
 
-    /// The controller settles at the end of cycle `now`: a waiting input breaks off the keyboard's byte, where fewer
-    /// than ten of its falling edges have been and no reply is awaited, and is taken where it may be. Answers what the
+    /// The controller settles at the end of cycle `now`: a waiting input breaks off the keyboard's byte, if fewer
+    /// than ten of its falling edges have been and no reply is awaited, and is taken if it may be. Answers what the
     /// input taken did.
     pub fn settle(&mut self, now: u64) -> Did
         requires looked { self.old.waits ≡ true }

@@ -16,7 +16,7 @@ use Rattle.cycle_cert.specs.Reading.{certificate_of}
 abbrev pub said_by : code.Certificate → Certificate
 said_by cert = record { target = cert.target; entries = cert.table.now }
 
--- the greatest value that a bound takes, 0 where no place is certified
+-- the greatest value that a bound takes, 0 if no place is certified
 abbrev pub greatest_of : List Entry → ℕ
 greatest_of [] = 0
 greatest_of (entry ∷ more) = max (most_cycles entry.bound) (greatest_of more)

@@ -11,7 +11,7 @@ byte_values = range_with_len 0 256
 abbrev pub weight : ℕ → ℕ
 weight value = if value == 0 then 256 else value
 
--- the bound where its register has this value
+-- the bound if its register has this value
 abbrev pub cycles_at : Bound → ℕ → ℕ
 cycles_at bound value = bound.fixed + bound.factor * weight value
 

@@ -44,7 +44,7 @@ examples =
     three [] (codes "target 001") (codes "000 0") (codes "000 0") (wrong 3 Twice) ∷
     -- leading zeros are digits of a number, and digits of a place are of either case
     two [] (codes "target 7Ff") (codes "7fE 0000000001") (right 1 1) ∷
-    -- single spaces part the fields, and none stands behind the last
+    -- single spaces part the fields, and none is after the last
     two [] (codes "target 001") (codes "000  1") (wrong 2 Form) ∷
     two [] (codes "target 001") (codes "000 1 ") (wrong 2 Form) ∷
     -- JMP 000H: the target may be certified, and nothing is left at it

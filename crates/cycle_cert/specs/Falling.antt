@@ -6,11 +6,11 @@ use Rattle.cycle_cert.specs.declared.falling.Passage.{Passage}
 use Rattle.cycle_cert.specs.Bounds.{byte_values, cycles_at}
 use Rattle.cycle_cert.specs.Rows.{fits, values_after}
 
--- the values that a register can have where another one has this value: all, or that one where they are one register
+-- the values that a register can have if another one has this value: all, or that one where they are one register
 abbrev pub values_beside : ℕ → ℕ → ℕ → List ℕ
 values_beside other value register = if other == register then value ∷ [] else byte_values
 
--- whether the way can be taken where these are the values before the row of the two bounds' registers
+-- whether the way can be taken if these are the values before the row of the two bounds' registers
 abbrev pub is_open : Passage → ℕ → ℕ → Bool
 is_open p first second = fits p.when p.before.register first && fits p.when p.after.register second
 

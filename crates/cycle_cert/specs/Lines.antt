@@ -36,7 +36,7 @@ target_from others = None
 abbrev pub target_in : List ℕ → Option ℕ
 target_in line = target_from (pieces 32 line)
 
--- the bound of the fields behind a place: a number of at most 1,000,000, and, if it has them, a factor of at most
+-- the bound of the fields after a place: a number of at most 1,000,000, and, if it has them, a factor of at most
 -- 10,000 and a register
 abbrev pub bound_from : List (List ℕ) → Option Bound
 bound_from (fixed ∷ []) = do

@@ -30,13 +30,13 @@ is_certifiable (Control SelRb1) = false
 is_certifiable (Moves MovPswA) = false
 is_certifiable op = true
 
--- whether a way can be taken where a register has this value before the row
+-- whether a way can be taken if a register has this value before the row
 abbrev pub fits : When → ℕ → ℕ → Bool
 fits Always register value = true
 fits (NotAtOne counter) register value = if register == counter then not (value == 1) else true
 fits (AtOne counter) register value = if register == counter then value == 1 else true
 
--- the place so many bytes behind a place
+-- the place so many bytes after a place
 abbrev pub place_after : ℕ → ℕ → ℕ
 place_after place len = (place + len) % 2048
 
@@ -54,7 +54,7 @@ two_ways made unmade n len place =
 abbrev pub branch_ways : ℕ → ℕ → ℕ → List Way
 branch_ways n len place = two_ways Always Always n len place
 
--- those of a counting jump: it is made exactly where the register's new value isn't 00, so where the old one isn't 01
+-- those of a counting jump: it is made exactly if the register's new value isn't 00, so if the old one isn't 01
 abbrev pub counting_ways : ℕ → ℕ → ℕ → ℕ → List Way
 counting_ways r n len place = two_ways (NotAtOne r) (AtOne r) n len place
 
@@ -111,8 +111,8 @@ writes (Moves (XchdI i)) register = true
 writes (Unary (IncI i)) register = true
 writes op register = false
 
--- the values that a row allows a register after it, from its value before: the one that it gives; else any where it can
--- write the register, and the same where it can't
+-- the values that a row allows a register after it, from its value before: the one that it gives; else any if it can
+-- write the register, and the same if it can't
 abbrev pub values_after : Op → ℕ → ℕ → List ℕ
 values_after op register value =
     elim (value_given op register value) [

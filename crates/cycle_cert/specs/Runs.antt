@@ -18,7 +18,7 @@ abbrev pub later : ℕ → Option Stepped → Option Stepped
 later cycles None = None
 later cycles (Some end) = Some (record { cpu = end.cpu; cycles = cycles + end.cycles })
 
--- so many steps, each with pins of its own, from a state, and the cycles that they take; none where a step is stuck
+-- so many steps, each with pins of its own, from a state, and the cycles that they take; none if a step is stuck
 abbrev pub run : ℕ → List ℕ → (ℕ → Pins) → Cpu → Option Stepped
 run zero bytes pins m = Some (record { cpu = m; cycles = 0 })
 run (suc n) bytes pins m =

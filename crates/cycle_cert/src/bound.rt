@@ -30,14 +30,14 @@ fn times(factor: u32, weight: u16) -> u64
 }
 
 impl Bound {
-    /// The bound at the target, where nothing is left.
+    /// The bound at the target, if nothing is left.
     pub(crate) const NOTHING_LEFT: Bound = Bound {
         fixed: 0,
         factor: 0,
         register: 0,
     };
 
-    /// The bound in machine cycles where its register has this value.
+    /// The bound in machine cycles if its register has this value.
     pub(crate) fn cycles_at(&self, value: u8) -> u64
         ensures cycles { result ≡ cycles_at self.now value }
         ensures small { result < 2 ^ 42 }

@@ -14,7 +14,7 @@ use std::alloc::Global;
 pub struct Proved {
     /// How many places are certified.
     pub places: u32,
-    /// The greatest value that a bound takes, in machine cycles; 0 where no place is certified.
+    /// The greatest value that a bound takes, in machine cycles; 0 if no place is certified.
     pub greatest: u64,
 }
 
@@ -25,8 +25,8 @@ pub struct Proved {
 /// most 10,000; R is a digit from 0 to 7. The bound of the place PPP is `N + M * w` machine cycles, w the value of bank
 /// 0's register R, or 256 for 00; or N alone.
 ///
-/// A certified place is right where its row may be certified (rule 4), where each place that can follow is the target
-/// or certified (rule 5), and where the bound falls by the row's cycles at least, for all values of the registers that
+/// A certified place is right if its row may be certified (rule 4), if each place that can follow is the target
+/// or certified (rule 5), and if the bound falls by the row's cycles at least, for all values of the registers that
 /// the row allows (rule 6). Rules 1, the form of a line, and 2, that no place is given twice, are judged of all lines
 /// first. A text without a line that isn't blank breaks rule 3, at line 1.
 ///

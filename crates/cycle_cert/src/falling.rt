@@ -21,14 +21,14 @@ pub(crate) struct Passage {
 }
 
 impl Passage {
-    /// Whether the way can be taken where the registers of the two bounds have these values before the row.
+    /// Whether the way can be taken if the registers of the two bounds have these values before the row.
     fn is_open(&self, first: u8, second: u8) -> bool
         ensures { result ≡ is_open self.now first second }
     {
         self.when.fits(self.before.register, first) && self.when.fits(self.after.register, second)
     }
 
-    /// Whether the bound falls by the row's cycles at least, where these are the values before the row of the register
+    /// Whether the bound falls by the row's cycles at least, if these are the values before the row of the register
     /// of the bound before and of the register of the bound after.
     fn falls_at(&self, first: u8, second: u8) -> bool
         ensures { result ≡ falls_at self.now first second }
@@ -51,7 +51,7 @@ impl Passage {
         }
     }
 
-    /// Whether the bound falls where both registers are one, at all its values.
+    /// Whether the bound falls if both registers are one, at all its values.
     fn falls_on_one(&self) -> bool
         ensures { result ≡ list_all (λ value. falls_at self.now value value) byte_values }
     {

@@ -29,7 +29,7 @@ fn row_at(bytes: &[u8; 2048], place: u16) -> Option<Decoded>
     decode([bytes[first], bytes[(first + 1) % 2048]])
 }
 
-/// The greatest value that a bound takes, in machine cycles; 0 where no place is certified.
+/// The greatest value that a bound takes, in machine cycles; 0 if no place is certified.
 fn greatest(entries: &[Entry]) -> u64
     ensures { result ≡ greatest_of entries.now }
 {
@@ -48,7 +48,7 @@ pub(crate) struct Certificate<'a> {
 }
 
 impl Certificate<'_> {
-    /// The bound of a path that comes to a place: nothing is left at the target. None where the place isn't known.
+    /// The bound of a path that comes to a place: nothing is left at the target. None if the place isn't known.
     fn bound_at(&self, place: u16) -> Option<Bound>
         requires { place < 2048 }
         ensures { result ≡ bound_at (said_by self.now) place }
@@ -60,7 +60,7 @@ impl Certificate<'_> {
         }
     }
 
-    /// A way out of a row, with the bound before, to the bound at its end. None where its place isn't known.
+    /// A way out of a row, with the bound before, to the bound at its end. None if its place isn't known.
     fn passage(&self, row: &Decoded, before: Bound, way: Way) -> Option<Passage>
         requires { way.to < 2048 }
         ensures { result ≡ option_map (passage row.now before way) (bound_at (said_by self.now) way.to) }

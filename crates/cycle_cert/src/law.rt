@@ -10,7 +10,7 @@ pub fn what_rows_do_to_registers()
     ensures registers { RegisterLaw }
 {}
 
-/// Certificates may be chained. Where the target of one whose places keep their bounds is a certified place of another
+/// Certificates may be chained. If the target of one whose places keep their bounds is a certified place of another
 /// such, of the same program, the run from a place of the first comes to the target of the second, within the bound of
 /// the place and the greatest value of the second one's. Nothing is done when it is called; the law is its contract.
 pub fn certificates_follow_one_another()

@@ -3,7 +3,7 @@
 //!
 //! This layer knows the text of a certificate, the rows of the opcode table, and what a step of the processor does to
 //! the program counter and to the eight registers of bank 0. It knows no board: whatever the pins, the memory and the
-//! flags hold, the bounds of a certificate without a fault stand. The certificate and its faults are our own.
+//! flags hold, the bounds of a certificate without a fault hold. The certificate and its faults are our own.
 #![tactic(auto)]
 
 mod bound;

@@ -16,7 +16,7 @@ const MOST_FIXED: u32 = 1_000_000;
 /// The greatest factor of a register's weight.
 const MOST_FACTOR: u32 = 10_000;
 
-/// The number that decimal digits write, one at least, where it is at most `limit`. None for every other text.
+/// The number that decimal digits write, one at least, if it is at most `limit`. None for every other text.
 fn number(limit: u32, text: &[u8]) -> Option<u32>
     requires { limit ≤ 1000000 }
     ensures { result ≡ number_in limit text.now }
@@ -56,7 +56,7 @@ fn register(text: &[u8]) -> Option<u8>
     if number < 8 { Some(number as u8) } else { None }
 }
 
-/// The place that a certificate's first line gives as its target. None where the line hasn't the form.
+/// The place that a certificate's first line gives as its target. None if the line hasn't the form.
 pub(crate) fn target(line: &[u8]) -> Option<u16>
     ensures target { result ≡ target_in line.now }
     ensures within { IfSome result (λ place. place < 2048) }
@@ -68,7 +68,7 @@ pub(crate) fn target(line: &[u8]) -> Option<u16>
     place(single(b' ', rest)?)
 }
 
-/// The bound that the fields behind a place give. None where they haven't the form.
+/// The bound that the fields after a place give. None if they haven't the form.
 fn bound(text: &[u8]) -> Option<Bound>
     ensures bound { result ≡ bound_from (pieces 32 text.now) }
     ensures register { IfSome result (λ bound. bound.register < 8) }
@@ -91,7 +91,7 @@ fn bound(text: &[u8]) -> Option<Bound>
     })
 }
 
-/// The entry of a line with this number, one behind the first. None where the line hasn't the form.
+/// The entry of a line with this number, one after the first. None if the line hasn't the form.
 pub(crate) fn entry(number: u32, line: &[u8]) -> Option<Entry>
     ensures entry { result ≡ entry_in number line.now }
     ensures within { IfSome result (λ entry. entry.place < 2048) }

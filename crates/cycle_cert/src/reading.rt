@@ -45,7 +45,7 @@ impl Draft {
         Ok(())
     }
 
-    /// Takes a line behind it.
+    /// Takes a line after it.
     fn take_entry(&mut self, line: &[u8]) -> Result<(), CertFault>
         requires { self.old.lines < 65536 }
         ensures taken { OnOk result (take_entry self.old line.now ≡ Ok self.new) }

@@ -23,7 +23,7 @@ pub(crate) enum When {
 }
 
 impl When {
-    /// Whether the way can be taken where this register has this value before the row.
+    /// Whether the way can be taken if this register has this value before the row.
     pub(crate) fn fits(self, register: u8, value: u8) -> bool
         ensures { result ≡ fits self register value }
     {
@@ -42,7 +42,7 @@ pub(crate) struct Way {
     pub(crate) when: When,
 }
 
-/// The ways out of a row: one, or two where it is a conditional jump, the jump first.
+/// The ways out of a row: one, or two if it is a conditional jump, the jump first.
 #[derive(Clone, Copy, Drop)]
 pub(crate) struct Ways {
     pub(crate) first: Way,
@@ -75,7 +75,7 @@ fn only(to: u16) -> Ways
     }
 }
 
-/// The place so many bytes behind a place, modulo the memory's 2,048.
+/// The place so many bytes after a place, modulo the memory's 2,048.
 fn place_after(place: u16, len: u8) -> u16
     requires { place < 2048 }
     ensures place { result ≡ place_after place len }
@@ -172,7 +172,7 @@ pub(crate) fn ways_of(op: Op, len: u8, place: u16) -> Ways
     }
 }
 
-/// The value that a row gives to a register of the selected bank, from its value before; none where the row names no
+/// The value that a row gives to a register of the selected bank, from its value before; none if the row names no
 /// value for it.
 fn value_given(op: Op, register: u8, value: u8) -> Option<u8>
     ensures { result ≡ value_given op register value }

@@ -17,17 +17,17 @@ abbrev pub first_broken : {Rule : Type 0} → List (Judgement Rule) → Option R
 first_broken [] = None
 first_broken (judgement ∷ more) = if judgement.broken then Some judgement.rule else first_broken more
 
--- a value, where no rule is broken
+-- a value, if no rule is broken
 abbrev pub unless : {Rule X : Type 0} → Option Rule → X → Result X Rule
 unless None value = Ok value
 unless (Some rule) value = Err rule
 
--- a value, where there is one; that there is none breaks a rule
+-- a value, if there is one; that there is none breaks a rule
 abbrev pub some_or : {Rule X : Type 0} → Rule → Option X → Result X Rule
 some_or rule (Some value) = Ok value
 some_or rule None = Err rule
 
--- what follows, where no rule is broken
+-- what follows, if no rule is broken
 abbrev pub and_then : {Rule X Y : Type 0} → Result X Rule → (X → Result Y Rule) → Result Y Rule
 and_then (Ok value) next = next value
 and_then (Err rule) next = Err rule

@@ -30,12 +30,12 @@ RefusesByTheLowest = (rules : ℕ → ℕ → List (Judgement ℕ)) (makes : ℕ
     → rules before item ≡ lower ++ judge rule true ∷ higher → All IsKept lower
     → judged_by rules makes before item ≡ Err rule
 
--- and it is taken where it breaks none
+-- and it is taken if it breaks none
 abbrev pub TakesWhatIsRight : Type 0
 TakesWhatIsRight = (rules : ℕ → ℕ → List (Judgement ℕ)) (makes : ℕ → ℕ → ℕ) (before item : ℕ)
     → All IsKept (rules before item) → judged_by rules makes before item ≡ Ok (makes before item)
 
--- where no item breaks a rule, the end is judged, and counts as one item more
+-- if no item breaks a rule, the end is judged, and counts as one item more
 abbrev pub JudgesTheEnd : Type 0
 JudgesTheEnd = (take : ℕ → ℕ → Result ℕ ℕ) (finish : ℕ → Result ℕ ℕ) (at_first after : ℕ) (items : List ℕ)
     → taken take at_first items ≡ Ok after

@@ -1,5 +1,5 @@
 //! Numbers as upper-case hexadecimal digits, as every text of the program writes them, and the value of a digit of
-//! either case, where one is read. Our own.
+//! either case, if one is read. Our own.
 //!
 //! This layer knows digits. It knows no line, no format and no file.
 #![tactic(auto)]

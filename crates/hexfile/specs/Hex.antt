@@ -24,7 +24,7 @@ abbrev pub after_rules : Option Rule → Progress → Record → Result Progress
 after_rules None before line = Ok (after_record before line)
 after_rules (Some rule) before line = Err rule
 
--- what a line does, or the first rule that it breaks: that is the form, where it is no record
+-- what a line does, or the first rule that it breaks: that is the form, if it is no record
 abbrev pub after_form : Option Record → Progress → Result Progress Rule
 after_form None before = Err Form
 after_form (Some line) before = after_rules (first_broken (judgements before line)) before line
@@ -38,11 +38,11 @@ after_line before (mark ∷ digits) = after_form (record_in (mark ∷ digits)) b
 abbrev pub at_first : Progress
 at_first = record { memory = empty_memory; ended = false }
 
--- where no line breaks a rule, a text needs an end
+-- if no line breaks a rule, a text needs an end
 abbrev pub outcome_of : ℕ → Progress → HexOutcome
 outcome_of number after = if after.ended then Ok (image_of after.memory) else Err (fault_at number NoEnd)
 
--- what a line with this number came to, and what the lines behind it come to then
+-- what a line with this number came to, and what the lines after it come to then
 abbrev pub and_then_at : ℕ → Result Progress Rule → (Progress → HexOutcome) → HexOutcome
 and_then_at number (Ok after) next = next after
 and_then_at number (Err rule) next = Err (fault_at number rule)

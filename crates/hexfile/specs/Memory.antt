@@ -9,15 +9,15 @@ use Rattle.hexfile.specs.Record.{Record}
 unfoldable pub empty_memory : List (Option ℕ)
 empty_memory = replicate 2048 None
 
--- the place behind a line's last byte of data
+-- the place after a line's last byte of data
 abbrev pub end_of : Record → ℕ
 end_of line = line.address + length line.bytes
 
--- a byte of data stands past the last place
+-- a byte of data is past the last place
 abbrev pub is_past : Record → Bool
 is_past line = nat_lt 0 (length line.bytes) && nat_lt 2048 (end_of line)
 
--- a byte of data stands at a place that has a byte
+-- a byte of data is at a place that has a byte
 abbrev pub is_given_twice : List (Option ℕ) → Record → Bool
 is_given_twice memory line = list_any is_some (slice_range memory line.address (end_of line))
 

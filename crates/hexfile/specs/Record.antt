@@ -9,7 +9,7 @@ infixl 10 ◌>>=◌
 abbrev pub ◌>>=◌ : {A B : Type 0} → Option A → (A → Option B) → Option B
 found >>= next = option_and_then next found
 
--- the bytes that digits write, the high digit of a byte first; none where a character is no digit, or a digit is left
+-- the bytes that digits write, the high digit of a byte first; none if a character is no digit, or a digit is left
 -- over
 abbrev pub bytes_of : List ℕ → Option (List ℕ)
 bytes_of [] = Some []
@@ -46,7 +46,7 @@ record_of (count ∷ high ∷ low ∷ kind ∷ rest) =
     else None
 record_of bytes = None
 
--- what a line says; none where it hasn't the form
+-- what a line says; none if it hasn't the form
 abbrev pub record_in : List ℕ → Option Record
 record_in line = option_and_then record_of (line_bytes line)
 

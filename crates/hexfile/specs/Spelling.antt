@@ -3,7 +3,7 @@ use Rattle.std.specs.Prelude.{ℕ, ◌+◌, ◌-◌, ◌*◌, ◌/◌, ◌%◌, 
 use Rattle.std.specs.List.{list_all, slice_range, flat_map, range_with_len}
 use Rattle.hex_text.specs.Digits.{hex_byte}
 
--- the sum byte behind bytes, with which they sum to 0 modulo 256
+-- the sum byte after bytes, with which they sum to 0 modulo 256
 abbrev pub sum_byte : List ℕ → ℕ
 sum_byte bytes = (256 - sum bytes % 256) % 256
 
@@ -12,7 +12,7 @@ abbrev pub line_text : List ℕ → List ℕ
 line_text bytes = 58 ∷ flat_map hex_byte (bytes ++ sum_byte bytes ∷ []) ++ 10 ∷ []
 
 -- 16 bytes from a place on are a data line: their number, the place with its high byte first, type 00, and the bytes;
--- where each is 00, they are no line
+-- if each is 00, they are no line
 abbrev pub row_text : ℕ → List ℕ → List ℕ
 row_text place row =
     if list_all (λ byte. byte == 0) row then [] else line_text (16 ∷ place / 256 ∷ place % 256 ∷ 0 ∷ row)

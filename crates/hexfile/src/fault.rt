@@ -22,7 +22,7 @@ pub(crate) enum Rule {
     Sum,
     /// A line has a known type, and the bytes that its type asks for.
     Kind,
-    /// No byte of data stands past the last place.
+    /// No byte of data is past the last place.
     Address,
     /// No place is given twice.
     Overlap,

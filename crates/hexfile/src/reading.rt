@@ -13,7 +13,7 @@ use arrayvec::ArrayVec;
 use mcs48_isa::Image;
 use text_lines::next_line;
 
-/// The bytes of a line. None where it has no record: it is no colon with pairs of digits, or has more of them than a
+/// The bytes of a line. None if it has no record: it is no colon with pairs of digits, or has more of them than a
 /// count can say.
 fn line_bytes(line: &[u8]) -> Option<ArrayVec<u8, LONGEST>>
     ensures { option_and_then record_of (option_map (λ bytes. bytes.items) result) ≡ record_in line.now }
@@ -27,7 +27,7 @@ fn line_bytes(line: &[u8]) -> Option<ArrayVec<u8, LONGEST>>
     decoded(digits)
 }
 
-/// Does what a line says. The first rule that it breaks, with nothing done, where it breaks one.
+/// Does what a line says. The first rule that it breaks, with nothing done, if it breaks one.
 fn take_line(progress: &mut Progress, line: &[u8]) -> Result<(), Rule>
     ensures done { IfOk result (λ _. after_line progress.old line.now ≡ Ok progress.new) }
     ensures broken { IfErr result (λ rule. after_line progress.old line.now ≡ Err rule) }

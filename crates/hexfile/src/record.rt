@@ -9,7 +9,7 @@ use arrayvec::ArrayVec;
 /// The most bytes of a line: the count, the address, the type, 255 bytes of data and the sum byte.
 pub(crate) const LONGEST: usize = 260;
 
-/// What a line says: where its data stand, of which type it is, and the data.
+/// What a line says: where its data are, of which type it is, and the data.
 #[derive(Drop)]
 pub(crate) struct Record<'a> {
     /// The place of the first byte of data, 0 to 65,535.
@@ -18,11 +18,11 @@ pub(crate) struct Record<'a> {
     pub(crate) kind: u8,
     /// The data, 0 to 255 bytes.
     pub(crate) bytes: &'a [u8],
-    /// The sum of all bytes of the line modulo 256, which is 0 where the line came through unharmed.
+    /// The sum of all bytes of the line modulo 256, which is 0 if the line came through unharmed.
     pub(crate) total: u8,
 }
 
-/// The bytes that pairs of digits write. None where a character is no digit, or a digit is left over.
+/// The bytes that pairs of digits write. None if a character is no digit, or a digit is left over.
 pub(crate) fn decoded(digits: &[u8]) -> Option<ArrayVec<u8, LONGEST>>
     requires { length digits.now ≤ 520 }
     ensures { option_map (λ bytes. bytes.items) result ≡ bytes_of digits.now }
@@ -49,7 +49,7 @@ pub(crate) fn total_of(bytes: &[u8]) -> u8
     total
 }
 
-/// The record that a line's bytes give. None where there are more or fewer bytes than the count says.
+/// The record that a line's bytes give. None if there are more or fewer bytes than the count says.
 pub(crate) fn parsed(line: &[u8]) -> Option<Record<'_>>
     ensures { option_map said_by result ≡ record_of line.now }
 {

@@ -48,7 +48,7 @@ fn is_blank(row: &[u8]) -> bool
     row.iter().all(|byte| *byte == 0)
 }
 
-/// Appends the data line of a row, where it holds a byte other than 00.
+/// Appends the data line of a row, if it holds a byte other than 00.
 fn push_row(text: &mut Vec<u8>, place: u16, row: &[u8]) -> Result<(), AllocError>
     ensures { OnOk result (text.new.items ≡ text.old.items ++ row_text place row.now) }
 {
@@ -73,7 +73,7 @@ fn push_rows(text: &mut Vec<u8>, bytes: &[u8; 2048]) -> Result<(), AllocError>
 
 /// The HEX text of a program memory: for each of the 128 rows of 16 places, in order, that holds a byte other than 00,
 /// one data line of 16 bytes; then the end line `:00000001FF`. Digits are upper case, and each line ends with LF. The
-/// text has at most 5,644 bytes, and `read_hex` of it gives the same memory. `AllocError` where memory runs out.
+/// text has at most 5,644 bytes, and `read_hex` of it gives the same memory. `AllocError` if memory runs out.
 ///
 /// Source: our own spelling of Intel HEX (Intel, Hexadecimal Object File Format Specification).
 pub fn write_hex(alloc: Global, image: &Image) -> Result<Vec<u8>, AllocError>

@@ -1,4 +1,4 @@
--- A cycle of the PC's side: what came to the controller over its link stands before it, then the host acts, then a byte
+-- A cycle of the PC's side: what came to the controller over its link is before it, then the host acts, then a byte
 -- under way is broken off for a waiting input, and the controller settles.
 use Rattle.std.specs.Prelude.{ℕ, Bool, false, List, [], ◌∷◌, ◌++◌}
 use Rattle.std.specs.declared.option.Option.{Option}
@@ -54,7 +54,7 @@ ends_cycle t done q = record {
   done = done;
 }
 
--- a cycle, once it is known what came over the link: the host, the break of a byte under way, where it may be broken
+-- a cycle, once it is known what came over the link: the host, the break of a byte under way, if it may be broken
 -- off by what is known of it, and then the controller settles
 abbrev pub cycled : {F : Type 0} → (F → Bool) → ℕ → Option HostEvent → Desk F → Cycled F
 cycled breaks now next d =

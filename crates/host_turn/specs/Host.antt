@@ -1,4 +1,4 @@
--- The host in a cycle: its next event, where it is due, and then INT 09h's read, where the interrupt comes through.
+-- The host in a cycle: its next event, if it is due, and then INT 09h's read, if the interrupt comes through.
 use Rattle.std.specs.Prelude.{ℕ, ◌+◌, Bool, true, false, not, ◌&&◌, nat_le, List, [], ◌∷◌, ◌++◌, Some, None}
 use Rattle.std.specs.Prelude.{is_some, if◌then◌else◌}
 use Rattle.std.specs.declared.option.Option.{Option}
@@ -57,11 +57,11 @@ abbrev pub is_done : ℕ → Option HostEvent → ControllerState → Bool
 is_done now None s = false
 is_done now (Some event) s = nat_le (event.stamp + 4096) now && not (waits event.act s)
 
--- what the event does, where it is done in this cycle; else nothing is done and said
+-- what the event does, if it is done in this cycle; else nothing is done and said
 abbrev pub acted_where : Bool → HostAct → Host → Turn
 acted_where done act h = if done then acted act h else in_silence h
 
--- the event, where it is done
+-- the event, if it is done
 abbrev pub event_turn : ℕ → Option HostEvent → Host → Turn
 event_turn now None h = in_silence h
 event_turn now (Some event) h = acted_where (is_done now (Some event) h.core) event.act h
@@ -78,7 +78,7 @@ read_by_bios h =
     let o : Outcome = fed h.core.output h.bios in
     record { host = record h { core = emptied h.core; bios = o.after }; items = Port h.core.output ∷ o.items }
 
--- INT 09h reads the byte where the interrupt comes through; else nothing is done and said
+-- INT 09h reads the byte if the interrupt comes through; else nothing is done and said
 abbrev pub bios_turn : ℕ → ℕ → Host → Turn
 bios_turn now filled h = if interrupts now filled h then read_by_bios h else in_silence h
 

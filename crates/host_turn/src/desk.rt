@@ -1,4 +1,4 @@
-//! What stands on the PC's side, and one cycle of it.
+//! What is on the PC's side, and one cycle of it.
 
 ghost use Rattle.std.specs.Prelude.{◌≡◌, ◌+◌, ◌<◌, ◌≤◌, false, IsTrue, not, ◌&&◌, [], ◌++◌, length};
 ghost use Rattle.ctl_link.specs.Empty.{IsEmptyUnlessHeld};
@@ -40,10 +40,10 @@ impl<F: Drop> Desk<F> {
 }
 
 impl<F: Passing + Drop> Desk<F> {
-    /// Cycle `now`, once what came over the link in it has been done: the host's next event, if any, where it is due;
-    /// then the read of INT 09h, where the interrupt comes through; then a waiting input breaks off a byte under way,
-    /// where it may; then the controller settles. Answers whether the event was done. What was said, at most five
-    /// items, is put behind `items`, in order.
+    /// Cycle `now`, once what came over the link in it has been done: the host's next event, if any, if it is due;
+    /// then the read of INT 09h, if the interrupt comes through; then a waiting input breaks off a byte under way,
+    /// if it may; then the controller settles. Answers whether the event was done. What was said, at most five
+    /// items, is put after `items`, in order.
     pub fn go_on(
         &mut self,
         now: u64,

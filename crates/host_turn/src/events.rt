@@ -25,7 +25,7 @@ pub(crate) fn is_due(now: u64, next: Option<HostEvent>) -> bool
 }
 
 impl<F: Drop> Desk<F> {
-    /// The host's next event, if any, where it is due in cycle `now`. A write waits while the input buffer is full.
+    /// The host's next event, if any, if it is due in cycle `now`. A write waits while the input buffer is full.
     /// Answers whether it was done.
     pub(crate) fn do_event(
         &mut self,

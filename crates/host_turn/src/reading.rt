@@ -12,7 +12,7 @@ use pc_tables::Item;
 const LEAST_WAIT: u64 = 64;
 
 impl<F: Drop> Desk<F> {
-    /// INT 09h reads the byte of the output buffer, where the interrupt comes through in cycle `now`. It says `port`
+    /// INT 09h reads the byte of the output buffer, if the interrupt comes through in cycle `now`. It says `port`
     /// with the byte, and what INT 09h says of it.
     pub(crate) fn interrupt(&mut self, now: u64, items: &mut ArrayVec<Item, 16>)
         requires room { length items.old.items ≤ 12 }

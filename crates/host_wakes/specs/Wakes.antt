@@ -12,7 +12,7 @@ use Rattle.host_turn.specs.Host.{waits}
 use Rattle.host_turn.specs.Cycle.{cycled}
 
 -- the first cycle in which the host's next event, the read, the break of a byte under way, the taking of the input and
--- the link by itself may come; `end` where none of these cycles is known
+-- the link by itself may come; `end` if none of these cycles is known
 abbrev pub event_wake : Option HostEvent → ControllerState → ℕ → ℕ
 event_wake None s end = end
 event_wake (Some e) s end = if waits e.act s then end else e.stamp + 4096

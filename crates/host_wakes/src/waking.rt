@@ -104,7 +104,7 @@ fn link_stir<F: Drop>(link: &Link<F>, awaits: bool, core: &Controller, end: u64)
     }
 }
 
-/// The first cycle from `now` on in which something may happen on the PC's side, and `end` where there is none before
+/// The first cycle from `now` on in which something may happen on the PC's side, and `end` if there is none before
 /// it.
 pub fn first_stir<F: Passing + Drop>(
     desk: &Desk<F>,

@@ -1,4 +1,4 @@
--- INT 09h: nine rules in their order. A rule says how it treats a byte in a state, or nothing where it doesn't fit.
+-- INT 09h: nine rules in their order. A rule says how it treats a byte in a state, or nothing if it doesn't fit.
 use Rattle.std.specs.Prelude.{ℕ, ◌+◌, ◌-◌, ◌*◌, ◌%◌, ◌==◌, nat_lt, Bool, true, not, ◌&&◌, ◌||◌, if◌then◌else◌}
 use Rattle.std.specs.Prelude.{List, [], ◌∷◌, Some, None, is_some, option_and_then}
 use Rattle.std.specs.Option.{option_map, unwrap_or}
@@ -35,7 +35,7 @@ on_sysreq byte s =
     else if byte == 0x54 then Some (says SysMake (record s { downs = with_bit sysreq s.downs }))
     else None
 
--- a break of Alt enters the number that was typed under it, where it isn't 0
+-- a break of Alt enters the number that was typed under it, if it isn't 0
 unfoldable pub alt_broken : State → Outcome
 alt_broken s =
     let t : State = record s { shifts = without_bit alt s.shifts } in
@@ -57,7 +57,7 @@ locks code bit s =
     let t : State = record s { downs = with_bit bit s.downs; shifts = flipped_bit bit s.shifts } in
     if code == 0x52 then enters 0x5200 t else quiet t
 
--- a make of such a key; with Ctrl, and Insert with Alt, it is left to the rules behind; Insert is the digit 0 where
+-- a make of such a key; with Ctrl, and Insert with Alt, it is left to the rules after; Insert is the digit 0 if
 -- exactly one of two things is so, Num is on or a shift key is down
 unfoldable pub lock_made : ℕ → ℕ → State → Option Outcome
 lock_made code bit s =

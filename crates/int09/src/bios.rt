@@ -108,7 +108,7 @@ impl Bios {
         items
     }
 
-    /// Takes the first word; None exactly where the buffer is empty.
+    /// Takes the first word; None exactly if the buffer is empty.
     pub fn take(&mut self) -> Option<u16>
         ensures word { result ≡ first_word self.old }
         ensures after { self.new ≡ without_first self.old }

@@ -18,7 +18,7 @@ impl Bios {
     ghost use Rattle.int09.specs.Keys.{lock_bit, shift_down, reverses};
     ghost use Rattle.int09.specs.Rules.{alt_broken, locks, nine_rules, first_that_fits, fed};
 
-    /// Treats a byte by the first rule that fits: rule 1, and those behind it.
+    /// Treats a byte by the first rule that fits: rule 1, and those after it.
     #[tactic(auto, unfolding(crate::specs::Rules::fed, crate::specs::Rules::marks))]
     pub(crate) fn treat(&mut self, byte: u8) -> ArrayVec<Item, 2>
         ensures after { self.new ≡ (fed byte self.old).after }
@@ -39,7 +39,7 @@ impl Bios {
         }
     }
 
-    /// A make: rule 2, and those behind it.
+    /// A make: rule 2, and those after it.
     #[tactic(auto, unfolding(crate::specs::Rules::on_sysreq, crate::specs::Rules::on_shift_key, crate::specs::Rules::on_lock_key))]
     fn make(&mut self, code: u8) -> ArrayVec<Item, 2>
         requires { code < 0x80 }
@@ -110,7 +110,7 @@ impl Bios {
         }
     }
 
-    /// A make: rule 5, and those behind it.
+    /// A make: rule 5, and those after it.
     #[tactic(auto, unfolding(crate::specs::Rules::without_words, crate::specs::Rules::in_pause))]
     fn key(&mut self, code: u8) -> ArrayVec<Item, 2>
         requires { code < 0x80 }
@@ -218,7 +218,7 @@ impl Bios {
         self.enter_if(row.shift)
     }
 
-    /// A break: rule 2, and those behind it.
+    /// A break: rule 2, and those after it.
     #[tactic(auto, unfolding(crate::specs::Rules::on_sysreq, crate::specs::Rules::on_shift_key, crate::specs::Rules::on_lock_key, crate::specs::Rules::without_words))]
     fn release(&mut self, byte: u8) -> ArrayVec<Item, 2>
         requires { 0x80 ≤ byte }
@@ -267,7 +267,7 @@ impl Bios {
         }
     }
 
-    /// The same, where there is a word.
+    /// The same, if there is a word.
     fn enter_if(&mut self, word: Option<u16>) -> ArrayVec<Item, 2>
         ensures after { self.new ≡ (enters_if word self.old).after }
         ensures items { result.items ≡ (enters_if word self.old).items }

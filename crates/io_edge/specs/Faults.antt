@@ -5,6 +5,6 @@ use Rattle.std.specs.Prelude.{ℕ, ◌+◌, ◌-◌, ◌^◌, ◌≤◌, min}
 abbrev pub one_more : ℕ → ℕ
 one_more count = min (count + 1) (2 ^ 64 - 1)
 
--- the count rose in the call: it is greater after the call than before it, or it stands at the greatest u64
+-- the count rose in the call: it is greater after the call than before it, or it is at the greatest u64
 abbrev pub Rose : ℕ → ℕ → Type 0
 Rose before after = one_more before ≤ after

@@ -22,7 +22,7 @@ abbrev pub empty_sink : ℕ → List ℕ → ℕ → HeldBytes
 empty_sink room fails at_most =
     record { taken = []; room = room; at_most = at_most; puts = 0; fails = fails; faults = 0 }
 
--- a put fails exactly where its number is one that fails, or the room was full before it
+-- a put fails exactly if its number is one that fails, or the room was full before it
 abbrev pub put_fails : HeldBytes → Bool
 put_fails sink = list_any (nat_eq (one_more sink.puts)) sink.fails || nat_le sink.room (length sink.taken)
 
@@ -34,7 +34,7 @@ put_size sink piece = min (min (length piece) (sink.room - length sink.taken)) s
 abbrev pub put_answer : HeldBytes → List ℕ → Result ℕ SinkFault
 put_answer sink piece = if put_fails sink then Err Failed else Ok (put_size sink piece)
 
--- the sink after a put; the put counts whatever it answers, and raises the count of faults exactly where it fails
+-- the sink after a put; the put counts whatever it answers, and raises the count of faults exactly if it fails
 abbrev pub after_put : HeldBytes → List ℕ → HeldBytes
 after_put sink piece =
     if put_fails sink then record sink { puts = one_more sink.puts; faults = one_more sink.faults }

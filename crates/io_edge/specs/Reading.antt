@@ -1,4 +1,4 @@
--- Reading a file to its end, where the bytes that the reader will give are known.
+-- Reading a file to its end, if the bytes that the reader will give are known.
 use Rattle.std.specs.Prelude.{◌≡◌, ℕ, ◌<◌, ◌≤◌, List, ◌++◌, length, Some, None, MatchResult}
 use Rattle.std.specs.declared.alloc.Global.{Global}
 use Rattle.std.specs.declared.option.Option.{Option}
@@ -7,7 +7,7 @@ use Rattle.std.specs.declared.vec.Vec.{Vec}
 use Rattle.io_edge.specs.declared.shelf.FetchFault.{FetchFault}
 use Rattle.io_edge.specs.declared.shelf.FetchFault.TheVariants.{TooLong}
 
--- what was read and what is left are, one behind the other, the same bytes after a step as before it
+-- what was read and what is left are, one after the other, the same bytes after a step as before it
 abbrev pub NoneLost : Option (List ℕ) → List ℕ → Option (List ℕ) → List ℕ → Type 0
 NoneLost None read left' read' = Unit {0}
 NoneLost (Some left) read None read' = ⊥

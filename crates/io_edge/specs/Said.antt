@@ -19,7 +19,7 @@ pub record Offered : Type 0 where
   pub sink : HeldBytes
   pub failed : Bool
 
--- a piece is put; where a part of it was taken, the rest is put, until nothing is left or a put fails. So many puts are
+-- a piece is put; if a part of it was taken, the rest is put, until nothing is left or a put fails. So many puts are
 -- made at most
 abbrev pub offered_by : ℕ → List ℕ → HeldBytes → Offered
 offered_by zero piece sink = record { sink = sink; failed = false }
@@ -58,7 +58,7 @@ abbrev pub line_length : List ℕ → ℕ
 line_length [] = 0
 line_length (byte ∷ text) = if byte == 10 then 1 else 1 + line_length text
 
--- what a sink shows of itself: the bytes that it took, and all else, where it tells them, and its count of faults
+-- what a sink shows of itself: the bytes that it took, and all else, if it tells them, and its count of faults
 pub record Shown : Type 0 where
   pub taken : Option (List ℕ)
   pub told : Option HeldBytes

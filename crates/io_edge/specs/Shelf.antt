@@ -41,23 +41,23 @@ next_call shelf = one_more shelf.calls
 abbrev pub after_fetch : Told → Told
 after_fetch shelf = record shelf { calls = next_call shelf }
 
--- the bytes, where they aren't too many
+-- the bytes, if they aren't too many
 abbrev pub within : ℕ → Option (List ℕ) → Fetched
 within max None = Fails
 within max (Some bytes) = if nat_lt max (length bytes) then Long else Found bytes
 
--- a call fails exactly where its number is one that fails, or no file has the name
+-- a call fails exactly if its number is one that fails, or no file has the name
 abbrev pub fetched : Told → List ℕ → ℕ → Fetched
 fetched shelf name max =
     if list_any (nat_eq (next_call shelf)) shelf.fails then Fails else within max (bytes_under name shelf.files)
 
--- the answer to such a call; only where there is a file to give, memory may be wanting
+-- the answer to such a call; only if there is a file to give, memory may run out
 abbrev pub IsFetch : Fetched → Result (Vec ℕ Global) FetchFault → Type 0
 IsFetch Fails result = MatchResult result (λ bytes. ⊥) (λ fault. fault ≡ Failed)
 IsFetch Long result = MatchResult result (λ bytes. ⊥) (λ fault. fault ≡ TooLong)
 IsFetch (Found found) result = MatchResult result (λ bytes. bytes.items ≡ found) (λ fault. fault ≡ Memory)
 
--- the count of faults after a call with this answer; it rises exactly where the call failed
+-- the count of faults after a call with this answer; it rises exactly if the call failed
 abbrev pub faults_after : Result (Vec ℕ Global) FetchFault → ℕ → ℕ
 faults_after (Ok bytes) faults = faults
 faults_after (Err Failed) faults = one_more faults

@@ -3,7 +3,7 @@
 ghost use Rattle.std.specs.Prelude.{◌≡◌, nat_eq};
 ghost use Rattle.std.specs.List.{list_any};
 
-/// Whether a number, from 1, stands in the list of those that fail.
+/// Whether a number, from 1, is in the list of those that fail.
 pub fn is_among(number: u64, fails: &[u32]) -> bool
     ensures among { result ≡ list_any (nat_eq number) fails.now }
 {

@@ -30,7 +30,7 @@ impl Model for MemShelf {
 }
 
 impl MemShelf {
-    /// A shelf with these files, each a name and its bytes. The calls whose numbers, from 1, stand in `fails` fail.
+    /// A shelf with these files, each a name and its bytes. The calls whose numbers, from 1, are in `fails` fail.
     pub fn new(files: Vec<(String, Vec<u8>)>, fails: Vec<u32>) -> MemShelf
         ensures files { result.told.files ≡ files_of files.items }
         ensures fails { result.told.fails ≡ fails.items }

@@ -34,7 +34,7 @@ impl Model for MemSink {
 
 impl MemSink {
     /// An empty sink with room for so many bytes, all of which it takes from `alloc` at once. A put takes at most
-    /// `at_most` bytes. The puts whose numbers, from 1, stand in `fails` fail.
+    /// `at_most` bytes. The puts whose numbers, from 1, are in `fails` fail.
     fn empty(
         alloc: Global,
         room: usize,
@@ -55,7 +55,7 @@ impl MemSink {
     }
 
     /// An empty sink with room for so many bytes, all of which it takes from `alloc` at once. The puts whose numbers,
-    /// from 1, stand in `fails` fail, and so does each put for which no room is left.
+    /// from 1, are in `fails` fail, and so does each put for which no room is left.
     pub fn new(alloc: Global, room: usize, fails: Vec<u32>) -> Result<MemSink, AllocError>
         ensures sink { IfOk result (λ sink. sink ≡ empty_sink room fails.items usize.MAX) }
     {

@@ -30,7 +30,7 @@ fn first_lf(text: &[u8]) -> Option<usize>
     text.iter().position(|byte| *byte == b'\n')
 }
 
-/// The place behind the line that begins at `start`: behind its LF, or at the text's end.
+/// The place after the line that begins at `start`: after its LF, or at the text's end.
 fn line_end(text: &[u8], start: usize) -> usize
     requires { start < length text.now }
     ensures more { start < result }

@@ -23,7 +23,7 @@ pub enum FetchFault {
     Memory,
 }
 
-/// Files under names. A shelf counts its faults: the count never falls, and rises only where a fetch fails. A shelf in
+/// Files under names. A shelf counts its faults: the count never falls, and rises only if a fetch fails. A shelf in
 /// memory also tells its files, how many calls it has had, and which numbers of calls fail.
 pub trait Shelf {
     ghost faults: { Self → ℕ };

@@ -1,4 +1,4 @@
--- Joint steps behind which nothing has to be counted or told.
+-- Joint steps after which nothing has to be counted or told.
 use Rattle.std.specs.Prelude.{◌≡◌, ◌≤◌, ◌<◌, ℕ, zero, suc, ◌+◌, ◌%◌, ◌==◌, Bool, true, false, [], ◌∷◌, Ok, Err}
 use Rattle.std.specs.declared.result.Result.{Result}
 use Rattle.board_lines.specs.declared.lines.Lines.{Lines}

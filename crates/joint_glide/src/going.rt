@@ -10,8 +10,8 @@ use joint_run::{Due, Joint, Seen};
 use mcs48_core::Stuck;
 
 /// Makes joint steps by the events that are handed in: quiet ones, in at most `most` cycles together, none of which leads
-/// to the place `tick` of the program, and then one of any kind, which is told in `seen`. There may be no quiet one. Where
-/// the processor is stuck, the steps before stand, and `seen` is of no use.
+/// to the place `tick` of the program, and then one of any kind, which is reported in `seen`. There may be no quiet one. If
+/// the processor is stuck, the steps before count, and `seen` is of no use.
 #[inline(always)]
 pub fn go_on(
     joint: &mut Joint,

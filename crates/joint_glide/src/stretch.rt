@@ -42,7 +42,7 @@ fn call(joint: &mut Joint, line: Lines) -> Result<u8, Stuck>
     joint.step_processor::<6>(given)
 }
 
-/// Jumps to where the processor stands, in less cycles than there is room for. Answers how many.
+/// Jumps to where the processor is, in less cycles than there is room for. Answers how many.
 #[inline(always)]
 fn leap(joint: &mut Joint, line: Lines, room: u64) -> u64
     requires line { line ≡ outside_wires joint.old.mcu.p2 joint.old.outside }
@@ -92,8 +92,8 @@ fn tell(seen: &mut Seen, cycles: u8, line: Lines)
 }
 
 /// Makes quiet steps, in at most `room` cycles together, up to one that writes port 2 or leads to the tick's place, which
-/// is told in `seen`: then the answer is `true`. It is `false` where there is no room for another step of two cycles.
-/// Where the processor is stuck, the steps before stand.
+/// is reported in `seen`: then the answer is `true`. It is `false` if there is no room for another step of two cycles.
+/// If the processor is stuck, the steps before count.
 #[inline(never)]
 pub(crate) fn stretch(
     joint: &mut Joint,

@@ -23,7 +23,7 @@ use Rattle.pc_wires.specs.Wires.{wires}
 use Rattle.joint_run.specs.Run.{Board, World, after_cycles, joint_step}
 use Rattle.joint_run.specs.Joint.{Beside, latch_of, pins_by, joint_cycle}
 
--- what stands outside the processor at power-on
+-- what is outside the processor at power-on
 abbrev pub outside_at_start : Outside
 outside_at_start = record {
   desk = desk_at_start Wire start;
@@ -46,7 +46,7 @@ powered_on_from held image = record {
 abbrev pub powered_on : List ℕ → Machine
 powered_on image = powered_on_from reset_cpu image
 
--- what stands outside the processor as a state of the joint run, with so many events of the host done and this said
+-- what is outside the processor as a state of the joint run, with so many events of the host done and this said
 abbrev pub beside : Outside → ℕ → List Stamped → Beside
 beside o done log = record {
   pc = record {
@@ -56,7 +56,7 @@ beside o done log = record {
   shown = o.shown;
 }
 
--- what stands outside in a state of the run: all but what is done and said
+-- what is outside in a state of the run: all but what is done and said
 abbrev pub outside_of : Beside → Outside
 outside_of s = record {
   desk = record { port = s.pc.side.port; masked = s.pc.side.masked; bios = s.pc.side.bios };
@@ -64,11 +64,11 @@ outside_of s = record {
   shown = s.shown;
 }
 
--- what stands outside after so many cycles, with what is done and said in them
+-- what is outside after so many cycles, with what is done and said in them
 abbrev pub passed : ℕ → ℕ → ℕ → List HostEvent → Outside → Beside
 passed cycles now p2 events o = after_cycles cycles now (joint_cycle events p2) (beside o 0 [])
 
--- the cycles of a step have passed: what stands outside then, what was said, and the answer, which is how many of the
+-- the cycles of a step have passed: what is outside then, what was said, and the answer, which is how many of the
 -- host's events were done, and the wires after the first and after the last cycle
 pub record HasPassed (cycles now p2 : ℕ) (events : List HostEvent) (old new : Outside) (said : List Stamped)
     (answer : ℕ × Lines × Lines) : Type 0 where
@@ -145,7 +145,7 @@ IsJointStep due old None (Ok seen) new = ⊥
 IsJointStep due old None (Err stuck) new =
     (stuck ≡ record { pc = old.mcu.pc; byte = slice_index old.image.bytes (old.mcu.pc % 2048) }) × (new ≡ old)
 
--- what a step that is told in a place of the caller's answers
+-- what a step that is reported in a place of the caller's answers
 abbrev pub told : Result (Unit {0}) Stuck → Seen → Result Seen Stuck
 told (Ok done) seen = Ok seen
 told (Err stuck) seen = Err stuck

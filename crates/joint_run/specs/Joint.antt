@@ -15,7 +15,7 @@ use Rattle.bits.specs.Bits.{bit}
 use Rattle.pc_wires.specs.Wires.{Pc, pc_at_start, wires, board_cycle}
 use Rattle.joint_run.specs.Run.{Board, World}
 
--- what stands beside the processor: the PC's side of the wires, and the lights that the keyboard shows
+-- what is beside the processor: the PC's side of the wires, and the lights that the keyboard shows
 pub record Beside : Type 0 where
   pub pc : Pc
   pub shown : ℕ
@@ -33,7 +33,7 @@ abbrev pub keys_at : List Edge → ℕ → List Bool
 keys_at edges cycle = turned_by (filter (is_made cycle) edges) all_up
 
 -- the levels that the processor reads, by the keys that are down: the rows of the column that the low nibble of port 1
--- selects, and the wires as they stood after the last cycle. All other pins are high
+-- selects, and the wires as they were after the last cycle. All other pins are high
 abbrev pub pins_by : List Bool → ℕ → ℕ → Beside → Pins
 pins_by keys p1 p2 s =
     let line : Lines = wires (latch_of p2) s.pc in
@@ -54,7 +54,7 @@ joint_cycle events p2 now s = record {
 abbrev pub joint_board : List Edge → List HostEvent → Board
 joint_board edges events = record { State = Beside; pins = joint_pins edges; cycle = joint_cycle events }
 
--- what stands beside the processor at power-on
+-- what is beside the processor at power-on
 abbrev pub beside_at_start : Beside
 beside_at_start = record { pc = pc_at_start; shown = 0 }
 

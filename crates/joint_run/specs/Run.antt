@@ -5,7 +5,7 @@ use Rattle.mcs48_core.specs.declared.levels.Pins.{Pins}
 use Rattle.mcs48_core.specs.Cpu.{Cpu}
 use Rattle.mcs48_core.specs.Step.{Stepped, stepped}
 
--- what stands beside the processor: the levels at its pins, by the latches of ports 1 and 2, the cycle and the board's
+-- what is beside the processor: the levels at its pins, by the latches of ports 1 and 2, the cycle and the board's
 -- state; and what a cycle makes of this state, by the latch of port 2 and the cycle
 pub record Board : Type 1 where
   pub State : Type 0
@@ -36,7 +36,7 @@ after_step d w (Some n) = Some (record {
   cycle = w.cycle + n.cycles;
 })
 
--- the joint step: one step of the processor over this program, and the cycles that it takes; None where it is stuck
+-- the joint step: one step of the processor over this program, and the cycles that it takes; None if it is stuck
 abbrev pub joint_step : (d : Board) → List ℕ → World d.State → Option (World d.State)
 joint_step d bytes w = after_step d w (stepped bytes (seen d w) w.cpu)
 

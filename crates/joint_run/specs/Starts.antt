@@ -7,11 +7,11 @@ use Rattle.mcs48_core.specs.Step.{takes_external, takes_timer}
 use Rattle.joint_run.specs.Run.{Board, World, seen, joint_step, run_at}
 
 -- the next step executes the instruction at this place: the counter is there, and the step is no interrupt's entry.
--- The byte there isn't asked for: where it has no instruction the run has no next state
+-- The byte there isn't asked for: if it has no instruction the run has no next state
 abbrev pub at_tick : (d : Board) → ℕ → World d.State → Bool
 at_tick d tick w = (w.cpu.pc % 2048 == tick) && not (takes_external (seen d w) w.cpu) && not (takes_timer w.cpu)
 
--- 1 where a state of the run is a tick start, and else 0
+-- 1 if a state of the run is a tick start, and else 0
 abbrev pub start_in : (d : Board) → ℕ → Option (World d.State) → ℕ
 start_in d tick None = 0
 start_in d tick (Some w) = digit (at_tick d tick w)

@@ -87,7 +87,7 @@ impl Joint {
         Joint::power_on_filled(image, bios, 0)
     }
 
-    /// The machine at power-on, with this program and with INT 09h at its start, where data memory, A and T hold this byte.
+    /// The machine at power-on, with this program and with INT 09h at its start, if data memory, A and T hold this byte.
     pub fn power_on_filled(image: &Image, bios: Bios, fill: u8) -> Joint
         requires start { bios ≡ start }
         ensures parts { result ≡ powered_on_from (filled fill) image.now.bytes }
@@ -125,7 +125,7 @@ impl Joint {
     }
 
     /// One joint step. The edges are made whose stamp is reached; the processor makes one step; then its cycles pass,
-    /// in each of which the controller looks at the wires, the host acts and the controller settles. Where the
+    /// in each of which the controller looks at the wires, the host acts and the controller settles. If the
     /// processor is stuck nothing has changed, and no edge is made.
     pub fn step(&mut self, due: &Due) -> Result<Seen, Stuck>
         requires near { self.old.cycle < 2 ^ 62 }
@@ -140,8 +140,8 @@ impl Joint {
         Ok(seen)
     }
 
-    /// The same step, told in `seen` in place of what stood there, which no longer counts: for a caller that makes many
-    /// steps, since no list is made anew. Where the processor is stuck, `seen` says nothing of use.
+    /// The same step, reported in `seen` in place of what was there, which no longer counts: for a caller that makes many
+    /// steps, since no list is made anew. If the processor is stuck, `seen` says nothing of use.
     #[inline(never)]
     pub fn step_into(&mut self, due: &Due, seen: &mut Seen) -> Result<(), Stuck>
         requires near { self.old.cycle < 2 ^ 62 }
@@ -180,7 +180,7 @@ impl Joint {
         self.machine.step_processor::<SITE>(given)
     }
 
-    /// Steps of the processor alone, with these levels at its pins, each of which is a jump to where it stands: as many as
+    /// Steps of the processor alone, with these levels at its pins, each of which is a jump to where it is: as many as
     /// there are before an interrupt is due, but at most `most`. Answers how many.
     #[inline(always)]
     pub fn leap_processor(&mut self, given: &Pins, most: u64) -> u64
@@ -271,7 +271,7 @@ impl Joint {
         &self.machine.matrix
     }
 
-    /// What stands outside the processor.
+    /// What is outside the processor.
     pub fn outside(&self) -> &Outside
         ensures outside { result.now ≡ self.now.outside }
     {

@@ -17,7 +17,7 @@ use host_turn::Stamped;
 use mcs48_core::{Mcu, Pins, Stuck};
 use mcs48_isa::Image;
 
-/// The program; the matrix, with the edges made that were handed in; the processor; what stands outside it; how many
+/// The program; the matrix, with the edges made that were handed in; the processor; what is outside it; how many
 /// cycles are done, and how many steps.
 #[derive(Drop)]
 pub struct Machine {
@@ -48,7 +48,7 @@ fn make_edges(matrix: &mut Matrix, cycle: u64, edges: &[Edge]) -> u8
     }
 }
 
-/// Whether the first of these edges is made at this cycle. Where it isn't, none is.
+/// Whether the first of these edges is made at this cycle. If it isn't, none is.
 #[inline(always)]
 fn is_one_due(cycle: u64, edges: &[Edge]) -> bool
     requires near { cycle < 2 ^ 62 }
@@ -86,7 +86,7 @@ fn execute<const SITE: u8>(image: &Image, mcu: &mut Mcu, given: Pins) -> Result<
     mcu.step_inlined::<SITE>(image, given)
 }
 
-/// The processor's jumps to where it stands, over this program.
+/// The processor's jumps to where it is, over this program.
 #[inline(always)]
 fn leap(image: &Image, mcu: &mut Mcu, given: &Pins, most: u64) -> u64
     ensures few { result ≤ most }
@@ -126,7 +126,7 @@ impl Machine {
         execute::<SITE>(&self.image, &mut self.mcu, given)
     }
 
-    /// Jumps of the processor to where it stands, as `Mcu::leap` makes them: no cycle passes.
+    /// Jumps of the processor to where it is, as `Mcu::leap` makes them: no cycle passes.
     #[inline(always)]
     pub(crate) fn leap_processor(&mut self, given: &Pins, most: u64) -> u64
         ensures few { result ≤ most }
@@ -138,7 +138,7 @@ impl Machine {
         leap(&self.image, &mut self.mcu, given, most)
     }
 
-    /// The cycles of a step pass, whose part the processor has made, and in which no edge was made. It is told in `seen`.
+    /// The cycles of a step pass, whose part the processor has made, and in which no edge was made. It is reported in `seen`.
     #[inline(always)]
     pub(crate) fn end_step(&mut self, cycles: u8, due: &Due, seen: &mut Seen)
         requires near { self.old.cycle < 2 ^ 62 }
@@ -169,7 +169,7 @@ impl Machine {
         seen.lines = [first, last];
     }
 
-    /// One joint step in which no edge is made, told in `seen`. Where the processor is stuck nothing has changed.
+    /// One joint step in which no edge is made, reported in `seen`. If the processor is stuck nothing has changed.
     #[inline(always)]
     fn step_on<const SITE: u8>(&mut self, due: &Due, seen: &mut Seen) -> Result<(), Stuck>
         requires near { self.old.cycle < 2 ^ 62 }
@@ -189,7 +189,7 @@ impl Machine {
         Ok(())
     }
 
-    /// One joint step in which edges may be made. Where the processor is stuck nothing has changed, and none is made.
+    /// One joint step in which edges may be made. If the processor is stuck nothing has changed, and none is made.
     #[cold]
     #[inline(never)]
     fn step_with_edges(&mut self, due: &Due, seen: &mut Seen) -> Result<(), Stuck>
@@ -218,9 +218,9 @@ impl Machine {
         }
     }
 
-    /// One joint step, told in `seen`. The edges are made whose stamp is reached; the processor makes one step; then
-    /// its cycles pass. Where the processor is stuck nothing has changed, and no edge is made. In most steps no edge is
-    /// due: then the matrix stays where it stands.
+    /// One joint step, reported in `seen`. The edges are made whose stamp is reached; the processor makes one step; then
+    /// its cycles pass. If the processor is stuck nothing has changed, and no edge is made. In most steps no edge is
+    /// due: then the matrix stays where it is.
     #[inline(always)]
     pub(crate) fn step<const SITE: u8>(&mut self, due: &Due, seen: &mut Seen) -> Result<(), Stuck>
         requires near { self.old.cycle < 2 ^ 62 }

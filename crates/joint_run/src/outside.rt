@@ -1,4 +1,4 @@
-//! What stands outside the processor, and a cycle of it.
+//! What is outside the processor, and a cycle of it.
 
 ghost use Rattle.std.specs.Prelude.{◌≡◌, ◌+◌, ◌-◌, ◌<◌, ◌≤◌, ◌^◌, [], ◌++◌, length, slice_get, true};
 ghost use Rattle.ctl_link.specs.Empty.{IsEmptyUnlessHeld};
@@ -19,7 +19,7 @@ use host_turn::{Desk, Stamped};
 use int09::Bios;
 use pc_tables::Item;
 
-/// What stands outside the processor.
+/// What is outside the processor.
 #[derive(Drop)]
 pub struct Outside {
     /// The controller with its wire state, the host's mask and INT 09h.
@@ -30,7 +30,7 @@ pub struct Outside {
     pub shown: u8,
 }
 
-/// The lights that port 2 lights: Scroll as bit 0, Num as bit 1, Caps as bit 2, each where its latch bit is 0.
+/// The lights that port 2 lights: Scroll as bit 0, Num as bit 1, Caps as bit 2, each if its latch bit is 0.
 pub fn lights(p2: u8) -> u8
     ensures lights { result ≡ lights_of p2 }
 {
@@ -47,13 +47,13 @@ pub(crate) fn latch(p2: u8) -> Lines
     }
 }
 
-/// Both wires are high, where nobody pulls them.
+/// Both wires are high, if nobody pulls them.
 const HIGH: Lines = Lines {
     clk: true,
     dat: true,
 };
 
-/// The wires, with what the keyboard and the controller drive. It stands out of line, since the link is free in most
+/// The wires, with what the keyboard and the controller drive. It is out of line, since the link is free in most
 /// cycles.
 #[inline(never)]
 fn pulled(keyboard: Lines, link: &Link<Wire>) -> Lines
@@ -100,7 +100,7 @@ fn copied_port(port: &Port<Wire>) -> Port<Wire>
 }
 
 impl Outside {
-    /// What stands outside another processor in the same state, with this INT 09h.
+    /// What is outside another processor in the same state, with this INT 09h.
     pub(crate) fn copied(&self, bios: Bios) -> Outside
         requires same { bios ≡ self.now.desk.bios }
         ensures same { result ≡ self.now }
@@ -116,7 +116,7 @@ impl Outside {
         }
     }
 
-    /// What stands outside the processor at power-on, with INT 09h at its start.
+    /// What is outside the processor at power-on, with INT 09h at its start.
     pub(crate) fn new(bios: Bios) -> Outside
         requires { bios ≡ start }
         ensures start { result ≡ outside_at_start }
@@ -190,7 +190,7 @@ impl Outside {
         self.clock = line.clk;
     }
 
-    /// The host acts and the controller settles, in a cycle in which something may happen. What is said is put behind
+    /// The host acts and the controller settles, in a cycle in which something may happen. What is said is put after
     /// the items, with this cycle.
     #[inline(never)]
     fn go_on_busily(
@@ -317,7 +317,7 @@ impl Outside {
         (first_done + last_done, first, last)
     }
 
-    /// The same in any cycles. Where nothing happens the clock's level is noted, and no cycle is made.
+    /// The same in any cycles. If nothing happens the clock's level is noted, and no cycle is made.
     #[inline(never)]
     fn pass_in_frame(
         &mut self,

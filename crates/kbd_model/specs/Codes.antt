@@ -36,6 +36,6 @@ keys_of layout = record {
   rate = layout.rate;
 }
 
--- a key that sends something stands at the place
+-- a key that sends something is at the place
 abbrev pub HasCode : KeyLayout → ℕ → Type 0
 HasCode layout place = IsSome (code_at place layout)

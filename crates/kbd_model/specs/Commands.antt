@@ -38,7 +38,7 @@ commanded keys byte k =
     -- no command
     else replies 0xfe k
 
--- where a parameter is awaited: the state with a byte below 80 as the parameter; a command ends the wait; any other
+-- if a parameter is awaited: the state with a byte below 80 as the parameter; a command ends the wait; any other
 -- byte is refused, and the wait goes on
 abbrev pub parameter : Keys → ℕ → Keyboard → Keyboard → Keyboard
 parameter keys byte with_it k =

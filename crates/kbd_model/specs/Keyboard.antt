@@ -41,7 +41,7 @@ at_power_on rate = record {
   held = all_up;
 }
 
--- what is offered: the reply, else AA where it is due, else the queue's first byte
+-- what is offered: the reply, else AA if it is due, else the queue's first byte
 abbrev pub offered : Option Reply → Bool → KeyQueue → Option ℕ
 offered (Some reply) aa_due q = Some reply.byte
 offered None aa_due q = if aa_due then Some 0xaa else first q

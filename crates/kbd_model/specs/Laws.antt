@@ -63,7 +63,7 @@ InOrder =
 abbrev pub AtMostSixteen : Type 0
 AtMostSixteen = (steps : List QueueStep) → length (after steps empty).bytes ≤ 16
 
--- bytes that are whole codes, none of which is F0, by whether F0 stands before them
+-- bytes that are whole codes, none of which is F0, by whether F0 is before them
 abbrev pub whole : Bool → List ℕ → Bool
 whole false [] = true
 whole true [] = false
@@ -76,7 +76,7 @@ enters_codes (Enters code ∷ more) = whole false code && enters_codes more
 enters_codes (Drops ∷ more) = enters_codes more
 enters_codes (Clears ∷ more) = enters_codes more
 
--- where whole codes are entered the queue has whole codes, but for a break that is started, whose code is first
+-- if whole codes are entered the queue has whole codes, but for a break that is started, whose code is first
 abbrev pub CodesStayWhole : Type 0
 CodesStayWhole =
     (steps : List QueueStep) → enters_codes steps ≡ true

@@ -26,7 +26,7 @@ layers_after is_fn (place, down) layers = record {
   pressed_in = if down then slice_set layers.pressed_in place layers.fn_down else layers.pressed_in;
 }
 
--- edges one after the other, each with its layer; and the layers behind them
+-- edges one after the other, each with its layer; and the layers after them
 abbrev pub layered : (ℕ → Bool) → List (ℕ × Bool) → Layers → List TickEdge
 layered is_fn [] layers = []
 layered is_fn (edge ∷ edges) layers = in_layer layers edge ∷ layered is_fn edges (layers_after is_fn edge layers)

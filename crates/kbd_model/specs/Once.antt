@@ -34,7 +34,7 @@ is_reset_due None = false
 abbrev pub OffersFirst : Type 0
 OffersFirst = (k : Keyboard) → offer k ≡ slice_get (waiting k) 0
 
--- the byte that is sent is taken away, and nothing else, but where a reset is made
+-- the byte that is sent is taken away, and nothing else, but if a reset is made
 abbrev pub SentLeaves : Type 0
 SentLeaves = (keys : Keys) (k : Keyboard) (byte : ℕ) → offer k ≡ Some byte → is_reset_due k.reply ≡ false
     → waiting k ≡ byte ∷ waiting (met Sent keys k)
@@ -44,7 +44,7 @@ abbrev pub ResetLeaves : Type 0
 ResetLeaves = (keys : Keys) (k : Keyboard) → is_reset_due k.reply ≡ true
     → waiting (met Sent keys k) ≡ queued (clear k.queue)
 
--- where nothing is sent and nothing is got nothing changes; a byte that was cut off is still offered
+-- if nothing is sent and nothing is got nothing changes; a byte that was cut off is still offered
 pub record NothingElseLeaves : Type 0 where
   pub inhibited : (keys : Keys) (k : Keyboard) → met Inhibited keys k ≡ k
   pub idle : (keys : Keys) (k : Keyboard) → met Idle keys k ≡ k
@@ -64,7 +64,7 @@ pub record GotKeeps (keys : Keys) (byte : ℕ) (good : Bool) (k : Keyboard) : Ty
 abbrev pub GotLeaves : Type 0
 GotLeaves = (keys : Keys) (byte : ℕ) (good : Bool) (k : Keyboard) → GotKeeps keys byte good k
 
--- what waited waits on, in its order, and what is new stands behind it
+-- what waited waits on, in its order, and what is new is after it
 pub record IsBehind (before after : List ℕ) : Type 0 where
   pub more : List ℕ
   pub is : after ≡ before ++ more
@@ -80,7 +80,7 @@ RestAdds =
     (keys : Keys) (meeting : Meeting) (edges : List TickEdge) (k : Keyboard)
     → OnlyAdds (met meeting keys k) (ticked keys meeting edges k)
 
--- where the test had ended nothing gets ahead of what waits
+-- if the test had ended nothing gets ahead of what waits
 abbrev pub StaysInLine : Type 0
 StaysInLine =
     (keys : Keys) (meeting : Meeting) (edges : List TickEdge) (k : Keyboard) → k.test ≡ 0

@@ -13,7 +13,7 @@ pub record KeyQueue : Type 0 where
 abbrev pub empty : KeyQueue
 empty = record { bytes = []; overrun = false; break_started = false }
 
--- a code enters whole or not at all. Where one found no room there is an overrun; all codes are lost until it is told
+-- a code enters whole or not at all. If one found no room there is an overrun; all codes are lost until it is told
 abbrev pub enter : List ℕ → KeyQueue → KeyQueue
 enter code q =
     if q.overrun || nat_lt 16 (length q.bytes + length code) then record q { overrun = true }
@@ -27,7 +27,7 @@ first_of (byte ∷ rest) overrun = Some byte
 abbrev pub first : KeyQueue → Option ℕ
 first q = first_of q.bytes q.overrun
 
--- the queue once that byte is sent. F0 starts a break, and the byte behind it ends it
+-- the queue once that byte is sent. F0 starts a break, and the byte after it ends it
 abbrev pub without_first : List ℕ → KeyQueue → KeyQueue
 without_first [] q = record q { overrun = false }
 without_first (byte ∷ rest) q = record q { bytes = rest; break_started = (byte == 0xf0) && not q.break_started }

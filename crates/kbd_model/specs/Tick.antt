@@ -32,7 +32,7 @@ reset keys k = record {
   held = k.held;
 }
 
--- step 1: what was offered is sent. It goes from where it stood: the reply, else the due AA, else the queue
+-- step 1: what was offered is sent. It goes from where it was: the reply, else the due AA, else the queue
 abbrev pub without_offered : Option Reply → Keys → Keyboard → Keyboard
 without_offered (Some reply) keys k = if reply.resets then reset keys k else record k { reply = None }
 without_offered None keys k = record k { aa_due = false; queue = if k.aa_due then k.queue else drop_first k.queue }
@@ -50,12 +50,12 @@ met Inhibited keys k = k
 met Idle keys k = k
 met Cut keys k = k
 
--- step 3: where the test ran at the tick's start it has a tick less; at its end AA is due
+-- step 3: if the test ran at the tick's start it has a tick less; at its end AA is due
 abbrev pub tested_if : Bool → Keyboard → Keyboard
 tested_if true k = record k { test = k.test - 1; aa_due = if k.test == 1 then true else k.aa_due }
 tested_if false k = k
 
--- scanning is on where it is enabled, no parameter is awaited, and the test has ended
+-- scanning is on if it is enabled, no parameter is awaited, and the test has ended
 abbrev pub is_ready : Mode → Bool
 is_ready Ready = true
 is_ready WantRate = false
@@ -73,7 +73,7 @@ repeated (Some r) keys inhibited k = record k {
 }
 repeated None keys inhibited k = k
 
--- where scanning is off nothing repeats any more
+-- if scanning is off nothing repeats any more
 abbrev pub repeated_if : Bool → Keys → Bool → Keyboard → Keyboard
 repeated_if true keys inhibited k = repeated k.repeats keys inhibited k
 repeated_if false keys inhibited k = record k { repeats = None }
@@ -84,7 +84,7 @@ ended_at place (Some r) = if r.place == place then None else Some r
 ended_at place None = None
 
 -- an edge, by its place, whether the key went down, and its layer, changes what is held; one of the Fn key does no
--- more. Where scanning is on, a press enters the make and is the key that repeats; a release enters the break, which a
+-- more. If scanning is on, a press enters the make and is the key that repeats; a release enters the break, which a
 -- make-only key hasn't
 abbrev pub edge_if : Bool → Keys → ℕ → Bool → Bool → Keyboard → Keyboard
 edge_if true keys place true on_fn k = record k {
@@ -123,7 +123,7 @@ abbrev pub ticked : Keys → Meeting → List TickEdge → Keyboard → Keyboard
 ticked keys meeting edges k =
     scanned keys (is_inhibited meeting) edges (tested_if (not (k.test == 0)) (met meeting keys k))
 
--- a byte passes to the system, or is cut off, only where something is offered
+-- a byte passes to the system, or is cut off, only if something is offered
 abbrev pub IsOffered : Meeting → Option ℕ → Type 0
 IsOffered Sent byte = IsSome byte
 IsOffered Cut byte = IsSome byte

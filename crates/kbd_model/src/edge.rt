@@ -6,7 +6,7 @@ use board_lines::Place;
 /// in the layer of its press.
 #[derive(Clone, Copy, Debug, PartialEq, Eq)]
 pub struct TickEdge {
-    /// Where the key stands.
+    /// Where the key is.
     pub place: Place,
     /// Whether it went down.
     pub down: bool,

@@ -13,10 +13,10 @@ pub fn queue_is_in_order()
     ensures codes { CodesStayWhole }
 {}
 
-/// What waits to be sent leaves the keyboard exactly once: the byte that is offered is the first that waits; where it
-/// is sent it is taken away, and nothing else, but where a reset is made, which leaves the cleared queue alone; a tick
+/// What waits to be sent leaves the keyboard exactly once: the byte that is offered is the first that waits; if it
+/// is sent it is taken away, and nothing else, but if a reset is made, which leaves the cleared queue alone; a tick
 /// in which nothing passes takes nothing away; a byte from the system leaves a due AA, and the queue but for three
-/// commands that clear it, and its reply takes the place of the one that waited. The rest of a tick only adds, behind
+/// commands that clear it, and its reply takes the place of the one that waited. The rest of a tick only adds, after
 /// what waits but for the AA at the end of the test; so a byte that was cut off is offered again.
 pub fn sent_once()
     ensures offers { OffersFirst }

@@ -43,7 +43,7 @@ impl Queue {
         }
     }
 
-    /// Enters a code of one or two bytes, whole. Where it finds no room there is an overrun, and until that is told all
+    /// Enters a code of one or two bytes, whole. If it finds no room there is an overrun, and until that is told all
     /// codes are lost.
     pub fn enter(&mut self, code: &[u8])
         requires code { IsCode code.now }
@@ -55,7 +55,7 @@ impl Queue {
         }
     }
 
-    /// The byte to be sent next: the queue's first, or 00 where it is empty after an overrun. None exactly where it is
+    /// The byte to be sent next: the queue's first, or 00 if it is empty after an overrun. None exactly if it is
     /// empty and there was none.
     pub fn first(&self) -> Option<u8>
         ensures first { result ≡ first self.now }
@@ -67,7 +67,7 @@ impl Queue {
         }
     }
 
-    /// Takes the first byte away, which may be the 00 that tells an overrun. F0 starts a break, and the byte behind it
+    /// Takes the first byte away, which may be the 00 that tells an overrun. F0 starts a break, and the byte after it
     /// ends it.
     pub fn drop_first(&mut self)
         requires some { IsSome (first self.old) }

@@ -29,7 +29,7 @@ impl TickModel {
         self.see_edges(scanning, edges, layout);
     }
 
-    /// Scanning is on where it is enabled, no parameter is awaited, and the test has ended.
+    /// Scanning is on if it is enabled, no parameter is awaited, and the test has ended.
     fn is_scanning(&self) -> bool
         ensures { result ≡ is_scanning self.now }
     {
@@ -88,8 +88,8 @@ impl TickModel {
         }
     }
 
-    /// An edge changes what is held; one of the Fn key does no more. Where scanning is on, a press enters the make and is
-    /// the key that repeats; a release enters the break, where its key sends one, and ends its own repeating.
+    /// An edge changes what is held; one of the Fn key does no more. If scanning is on, a press enters the make and is
+    /// the key that repeats; a release enters the break, if its key sends one, and ends its own repeating.
     #[tactic(auto, using(crate::proofs::Silent::has_code))]
     fn see_edge(&mut self, scanning: bool, edge: TickEdge, layout: &Layout)
         requires repeats { ForSome self.old.repeats (λ r. HasCode layout.now r.place) }

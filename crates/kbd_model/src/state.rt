@@ -96,8 +96,8 @@ impl TickModel {
         }
     }
 
-    /// The byte that is offered to the line: the reply to a command, else AA where the test has just ended, else the
-    /// queue's first; None exactly where there is none of them.
+    /// The byte that is offered to the line: the reply to a command, else AA if the test has just ended, else the
+    /// queue's first; None exactly if there is none of them.
     pub fn offer(&self) -> Option<u8>
         ensures offer { result ≡ offer self.now }
     {

@@ -45,7 +45,7 @@ struct Left {
     queued: bool,
 }
 
-/// How the keyboard stands before the byte.
+/// How the keyboard is before the byte.
 const BEFORE: Left = Left {
     reply: 0x00,
     resets: false,

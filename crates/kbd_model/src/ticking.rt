@@ -14,7 +14,7 @@ impl TickModel {
     ghost use Rattle.kbd_model.specs.Tick.{reset, sent_byte, met, tested_if, ticked, IsOffered};
 
     /// A tick, by its meeting with the line and by the edges that it sees. They are in the order of their places, and in
-    /// the layout; a key that repeats has a code there; a byte is sent or cut off only where one is offered.
+    /// the layout; a key that repeats has a code there; a byte is sent or cut off only if one is offered.
     pub fn advance(&mut self, m: Meeting, edges: &[TickEdge], layout: &Layout)
         requires offered { IsOffered m (offer self.old) }
         requires repeats { ForSome self.old.repeats (λ r. HasCode layout.now r.place) }
@@ -42,7 +42,7 @@ impl TickModel {
         }
     }
 
-    /// Step 1: the byte that was offered is sent, and goes from where it stood.
+    /// Step 1: the byte that was offered is sent, and goes from where it was.
     fn send(&mut self, layout: &Layout)
         requires { IsSome (offer self.old) }
         ensures { self.new ≡ sent_byte (offer self.old) (keys_of layout.now) self.old }

@@ -17,7 +17,7 @@ AreHostEventsInOrder [] = Unit {0}
 AreHostEventsInOrder (e ∷ []) = Unit {0}
 AreHostEventsInOrder (e ∷ f ∷ es) = (e.stamp ≤ f.stamp) × AreHostEventsInOrder (f ∷ es)
 
--- what the host writes, where it writes, is a byte
+-- what the host writes, if it writes, is a byte
 abbrev pub WritesByte : HostAct → Type 0
 WritesByte (Write60 byte) = byte < 256
 WritesByte (Write64 byte) = byte < 256
@@ -43,7 +43,7 @@ Dwells [] = Unit {0}
 Dwells (e ∷ []) = Unit {0}
 Dwells (e ∷ f ∷ es) = (e.stamp + 2240 ≤ f.stamp) × Dwells (f ∷ es)
 
--- the fourth edge behind an edge is at least 2,240 cycles after it
+-- the fourth edge after an edge is at least 2,240 cycles after it
 abbrev pub IsFifthLater : Edge → List Edge → Type 0
 IsFifthLater a (b ∷ c ∷ d ∷ e ∷ es) = a.stamp + 2240 ≤ e.stamp
 IsFifthLater a es = Unit {0}

@@ -5,13 +5,13 @@ use Rattle.std.specs.declared.option.Option.{Option}
 use Rattle.board_lines.specs.declared.event.Edge.{Edge}
 use Rattle.key_file.specs.Histories.{Before, last_edge}
 
--- the n-th edge from the end, where there are so many
+-- the n-th edge from the end, if there are so many
 abbrev pub from_end : ℕ → List Edge → Option Edge
 from_end n edges = if nat_le n (length edges) then slice_get edges (length edges - n) else None
 
 -- what the rules ask of the events so far, however many they are: the last edge of the key at each place; the last four
 -- edges, the earliest first; the number of edges and of the host's events; the stamp of the last event; and the stamp
--- of `end` where that has come
+-- of `end` if that has come
 pub record Brief : Type 0 where
   pub last : ℕ → Option Edge
   pub latest : List (Option Edge)

@@ -23,14 +23,14 @@ sound (Err rule) = None
 abbrev pub said_in : KeyLayout → List ℕ → Option Event
 said_in layout line = sound (said_by layout (fields line))
 
--- edges, with one more before them where this is one
+-- edges, with one more before them if this is one
 abbrev pub edge_before : Option Event → List Edge → List Edge
 edge_before (Some (EdgeOf edge)) edges = edge ∷ edges
 edge_before (Some (HostOf event)) edges = edges
 edge_before (Some (End stamp)) edges = edges
 edge_before None edges = edges
 
--- the host's events, with one more before them where this is one
+-- the host's events, with one more before them if this is one
 abbrev pub host_before : Option Event → List HostEvent → List HostEvent
 host_before (Some (EdgeOf edge)) events = events
 host_before (Some (HostOf event)) events = event ∷ events

@@ -11,12 +11,12 @@ pub record Fed : Type 0 where
   pub edges : ℕ
   pub host : ℕ
 
--- one edge more is taken, where there was one
+-- one edge more is taken, if there was one
 abbrev pub edge_taken : Option Edge → Fed → Fed
 edge_taken (Some edge) fed = record fed { edges = fed.edges + 1 }
 edge_taken None fed = fed
 
--- one event of the host more is taken, where there was one
+-- one event of the host more is taken, if there was one
 abbrev pub host_taken : Option HostEvent → Fed → Fed
 host_taken (Some event) fed = record fed { host = fed.host + 1 }
 host_taken None fed = fed

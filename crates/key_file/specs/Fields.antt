@@ -18,7 +18,7 @@ use Rattle.key_file.specs.declared.word.Word.TheVariants as word
 use Rattle.key_file.specs.declared.rule.Rule.{Rule}
 use Rattle.key_file.specs.declared.rule.Rule.TheVariants.{Form, UnknownWord, UnknownKey}
 
--- a line is skipped where it is blank, or its first character past spaces and tabs is #
+-- a line is skipped if it is blank, or its first character past spaces and tabs is #
 abbrev pub is_skipped : List (List ℕ) → Bool
 is_skipped [] = true
 is_skipped (first ∷ others) = slice_index first 0 == 35
@@ -52,12 +52,12 @@ word_named name =
     else (if bytes_eq name (codes "end") then Some word.End
     else None))))))))))
 
--- the one argument of a word; none where it has none or more
+-- the one argument of a word; none if it has none or more
 abbrev pub only : List (List ℕ) → Option (List ℕ)
 only (argument ∷ []) = Some argument
 only arguments = None
 
--- the place of the key with this name, compared as bytes; none where the layout has no entry with this key
+-- the place of the key with this name, compared as bytes; none if the layout has no entry with this key
 abbrev pub place_named : KeyLayout → List ℕ → Option ℕ
 place_named layout name = option_and_then (λ key. place_of key layout) (key_with_name name)
 
@@ -113,7 +113,7 @@ event_in layout (first ∷ second ∷ arguments) =
     (λ stamp. and_then (some_or UnknownWord (word_named second)) (λ word. event_of layout stamp word arguments))
 event_in layout fields = Err Form
 
--- what a line says: nothing where it is skipped
+-- what a line says: nothing if it is skipped
 abbrev pub said_by : KeyLayout → List (List ℕ) → Result (Option Event) Rule
 said_by layout fields =
     if is_skipped fields then Ok None else and_then (event_in layout fields) (λ event. Ok (Some event))

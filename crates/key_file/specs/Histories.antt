@@ -15,7 +15,7 @@ pub record KeyHistory : Type 0 where
   pub end : ℕ
 
 -- what the events so far came to: the edges, the host's events, the stamp of the last event (0 before the first one),
--- and the stamp of `end` where that has come
+-- and the stamp of `end` if that has come
 pub record Before : Type 0 where
   pub edges : List Edge
   pub host : List HostEvent

@@ -51,7 +51,7 @@ with_fault_told (Ok value) = Ok value
 with_fault_told (Err fault) = Err (told fault.item fault.rule)
 
 -- the history of a key file, or its first fault: its lines are judged in order; that `end` is missing is told of the
--- line behind the last one
+-- line after the last one
 unfoldable pub history_of : KeyLayout → List ℕ → Result KeyHistory KeyFault
 history_of layout text = with_fault_told (outcome (take_line layout) finish at_first (lines text))
 

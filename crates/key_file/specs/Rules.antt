@@ -35,7 +35,7 @@ is_down (Some last) = last.down
 abbrev pub is_held : Edge → Option Edge → Bool
 is_held edge last = if edge.down then is_down last else not (is_down last)
 
--- fewer than 2,240 cycles since an earlier edge, where there is one; the rule names both stamps
+-- fewer than 2,240 cycles since an earlier edge, if there is one; the rule names both stamps
 abbrev pub soon_after : (ℕ → ℕ → Rule) → Option Edge → Edge → List (Judgement Rule)
 soon_after rule None edge = []
 soon_after rule (Some earlier) edge =

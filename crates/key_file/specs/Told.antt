@@ -16,7 +16,7 @@ AreOfRightForm layout [] = Unit {0}
 AreOfRightForm layout (line ∷ more) =
     (said_by layout (fields line) ≡ Ok (said_in layout line)) × AreOfRightForm layout more
 
--- events, with one more before them where there is one
+-- events, with one more before them if there is one
 abbrev pub event_before : Option Event → List Event → List Event
 event_before (Some event) events = event ∷ events
 event_before None events = events

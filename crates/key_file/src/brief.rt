@@ -74,7 +74,7 @@ impl Brief {
         self.stamp
     }
 
-    /// The stamp of the end, where that has come.
+    /// The stamp of the end, if that has come.
     pub(crate) fn end(&self) -> Option<u64>
         ensures { result ≡ self.now.end }
     {

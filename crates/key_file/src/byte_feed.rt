@@ -19,7 +19,7 @@ use layout_reader::Layout;
 use std::marker::Model;
 use text_lines::next_line;
 
-/// A key file that has a history, and a cursor each for its edges and for its host events: the text behind the last
+/// A key file that has a history, and a cursor each for its edges and for its host events: the text after the last
 /// line that was taken, and how many were taken.
 #[derive(Drop)]
 pub struct ByteFeed<'a> {
@@ -51,7 +51,7 @@ fn said_in(layout: &Layout, line: &[u8]) -> Option<Event>
     said_by(layout, line).ok().flatten()
 }
 
-/// The first edge that the lines of a text give, and the text of the lines behind it; None where they give none.
+/// The first edge that the lines of a text give, and the text of the lines after it; None if they give none.
 fn first_edge<'a>(layout: &Layout, text: &'a [u8]) -> Option<(Edge, &'a [u8])>
     ensures { MatchOption result (edges_in layout.now (lines text.now) ≡ [])
         (λ first. edges_in layout.now (lines text.now) ≡ first.0 ∷ edges_in layout.now (lines first.1.now)) }
@@ -66,7 +66,7 @@ fn first_edge<'a>(layout: &Layout, text: &'a [u8]) -> Option<(Edge, &'a [u8])>
     None
 }
 
-/// The first event of the host that the lines of a text give, and the text of the lines behind it; None where they give
+/// The first event of the host that the lines of a text give, and the text of the lines after it; None if they give
 /// none.
 fn first_host<'a>(layout: &Layout, text: &'a [u8]) -> Option<(HostEvent, &'a [u8])>
     ensures { MatchOption result (host_in layout.now (lines text.now) ≡ [])

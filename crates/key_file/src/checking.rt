@@ -15,7 +15,7 @@ use crate::rules::broken_by;
 use layout_reader::Layout;
 use text_lines::next_line;
 
-/// Takes what a line says; where it breaks a rule, nothing is taken.
+/// Takes what a line says; if it breaks a rule, nothing is taken.
 fn take_line(brief: &mut Brief, layout: &Layout, text: &[u8]) -> Result<(), Rule>
     ensures taken { OnOk result ((before : Before) → IsBriefOf before brief.old → IsBriefAfter layout.now before text.now brief.new) }
     ensures broken { IfErr result (λ rule. (before : Before) → IsBriefOf before brief.old → take_line layout.now before text.now ≡ Err rule) }

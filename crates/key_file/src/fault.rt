@@ -34,7 +34,7 @@ pub enum FileFault {
     },
 }
 
-/// The same, where memory may also be wanting.
+/// The same, if memory may also be wanting.
 #[derive(Clone, Copy, Debug, PartialEq, Eq, Drop, Error)]
 pub enum KeyFault {
     /// A rule other than those of time is broken.

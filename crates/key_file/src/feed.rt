@@ -15,12 +15,12 @@ pub trait Feed: Drop {
     fn end(&self) -> u64
         ensures end { result ≡ (told self.now).history.end };
 
-    /// The next edge; None exactly where all were taken.
+    /// The next edge; None exactly if all were taken.
     fn next_edge(&mut self) -> Option<Edge>
         ensures edge { result ≡ slice_get (told self.old).history.edges (told self.old).edges }
         ensures taken { told self.new ≡ edge_taken result (told self.old) };
 
-    /// The next event of the host; None exactly where all were taken.
+    /// The next event of the host; None exactly if all were taken.
     fn next_host(&mut self) -> Option<HostEvent>
         ensures event { result ≡ slice_get (told self.old).history.host (told self.old).host }
         ensures taken { told self.new ≡ host_taken result (told self.old) };

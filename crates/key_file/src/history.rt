@@ -12,7 +12,7 @@ use std::marker::Model;
 ///
 /// The stamps of the edges don't fall, nor do those of the host's events, and none is past the end, which is at most
 /// 240,000,000. There are at most 65,536 events. The edges of a key are press, release, press and so on, at least 2,240
-/// cycles apart, and so are an edge and the fourth one behind it. The bit of each flip is 1 to 9.
+/// cycles apart, and so are an edge and the fourth one after it. The bit of each flip is 1 to 9.
 #[derive(Debug, Drop)]
 pub struct History {
     edges: Vec<Edge>,

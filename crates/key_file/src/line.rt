@@ -34,7 +34,7 @@ fn stamp_of(field: &[u8]) -> Option<u64>
     }
 }
 
-/// The one field of a text; None where it has none or more.
+/// The one field of a text; None if it has none or more.
 fn only(arguments: &[u8]) -> Option<&[u8]>
     ensures { option_map (λ argument. argument.now) result ≡ only (fields arguments.now) }
 {
@@ -45,7 +45,7 @@ fn only(arguments: &[u8]) -> Option<&[u8]>
     }
 }
 
-/// The place of the key with this name; None where the layout has no entry with it.
+/// The place of the key with this name; None if the layout has no entry with it.
 fn place_named(layout: &Layout, name: &[u8]) -> Option<Place>
     ensures { result ≡ place_named layout.now name.now }
 {
@@ -61,7 +61,7 @@ fn edge_of(layout: &Layout, stamp: u64, down: bool, arguments: &[u8]) -> Result<
     Ok(Event::EdgeOf(Edge { stamp, place, down }))
 }
 
-/// The byte that the argument gives; None where there isn't one argument of two hexadecimal digits.
+/// The byte that the argument gives; None if there isn't one argument of two hexadecimal digits.
 fn byte_of(arguments: &[u8]) -> Option<u8>
     ensures { result ≡ option_and_then (hexadecimal_of 2) (only (fields arguments.now)) }
 {
@@ -79,7 +79,7 @@ fn bit_of(field: &[u8]) -> Option<u8>
     }
 }
 
-/// Noise that turns round the bit that the argument gives, or the rule of form, where there is none.
+/// Noise that turns round the bit that the argument gives, or the rule of form, if there is none.
 fn flip_of(stamp: u64, arguments: &[u8]) -> Result<Event, Rule>
     ensures { result ≡ flip_of stamp (fields arguments.now) }
 {
@@ -94,14 +94,14 @@ fn host(stamp: u64, act: HostAct) -> Event
     Event::HostOf(HostEvent { stamp, act })
 }
 
-/// What the host does without an argument, or the rule of form, where there is one.
+/// What the host does without an argument, or the rule of form, if there is one.
 fn act_of(stamp: u64, act: HostAct, arguments: &[u8]) -> Result<Event, Rule>
     ensures { result ≡ act_of stamp act (fields arguments.now) }
 {
     alone(host(stamp, act), arguments)
 }
 
-/// An event without an argument, or the rule of form, where there is one.
+/// An event without an argument, or the rule of form, if there is one.
 fn alone(event: Event, arguments: &[u8]) -> Result<Event, Rule>
     ensures { result ≡ alone event (fields arguments.now) }
 {
@@ -136,7 +136,7 @@ fn event_of(layout: &Layout, stamp: u64, word: Word, arguments: &[u8]) -> Result
     }
 }
 
-/// The event of a line that isn't skipped, by its first field and the text behind that, or the first of the rules of
+/// The event of a line that isn't skipped, by its first field and the text after that, or the first of the rules of
 /// form, word and key that it breaks.
 pub(crate) fn event_in(layout: &Layout, first: &[u8], others: &[u8]) -> Result<Event, Rule>
     ensures { result ≡ event_in layout.now (first.now ∷ fields others.now) }
@@ -147,7 +147,7 @@ pub(crate) fn event_in(layout: &Layout, first: &[u8], others: &[u8]) -> Result<E
     event_of(layout, stamp, word, arguments)
 }
 
-/// What a line says, or the first of the rules of form, word and key that it breaks; None where the line is skipped.
+/// What a line says, or the first of the rules of form, word and key that it breaks; None if the line is skipped.
 pub(crate) fn said_by(layout: &Layout, text: &[u8]) -> Result<Option<Event>, Rule>
     ensures { result ≡ said_by layout.now (fields text.now) }
 {

@@ -45,7 +45,7 @@ fn host_of(alloc: Global, feed: &mut ByteFeed) -> Result<Vec<HostEvent>, AllocEr
 ///
 /// Ok is exactly the file's history, and it is accepted for the layout. `KeyFault::Input` and `KeyFault::Timing` are
 /// exactly the first faulty line with the lowest number of a rule that it breaks: each line is judged after those
-/// before it. Want of memory may come where the file has no fault, and says nothing of it.
+/// before it. Want of memory may come if the file has no fault, and says nothing of it.
 pub fn read_history(alloc: Global, bytes: &[u8], layout: &Layout) -> Result<History, KeyFault>
     requires within { length bytes.now ≤ 4194304 }
     ensures history { IfOk result (λ history. history_of layout.now bytes.now ≡ Ok history) }

@@ -13,7 +13,7 @@ use crate::fault::LAST_STAMP;
 use crate::rule::Rule;
 use board_lines::{Edge, Place};
 
-/// The least time between two edges of a key, and between an edge and the fourth one behind it, in cycles.
+/// The least time between two edges of a key, and between an edge and the fourth one after it, in cycles.
 const LEAST_TIME: u64 = 2_240;
 
 /// The most edges and events of the host.
@@ -36,7 +36,7 @@ fn is_soon(earlier: &Edge, edge: &Edge) -> bool
     edge.stamp.saturating_sub(earlier.stamp) < LEAST_TIME
 }
 
-/// The rule of dwell, where an edge breaks it.
+/// The rule of dwell, if an edge breaks it.
 fn breaks_dwell(brief: &Brief, edge: &Edge) -> Option<Rule>
     ensures { result ≡ first_broken (soon_after Dwell ((asked brief.now).last edge.now.place) edge.now) }
 {
@@ -44,7 +44,7 @@ fn breaks_dwell(brief: &Brief, edge: &Edge) -> Option<Rule>
     is_soon(&earlier, edge).then_some(Rule::Dwell(earlier.stamp, edge.stamp))
 }
 
-/// The rule of density, where an edge breaks it.
+/// The rule of density, if an edge breaks it.
 fn breaks_density(brief: &Brief, edge: &Edge) -> Option<Rule>
     ensures { result ≡ first_broken (soon_after Density (fourth_back (asked brief.now)) edge.now) }
 {

@@ -3,7 +3,7 @@
 ghost use Rattle.std.specs.Prelude.{◌≡◌};
 ghost use Rattle.key_file.specs.Fields.{word_named};
 
-/// The word of a line, behind its stamp.
+/// The word of a line, after its stamp.
 #[derive(Clone, Copy, Drop)]
 pub(crate) enum Word {
     Press,
@@ -19,7 +19,7 @@ pub(crate) enum Word {
     End,
 }
 
-/// The word that is spelled so; None where there is no such word.
+/// The word that is spelled so; None if there is no such word.
 pub(crate) fn word_named(name: &[u8]) -> Option<Word>
     ensures { result ≡ word_named name.now }
 {

@@ -10,7 +10,7 @@ use Rattle.layout_reader.specs.Layouts.{KeyLayout}
 use Rattle.typed_log.specs.Typing.{Stroke, Plain, Shifted, stroke_start, strokes_of}
 use Rattle.typed_log.specs.Typing.{first_up, second_down, second_up, word_taken}
 
--- a line: its stamp in decimal, a word and, where the word speaks of a key, that key's name, parted by one space each;
+-- a line: its stamp in decimal, a word and, if the word speaks of a key, that key's name, parted by one space each;
 -- it ends with LF
 abbrev pub word_line : ℕ → List ℕ → List ℕ
 word_line stamp word = decimal stamp ++ 32 ∷ word ++ 10 ∷ []
@@ -52,6 +52,6 @@ lines_from number (stroke ∷ strokes) = stroke_lines (stroke_start number) stro
 unfoldable pub plan_of : List Stroke → List ℕ
 plan_of strokes = lines_from 0 strokes
 
--- the plan of a text, where each of its bytes has a key
+-- the plan of a text, if each of its bytes has a key
 abbrev pub text_plan : KeyLayout → List ℕ → Option (List ℕ)
 text_plan layout text = option_map plan_of (strokes_of layout text)

@@ -10,7 +10,7 @@ use crate::stroke::Stroke;
 use layout_reader::{Entry, Layout};
 use pc_tables::{Key, name_of, scan_of, word_row};
 
-/// Whether a word has this character in its low byte; false where there is no word.
+/// Whether a word has this character in its low byte; false if there is no word.
 fn is_low(character: u8, word: Option<u16>) -> bool
     ensures { result ≡ is_low character word }
 {
@@ -20,14 +20,14 @@ fn is_low(character: u8, word: Option<u16>) -> bool
     }
 }
 
-/// The word that an entry's key enters without shift; None where it enters none, as the Fn key.
+/// The word that an entry's key enters without shift; None if it enters none, as the Fn key.
 fn base_word(entry: &Entry) -> Option<u16>
     ensures { result ≡ option_and_then (word_of base) entry.now.sends }
 {
     word_row(scan_of(entry.sends?))?.base
 }
 
-/// The word that it enters under shift; None where it enters none, as the Fn key.
+/// The word that it enters under shift; None if it enters none, as the Fn key.
 fn shifted_word(entry: &Entry) -> Option<u16>
     ensures { result ≡ option_and_then (word_of shifted) entry.now.sends }
 {
@@ -101,8 +101,8 @@ fn shift_entry(entries: &[Entry]) -> Option<Entry>
     }
 }
 
-/// How a character other than 00 is typed: with the first entry that enters it without shift; where there is none, with
-/// the first that enters it under shift, under the first shift entry. None where neither is there.
+/// How a character other than 00 is typed: with the first entry that enters it without shift; if there is none, with
+/// the first that enters it under shift, under the first shift entry. None if neither is there.
 fn key_of(character: u8, entries: &[Entry]) -> Option<Stroke>
     ensures { option_map meant result ≡ key_of character entries.now }
 {
@@ -114,7 +114,7 @@ fn key_of(character: u8, entries: &[Entry]) -> Option<Stroke>
     Some(Stroke::Shifted(shift, key))
 }
 
-/// How a byte of a text is typed; None where it has no key, as 00. A line feed is an Enter, as a carriage return is.
+/// How a byte of a text is typed; None if it has no key, as 00. A line feed is an Enter, as a carriage return is.
 #[tactic(auto, unfolding(typed_log::specs::Typing::stroke_of))]
 pub(crate) fn stroke_of(layout: &Layout, byte: u8) -> Option<Stroke>
     ensures { option_map meant result ≡ stroke_of layout.now (character byte) }

@@ -61,7 +61,7 @@ fn is_layout(layout: &Layout)
 /// The key file that types a text of at most 10,000 bytes on a layout.
 ///
 /// Ok is exactly the text's plan: the strokes of its bytes, ten ticks of 2,048 cycles each, from stamp 162,816 on. The
-/// host takes a word in each; `end` stands where one stroke more would begin. Read again, it is the history of these
+/// host takes a word in each; `end` is if one stroke more would begin. Read again, it is the history of these
 /// strokes, which is accepted for the layout and quiet. Its log says the text: nothing is lost, and the host takes just
 /// the characters. `PlanFault::NoKey` is exactly the first byte that has no key. Want of memory may come with any text,
 /// and says nothing of it.

@@ -15,12 +15,12 @@ use Rattle.layout_reader.specs.Faults.{Judgement, judge, first_of, unless}
 use Rattle.layout_reader.specs.Fields.{has_other_field, has_field, is_not_text, is_not_whole, is_not_truth, byte_at}
 use Rattle.layout_reader.specs.Fields.{key_at, is_set}
 
--- the key whose code the entry sends; where it names none, its own
+-- the key whose code the entry sends; if it names none, its own
 unfoldable pub sends_in : Members → Option ℕ
 sends_in fields =
     if has_field (codes "sends") fields then key_at (codes "sends") fields else key_at (codes "key") fields
 
--- the key whose code it sends under Fn; where it names none, the same
+-- the key whose code it sends under Fn; if it names none, the same
 unfoldable pub fn_sends_in : Members → Option ℕ
 fn_sends_in fields = if has_field (codes "fn_sends") fields then key_at (codes "fn_sends") fields else sends_in fields
 
@@ -34,7 +34,7 @@ place_in fields =
     option_and_then (λ column. option_and_then (place_at column) (byte_at (codes "row") fields))
     (byte_at (codes "column") fields)
 
--- the entry of the fields, where nothing is wrong with them
+-- the entry of the fields, if nothing is wrong with them
 abbrev pub entry_of : Members → Entry
 entry_of fields = record {
   place = unwrap_or (place_in fields) 0;

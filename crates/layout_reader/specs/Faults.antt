@@ -35,7 +35,7 @@ abbrev pub first_of : List Judgement → Option Cause
 first_of [] = None
 first_of (question ∷ more) = if question.holds then Some question.cause else first_of more
 
--- the value, where there is no fault
+-- the value, if there is no fault
 abbrev pub unless : {X : Type 0} → Option Cause → X → Result X Cause
 unless (Some cause) value = Err cause
 unless None value = Ok value
@@ -50,7 +50,7 @@ abbrev pub at_entry : {X : Type 0} → ℕ → Result X Cause → Result X Refus
 at_entry entry (Ok value) = Ok value
 at_entry entry (Err cause) = Err (record { entry = entry; number = number_of cause })
 
--- what follows, where there is no fault
+-- what follows, if there is no fault
 abbrev pub and_then : {X Y : Type 0} → Result X Refusal → (X → Result Y Refusal) → Result Y Refusal
 and_then (Ok value) next = next value
 and_then (Err refusal) next = Err refusal

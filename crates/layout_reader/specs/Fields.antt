@@ -28,7 +28,7 @@ has_other_field level (member name value more) = not (is_field level name) || ha
 unfoldable pub has_field : List ℕ → Members → Bool
 has_field name fields = is_some (get_member name fields)
 
--- what stands at a name, where it is of the kind
+-- what is at a name, if it is of the kind
 unfoldable pub text_at : List ℕ → Members → Option (List ℕ)
 text_at name fields = option_and_then as_str (get_member name fields)
 
@@ -41,7 +41,7 @@ list_at name fields = option_and_then as_array (get_member name fields)
 unfoldable pub truth_at : List ℕ → Members → Option Bool
 truth_at name fields = option_and_then as_bool (get_member name fields)
 
--- whether something of another kind stands at the name
+-- whether something of another kind is at the name
 unfoldable pub is_not_text : List ℕ → Members → Bool
 is_not_text name fields = has_field name fields && is_none (text_at name fields)
 
@@ -54,7 +54,7 @@ is_not_list name fields = has_field name fields && is_none (list_at name fields)
 unfoldable pub is_not_truth : List ℕ → Members → Bool
 is_not_truth name fields = has_field name fields && is_none (truth_at name fields)
 
--- the truth value at a name, which is false where none stands
+-- the truth value at a name, which is false if none is there
 unfoldable pub is_set : List ℕ → Members → Bool
 is_set name fields = unwrap_or (truth_at name fields) false
 

@@ -1,4 +1,4 @@
--- A layout: a rate, and entries in which no place and no key stands twice and at most one is the Fn key's.
+-- A layout: a rate, and entries in which no place and no key occurs twice and at most one is the Fn key's.
 use Rattle.std.specs.Prelude.{◌≡◌, ℕ, ◌<◌, ◌≤◌, nat_eq, ◌==◌, Bool, false, List, map, length, All, find}
 use Rattle.std.specs.Prelude.{Option, Some, None, IsSome, is_none, option_and_then, unwrap_or}
 use Rattle.std.specs.List.{IsDistinct, filter, range_with_len}
@@ -18,7 +18,7 @@ places_of entries = map (λ entry. entry.place) entries
 abbrev pub keys_of : List Entry → List ℕ
 keys_of entries = map (λ entry. entry.key) entries
 
--- each entry's numbers are in range, no place and no key stands twice, and at most one entry is the Fn key's
+-- each entry's numbers are in range, no place and no key occurs twice, and at most one entry is the Fn key's
 pub record AreEntries (entries : List Entry) : Type 0 where
   pub each : All IsEntry entries
   pub own_places : IsDistinct nat_eq (places_of entries)

@@ -27,7 +27,7 @@ format_in top = option_and_then format_numbered (whole_at (codes "format") top)
 abbrev pub rate_of : ℕ → Option ℕ
 rate_of rate = if nat_lt rate 128 then Some rate else None
 
--- the rate, which is 44 where none stands
+-- the rate, which is 44 if none is there
 unfoldable pub rate_in : Members → Option ℕ
 rate_in top = if has_field (codes "rate") top then option_and_then rate_of (byte_at (codes "rate") top) else Some 44
 
@@ -56,7 +56,7 @@ top_judgements top =
     ∷ judge NoEntries (is_empty (elements_in top))
     ∷ []
 
--- what the top level says of the document, where nothing is wrong with it
+-- what the top level says of the document, if nothing is wrong with it
 abbrev pub header_of : Members → Header
 header_of top = record { format = unwrap_or (format_in top) One; rate = unwrap_or (rate_in top) 0 }
 

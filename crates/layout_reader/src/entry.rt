@@ -1,4 +1,4 @@
-//! An entry of a layout: a place, the key that stands there, and what it sends.
+//! An entry of a layout: a place, the key that is there, and what it sends.
 
 ghost use Rattle.std.specs.Prelude.{◌≡◌, ◌<◌, ◌&&◌, true, false, IfSome, IfOk};
 ghost use Rattle.toml.specs.View.{table_view, view};
@@ -20,9 +20,9 @@ use toml::{Table, Value};
 /// sends nothing.
 #[derive(Clone, Copy, Debug, PartialEq, Eq)]
 pub struct Entry {
-    /// Where the key stands.
+    /// Where the key is.
     pub place: Place,
-    /// The key that stands there, by which a history names it.
+    /// The key that is there, by which a history names it.
     pub key: Key,
     /// The key whose code is sent; None exactly at the Fn key.
     pub sends: Option<Key>,
@@ -32,7 +32,7 @@ pub struct Entry {
     pub make_only: bool,
 }
 
-/// The key whose code the entry sends; where it names none, its own.
+/// The key whose code the entry sends; if it names none, its own.
 #[tactic(auto, unfolding(crate::specs::Entries::sends_in))]
 fn sends_in(fields: &Table) -> Option<Key>
     ensures key { result ≡ sends_in (table_view fields.now) }
@@ -45,7 +45,7 @@ fn sends_in(fields: &Table) -> Option<Key>
     }
 }
 
-/// The key whose code the entry sends under Fn; where it names none, the one that it sends without.
+/// The key whose code the entry sends under Fn; if it names none, the one that it sends without.
 #[tactic(auto, unfolding(crate::specs::Entries::fn_sends_in))]
 fn fn_sends_in(fields: &Table) -> Option<Key>
     ensures key { result ≡ fn_sends_in (table_view fields.now) }
@@ -70,7 +70,7 @@ fn place_in(fields: &Table) -> Option<Place>
     }
 }
 
-/// Whether an earlier entry stands at the place.
+/// Whether an earlier entry is at the place.
 #[tactic(auto, unfolding(crate::specs::Entries::is_place_taken))]
 fn is_place_taken(earlier: &[Entry], place: Place) -> bool
     ensures { result ≡ is_place_taken earlier.now place }

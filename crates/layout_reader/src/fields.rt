@@ -17,7 +17,7 @@ pub(crate) enum Format {
     Two,
 }
 
-/// The two levels of the document at which fields stand; an entry's fields depend on the format.
+/// The two levels of the document at which fields are; an entry's fields depend on the format.
 #[derive(Clone, Copy, Debug, PartialEq, Eq, Drop)]
 pub(crate) enum Level {
     Top,
@@ -59,7 +59,7 @@ pub(crate) fn has_other_field(fields: &Table, level: Level) -> bool
     false
 }
 
-/// What stands at a name.
+/// What is at a name.
 pub(crate) fn value_at<'a>(fields: &'a Table, name: &str) -> Option<&'a Value>
     ensures { option_map (λ value. view value.now) result ≡ get_member name.now (table_view fields.now) }
 {
@@ -74,7 +74,7 @@ pub(crate) fn has_field(fields: &Table, name: &str) -> bool
     value_at(fields, name).is_some()
 }
 
-/// The text at a name, where there is one.
+/// The text at a name, if there is one.
 #[tactic(auto, unfolding(crate::specs::Fields::text_at))]
 pub(crate) fn text_at<'a>(fields: &'a Table, name: &str) -> Option<&'a str>
     ensures { option_map (λ text. text.now) result ≡ text_at name.now (table_view fields.now) }
@@ -85,7 +85,7 @@ pub(crate) fn text_at<'a>(fields: &'a Table, name: &str) -> Option<&'a str>
     }
 }
 
-/// The whole number at a name, where there is one.
+/// The whole number at a name, if there is one.
 #[tactic(auto, unfolding(crate::specs::Fields::whole_at))]
 pub(crate) fn whole_at(fields: &Table, name: &str) -> Option<i64>
     ensures { result ≡ whole_at name.now (table_view fields.now) }
@@ -96,7 +96,7 @@ pub(crate) fn whole_at(fields: &Table, name: &str) -> Option<i64>
     }
 }
 
-/// The elements of the list at a name, where there is one.
+/// The elements of the list at a name, if there is one.
 #[tactic(auto, unfolding(crate::specs::Fields::list_at))]
 pub(crate) fn list_at<'a>(fields: &'a Table, name: &str) -> Option<&'a Array>
     ensures { option_map (λ elements. array_view elements.now) result ≡ list_at name.now (table_view fields.now) }
@@ -107,7 +107,7 @@ pub(crate) fn list_at<'a>(fields: &'a Table, name: &str) -> Option<&'a Array>
     }
 }
 
-/// The truth value at a name, where there is one.
+/// The truth value at a name, if there is one.
 #[tactic(auto, unfolding(crate::specs::Fields::truth_at))]
 fn truth_at(fields: &Table, name: &str) -> Option<bool>
     ensures { result ≡ truth_at name.now (table_view fields.now) }
@@ -118,7 +118,7 @@ fn truth_at(fields: &Table, name: &str) -> Option<bool>
     }
 }
 
-/// Whether the truth value at a name is true; it is false where none stands.
+/// Whether the truth value at a name is true; it is false if none is there.
 #[tactic(auto, unfolding(crate::specs::Fields::is_set))]
 pub(crate) fn is_set(fields: &Table, name: &str) -> bool
     ensures { result ≡ is_set name.now (table_view fields.now) }
@@ -126,7 +126,7 @@ pub(crate) fn is_set(fields: &Table, name: &str) -> bool
     truth_at(fields, name).unwrap_or(false)
 }
 
-/// The whole number at a name, where there is one from 0 to 255.
+/// The whole number at a name, if there is one from 0 to 255.
 #[tactic(auto, unfolding(crate::specs::Fields::byte_at))]
 pub(crate) fn byte_at(fields: &Table, name: &str) -> Option<u8>
     ensures { result ≡ byte_at name.now (table_view fields.now) }
@@ -149,7 +149,7 @@ pub(crate) fn key_at(fields: &Table, name: &str) -> Option<Key>
     }
 }
 
-/// Whether something else than a text stands at the name.
+/// Whether something else than a text is at the name.
 #[tactic(auto, unfolding(crate::specs::Fields::is_not_text))]
 pub(crate) fn is_not_text(fields: &Table, name: &str) -> bool
     ensures { result ≡ is_not_text name.now (table_view fields.now) }
@@ -157,7 +157,7 @@ pub(crate) fn is_not_text(fields: &Table, name: &str) -> bool
     has_field(fields, name) && text_at(fields, name).is_none()
 }
 
-/// Whether something else than a whole number stands at the name.
+/// Whether something else than a whole number is at the name.
 #[tactic(auto, unfolding(crate::specs::Fields::is_not_whole))]
 pub(crate) fn is_not_whole(fields: &Table, name: &str) -> bool
     ensures { result ≡ is_not_whole name.now (table_view fields.now) }
@@ -165,7 +165,7 @@ pub(crate) fn is_not_whole(fields: &Table, name: &str) -> bool
     has_field(fields, name) && whole_at(fields, name).is_none()
 }
 
-/// Whether something else than a list stands at the name.
+/// Whether something else than a list is at the name.
 #[tactic(auto, unfolding(crate::specs::Fields::is_not_list))]
 pub(crate) fn is_not_list(fields: &Table, name: &str) -> bool
     ensures { result ≡ is_not_list name.now (table_view fields.now) }
@@ -173,7 +173,7 @@ pub(crate) fn is_not_list(fields: &Table, name: &str) -> bool
     has_field(fields, name) && list_at(fields, name).is_none()
 }
 
-/// Whether something else than a truth value stands at the name.
+/// Whether something else than a truth value is at the name.
 #[tactic(auto, unfolding(crate::specs::Fields::is_not_truth))]
 pub(crate) fn is_not_truth(fields: &Table, name: &str) -> bool
     ensures { result ≡ is_not_truth name.now (table_view fields.now) }

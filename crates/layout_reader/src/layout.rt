@@ -11,7 +11,7 @@ use board_lines::Place;
 use pc_tables::{Key, code_of};
 use std::marker::Model;
 
-/// A layout: a rate and entries in the order of the document, in which no place and no key stands twice, and at most
+/// A layout: a rate and entries in the order of the document, in which no place and no key occurs twice, and at most
 /// one is the Fn key's.
 #[derive(Debug, Drop)]
 pub struct Layout {
@@ -47,7 +47,7 @@ impl Layout {
         self.rate
     }
 
-    /// The entries in the order of the document. There are 84 at most, since no key stands twice.
+    /// The entries in the order of the document. There are 84 at most, since no key occurs twice.
     #[tactic(auto, using(crate::proofs::Laws::entries_limit))]
     pub fn entries(&self) -> &[Entry]
         ensures entries { result.now ≡ self.now.entries }
@@ -61,7 +61,7 @@ impl Layout {
     }
 
     /// The code that the keyboard sends for this place (scan set 2), which is that of the key that its entry sends;
-    /// None exactly where no entry has the place or the Fn key stands there.
+    /// None exactly if no entry has the place or the Fn key is there.
     #[tactic(auto, unfolding(crate::specs::Layouts::code_at))]
     pub fn code_at(&self, place: Place) -> Option<u8>
         ensures code { result ≡ code_at place self.now }
@@ -71,7 +71,7 @@ impl Layout {
     }
 
     /// The code that it sends for this place under Fn, which is that of the key that its entry sends then; None exactly
-    /// where it sends none without Fn either: where no entry has the place or the Fn key stands there.
+    /// if it sends none without Fn either: if no entry has the place or the Fn key is there.
     #[tactic(auto, unfolding(crate::specs::Layouts::fn_code_at))]
     pub fn fn_code_at(&self, place: Place) -> Option<u8>
         ensures code { result ≡ fn_code_at place self.now }
@@ -81,7 +81,7 @@ impl Layout {
         Some(code_of(key))
     }
 
-    /// Whether the key at this place sends no break; false where no entry has the place.
+    /// Whether the key at this place sends no break; false if no entry has the place.
     #[tactic(auto, unfolding(crate::specs::Layouts::is_make_only))]
     pub fn make_only(&self, place: Place) -> bool
         ensures make_only { result ≡ is_make_only place self.now }
@@ -92,7 +92,7 @@ impl Layout {
         }
     }
 
-    /// The place of the Fn key; None exactly where there is none.
+    /// The place of the Fn key; None exactly if there is none.
     pub fn fn_place(&self) -> Option<Place>
         ensures place { result ≡ fn_place self.now }
         ensures silent { IsSilentAtFn self.now }
@@ -103,7 +103,7 @@ impl Layout {
         }
     }
 
-    /// The entry at this place; None exactly where none has it.
+    /// The entry at this place; None exactly if none has it.
     fn entry_at(&self, place: Place) -> Option<Entry>
         ensures entry { result ≡ entry_at place self.now.entries }
         ensures silent { IsSilentAtFn self.now }
@@ -114,7 +114,7 @@ impl Layout {
         }
     }
 
-    /// The place of this key; None exactly where no entry has it.
+    /// The place of this key; None exactly if no entry has it.
     pub fn place_of(&self, key: Key) -> Option<Place>
         ensures place { result ≡ place_of key self.now }
     {

@@ -1,4 +1,4 @@
-//! The layout: which key stands at which place of the matrix, what each key sends, and the rate at power-on.
+//! The layout: which key is at which place of the matrix, what each key sends, and the rate at power-on.
 //!
 //! This layer reads a layout document (TOML, as the crate `toml` reads it) and gives its layout, or its first fault. It
 //! knows the document's fields, their order of judgement, keys by name and places by column and row. It knows no

@@ -26,7 +26,7 @@ fn sample_entry(key: Key) -> Entry
     }
 }
 
-/// The sample layout `us84`: each of the 84 keys stands at the place of its number and sends its own code, also under
+/// The sample layout `us84`: each of the 84 keys is at the place of its number and sends its own code, also under
 /// Fn, at the rate 44. It is made from the numbers of the keys; no text is read.
 #[tactic(auto, unfolding(crate::specs::Layouts::us84))]
 pub fn us84_layout(alloc: Global) -> Result<Layout, AllocError>

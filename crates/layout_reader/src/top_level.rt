@@ -11,7 +11,7 @@ use crate::fields::{
 };
 use toml::{Table, Value};
 
-/// The keyboard's rate byte where the document names none: a delay of 500 ms, then 10 characters a second.
+/// The keyboard's rate byte if the document names none: a delay of 500 ms, then 10 characters a second.
 pub(crate) const DEFAULT_RATE: u8 = 44;
 
 /// What the top level says of the whole document: its format, and the keyboard's rate byte at power-on.
@@ -21,7 +21,7 @@ pub(crate) struct Header {
     pub(crate) rate: u8,
 }
 
-/// The format of the document; None where its number is another.
+/// The format of the document; None if its number is another.
 #[tactic(auto, unfolding(crate::specs::TopLevel::format_in))]
 fn format_in(top: &Table) -> Option<Format>
     ensures { result ≡ format_in (table_view top.now) }
@@ -33,7 +33,7 @@ fn format_in(top: &Table) -> Option<Format>
     }
 }
 
-/// The rate of the document; None where it is out of range.
+/// The rate of the document; None if it is out of range.
 #[tactic(auto, unfolding(crate::specs::TopLevel::rate_in))]
 fn rate_in(top: &Table) -> Option<u8>
     ensures rate { result ≡ rate_in (table_view top.now) }

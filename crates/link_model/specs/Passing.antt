@@ -6,7 +6,7 @@ use Rattle.byte_time.specs.declared.UnderWay.{UnderWay}
 use Rattle.byte_time.specs.declared.meeting.Meeting.{Meeting}
 use Rattle.byte_time.specs.declared.meeting.Meeting.TheVariants.{Got, Inhibited, Idle, Sent, Cut}
 
--- where a byte is to pass, the link isn't held
+-- if a byte is to pass, the link isn't held
 abbrev pub MayBegin : Meeting → Link UnderWay → Type 0
 MayBegin (Got byte) link = is_held link ≡ false
 MayBegin (Sent byte) link = is_held link ≡ false

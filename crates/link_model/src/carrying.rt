@@ -47,7 +47,7 @@ impl Running {
         }
     }
 
-    /// A byte of the keyboard begins, and arrives where it isn't broken off. Answers the meeting.
+    /// A byte of the keyboard begins, and arrives if it isn't broken off. Answers the meeting.
     fn send(&mut self, events: &[HostEvent], byte: u8, now: u64) -> Result<Meeting, AllocError>
         requires near { now < 2 ^ 62 }
         requires may_begin { is_held self.old.port.link ≡ false }
@@ -114,7 +114,7 @@ impl Running {
         }
     }
 
-    /// The keyboard's byte arrives, where it is still under way; it comes wrong where noise turned a bit of it round.
+    /// The keyboard's byte arrives, if it is still under way; it comes wrong if noise turned a bit of it round.
     fn arrive(&mut self, now: u64, byte: u8)
         ensures { self.new ≡ record self.old { port = happened_at now (Arrives byte) self.old.port } }
     {

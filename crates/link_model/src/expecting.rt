@@ -16,7 +16,7 @@ use key_file::History;
 use layout_reader::Layout;
 use std::alloc::{AllocError, Global};
 
-/// The log that a layout and a history come to, where the ticks have these starts: what the port, INT 09h, the lights
+/// The log that a layout and a history come to, if the ticks have these starts: what the port, INT 09h, the lights
 /// and the controller's outputs say, each with its tick. The starts are stamps in cycles. They keep the cadence, and
 /// the last of them is the first at or after the history's end; items before it are in the log. Only memory may be
 /// wanting.

@@ -2,7 +2,7 @@
 
 use pc_tables::Item;
 
-/// An item with its tick: the number of tick starts at or before its cycle, less one, or 0 where there is none.
+/// An item with its tick: the number of tick starts at or before its cycle, less one, or 0 if there is none.
 #[derive(Clone, Copy, Debug, PartialEq, Eq)]
 pub struct LogLine {
     /// The tick.

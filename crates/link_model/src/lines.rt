@@ -35,7 +35,7 @@ pub(crate) fn log_lines(
     Ok(lines)
 }
 
-/// The tick of a cycle: the number of starts at or before it, less one, or 0 where there is none. By the cadence no
+/// The tick of a cycle: the number of starts at or before it, less one, or 0 if there is none. By the cadence no
 /// more than one start has to be looked at.
 fn tick_at(starts: &[u64], cycle: u64) -> u32
     requires some { 0 < length starts.now }

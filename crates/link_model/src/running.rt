@@ -91,7 +91,7 @@ impl Running {
         Ok(())
     }
 
-    /// The lights are said, where they differ from those shown.
+    /// The lights are said, if they differ from those shown.
     pub(crate) fn say_lights(&mut self, now: u64, shown: u8, lights: u8) -> Result<(), AllocError>
         ensures { IfOk result (λ u. self.new ≡ says_lights now shown lights self.old) }
     {
@@ -134,7 +134,7 @@ impl Running {
     }
 }
 
-/// One event more, where one was done.
+/// One event more, if one was done.
 fn counted(done: usize, was_done: bool, most: usize) -> usize
     ensures { result ≡ (if was_done && nat_lt done most then done + 1 else done) }
 {
@@ -145,7 +145,7 @@ fn counted(done: usize, was_done: bool, most: usize) -> usize
     }
 }
 
-/// Puts items with their cycle behind the log.
+/// Puts items with their cycle after the log.
 fn log_items(log: &mut Vec<Stamped>, now: u64, items: &[Item]) -> Result<(), AllocError>
     ensures { IfOk result (λ u. log.new.items ≡ log.old.items ++ stamped now items.now) }
 {

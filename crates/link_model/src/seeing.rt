@@ -43,7 +43,7 @@ pub(crate) fn tick_edges(
     Ok(seen)
 }
 
-/// The start of the tick before, where there is one.
+/// The start of the tick before, if there is one.
 fn start_before(starts: &[u64], n: usize) -> Option<u64>
     requires within { n < length starts.now }
     ensures { result ≡ start_before_of (listed starts.now) n }
@@ -110,7 +110,7 @@ fn seen_among(
     Ok(seen)
 }
 
-/// Puts the edges of one place that a tick sees behind those of others.
+/// Puts the edges of one place that a tick sees after those of others.
 fn push_seen(
     seen: &mut Vec<(Place, bool)>,
     edges: &[Edge],
@@ -128,7 +128,7 @@ fn push_seen(
     Ok(())
 }
 
-/// Puts an edge behind the others, where it is wanted.
+/// Puts an edge after the others, if it is wanted.
 fn push_if(seen: &mut Vec<(Place, bool)>, wanted: bool, edge: &Edge) -> Result<(), AllocError>
     ensures { IfOk result (λ u. seen.new.items ≡ seen.old.items ++ (if wanted then change_of edge.now ∷ [] else [])) }
 {

@@ -24,7 +24,7 @@ const LOOK: u64 = 256;
 /// The offset at which a byte begins.
 const MEETING: u64 = 288;
 
-/// The offset behind the cycle in which a byte ends.
+/// The offset after the cycle in which a byte ends.
 const REST: u64 = 609;
 
 /// The keyboard, the layers of its keys' presses, the PC's side, and the lights shown. A clause sees it as a `Whole`.

@@ -21,11 +21,11 @@ lines_in text = placed 0 (map line_of (lines (map to_ascii_uppercase text)))
 abbrev pub Fault : Type 0
 Fault = ℕ × ℕ
 
--- the first flaw of a line behind these lines
+-- the first flaw of a line after these lines
 abbrev pub fault_behind : Meanings → List Placed → Placed → Option Flaw
 fault_behind names earlier at = fault_of names (value_named (definitions earlier)) (is_filled earlier) at
 
--- the first faulty line behind these lines, and its fault
+-- the first faulty line after these lines, and its fault
 abbrev pub first_fault : Meanings → List Placed → List Placed → Option Fault
 first_fault names earlier [] = None
 first_fault names earlier (at ∷ rest) =
@@ -33,7 +33,7 @@ first_fault names earlier (at ∷ rest) =
     (option_map (λ flaw. (length earlier + 1, number_of flaw)) (fault_behind names earlier at))
     (first_fault names (earlier ++ at ∷ []) rest)
 
--- the byte at a place: that of the line that fills it, and 00 where none does
+-- the byte at a place: that of the line that fills it, and 00 if none does
 abbrev pub byte_at : Meanings → List Placed → ℕ → ℕ
 byte_at names [] place = 0
 byte_at names (at ∷ rest) place =
@@ -50,7 +50,7 @@ abbrev pub image_unless : Option Fault → List ℕ → Result (List ℕ) Fault
 image_unless None image = Ok image
 image_unless (Some fault) image = Err fault
 
--- the image of lines, or their first fault, where names mean this
+-- the image of lines, or their first fault, if names mean this
 abbrev pub outcome_of : Meanings → List Placed → Result (List ℕ) Fault
 outcome_of names lines = image_unless (first_fault names [] lines) (image_of names lines)
 

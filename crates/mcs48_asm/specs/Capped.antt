@@ -39,7 +39,7 @@ found_capped (Err flaw) = Err flaw
 abbrev pub line_capped : Line → Line
 line_capped line = record { flaw = line.flaw; label = line.label; statement = statement_capped line.statement }
 
--- the lines, each with its place, where 65,536 stands for each place past 65,535
+-- the lines, each with its place, if 65,536 stands for each place past 65,535
 abbrev pub kept_places : ℕ → List Line → List Placed
 kept_places place [] = []
 kept_places place (line ∷ lines) =

@@ -37,7 +37,7 @@ is_blank c = c == 32 || c == 9
 abbrev pub is_comma : ℕ → Bool
 is_comma c = c == 44
 
--- the colon behind a label
+-- the colon after a label
 abbrev pub is_colon : ℕ → Bool
 is_colon c = c == 58
 
@@ -57,6 +57,6 @@ pointer_mark = 64
 abbrev pub is_mark : ℕ → Bool
 is_mark c = c == value_mark || c == pointer_mark
 
--- what may stand before a comment
+-- what may be before a comment
 abbrev pub is_allowed : ℕ → Bool
 is_allowed c = is_word_character c || is_blank c || is_mark c || is_comma c || is_colon c

@@ -36,7 +36,7 @@ examples =
     line (codes "DB 10B, 0BH") (two 2 11) ∷
     line (codes "DB 12B") (Err (1, 1)) ∷
     line (codes "DB 7F") (Err (1, 1)) ∷
-    -- no blank stands behind # or @, and none is wanted before it
+    -- no blank is after # or @, and none is wanted before it
     line (codes "MOV A,# 5") (Err (1, 3)) ∷
     line (codes "JMPP @ A") (Err (1, 3)) ∷
     line (codes "jmpp@a ; ü") (two 0xb3 0) ∷
@@ -73,7 +73,7 @@ examples =
     lines (codes "DB 1") (codes "ORG 0" ++ 10 ∷ codes "DB 2") (Err (3, 8)) ∷
     []
 
--- each of these sources gives what stands beside it
+-- each of these sources gives what is beside it
 abbrev pub AreRight : List Example → Type 0
 AreRight [] = Unit {0}
 AreRight (example ∷ more) = (beginning (assembly_of example.source) ≡ example.gives) × AreRight more

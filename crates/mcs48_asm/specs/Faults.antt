@@ -50,11 +50,11 @@ abbrev pub is_equate : Statement → Bool
 is_equate (Equate name number) = true
 is_equate statement = false
 
--- a label stands before EQU
+-- a label is before EQU
 abbrev pub has_labelled_equate : Line → Bool
 has_labelled_equate line = is_some line.label && is_equate line.statement
 
--- fault 3: a value or a number is too large, a reserved name is defined, or a label stands before EQU
+-- fault 3: a value or a number is too large, a reserved name is defined, or a label is before EQU
 abbrev pub is_refused : Meanings → Placed → Bool
 is_refused names at =
     list_any (is_too_large names) (arguments at.line.statement)
@@ -71,7 +71,7 @@ has_unknown_name names at = list_any (λ argument. is_none (meaning names argume
 abbrev pub is_defined_again : Meanings → Placed → Bool
 is_defined_again seen at = list_any (λ definition. is_some (seen definition.name)) (defined at)
 
--- a value is a target outside the page of the place behind this one
+-- a value is a target outside the page of the place after this one
 abbrev pub is_outside : Meanings → ℕ → Role → Value → Bool
 is_outside names start Target value =
     option_map_or (λ n. not (n / 256 == (start + 1) / 256)) (meaning names value) false
@@ -86,11 +86,11 @@ is_off_page names at =
 abbrev pub is_past_end : Placed → Bool
 is_past_end at = nat_lt 0 (count_of at.line.statement) && nat_lt 2048 (at.start + count_of at.line.statement)
 
--- fault 8: a place below 2,048 that an earlier line has filled; the bytes of one line stand at places of their own
+-- fault 8: a place below 2,048 that an earlier line has filled; the bytes of one line are at places of their own
 abbrev pub is_filled_again : (ℕ → Bool) → Placed → Bool
 is_filled_again filled at = list_any (λ place. covers at place && filled place) places
 
--- the first flaw of a line, where names mean this, earlier lines define these names, and have filled these places
+-- the first flaw of a line, if names mean this, earlier lines define these names, and have filled these places
 abbrev pub fault_of : Meanings → Meanings → (ℕ → Bool) → Placed → Option Flaw
 fault_of names seen filled at =
     option_or at.line.flaw

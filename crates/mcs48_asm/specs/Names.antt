@@ -46,13 +46,13 @@ value_named names name =
 abbrev pub Meanings : Type 0
 Meanings = List ℕ → Option ℕ
 
--- the number that a value means, where its name has one
+-- the number that a value means, if its name has one
 abbrev pub meaning : Meanings → Value → Option ℕ
 meaning names (Number n) = Some n
 meaning names (Named name) = names name
 meaning names (Low name) = option_map (λ value. value % 256) (names name)
 
--- the bytes of an instruction with this first byte and this value: the low byte stands in the second, and the page of
+-- the bytes of an instruction with this first byte and this value: the low byte is in the second, and the page of
 -- JMP's and CALL's address in the top bits of the first
 abbrev pub with_value : ℕ → Role → ℕ → List ℕ
 with_value opcode Byte n = opcode ∷ n % 256 ∷ []

@@ -107,7 +107,7 @@ abbrev pub word_read : List ℕ → List ℕ → Option Reading
 word_read word token = if bytes_eq word token then Some (fixed 0) else None
 
 -- what tokens say as an operand like this, where they are one: it as the table writes it, with any number, and a value
--- where the table has one
+-- if the table has one
 abbrev pub read : Operand → List (List ℕ) → Option Reading
 read (Is word) tokens = alone (word_read word) tokens
 read (Register r) tokens = option_map fixed (alone register tokens)
@@ -122,7 +122,7 @@ abbrev pub joined : Reading → Reading → Reading
 joined first second =
     record { offset = first.offset + second.offset; argument = option_or first.argument second.argument }
 
--- and where both are there
+-- and if both are there
 abbrev pub both : Option Reading → Option Reading → Option Reading
 both first second = option_and_then (λ said. option_map (joined said) second) first
 

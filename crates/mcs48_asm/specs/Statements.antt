@@ -22,7 +22,7 @@ pub data Statement : Type 0 where
   Data : List Value → Statement
   Equate : List ℕ → ℕ → Statement
 
--- the values that parts write, where each of them writes one
+-- the values that parts write, if each of them writes one
 abbrev pub values_of : List (List (List ℕ)) → Option (List Value)
 values_of [] = Some []
 values_of (tokens ∷ parts) =
@@ -78,7 +78,7 @@ statement_in words tokens =
 abbrev pub statement_of : List ℕ → Result Statement Flaw
 statement_of text = statement_in (words_of text) (tokens_of text)
 
--- a line: its flaw of form, where it has one, and then it says nothing; its label, and its statement
+-- a line: its flaw of form, if it has one, and then it says nothing; its label, and its statement
 pub record Line : Type 0 where
   pub flaw : Option Flaw
   pub label : Option (List ℕ)
@@ -106,11 +106,11 @@ line_of_parts _ = flawed Syntax
 abbrev pub is_known_word : List ℕ → Bool
 is_known_word word = is_name word || is_some (number_of word)
 
--- each character may stand there, and each word is a name or a number
+-- each character may be there, and each word is a name or a number
 abbrev pub is_spelled : List ℕ → Bool
 is_spelled text = list_all is_allowed text && list_all is_known_word (words_of text)
 
--- what a line says: what stands before the comment
+-- what a line says: what is before the comment
 abbrev pub line_of : List ℕ → Line
 line_of line =
     let text = before_first is_semicolon line in

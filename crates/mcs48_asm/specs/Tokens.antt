@@ -26,7 +26,7 @@ goes_on [] = false
 goes_on (c ∷ cs) = is_word_character c
 
 -- a character before tokens: a blank parts them, a comma is one of its own, and any other character belongs to the word
--- that begins right behind it
+-- that begins right after it
 abbrev pub before_tokens : ℕ → Bool → List (List ℕ) → List (List ℕ)
 before_tokens c is_word_behind tokens =
     if is_blank c then tokens
@@ -46,12 +46,12 @@ is_comma_token (c ∷ cs) = is_comma c
 abbrev pub parts_of : List (List ℕ) → List (List (List ℕ))
 parts_of tokens = slice_split is_comma_token tokens
 
--- the token that stands alone
+-- the token that is alone
 abbrev pub only_of : List (List ℕ) → Option (List ℕ)
 only_of (token ∷ []) = Some token
 only_of _ = None
 
--- what a token says, where it stands alone
+-- what a token says, where it is alone
 abbrev pub alone : {T : Type 0} → (List ℕ → Option T) → List (List ℕ) → Option T
 alone says tokens = option_and_then says (only_of tokens)
 

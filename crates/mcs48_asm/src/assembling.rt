@@ -25,7 +25,7 @@ use text_lines::next_line;
 /// The places of a program memory.
 const PLACES: usize = 2048;
 
-/// The image of lines, or their first fault, where names mean this.
+/// The image of lines, or their first fault, if names mean this.
 fn outcome_of<'a>(alloc: Global, names: &Names<'a>, text: &'a [u8]) -> Result<Image, AsmFault>
     requires { length text.now ≤ 262144 }
     ensures { IsOutcome result (outcome_of (kept_value names.now.entries)
@@ -66,7 +66,7 @@ fn upper_case(alloc: Global, text: &[u8]) -> Result<Vec<u8>, AllocError>
 
 /// The program memory that an assembler text fills, a place that no line fills being 00; or the first line that has a
 /// fault, with the lowest number of its faults. The text has at most 262,144 bytes. The listing of a program memory
-/// gives that memory. `AsmFault::Memory` where memory runs out.
+/// gives that memory. `AsmFault::Memory` if memory runs out.
 ///
 /// Source: the texts of the MCS-48 Family User's Manual, instruction set; the form of lines is our own.
 pub fn assemble(alloc: Global, text: &[u8]) -> Result<Image, AsmFault>

@@ -24,7 +24,7 @@ pub(crate) fn is_blank(character: u8) -> bool
     character == b' ' || character == b'\t'
 }
 
-/// Whether the character may stand before a comment.
+/// Whether the character may be before a comment.
 pub(crate) fn is_allowed(character: u8) -> bool
     ensures { result ≡ is_allowed character }
 {

@@ -50,7 +50,7 @@ fn is_unknown(names: &Names<'_>, value: Value<'_>) -> bool
     meaning(names, value).is_none()
 }
 
-/// Whether a value is a target outside the page of the place behind this one.
+/// Whether a value is a target outside the page of the place after this one.
 fn is_outside(names: &Names<'_>, start: u32, argument: Argument<'_>) -> bool
     ensures { result ≡ is_outside (kept_value names.now.entries) start argument.entry.role
         (value_seen argument.entry.value) }
@@ -139,7 +139,7 @@ fn has_wrong_number(statement: Statement<'_>) -> bool
     }
 }
 
-/// Whether a label stands before EQU.
+/// Whether a label is before EQU.
 fn has_labelled_equate(line: Line<'_>) -> bool
     ensures { result ≡ has_labelled_equate (line_seen line.entry) }
 {
@@ -170,7 +170,7 @@ fn has_reserved_equate(statement: Statement<'_>) -> bool
     }
 }
 
-/// Whether a line has fault 3: a value or a number is too large, a reserved name is defined, or a label stands before
+/// Whether a line has fault 3: a value or a number is too large, a reserved name is defined, or a label is before
 /// EQU.
 fn is_refused(names: &Names<'_>, line: Line<'_>, start: u32) -> bool
     ensures { result ≡ is_refused (kept_value names.now.entries)

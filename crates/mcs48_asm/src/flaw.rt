@@ -10,7 +10,7 @@ pub(crate) enum Flaw {
     Syntax,
     /// The statement is no instruction, ORG, DB or EQU.
     NoStatement,
-    /// The operands fit no row, a value is too large, a reserved name is defined, or a label stands before EQU.
+    /// The operands fit no row, a value is too large, a reserved name is defined, or a label is before EQU.
     Misfit,
     /// No line defines a name.
     UnknownName,
@@ -18,7 +18,7 @@ pub(crate) enum Flaw {
     NameTaken,
     /// The target of a jump isn't in the page of its second byte.
     OffPage,
-    /// A byte stands past place 2,047.
+    /// A byte is past place 2,047.
     PastEnd,
     /// An earlier line has filled a place.
     PlaceTaken,

@@ -7,7 +7,7 @@ ghost use Rattle.mcs48_asm.specs.Places.{placed};
 ghost use Rattle.mcs48_asm.specs.Statements.{Line};
 
 /// Numbers and places past 65,535 are faults, whatever they are: lines have the same image, or the same first fault,
-/// where 65,536 stands for each of them.
+/// if 65,536 stands for each of them.
 pub fn large_numbers()
     ensures capped { (lines : List Line)
         → answer_of (placed 0 lines) ≡ answer_of (kept_places 0 (map line_capped lines)) }

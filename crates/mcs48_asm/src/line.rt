@@ -17,7 +17,7 @@ use crate::values::number_of;
 use crate::words::{is_name, only_name};
 use text_lines::split_once;
 
-/// A line. Where it has a fault of form, it says nothing.
+/// A line. If it has a fault of form, it says nothing.
 #[derive(Clone, Copy)]
 pub(crate) struct Line<'a> {
     /// What is wrong with its form.
@@ -39,7 +39,7 @@ fn flawed<'a>(flaw: Flaw) -> Line<'a>
     }
 }
 
-/// Whether each character may stand before a comment.
+/// Whether each character may be before a comment.
 fn are_allowed(text: &[u8]) -> bool
     ensures { result ≡ list_all is_allowed text.now }
 {
@@ -61,14 +61,14 @@ fn are_known_words(text: &[u8]) -> bool
         .all(|word| is_known_word(word))
 }
 
-/// Whether each character may stand before a comment, and each word is a name or a number.
+/// Whether each character may be before a comment, and each word is a name or a number.
 fn is_spelled(text: &[u8]) -> bool
     ensures { result ≡ is_spelled text.now }
 {
     are_allowed(text) && are_known_words(text)
 }
 
-/// A line with this label, where it has one, and with what a statement gave.
+/// A line with this label, if it has one, and with what a statement gave.
 fn line_with<'a>(label: Option<&'a [u8]>, text: &'a [u8]) -> Line<'a>
     ensures { line_seen result ≡ line_capped (line_with (option_map (λ name. name.now) label.entry)
         (statement_of text.now)) }
@@ -83,7 +83,7 @@ fn line_with<'a>(label: Option<&'a [u8]>, text: &'a [u8]) -> Line<'a>
     }
 }
 
-/// The line that a label and what stands behind its colon give.
+/// The line that a label and what is after its colon give.
 fn labelled<'a>(label: &'a [u8], text: &'a [u8]) -> Line<'a>
     ensures { line_seen result ≡ line_capped (line_of_parts (label.now ∷ text.now ∷ [])) }
 {
@@ -93,7 +93,7 @@ fn labelled<'a>(label: &'a [u8], text: &'a [u8]) -> Line<'a>
     }
 }
 
-/// The line that a text gives in which each character and each word may stand.
+/// The line that a text gives in which each character and each word may be.
 fn line_in(text: &[u8]) -> Line<'_>
     ensures { line_seen result ≡ line_capped (line_of_parts (slice_split is_colon text.now)) }
 {

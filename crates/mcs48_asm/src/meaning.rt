@@ -13,7 +13,7 @@ use crate::values::part_value;
 use std::alloc::{AllocError, Global};
 use text_lines::split_once;
 
-/// The number that a value means, where its name has one.
+/// The number that a value means, if its name has one.
 pub(crate) fn meaning(names: &Names<'_>, value: Value<'_>) -> Option<u32>
     ensures { result ≡ meaning (kept_value names.now.entries) (value_seen value.entry) }
 {

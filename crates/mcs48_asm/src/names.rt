@@ -28,7 +28,7 @@ pub(crate) fn value_named(names: &Names<'_>, name: &[u8]) -> Option<u32>
     names.get(name).copied()
 }
 
-/// Gives a name its value, where it has none.
+/// Gives a name its value, if it has none.
 pub(crate) fn define<'a>(
     names: &mut Names<'a>,
     name: &'a [u8],
@@ -43,7 +43,7 @@ pub(crate) fn define<'a>(
     Ok(())
 }
 
-/// Gives a name its value, where it has none and may be defined.
+/// Gives a name its value, if it has none and may be defined.
 fn define_free<'a>(names: &mut Names<'a>, name: &'a [u8], value: u32) -> Result<(), AllocError>
     ensures { OnOk result ((other : List ℕ) → kept_value names.new.entries other
         ≡ option_or (kept_value names.old.entries other)
@@ -56,7 +56,7 @@ fn define_free<'a>(names: &mut Names<'a>, name: &'a [u8], value: u32) -> Result<
     define(names, name, value)
 }
 
-/// Gives its value to each name that a line defines, where it has none.
+/// Gives its value to each name that a line defines, if it has none.
 pub(crate) fn define_names<'a>(
     names: &mut Names<'a>,
     line: Line<'a>,

@@ -186,7 +186,7 @@ fn given(role: Role, value: Value<'_>) -> Reading<'_>
     }
 }
 
-/// An operand that is a value, where there is one.
+/// An operand that is a value, if there is one.
 fn given_by(role: Role, value: Option<Value<'_>>) -> Option<Reading<'_>>
     ensures reading { option_map reading_seen result ≡ option_map (given role) (option_map value_seen value.entry) }
     ensures offset { IfSome result (λ reading. reading.offset ≡ 0) }
@@ -194,7 +194,7 @@ fn given_by(role: Role, value: Option<Value<'_>>) -> Option<Reading<'_>>
     Some(given(role, value?))
 }
 
-/// What a text says as an operand, where it is one.
+/// What a text says as an operand, if it is one.
 fn read(operand: Operand, text: &[u8]) -> Option<Reading<'_>>
     ensures reading { option_map reading_seen result ≡ option_map reading_capped
         (read (operand_seen operand) (tokens_of text.now)) }
@@ -211,7 +211,7 @@ fn read(operand: Operand, text: &[u8]) -> Option<Reading<'_>>
     }
 }
 
-/// What a text says where no operand may stand.
+/// What a text says where no operand may be.
 fn read_none(text: &[u8]) -> Option<Reading<'_>>
     ensures { option_map reading_seen result ≡ option_map reading_capped (read_all [] (tokens_of text.now)) }
 {
@@ -244,7 +244,7 @@ fn joined<'a>(first: Reading<'a>, second: Reading<'a>) -> Reading<'a>
     }
 }
 
-/// What two operands say together, where both are there.
+/// What two operands say together, if both are there.
 fn both<'a>(first: Option<Reading<'a>>, second: Option<Reading<'a>>) -> Option<Reading<'a>>
     requires first_small { ForSome first (λ reading. reading.offset < 8) }
     requires second_small { ForSome second (λ reading. reading.offset < 8) }
@@ -281,7 +281,7 @@ fn read_two(first: Operand, second: Operand, text: &[u8]) -> Option<Reading<'_>>
     }
 }
 
-/// What a text says as the operands of an instruction, where it is that.
+/// What a text says as the operands of an instruction, if it is that.
 pub(crate) fn read_all(shape: Shape, text: &[u8]) -> Option<Reading<'_>>
     ensures { option_map reading_seen result ≡ option_map reading_capped
         (read_all (operands_seen shape) (tokens_of text.now)) }

@@ -11,7 +11,7 @@ fn comment_in(line: &[u8]) -> Option<usize>
     line.iter().position(|character| *character == b';')
 }
 
-/// What stands before the comment of a line.
+/// What is before the comment of a line.
 pub(crate) fn before_comment(line: &[u8]) -> &[u8]
     ensures { result.now ≡ before_first is_semicolon line.now }
 {

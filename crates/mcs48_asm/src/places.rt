@@ -1,4 +1,4 @@
-//! Where the bytes of a line stand.
+//! Where the bytes of a line are.
 
 ghost use Rattle.std.specs.Prelude.{◌≡◌, ◌+◌, ◌≤◌, ◌^◌, count_by, length};
 ghost use Rattle.std.specs.List.{slice_split};
@@ -51,7 +51,7 @@ pub(crate) fn start_of(place: u32, statement: Statement<'_>) -> u32
     }
 }
 
-/// The place of the next byte behind a statement.
+/// The place of the next byte after a statement.
 pub(crate) fn place_after(start: u32, statement: Statement<'_>) -> u32
     ensures { result ≡ capped (start + count_of (statement_seen statement.entry)) }
 {

@@ -19,7 +19,7 @@ pub enum Operand {
     Expander,
     /// # and a value, which is the second byte.
     Immediate,
-    /// An address below 2,048, whose page stands in the first byte.
+    /// An address below 2,048, whose page is in the first byte.
     Address,
     /// An address in the page of the second byte.
     Target,

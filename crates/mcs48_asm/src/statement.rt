@@ -61,7 +61,7 @@ fn are_values(text: &[u8]) -> bool
     is_value(rest)
 }
 
-/// A name, EQU and a number, from the first token and the text behind it.
+/// A name, EQU and a number, from the first token and the text after it.
 fn equate_of<'a>(name: &'a [u8], rest: &[u8]) -> Result<Statement<'a>, Flaw>
     ensures { found_seen result ≡ found_capped (ok_or (equate_of (name.now ∷ tokens_of rest.now)) Misfit) }
 {
@@ -77,7 +77,7 @@ fn equate_of<'a>(name: &'a [u8], rest: &[u8]) -> Result<Statement<'a>, Flaw>
     }
 }
 
-/// ORG and a number, from the first token and the text behind it.
+/// ORG and a number, from the first token and the text after it.
 fn origin_of<'a>(word: &[u8], rest: &[u8]) -> Result<Statement<'a>, Flaw>
     ensures { found_seen result ≡ found_capped (ok_or (origin_of (word.now ∷ tokens_of rest.now)) Misfit) }
 {
@@ -102,7 +102,7 @@ fn data_in(values: &[u8]) -> Result<Statement<'_>, Flaw>
     }
 }
 
-/// DB and values, from the first token and the text behind it.
+/// DB and values, from the first token and the text after it.
 fn data_of<'a>(word: &[u8], values: &'a [u8]) -> Result<Statement<'a>, Flaw>
     ensures { found_seen result ≡ found_capped (ok_or (data_of (word.now ∷ tokens_of values.now)) Misfit) }
 {
@@ -144,7 +144,7 @@ fn first_fit<'a>(rows: &[Row], word: &[u8], operands: &'a [u8]) -> Option<Statem
     None
 }
 
-/// An instruction, from the first token and the text behind it.
+/// An instruction, from the first token and the text after it.
 fn instruction_of<'a>(word: &[u8], operands: &'a [u8]) -> Result<Statement<'a>, Flaw>
     ensures { found_seen result ≡ found_capped (ok_or (first_fit instructions
         (word.now ∷ tokens_of operands.now)) Misfit) }

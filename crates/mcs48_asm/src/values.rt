@@ -41,7 +41,7 @@ fn are_digits(base: u32, digits: &[u8]) -> bool
     !digits.is_empty() && are_all_below(base, digits)
 }
 
-/// The number that digits of a base write, or 65,536 where it is more.
+/// The number that digits of a base write, or 65,536 if it is more.
 fn written(base: u32, digits: &[u8]) -> u32
     requires some { 1 ≤ base }
     requires small { base ≤ 16 }
@@ -63,7 +63,7 @@ fn number_in(base: u32, digits: &[u8]) -> Option<u32>
     are_digits(base, digits).then(|| written(base, digits))
 }
 
-/// The number that a word writes, or 65,536 where it is more.
+/// The number that a word writes, or 65,536 if it is more.
 pub(crate) fn number_of(word: &[u8]) -> Option<u32>
     ensures { result ≡ option_map capped (number_of word.now) }
 {
@@ -75,14 +75,14 @@ pub(crate) fn number_of(word: &[u8]) -> Option<u32>
     }
 }
 
-/// The number that stands alone in a text, or 65,536 where it is more.
+/// The number that is alone in a text, or 65,536 if it is more.
 pub(crate) fn only_number(text: &[u8]) -> Option<u32>
     ensures { result ≡ option_map capped (alone number_of (tokens_of text.now)) }
 {
     number_of(only_token(text)?)
 }
 
-/// The value that a token writes which stands alone: a number, or a name.
+/// The value that a token writes which is alone: a number, or a name.
 fn number_or_name(token: &[u8]) -> Option<Value<'_>>
     ensures { option_map value_seen result ≡ option_map value_capped (number_or_name (number_of token.now) token.now) }
 {
@@ -99,7 +99,7 @@ fn low_of<'a>(low: &[u8], name: &'a [u8]) -> Option<Value<'a>>
     (low == b"LOW".as_slice() && is_name(name)).then_some(Value::Low(name))
 }
 
-/// The value that a token and the text behind it write.
+/// The value that a token and the text after it write.
 pub(crate) fn value_from<'a>(first: &'a [u8], rest: &'a [u8]) -> Option<Value<'a>>
     ensures { option_map value_seen result ≡ option_map value_capped (value_of (first.now ∷ tokens_of rest.now)) }
 {

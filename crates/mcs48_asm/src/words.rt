@@ -49,7 +49,7 @@ fn token_length(first: u8, behind: &[u8]) -> usize
     if first == b',' { 0 } else { run_length(behind) }
 }
 
-/// The first token of a text and what stands behind it; None where it has no token.
+/// The first token of a text and what is after it; None if it has no token.
 pub(crate) fn next_token(text: &[u8]) -> Option<(&[u8], &[u8])>
     ensures { MatchOption result (tokens_of text.now ≡ []) (λ parts. tokens_of text.now
         ≡ parts.0.now ∷ tokens_of parts.1.now) }
@@ -61,7 +61,7 @@ pub(crate) fn next_token(text: &[u8]) -> Option<(&[u8], &[u8])>
     Some(tokens.split_at(token_length(*first, behind) + 1))
 }
 
-/// The token that stands alone in a text.
+/// The token that is alone in a text.
 pub(crate) fn only_token(text: &[u8]) -> Option<&[u8]>
     ensures { option_map (λ token. token.now) result ≡ only_of (tokens_of text.now) }
 {
@@ -72,7 +72,7 @@ pub(crate) fn only_token(text: &[u8]) -> Option<&[u8]>
     }
 }
 
-/// The first word of a text, or nothing, and what stands behind it.
+/// The first word of a text, or nothing, and what is after it.
 fn next_word(text: &[u8]) -> (&[u8], &[u8])
     ensures first { result.0.now ≡ first_of (words_of text.now) }
     ensures others { first_of (words_of result.1.now) ≡ second_of (words_of text.now) }
@@ -114,7 +114,7 @@ pub(crate) fn is_name(token: &[u8]) -> bool
     is_initial(*first) && are_word_characters(rest) && token.len() <= LONGEST
 }
 
-/// The name that stands alone in a text.
+/// The name that is alone in a text.
 pub(crate) fn only_name(text: &[u8]) -> Option<&[u8]>
     ensures { option_map (λ name. name.now) result ≡ alone name_of (tokens_of text.now) }
 {

@@ -2,7 +2,7 @@
 use Rattle.std.specs.Prelude.{ℕ, Bool, List}
 use Rattle.mcs48_core.specs.declared.processor.Count.{Count}
 
--- one field for each part; the flags of the status byte stand apart
+-- one field for each part; the flags of the status byte are apart
 pub record Cpu : Type 0 where
   -- program counter, 12 bits, and accumulator
   pub pc : ℕ

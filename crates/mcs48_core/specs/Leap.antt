@@ -1,10 +1,10 @@
--- Jumps to where the processor stands, one after another.
+-- Jumps to where the processor is, one after another.
 use Rattle.std.specs.Prelude.{ℕ, ◌+◌, ◌*◌, ◌/◌, ◌%◌}
 use Rattle.mcs48_core.specs.declared.processor.Count.{Count}
 use Rattle.mcs48_core.specs.declared.processor.Count.TheVariants.{Off, Timer, Counter}
 use Rattle.mcs48_core.specs.Cpu.{Cpu}
 
--- T and the prescaler as one number of cycles, after so many such jumps: two cycles each, where the timer runs on them
+-- T and the prescaler as one number of cycles, after so many such jumps: two cycles each, if the timer runs on them
 abbrev pub elapsed : Count → ℕ → Cpu → ℕ
 elapsed Off n m = 32 * m.t + m.pre
 elapsed Timer n m = 32 * m.t + m.pre + 2 * n

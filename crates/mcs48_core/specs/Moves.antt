@@ -1,4 +1,4 @@
--- The data moves. The program counter stands behind the first byte.
+-- The data moves. The program counter is after the first byte.
 use Rattle.std.specs.Prelude.{ℕ, ◌+◌, ◌*◌, ◌/◌, ◌%◌, List, slice_index}
 use Rattle.mcs48_isa.specs.declared.operation.MoveOp.{MoveOp}
 use Rattle.mcs48_isa.specs.declared.operation.MoveOp.TheVariants.{MovAN, MovAR, MovAI, MovRA, MovIA, MovRN, MovIN}

@@ -1,4 +1,4 @@
--- The ports, the bus and the port expander. The program counter stands behind the first byte.
+-- The ports, the bus and the port expander. The program counter is after the first byte.
 use Rattle.std.specs.Prelude.{bit_and, bit_or}
 use Rattle.mcs48_isa.specs.declared.operation.PortOp.{PortOp}
 use Rattle.mcs48_isa.specs.declared.operation.PortOp.TheVariants.{InP1, InP2, InsBus, OutlP1, OutlP2, OutlBus}

@@ -6,7 +6,7 @@ use Rattle.mcs48_core.specs.Cpu.{Cpu}
 abbrev pub counted : ℕ → ℕ
 counted pc = pc / 2048 * 2048 + (pc + 1) % 2048
 
--- behind one more byte
+-- after one more byte
 abbrev pub past : Cpu → Cpu
 past m = record m { pc = counted m.pc }
 

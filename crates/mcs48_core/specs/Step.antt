@@ -17,7 +17,7 @@ use Rattle.mcs48_core.specs.Ports.{port}
 use Rattle.mcs48_core.specs.Control.{control}
 use Rattle.mcs48_core.specs.Timer.{after_timer}
 
--- what an instruction does, with the program counter behind its first byte
+-- what an instruction does, with the program counter after its first byte
 abbrev pub effect : Op → List ℕ → Pins → Cpu → Cpu
 effect (Moves op) bytes pins m = move op bytes m
 effect (Alu op) bytes pins m = alu op m

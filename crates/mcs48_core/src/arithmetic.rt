@@ -35,7 +35,7 @@ impl Mcu {
         self.set_sum(sum, self.a % 16 + x % 16 + carry);
     }
 
-    /// Does an operation of A with an operand, with the counter `here`, behind its first byte. The answer is the next
+    /// Does an operation of A with an operand, with the counter `here`, after its first byte. The answer is the next
     /// counter.
     #[inline(always)]
     pub(crate) fn operate(&mut self, op: AluOp, here: u16) -> u16
@@ -107,7 +107,7 @@ impl Mcu {
         self.a = self.a / 2 + if high { 128 } else { 0 };
     }
 
-    /// Does an operation on one value or flag, with the counter `here`, behind its byte. The answer is the next
+    /// Does an operation on one value or flag, with the counter `here`, after its byte. The answer is the next
     /// counter.
     #[inline(always)]
     pub(crate) fn change(&mut self, op: UnaryOp, here: u16) -> u16

@@ -7,7 +7,7 @@ use crate::processor::{Count, Mcu};
 use mcs48_isa::ControlOp;
 
 impl Mcu {
-    /// Does a control operation, with the counter `here`, behind its byte. The answer is the next counter.
+    /// Does a control operation, with the counter `here`, after its byte. The answer is the next counter.
     #[inline(always)]
     pub(crate) fn control(&mut self, op: ControlOp, here: u16) -> u16
         requires within { here < 4096 }

@@ -10,7 +10,7 @@ use crate::registers::{bit_of, counted, place_in_page};
 use mcs48_isa::{FlowOp, Image};
 
 impl Mcu {
-    /// The next counter of a jump in the page of the second byte, which is taken where the condition holds.
+    /// The next counter of a jump in the page of the second byte, which is taken if the condition holds.
     #[inline(always)]
     fn jump_if(&self, holds: bool, to: u8, here: u16) -> u16
         requires { here < 4096 }
@@ -63,7 +63,7 @@ impl Mcu {
         (high % 16) as u16 * 256 + low as u16
     }
 
-    /// Makes a jump, a call or a return, with the counter `here`, behind its first byte. The answer is the next
+    /// Makes a jump, a call or a return, with the counter `here`, after its first byte. The answer is the next
     /// counter.
     #[inline(always)]
     pub(crate) fn redirect(&mut self, op: FlowOp, here: u16, image: &Image, pins: &Pins) -> u16

@@ -28,8 +28,8 @@ fn jump_at(image: &Image, pc: u16) -> Option<u16>
 }
 
 impl Mcu {
-    /// Whether a JMP at the counter to this place of its bank leads to where the processor stands, and the next step
-    /// makes it: no interrupt is due. T1 stands as at the last step.
+    /// Whether a JMP at the counter to this place of its bank leads to where the processor is, and the next step
+    /// makes it: no interrupt is due. T1 is as at the last step.
     fn stays(&self, to: u16, pins: &Pins) -> bool
         requires { to < 2048 }
         ensures place { result ≡ true → 2048 * bank_bit self.now + to ≡ self.now.pc }
@@ -46,7 +46,7 @@ impl Mcu {
         self.last_t1 == pins.t1
     }
 
-    /// The timer goes on by jumps to where the processor stands, two cycles each, as many as there are before it
+    /// The timer goes on by jumps to where the processor is, two cycles each, as many as there are before it
     /// overflows, but at most so many. Answers how many.
     fn spin(&mut self, most: u64) -> u64
         ensures few { result ≤ most }
@@ -67,7 +67,7 @@ impl Mcu {
         }
     }
 
-    /// Where the next step, with these levels at the pins, is a jump to where the processor stands, so many steps are
+    /// If the next step, with these levels at the pins, is a jump to where the processor is, so many steps are
     /// made at once, at most `most`: as long as no interrupt is due and the timer doesn't overflow. Each takes two
     /// cycles, and changes the timer alone. Answers how many were made.
     #[inline(always)]

@@ -24,7 +24,7 @@ impl Mcu {
         self.psw = status_of(x, x % 8);
     }
 
-    /// Makes a data move, with the counter `here`, behind its first byte. The answer is the next counter.
+    /// Makes a data move, with the counter `here`, after its first byte. The answer is the next counter.
     #[inline(always)]
     pub(crate) fn make_move(&mut self, op: MoveOp, here: u16, image: &Image) -> u16
         requires operands { IsMove op }

@@ -9,7 +9,7 @@ use crate::registers::counted;
 use mcs48_isa::PortOp;
 
 impl Mcu {
-    /// Reads or writes a port, with the counter `here`, behind the first byte. The answer is the next counter.
+    /// Reads or writes a port, with the counter `here`, after the first byte. The answer is the next counter.
     #[inline(always)]
     pub(crate) fn transfer(&mut self, op: PortOp, here: u16, pins: &Pins) -> u16
         requires within { here < 4096 }

@@ -23,7 +23,7 @@ const EXTERNAL_ENTRY: u16 = 3;
 const TIMER_ENTRY: u16 = 7;
 
 impl Mcu {
-    /// Executes an operation, with the counter `here`, behind its first byte. The answer is the next counter.
+    /// Executes an operation, with the counter `here`, after its first byte. The answer is the next counter.
     #[inline(always)]
     fn execute(&mut self, op: Op, here: u16, image: &Image, pins: &Pins) -> u16
         requires operands { IsOp op }
@@ -107,7 +107,7 @@ impl Mcu {
     }
 
     /// One step with these levels at the pins: the entry of an interrupt that is due, or else the instruction at the
-    /// counter; then the timer. The answer is the number of machine cycles, 1 or 2. Where no interrupt is due and the
+    /// counter; then the timer. The answer is the number of machine cycles, 1 or 2. If no interrupt is due and the
     /// byte at the counter begins no instruction, the answer is `Stuck` and nothing has changed.
     ///
     /// An external interrupt comes before one of the timer, and none is due while one is in service (MCS-48 Family

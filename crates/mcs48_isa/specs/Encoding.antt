@@ -33,7 +33,7 @@ own_byte (Immediate n) = Some n
 own_byte (Address a) = Some (a % 256)
 own_byte (Target n) = Some n
 
--- the second byte, where an operand takes one
+-- the second byte, if an operand takes one
 abbrev pub second_byte : List Operand → Option ℕ
 second_byte [] = None
 second_byte (operand ∷ operands) = option_or (own_byte operand) (second_byte operands)
@@ -54,7 +54,7 @@ bytes_with b (Some n) = two_bytes b n
 abbrev pub entry_code : Entry → Code
 entry_code entry = bytes_with (first_byte entry.first entry.operands) (second_byte entry.operands)
 
--- the bytes of an operation, 00 in the place of the second where it has one byte
+-- the bytes of an operation, 00 in the place of the second if it has one byte
 abbrev pub code_of : Op → Code
 code_of op = entry_code (entry_of op)
 

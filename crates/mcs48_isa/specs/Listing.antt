@@ -10,12 +10,12 @@ abbrev pub end_after : ℕ → ℕ → ℕ
 end_after byte zero = if nat_eq byte 0 then 0 else 1
 end_after byte (suc end) = suc (suc end)
 
--- the place behind the last byte other than 00; 0 where each byte is 00
+-- the place after the last byte other than 00; 0 if each byte is 00
 abbrev pub end_of : List ℕ → ℕ
 end_of [] = 0
 end_of (byte ∷ bytes) = end_after byte (end_of bytes)
 
--- an instruction at a place, where all its bytes are at places below 2,048
+-- an instruction at a place, if all its bytes are at places below 2,048
 abbrev pub that_fits : ℕ → Option Decoded → Option Decoded
 that_fits place None = None
 that_fits place (Some d) = if nat_le (place + d.len) 2048 then Some d else None

@@ -28,7 +28,7 @@ two op n = Some (record { op = op n; len = 2; cycles = 2 })
 abbrev pub none : Line
 none n = None
 
--- a line for each first byte, which stands beside it; n is the byte after it
+-- a line for each first byte, which is beside it; n is the byte after it
 abbrev pub lines : List Line
 lines =
     one (Control Nop) 1 ∷  -- 00

@@ -32,7 +32,7 @@ abbrev pub further_text : ℕ → List Operand → List ℕ
 further_text at [] = []
 further_text at (operand ∷ operands) = codes "," ++ operand_text at operand ++ further_text at operands
 
--- what stands behind the word: nothing, or one space and the operands
+-- what is after the word: nothing, or one space and the operands
 abbrev pub operands_text : ℕ → List Operand → List ℕ
 operands_text at [] = []
 operands_text at (operand ∷ operands) = codes " " ++ operand_text at operand ++ further_text at operands

@@ -276,7 +276,7 @@ fn decoded(row: Row) -> Option<Decoded>
     Some(Decoded { op, len, cycles })
 }
 
-/// The operation that begins with the byte `b[0]` and, where it has two bytes, goes on with `b[1]`; its length in
+/// The operation that begins with the byte `b[0]` and, if it has two bytes, goes on with `b[1]`; its length in
 /// bytes and the machine cycles that it takes, both 1 or 2. `None` exactly for the 26 first bytes that the table
 /// leaves empty.
 ///
@@ -295,7 +295,7 @@ pub fn decode(b: [u8; 2]) -> Option<Decoded>
     decoded(read_row::<0>(b[0], b[1]))
 }
 
-/// The row that the byte `first` begins where `n` is the byte after it, as `decode` reads it. `SITE`, from 1, is a number
+/// The row that the byte `first` begins if `n` is the byte after it, as `decode` reads it. `SITE`, from 1, is a number
 /// of the place that calls, another one for each: a place has a copy of the table of its own, which LLVM builds into it.
 #[inline(always)]
 pub fn row<const SITE: u8>(first: u8, n: u8) -> Row

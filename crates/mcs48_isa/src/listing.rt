@@ -13,7 +13,7 @@ use crate::op_texts::{push_op, push_value};
 use crate::operation::Decoded;
 use std::alloc::{AllocError, Global};
 
-/// The place behind the last byte other than 00; 0 where each byte is 00.
+/// The place after the last byte other than 00; 0 if each byte is 00.
 fn listing_end(bytes: &[u8; 2048]) -> usize
     ensures end { result ≡ end_of bytes.now }
     ensures within { result ≤ 2048 }
@@ -73,9 +73,9 @@ fn push_statement(
 }
 
 /// The listing of a program memory, from place 0 to the last place that holds a byte other than 00, one line each: the
-/// text of the instruction that the place's byte begins, as `op_text` writes it, where all its bytes are at places below
+/// text of the instruction that the place's byte begins, as `op_text` writes it, if all its bytes are at places below
 /// 2,048; else `DB` and the byte. Each line ends with LF. A memory of zeros has no line. The text has at most 28,672 bytes,
-/// and assembling it gives the same memory. `AllocError` where memory runs out.
+/// and assembling it gives the same memory. `AllocError` if memory runs out.
 ///
 /// Source: our own.
 pub fn list(alloc: Global, image: &Image) -> Result<Vec<u8>, AllocError>

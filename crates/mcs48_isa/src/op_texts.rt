@@ -247,7 +247,7 @@ pub fn push_op(text: &mut Vec<u8>, op: Op, at: u16) -> Result<(), AllocError>
 /// The text of an operation at the place `at` below 2,048, its operands in their ranges: its words as in the opcode
 /// table, a value as `0`, two hexadecimal digits and `H`, an address as `0`, three digits and `H`. A jump whose code
 /// has the low byte of its target shows the whole target, in the page of its second byte (whose place is taken modulo
-/// 2,048). `AllocError` where memory runs out.
+/// 2,048). `AllocError` if memory runs out.
 ///
 /// Source: MCS-48 Family User's Manual, instruction set; the numbers' spelling is our own.
 pub fn op_text(alloc: Global, op: Op, at: u16) -> Result<Vec<u8>, AllocError>

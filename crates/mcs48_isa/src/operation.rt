@@ -1,8 +1,8 @@
 //! The operations, one variant for each text of the opcode table, in six groups.
 //!
 //! R, I and N in a variant's name stand for the operands Rr, @Ri and #n. A register operand is 0 to 7, an operand of
-//! @Ri is 0 or 1, the bit of JBb is 0 to 7, and a port of MOVD, ORLD and ANLD is 4 to 7. Where a variant has two
-//! operands, the register or the bit stands first and n second. The operand of JMP and CALL is an address below
+//! @Ri is 0 or 1, the bit of JBb is 0 to 7, and a port of MOVD, ORLD and ANLD is 4 to 7. If a variant has two
+//! operands, the register or the bit is first and n second. The operand of JMP and CALL is an address below
 //! 2,048; that of the other jumps is the low byte of the target.
 
 /// Data moves.
@@ -165,7 +165,7 @@ pub enum Row {
     Double(Op),
 }
 
-/// The bytes of an operation. `bytes[1]` is 00 where `len` is 1.
+/// The bytes of an operation. `bytes[1]` is 00 if `len` is 1.
 #[derive(Clone, Copy, Debug, PartialEq, Eq, Drop)]
 pub struct Code {
     pub bytes: [u8; 2],

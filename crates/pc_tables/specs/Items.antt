@@ -11,7 +11,7 @@ use Rattle.pc_tables.specs.declared.item.Item.TheVariants.{Broke, Pause, Resume,
 abbrev pub low_digit : ℕ → List ℕ
 low_digit value = hex_digit (value % 16) ∷ []
 
--- the item without the tick before it and the line's end behind it
+-- the item without the tick before it and the line's end after it
 abbrev pub text_of : Item → List ℕ
 text_of (Port byte) = codes "port " ++ hex_byte byte
 text_of (Read byte) = codes "read " ++ hex_byte byte

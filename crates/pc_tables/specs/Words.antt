@@ -60,7 +60,7 @@ words =
     row 0x53 (Some 0x5300) (Some 0x532e) None None ∷
     []
 
--- the lower-case letter, where the name is one letter
+-- the lower-case letter, if the name is one letter
 abbrev pub letter_in : List ℕ → Option ℕ
 letter_in [] = None
 letter_in (c ∷ []) = if nat_le 97 c && nat_le c 122 then Some c else None

@@ -47,10 +47,10 @@ pub enum Item {
     SysBreak,
 }
 
-/// The text of an item, without the tick before it and the line's end behind it. None is longer.
+/// The text of an item, without the tick before it and the line's end after it. None is longer.
 type ItemText = ArrayVec<u8, 12>;
 
-/// A name and the digits behind it.
+/// A name and the digits after it.
 fn named(name: &[u8], digits: &[u8]) -> ItemText
     requires { length name.now + length digits.now ≤ 12 }
     ensures { result.items ≡ name.now ++ digits.now }
@@ -99,7 +99,7 @@ pub fn item_line(tick: u32, item: Item) -> ArrayVec<u8, 32>
     line
 }
 
-/// Appends the item's text, in upper-case hexadecimal, without the tick before it and the line's end behind it. Where
+/// Appends the item's text, in upper-case hexadecimal, without the tick before it and the line's end after it. If
 /// memory runs out the text is as before.
 pub fn push_item(text: &mut Vec<u8>, item: Item) -> Result<(), AllocError>
     ensures text { text.new.items ≡ (if is_ok result then text.old.items ++ text_of item else text.old.items) }
@@ -107,7 +107,7 @@ pub fn push_item(text: &mut Vec<u8>, item: Item) -> Result<(), AllocError>
     text.extend_from_slice(&spelled(item))
 }
 
-/// The item's text, as `push_item` appends it. An error where memory runs out.
+/// The item's text, as `push_item` appends it. An error if memory runs out.
 pub fn item_text(alloc: Global, item: Item) -> Result<Vec<u8>, AllocError>
     ensures text { IfOk result (λ text. text.items ≡ text_of item) }
 {

@@ -46,14 +46,14 @@ impl Key {
     }
 }
 
-/// The key with this name; None exactly where no key has it. Names are lower case and are compared exactly.
+/// The key with this name; None exactly if no key has it. Names are lower case and are compared exactly.
 pub fn key_named(name: &str) -> Option<Key>
     ensures key { result ≡ key_with_name name.now }
 {
     key_spelled(name.as_bytes())
 }
 
-/// The key whose name has these bytes; None exactly where no key's has, as where they are no text.
+/// The key whose name has these bytes; None exactly if no key's has, as where they are no text.
 pub fn key_spelled(name: &[u8]) -> Option<Key>
     ensures key { result ≡ key_with_name name.now }
 {
@@ -65,7 +65,7 @@ pub fn key_spelled(name: &[u8]) -> Option<Key>
     None
 }
 
-/// The key with this scan code after translation; None exactly where no key has it.
+/// The key with this scan code after translation; None exactly if no key has it.
 pub(crate) fn key_scanned(scan: u8) -> Option<Key>
     ensures { result ≡ key_with_scan scan }
 {

@@ -7,7 +7,7 @@ ghost use Rattle.pc_tables.specs.Words.{table_words, words_at, has_words};
 use super::key::{key_scanned, name_of};
 use super::word_table::WORDS;
 
-/// The words that a key enters: without a modifier, with shift, with Ctrl and with Alt. None where it enters none.
+/// The words that a key enters: without a modifier, with shift, with Ctrl and with Alt. None if it enters none.
 #[derive(Clone, Copy, Debug, PartialEq, Eq)]
 pub struct WordRow {
     pub base: Option<u16>,
@@ -35,7 +35,7 @@ fn letter_in(name: &str) -> Option<u8>
     }
 }
 
-/// The lower-case letter on the key with this scan code; None exactly where no key whose name is one letter has it.
+/// The lower-case letter on the key with this scan code; None exactly if no key whose name is one letter has it.
 #[tactic(auto, unfolding(crate::specs::Words::letter_on))]
 pub fn letter_on(scan: u8) -> Option<u8>
     ensures letter { result ≡ letter_on scan }
@@ -72,7 +72,7 @@ fn function_words(k: u8) -> WordRow
     }
 }
 
-/// The words of a key that stands in the table.
+/// The words of a key that is in the table.
 #[tactic(auto, unfolding(crate::specs::Words::words))]
 fn table_words(scan: u8) -> Option<WordRow>
     ensures { result ≡ table_words scan }

@@ -17,7 +17,7 @@ pub record Pc : Type 0 where
 abbrev pub pc_at_start : Pc
 pc_at_start = record { side = side_at_start Wire; clock = true }
 
--- a wire is low where either side pulls it
+-- a wire is low if either side pulls it
 abbrev pub joined : Lines → Lines → Lines
 joined a b = record { clk = a.clk && b.clk; dat = a.dat && b.dat }
 
@@ -32,7 +32,7 @@ looked now line b = record {
   clock = line.clk;
 }
 
--- the host acts, a waiting input breaks off the keyboard's byte where it may, and the controller settles
+-- the host acts, a waiting input breaks off the keyboard's byte if it may, and the controller settles
 abbrev pub went_on : List HostEvent → ℕ → Pc → Pc
 went_on events now b = record { side = goes_on is_breakable events now b.side; clock = b.clock }
 

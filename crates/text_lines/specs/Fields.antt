@@ -1,5 +1,5 @@
 -- The parts of a line. The lines of a text are those of std's `lines`: they end with LF, a CR before an LF is dropped,
--- and a last piece counts where it isn't empty.
+-- and a last piece counts if it isn't empty.
 use Rattle.std.specs.Prelude.{ℕ, Bool, false, List, [], ◌∷◌, ◌==◌, ◌||◌, nat_lt, length}
 use Rattle.std.specs.List.{list_all, slice_split, filter}
 
@@ -7,7 +7,7 @@ use Rattle.std.specs.List.{list_all, slice_split, filter}
 abbrev pub is_blank : ℕ → Bool
 is_blank character = character == 32 || character == 9
 
--- a line is blank where it has nothing but spaces and tabs
+-- a line is blank if it has nothing but spaces and tabs
 abbrev pub is_blank_line : List ℕ → Bool
 is_blank_line line = list_all is_blank line
 

@@ -9,7 +9,7 @@ use Rattle.hex_text.specs.Digits.{digit_value}
 abbrev pub decimal_digit : ℕ → Option ℕ
 decimal_digit character = if nat_le 48 character && nat_le character 57 then Some (character - 48) else None
 
--- the number that digits of a base write behind those of another number; none where a character is no digit
+-- the number that digits of a base write after those of another number; none if a character is no digit
 abbrev pub number_after : ℕ → (ℕ → Option ℕ) → ℕ → List ℕ → Option ℕ
 number_after base digit number [] = Some number
 number_after base digit number (first ∷ others) =

@@ -22,9 +22,9 @@ fn unindented(text: &[u8]) -> &[u8]
     rest
 }
 
-/// The first field of a text, and a text that has the others; None where it has no field.
+/// The first field of a text, and a text that has the others; None if it has no field.
 ///
-/// Fields are parted by spaces and tabs, one or more, which may also stand before the first and behind the last.
+/// Fields are parted by spaces and tabs, one or more, which may also be before the first and after the last.
 pub fn next_field(text: &[u8]) -> Option<(&[u8], &[u8])>
     ensures fields { MatchOption result (fields text.now ≡ []) (λ parts. fields text.now ≡ parts.0.now ∷ fields parts.1.now) }
     ensures shorter { IfSome result (λ parts. length parts.1.now < length text.now) }

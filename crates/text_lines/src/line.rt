@@ -5,7 +5,7 @@ ghost use Rattle.std.specs.Str.Lines.{lines, strip_carriage_return};
 
 use crate::pieces::split_once;
 
-/// What stands before an LF, without a CR at its end.
+/// What is before an LF, without a CR at its end.
 fn without_return(line: &[u8]) -> &[u8]
     ensures { result.now ≡ strip_carriage_return line.now }
 {
@@ -15,9 +15,9 @@ fn without_return(line: &[u8]) -> &[u8]
     }
 }
 
-/// The first line of a text, and the text of the other lines; None where it has no line.
+/// The first line of a text, and the text of the other lines; None if it has no line.
 ///
-/// Lines end with LF, or with CR and LF, which aren't theirs. A last piece without LF is a line where it isn't empty,
+/// Lines end with LF, or with CR and LF, which aren't theirs. A last piece without LF is a line if it isn't empty,
 /// and keeps a CR at its end.
 pub fn next_line(text: &[u8]) -> Option<(&[u8], &[u8])>
     ensures lines { MatchOption result (lines text.now ≡ []) (λ parts. lines text.now ≡ parts.0.now ∷ lines parts.1.now) }

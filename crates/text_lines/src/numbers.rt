@@ -15,7 +15,7 @@ pub fn decimal_digit(character: u8) -> Option<u8>
     }
 }
 
-/// The number that decimal digits write, at most 9 of them. None where a character is no digit.
+/// The number that decimal digits write, at most 9 of them. None if a character is no digit.
 fn decimal_in(text: &[u8]) -> Option<u32>
     requires { length text.now ≤ 9 }
     ensures number { result ≡ number_after 10 decimal_digit 0 text.now }
@@ -28,7 +28,7 @@ fn decimal_in(text: &[u8]) -> Option<u32>
     Some(number)
 }
 
-/// The number that hexadecimal digits of either case write, at most 8 of them. None where a character is no digit.
+/// The number that hexadecimal digits of either case write, at most 8 of them. None if a character is no digit.
 fn hexadecimal_in(text: &[u8]) -> Option<u32>
     requires { length text.now ≤ 8 }
     ensures number { result ≡ number_after 16 digit_value 0 text.now }

@@ -13,7 +13,7 @@ fn place_of(mark: u8, text: &[u8]) -> Option<usize>
     text.iter().position(|character| *character == mark)
 }
 
-/// The first piece of a text before a mark, and the text behind that mark; None where it has no such mark, and is one
+/// The first piece of a text before a mark, and the text after that mark; None if it has no such mark, and is one
 /// piece. A piece may be empty. Fields that are parted by single spaces are the pieces between spaces.
 pub fn split_once(mark: u8, text: &[u8]) -> Option<(&[u8], &[u8])>
     ensures pieces { MatchOption result (pieces mark text.now ≡ text.now ∷ [])
@@ -26,7 +26,7 @@ pub fn split_once(mark: u8, text: &[u8]) -> Option<(&[u8], &[u8])>
     }
 }
 
-/// A text that has no such mark, and is one piece; None where it has one.
+/// A text that has no such mark, and is one piece; None if it has one.
 pub fn single(mark: u8, text: &[u8]) -> Option<&[u8]>
     ensures pieces { MatchOption result (HasMore (pieces mark text.now))
         (λ piece. (piece.now ≡ text.now) × (pieces mark text.now ≡ text.now ∷ [])) }

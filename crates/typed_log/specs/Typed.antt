@@ -44,7 +44,7 @@ is_loss Boot = false
 is_loss SysMake = false
 is_loss SysBreak = false
 
--- what the host took: a word, or none where the buffer was empty
+-- what the host took: a word, or none if the buffer was empty
 abbrev pub taken_by : Item → List (Option ℕ)
 taken_by (Port byte) = []
 taken_by (Read byte) = []

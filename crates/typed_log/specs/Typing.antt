@@ -70,7 +70,7 @@ under_shift (Some shift) (Some key) = Some (Shifted shift key)
 under_shift (Some shift) None = None
 under_shift None key = None
 
--- the key of a character: the first entry, in the layout's order, that enters it in the base column; where no entry
+-- the key of a character: the first entry, in the layout's order, that enters it in the base column; if no entry
 -- does, the first that enters it in the shift column, under the shift entry. 00 has none
 abbrev pub key_of : ℕ → List Entry → Option Stroke
 key_of character entries =
@@ -80,7 +80,7 @@ key_of character entries =
 unfoldable pub stroke_of : KeyLayout → ℕ → Option Stroke
 stroke_of layout character = if character == 0x00 then None else key_of character layout.entries
 
--- the strokes of a text, where each of its bytes has a key
+-- the strokes of a text, if each of its bytes has a key
 abbrev pub before : Option Stroke → Option (List Stroke) → Option (List Stroke)
 before (Some stroke) (Some strokes) = Some (stroke ∷ strokes)
 before (Some stroke) None = None
@@ -90,7 +90,7 @@ abbrev pub strokes_of : KeyLayout → List ℕ → Option (List Stroke)
 strokes_of layout [] = Some []
 strokes_of layout (byte ∷ text) = before (stroke_of layout (character byte)) (strokes_of layout text)
 
--- the first byte of a text that has no key: its number, where the text's first byte has this one, and the byte
+-- the first byte of a text that has no key: its number, if the text's first byte has this one, and the byte
 abbrev pub without_from : KeyLayout → ℕ → List ℕ → Option (ℕ × ℕ)
 without_from layout number [] = None
 without_from layout number (byte ∷ text) =
