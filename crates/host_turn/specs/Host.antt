@@ -6,7 +6,7 @@ use Rattle.ctl_core.specs.Controller.{ControllerState, written, emptied, status_
 use Rattle.ctl_core.specs.declared.port.Port.TheVariants.{P60, P64}
 use Rattle.pc_tables.specs.declared.item.Item.{Item}
 use Rattle.pc_tables.specs.declared.item.Item.TheVariants.{Port, Read, Taken, Status}
-use Rattle.int09.specs.Bios.{State, Outcome, first_word, without_first}
+use Rattle.int09.specs.Bios.{State, Effect, first_word, without_first}
 use Rattle.int09.specs.Rules.{fed}
 use Rattle.board_lines.specs.declared.event.HostAct.{HostAct}
 use Rattle.board_lines.specs.declared.event.HostAct.TheVariants.{Write60, Write64, Read60, Mask, Unmask, Take, Flip}
@@ -75,7 +75,7 @@ interrupts now filled h =
 -- INT 09h reads the byte: `port` with it, and then what INT 09h says
 abbrev pub read_by_bios : Host → Turn
 read_by_bios h =
-    let o : Outcome = fed h.core.output h.bios in
+    let o : Effect = fed h.core.output h.bios in
     record { host = record h { core = emptied h.core; bios = o.after }; items = Port h.core.output ∷ o.items }
 
 -- INT 09h reads the byte if the interrupt comes through; else nothing is done and said

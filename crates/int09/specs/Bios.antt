@@ -19,23 +19,23 @@ abbrev pub start : State
 start = record { shifts = 0; downs = 0; number = 0; ack = false; resend = false; words = [] }
 
 -- the state after a byte, and the items said, in order
-pub record Outcome : Type 0 where
+pub record Effect : Type 0 where
   pub after : State
   pub items : List Item
 
-abbrev pub quiet : State → Outcome
+abbrev pub quiet : State → Effect
 quiet s = record { after = s; items = [] }
 
-abbrev pub says : Item → State → Outcome
+abbrev pub says : Item → State → Effect
 says item s = record { after = s; items = item ∷ [] }
 
 -- the buffer holds at most 15 words; a word that finds no room is a beep
-abbrev pub enters : ℕ → State → Outcome
+abbrev pub enters : ℕ → State → Effect
 enters word s =
     if nat_lt (length s.words) 15 then says (Word word) (record s { words = s.words ++ word ∷ [] }) else says Beep s
 
 -- the word, if there is one
-abbrev pub enters_if : Option ℕ → State → Outcome
+abbrev pub enters_if : Option ℕ → State → Effect
 enters_if (Some word) s = enters word s
 enters_if None s = quiet s
 

@@ -9,7 +9,7 @@ use Rattle.pc_tables.specs.declared.words.WordRow.{WordRow}
 use Rattle.pc_tables.specs.Words.{words_at}
 use Rattle.bits.specs.Bits.{has_bit, with_bit, without_bit, flipped_bit}
 use Rattle.int09.specs.Bits.{ctrl, alt, num, sysreq, pause}
-use Rattle.int09.specs.Bios.{State, start, Outcome, quiet, says, enters, enters_if}
+use Rattle.int09.specs.Bios.{State, start, Effect, quiet, says, enters, enters_if}
 use Rattle.int09.specs.Keys.{shift_bit, lock_bit, keypad_digit, differ, shift_down, reverses}
 
 -- a byte below 80 is a make of its scan code, and one from 80 on is a break of its low seven bits
@@ -20,7 +20,7 @@ abbrev pub code_of : ℕ → ℕ
 code_of byte = if is_make byte then byte else byte - 0x80
 
 -- rule 1: FA and FE set their marks, and FF is an overrun
-unfoldable pub marks : ℕ → State → Option Outcome
+unfoldable pub marks : ℕ → State → Option Effect
 marks byte s =
     if byte == 0xfa then Some (quiet (record s { ack = true }))
     else if byte == 0xfe then Some (quiet (record s { resend = true }))
@@ -28,7 +28,7 @@ marks byte s =
     else None
 
 -- rule 2: SysReq, 54, is told as it goes down and up; a make while it is down is silent
-unfoldable pub on_sysreq : ℕ → State → Option Outcome
+unfoldable pub on_sysreq : ℕ → State → Option Effect
 on_sysreq byte s =
     if byte == 0xd4 then Some (says SysBreak (record s { downs = without_bit sysreq s.downs }))
     else if byte == 0x54 && has_bit sysreq s.downs then Some (quiet s)
@@ -36,13 +36,13 @@ on_sysreq byte s =
     else None
 
 -- a break of Alt enters the number that was typed under it, if it isn't 0
-unfoldable pub alt_broken : State → Outcome
+unfoldable pub alt_broken : State → Effect
 alt_broken s =
     let t : State = record s { shifts = without_bit alt s.shifts } in
     if t.number == 0 then quiet t else enters t.number (record t { number = 0 })
 
 -- rule 3: a make of a shift key, Ctrl or Alt sets its bit, and a break clears it
-unfoldable pub on_shift_key : ℕ → State → Option Outcome
+unfoldable pub on_shift_key : ℕ → State → Option Effect
 on_shift_key byte s =
     option_map
     (λ bit.
@@ -52,14 +52,14 @@ on_shift_key byte s =
     (shift_bit (code_of byte))
 
 -- a lock key or Insert that was up goes down, and its state is flipped; Insert is also entered
-unfoldable pub locks : ℕ → ℕ → State → Outcome
+unfoldable pub locks : ℕ → ℕ → State → Effect
 locks code bit s =
     let t : State = record s { downs = with_bit bit s.downs; shifts = flipped_bit bit s.shifts } in
     if code == 0x52 then enters 0x5200 t else quiet t
 
 -- a make of such a key; with Ctrl, and Insert with Alt, it is left to the rules after; Insert is the digit 0 if
 -- exactly one of two things is so, Num is on or a shift key is down
-unfoldable pub lock_made : ℕ → ℕ → State → Option Outcome
+unfoldable pub lock_made : ℕ → ℕ → State → Option Effect
 lock_made code bit s =
     if has_bit ctrl s.shifts || code == 0x52 && has_bit alt s.shifts then None
     else if code == 0x52 && differ (has_bit num s.shifts) (shift_down s) then Some (enters 0x5230 s)
@@ -67,7 +67,7 @@ lock_made code bit s =
     else Some (locks code bit s)
 
 -- rule 4: Scroll Lock, Num Lock, Caps Lock and Insert; a break clears the key's bit
-unfoldable pub on_lock_key : ℕ → State → Option Outcome
+unfoldable pub on_lock_key : ℕ → State → Option Effect
 on_lock_key byte s =
     option_and_then
     (λ bit.
@@ -75,11 +75,11 @@ on_lock_key byte s =
     (lock_bit (code_of byte))
 
 -- rule 5: any other break, and a make that isn't in the table of words, does nothing
-unfoldable pub without_words : ℕ → State → Option Outcome
+unfoldable pub without_words : ℕ → State → Option Effect
 without_words byte s = if is_make byte && is_some (words_at byte) then None else Some (quiet s)
 
 -- rule 6: a pause ends with any key but Num Lock, and that key is dropped
-unfoldable pub in_pause : ℕ → State → Option Outcome
+unfoldable pub in_pause : ℕ → State → Option Effect
 in_pause code s =
     if has_bit pause s.downs && code == 0x45 then Some (quiet s)
     else if has_bit pause s.downs then Some (says Resume (record s { downs = without_bit pause s.downs }))
@@ -90,12 +90,12 @@ abbrev pub word_in : (WordRow → Option ℕ) → ℕ → Option ℕ
 word_in column code = option_and_then column (words_at code)
 
 -- a digit of the keypad goes on with the number, and any other key clears it
-unfoldable pub alt_typed : Option ℕ → ℕ → State → Outcome
+unfoldable pub alt_typed : Option ℕ → ℕ → State → Effect
 alt_typed (Some digit) code s = quiet (record s { number = (s.number * 10 + digit) % 256 })
 alt_typed None code s = enters_if (word_in (λ row. row.alt) code) (record s { number = 0 })
 
 -- rule 7: with Alt; with Ctrl too, Del boots
-unfoldable pub with_alt : ℕ → State → Option Outcome
+unfoldable pub with_alt : ℕ → State → Option Effect
 with_alt code s =
     if not (has_bit alt s.shifts) then None
     else if has_bit ctrl s.shifts && code == 0x53 then Some (says Boot start)
@@ -103,7 +103,7 @@ with_alt code s =
     else Some (alt_typed (keypad_digit code) code s)
 
 -- rule 8: with Ctrl, Scroll Lock breaks and Num Lock pauses
-unfoldable pub with_ctrl : ℕ → State → Option Outcome
+unfoldable pub with_ctrl : ℕ → State → Option Effect
 with_ctrl code s =
     if not (has_bit ctrl s.shifts) then None
     else if code == 0x46
@@ -112,24 +112,24 @@ with_ctrl code s =
     else Some (enters_if (word_in (λ row. row.ctrl) code) s)
 
 -- rule 9: without Ctrl and Alt, the shifted column with a shift key, reversed for some keys; it prints for 37
-unfoldable pub alone : ℕ → State → Option Outcome
+unfoldable pub alone : ℕ → State → Option Effect
 alone code s =
     if not (differ (shift_down s) (reverses code s)) then Some (enters_if (word_in (λ row. row.base) code) s)
     else if code == 0x37 then Some (says Print s)
     else Some (enters_if (word_in (λ row. row.shift) code) s)
 
 abbrev pub Rule : Type 0
-Rule = ℕ → State → Option Outcome
+Rule = ℕ → State → Option Effect
 
 abbrev pub nine_rules : List Rule
 nine_rules =
     marks ∷ on_sysreq ∷ on_shift_key ∷ on_lock_key ∷ without_words ∷ in_pause ∷ with_alt ∷ with_ctrl ∷ alone ∷ []
 
 -- the first of these rules that fits
-abbrev pub first_that_fits : List Rule → ℕ → State → Outcome
+abbrev pub first_that_fits : List Rule → ℕ → State → Effect
 first_that_fits [] byte s = quiet s
 first_that_fits (rule ∷ rules) byte s = unwrap_or (rule byte s) (first_that_fits rules byte s)
 
 -- what a byte comes to
-unfoldable pub fed : ℕ → State → Outcome
+unfoldable pub fed : ℕ → State → Effect
 fed byte s = first_that_fits nine_rules byte s
