@@ -1,7 +1,8 @@
 // The page: it starts the two modules, and shows the panes that are chosen.
 import { Keyboard, Program } from '../kbd48.mjs';
+import { fromKle } from './boards/from_kle.js';
 import { byId, tell } from './dom.js';
-import { put } from './files.js';
+import { files, put } from './files.js';
 import { KeyboardPane } from './keyboard_pane.js';
 import { LessonsPane } from './lessons_pane.js';
 import { CYCLES_OF_A_MS, Live } from './live.js';
@@ -26,7 +27,14 @@ class Lab {
   constructor(keyboard) {
     this.keyboard = keyboard;
     this.owed = 0;
-    this.keys = new KeyboardPane({ open: (layout, names) => this.open(layout, names), press: (place, down) => this.live.press(place, down) });
+    Object.assign(this, { files, fromKle });
+    this.keys = new KeyboardPane({
+      open: (layout, names) => this.open(layout, names), press: (place, down) => this.live.press(place, down),
+      bench: words => {
+        this.show('workbench', true);
+        this.workbench.show(words);
+      },
+    });
     this.wires = new WiresPane(() => this.live, () => byId('layout').value);
     this.processor = new ProcessorPane();
     this.workbench = new WorkbenchPane();

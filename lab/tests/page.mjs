@@ -1,10 +1,12 @@
-// usage: node page.mjs CHROMIUM LAB.html [SHOTS]: the page in a browser, by scripted keys and clicks. Pictures go to SHOTS.
+// usage: node page.mjs CHROMIUM LAB.html BOARDS.json [SHOTS]: the page in a browser, by scripted keys and clicks. BOARDS.json
+// has what examples/from_kle makes of boards. Pictures go to SHOTS.
 import assert from 'node:assert/strict';
-import { join } from 'node:path';
+import { readFileSync } from 'node:fs';
+import { dirname, join, resolve } from 'node:path';
 import { pathToFileURL } from 'node:url';
 import { open } from './browser.mjs';
 
-const [, , chromium, page, shots] = process.argv;
+const [, , chromium, page, answers, shots] = process.argv;
 const url = pathToFileURL(page).href;
 const LEAST_CONTRAST = 4.5; // WCAG 2, AA
 const browser = await open(chromium, url, [1280, 1320]);
@@ -155,6 +157,51 @@ async function secondLayer() {
   await browser.click('#sticky');
 }
 
+// Every board that examples/from_kle is tried with gives the same status, text and remarks in the page.
+async function everyBoard() {
+  const cases = JSON.parse(readFileSync(answers, 'utf8'));
+  await browser.evaluate(`globalThis.cases = ${JSON.stringify(cases)}; 0`);
+  const others = await browser.evaluate(`cases.filter(({ words, files, status, text, told }) => {
+    const said = lab.fromKle(words, files);
+    return said.status !== status || said.text !== text || JSON.stringify(said.told) !== JSON.stringify(told);
+  }).map(({ words }) => words.join(' '))`);
+  assert.deepEqual(others, [], 'from_kle answers otherwise');
+  assert.ok(cases.length > 180, 'there are boards');
+  return cases.length;
+}
+
+// A board file is opened beside the keyboard, its keymap after it, and somebody types on it.
+async function boardFiles() {
+  const boards = resolve(dirname(page), '../examples/boards');
+  await only('keyboard');
+  await browser.choose('#open-board', [join(boards, 'editor/unknown_words.json')]);
+  await says('board-told', /isn't known.*--without unknown/);
+  await pressed('board-told', 'Leave every such key out');
+  await says('board-told', /unknown_words\.toml is made of unknown_words\.json/);
+  await browser.choose('#open-board', [join(boards, 'ortho48/keyboard.json')]);
+  await says('board-told', /it has the layouts LAYOUT_/);
+  await browser.choose('#open-board', [join(boards, 'ortho48/keymap.json')]);
+  await says('board-told', /keyboard\.toml is made of keyboard\.json and keymap\.json\./);
+  assert.equal(await browser.evaluate('document.getElementById("layout").value'), 'keyboard.toml');
+  const stored = readFileSync(join(boards, 'ortho48.toml'), 'utf8');
+  assert.equal(await browser.evaluate('lab.files["keyboard.toml"]'), stored);
+  await browser.until('lab.live.stamp > 200000');
+  const [q, a] = [await browser.place('[data-key=q]'), await browser.place('[data-key=a]')];
+  assert.ok(a.y > q.y && Math.abs(a.x - q.x) < 2, 'the keys lie as the board has them');
+  await shot('board');
+  await browser.click('[data-key=k]');
+  await says('screen', /^k▁$/);
+  await pressed('board-told', 'The words in the workbench');
+  await says('answer', /^# Made by from_kle of keyboard.json and keymap.json/);
+  await browser.evaluate('lab.workbench.open("keyboard.json")');
+  assert.match(await textOf('offers'), /from_kle keyboard\.json keymap\.json/);
+  await put('words', 'from_kle --table keyboard.json keymap.json');
+  await browser.click('#do');
+  await says('answer', /^key +column,row +switch/);
+}
+
+const pressed = (id, text) => browser.evaluate(`[...document.querySelectorAll('#${id} button')].find(it => it.textContent === ${JSON.stringify(text)}).click()`);
+
 async function brokenLayout() {
   await browser.evaluate('lab.workbench.open("sixty.toml")');
   const whole = await browser.evaluate('document.getElementById("text").value');
@@ -256,6 +303,8 @@ try {
   await contrast();
   await workbench();
   await secondLayer();
+  const boards = await everyBoard();
+  await boardFiles();
   await brokenLayout();
   await shareLink();
   const many = await lessons();
@@ -264,7 +313,7 @@ try {
   await narrow();
   await trap();
   assert.deepEqual(browser.seen, [], 'nothing on the console, and nothing asked for');
-  console.log(`the page in Chromium: keys, wires, processor, workbench, a link, ${many} lessons; ${loads[0]} % of one processor at rest with all panes, ${loads[1]} % while one types`);
+  console.log(`the page in Chromium: keys, wires, processor, workbench, ${boards} boards, a link, ${many} lessons; ${loads[0]} % of one processor at rest with all panes, ${loads[1]} % while one types`);
 } finally {
   await browser.close();
 }
