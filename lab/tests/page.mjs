@@ -72,6 +72,23 @@ async function wires() {
   await says('bytes', /PC → keyboard {2}FE/);
   await put('shown', 'what I type');
   await says('log', /the PC writes EE/);
+  // In the PC's frame it pulls the clock first and then data; the keyboard clocks it, and pulls data for the answer's last bit.
+  const pulled = await browser.evaluate(`(() => {
+    const { edges, bytes } = lab.live, asked = bytes.findLast(it => it.sender === 'host'), said = bytes.findLast(it => it.sender === 'keyboard');
+    const within = ({ begin, end }) => edges.filter(it => it.cycle >= begin && it.cycle <= end);
+    return { asked: within(asked).map(it => [it.levels, it.pulls]), said: within(said).map(it => [it.levels, it.pulls]),
+      before: edges.filter(it => it.cycle < asked.begin).at(-1) };
+  })()`);
+  assert.equal(pulled.before.levels & 1, 0, 'the clock is low before the PC asks');
+  assert.equal(pulled.before.pulls, 0, 'and the PC holds it');
+  assert.ok(pulled.asked.some(([levels, pulls]) => !(levels & 2) && !(pulls & 2)), 'the PC pulls data in its frame');
+  assert.ok(pulled.asked.some(([, pulls]) => pulls & 1), 'the keyboard pulls the clock in it');
+  assert.ok(pulled.said.every(([levels, pulls]) => (~levels & 3) === pulls), 'the keyboard alone pulls in its own frame');
+  await says('pulled', /^clock: high; data: high$/);
+  await browser.click('#noise');
+  await says('log', /tick \d+ port EE/);
+  await says('bytes', /keyboard → PC {2}EE[^]*PC → keyboard {2}FE[^]*keyboard → PC {2}EE/);
+  await put('shown', 'what I type');
   await browser.click('#pause');
   await browser.click('#zoom-in');
   await browser.click('#wave-back');
