@@ -3,6 +3,7 @@
 import { Item, Status } from '../kbd48.mjs';
 import { hex } from './dom.js';
 import { BOTH, Hearing } from './hearing.js';
+import { History } from './history.js';
 
 export const CYCLES_OF_A_MS = 400, FIRST_STAMP = 4096;
 // Cycles between two edges: a key file wants as many between two of one key, and so the codes come in the order of the edges.
@@ -37,6 +38,7 @@ export class Live {
     this.masked = false;
     keyboard.openLayout(new TextEncoder().encode(layout));
     keyboard.bios(true);
+    this.history = new History(keyboard);
     this.cycle = keyboard.cycle();
     this.levels = BOTH;
     this.pulls = 0;
@@ -54,37 +56,52 @@ export class Live {
 
   mask(masked) {
     this.masked = masked;
-    this.#told(masked ? 'mask' : 'unmask', () => this.keyboard.bios(!masked));
+    this.#told(masked ? 'mask' : 'unmask', keyboard => keyboard.bios(!masked));
     this.#say(masked ? 'INT 09h is masked' : 'INT 09h is let through');
   }
 
   read60() {
-    this.#told('read60', () => this.keyboard.read60());
+    this.#told('read60', keyboard => keyboard.read60());
     this.#drain();
   }
 
   status() {
-    this.#told('status', () => this.keyboard.status());
+    this.#told('status', keyboard => keyboard.status());
     this.#drain();
   }
 
   /** So many cycles pass, or a few more. */
   advance(cycles) {
-    const end = this.cycle + cycles, { keyboard } = this;
-    while (this.cycle < end) {
-      if (this.waiting.length) this.#handEdges();
-      const said = this.#isQuiet() ? keyboard.run(end - this.cycle, true) : keyboard.step();
-      this.cycle += keyboard.passed;
-      this.#look();
-      if (said === Status.ROSE) this.up = true;
-      else if (said !== Status.DONE) throw new Error(`the run ended with status ${said}`);
-      else if (this.up && !keyboard.interrupt()) {
-        // INT 09h, or somebody, has read a byte.
-        this.up = false;
-        this.#drain();
-      } else if (this.orders.length) this.#hand();
+    const end = this.cycle + cycles;
+    while (this.cycle < end) this.#goOn(this.#isQuiet() ? end - this.cycle : 1);
+    this.#drain();
+  }
+
+  /** So many steps are made, or fewer: up to the first after which `isEnd` says yes. */
+  steps(many, isEnd) {
+    for (let made = 0; made < many; made++) {
+      this.#goOn(1);
+      if (isEnd()) break;
     }
     this.#drain();
+  }
+
+  // One step, or as many as so many cycles take, in which nothing is handed in.
+  #goOn(cycles) {
+    const { keyboard } = this;
+    this.history.pass(this.cycle);
+    if (this.waiting.length) this.#handEdges();
+    if (this.orders.length && this.#hand()) return;
+    const said = cycles > 1 ? keyboard.run(cycles, true) : keyboard.step();
+    this.cycle += keyboard.passed;
+    this.#look();
+    if (said === Status.ROSE) this.up = true;
+    else if (said !== Status.DONE) throw new Error(`the run ended with status ${said}`);
+    else if (this.up && !keyboard.interrupt()) {
+      // INT 09h, or somebody, has read a byte.
+      this.up = false;
+      this.#drain();
+    }
   }
 
   // Nothing happens until something is handed in: the firmware of a layout sends nothing of itself after its test.
@@ -96,7 +113,9 @@ export class Live {
 
   // An event of the host is made in a step of its own.
   #told(words, call) {
-    const { stamp } = this, said = call();
+    const { stamp } = this;
+    this.history.note(this.cycle, call);
+    const said = call(this.keyboard);
     this.cycle = this.keyboard.cycle();
     this.#look();
     this.events.push({ stamp, words });
@@ -118,6 +137,7 @@ export class Live {
   #handEdges() {
     const [{ place, down }] = this.waiting, { cycle, stamp } = this;
     if (cycle - this.lastEdge < APART || this.keyboard.key(place, down) !== Status.DONE) return;
+    this.history.note(cycle, copy => copy.key(place, down));
     this.waiting.shift();
     if (down) this.down.add(place);
     else this.down.delete(place);
@@ -125,15 +145,17 @@ export class Live {
     this.events.push({ stamp, words: `${down ? 'press' : 'release'} ${this.names.get(place)}` });
   }
 
+  // The next byte that the PC writes, in a step of its own. Whether there was room for it.
   #hand() {
-    const [{ port, byte }] = this.orders, { stamp } = this;
-    const said = this.keyboard.write(port, byte);
-    if (said === Status.FULL) return;
+    const [{ port, byte }] = this.orders, { stamp } = this, { cycle } = this;
+    if (this.keyboard.write(port, byte) === Status.FULL) return false;
+    this.history.note(cycle, copy => copy.write(port, byte));
     this.cycle = this.keyboard.cycle();
     this.#look();
     this.orders.shift();
     this.events.push({ stamp, words: `write${hex(port)} ${hex(byte)}` });
     this.#say(`the PC writes ${hex(byte)} to port ${hex(port)}`);
+    return true;
   }
 
   // What was said since the last time. The program on the PC takes each word.
@@ -151,7 +173,7 @@ export class Live {
       if (error.status !== Status.LOST) throw error;
       this.#say('more was said than is kept');
     }
-    for (; words; words--) this.#told('take', () => this.keyboard.take());
+    for (; words; words--) this.#told('take', keyboard => keyboard.take());
   }
 
   #say(words, cycle = this.cycle) {

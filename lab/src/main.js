@@ -36,7 +36,7 @@ class Lab {
       },
     });
     this.wires = new WiresPane(() => this.live, () => byId('layout').value);
-    this.processor = new ProcessorPane();
+    this.processor = new ProcessorPane(() => this.live);
     this.workbench = new WorkbenchPane();
     this.lessons = new LessonsPane(name => {
       this.show('workbench', true);
@@ -50,6 +50,7 @@ class Lab {
 
   /** Powers a keyboard on. */
   open(layout, names) {
+    this.live?.history.free();
     this.live = new Live(this.keyboard, layout, names);
     const pc = new Pc((port, byte) => this.live.order(port, byte));
     this.live.onByte = byte => pc.byte(byte);
@@ -57,6 +58,7 @@ class Lab {
     byId('screen').textContent = '▁';
     byId('masked').checked = false;
     this.wires?.begin();
+    this.processor?.begin();
   }
 
   show(name, shown, scrolled = true) {
@@ -78,6 +80,7 @@ class Lab {
     }
     this.keys.lamps(this.keyboard.lights());
     if (!byId('wires').hidden) this.wires.draw();
+    if (!byId('processor').hidden) this.processor.draw();
   }
 
   start() {

@@ -114,6 +114,17 @@ async function processor() {
   await put('stop-byte', 'nothing');
   await browser.click('#run');
   await says('at', /isn't understood/);
+  // A hundred steps back and on are the states of the run, however they are asked for.
+  const same = await browser.evaluate(`(() => {
+    const it = lab.processor.session, at = [0, 1, 59, 60, 4095, 6068, 6069].map(steps => JSON.stringify(it.at(steps)));
+    it.state = it.at(6069);
+    const seen = [];
+    for (let n = 0; n < 100; n++) seen.push(it.state = it.back());
+    for (let n = 0; n < 100; n++) it.state = it.goOn(1, []).state;
+    const on = it.goOn(30, []).state, one = it.go(30, []).state;
+    return [it.state.steps, seen.every((state, n) => state.steps === 6068 - n), at.every(state => state.includes('"steps"')), JSON.stringify(on) === JSON.stringify(one)];
+  })()`);
+  assert.deepEqual(same, [6069, true, true, true]);
   await put('stop-byte', '');
   await put('goto', '60119');
   await says('said', /4440 word 1E61[^]*40879 word 2E63$/);
@@ -129,6 +140,43 @@ async function processor() {
   await put('stop-register', '');
   await browser.click('#run');
   await says('at', /the run has ended/);
+}
+
+// The processor of the keyboard that one types on: its time stops, steps go on and back, and a breakpoint is met.
+async function liveProcessor() {
+  const shown = () => browser.evaluate('JSON.stringify(lab.processor.session.state)');
+  await put('program', 'the keyboard that I type on');
+  await says('at', /it runs/);
+  await browser.click('#step');
+  await says('at', /^cycle \d+, stamp \d+$/);
+  assert.equal(await browser.evaluate('document.getElementById("speed").value'), '0', 'its time is stopped');
+  const states = [await shown()];
+  for (let count = 0; count < 70; count++) {
+    await browser.evaluate('document.getElementById("step").click()');
+    states.push(await shown());
+  }
+  assert.equal(new Set(states).size, 71, 'each step shows another state');
+  for (let count = 69; count >= 0; count--) {
+    await browser.evaluate('document.getElementById("back").click()');
+    assert.equal(await shown(), states[count], 'a step back is the state before');
+  }
+  await browser.evaluate('document.getElementById("step").click()');
+  assert.equal(await shown(), states[1]);
+  // A key goes down while the time is stopped: the program comes to the place that sends its code.
+  await browser.evaluate('lab.keys.hold("a", true, "test")');
+  await put('stop-byte', 'keyboard 1C');
+  await browser.evaluate('document.getElementById("pace").value = "999999999"');
+  await browser.click('#run');
+  await says('at', /: stopped at byte$/);
+  const sent = await shown();
+  for (let count = 0; count < 5; count++) await browser.click('#back');
+  await put('stop-byte', '');
+  for (let count = 0; count < 5; count++) await browser.click('#step');
+  assert.equal(await shown(), sent, 'what was handed in is handed in again');
+  await shot('live_processor');
+  await browser.evaluate('lab.keys.hold("a", false, "test")');
+  await put('speed', '1');
+  await says('at', /it runs/);
 }
 
 async function workbench() {
@@ -318,6 +366,7 @@ try {
   await contrast();
   await processor();
   await contrast();
+  await liveProcessor();
   await workbench();
   await secondLayer();
   const boards = await everyBoard();
