@@ -1,7 +1,9 @@
 // The past of a keyboard that runs: copies of it, and what was handed to it. A state of the past is a copy that goes on from
 // the last kept one before it, and is handed the same.
 
-const APART_IN_CYCLES = 2000, KEPT_COPIES = 400;
+/** Cycles between two copies. */
+export const COPIES_APART = 2000;
+const KEPT_COPIES = 400;
 
 export class History {
   constructor(keyboard) {
@@ -11,7 +13,7 @@ export class History {
   /** The keyboard is at this cycle, before its next step. */
   pass(cycle) {
     if (cycle < this.next) return;
-    this.next = cycle + APART_IN_CYCLES;
+    this.next = cycle + COPIES_APART;
     const copy = this.spare.pop();
     if (copy) this.keyboard.copyTo(copy);
     this.copies.push({ cycle, copy: copy ?? this.keyboard.copy() });
@@ -24,43 +26,28 @@ export class History {
   /** Something is handed to the keyboard at this cycle: a call that is made of a copy too. */
   note(cycle, call) { this.handed.push({ cycle, call }); }
 
-  /** Where a keyboard of the past is at the step before a cycle: looked at by `look`; or null if that isn't kept. */
+  /** What `look` says of the keyboard as it was a step before this cycle; or null if that isn't kept. */
   before(cycle, look) {
-    const kept = this.copies.findLast(it => it.cycle < cycle);
-    if (!kept) return null;
-    const copy = kept.copy.copy();
-    try {
-      let last = kept.cycle;
-      for (const now of this.#goOn(copy, kept.cycle)) {
-        if (now >= cycle) break;
-        last = now;
-      }
-      return this.at(last, look);
-    } finally {
-      copy.free();
-    }
+    let last = null;
+    const found = this.#from(cycle - 1, (copy, now) => {
+      const isThere = now >= cycle;
+      if (!isThere) last = now;
+      return isThere;
+    }, () => true);
+    return found && this.#from(last, (copy, now) => now >= last, look);
   }
 
-  /** What `look` says of the keyboard as it was at this cycle; or null if that isn't kept. */
-  at(cycle, look) {
+  /** Goes on from this cycle step by step, until `isEnd` says yes of the keyboard, and looks at it; or null if the cycle isn't
+      kept. */
+  on(cycle, isEnd, look) { return this.#from(cycle, (copy, now) => now > cycle && isEnd(copy, now), look); }
+
+  // From the last copy that isn't later than a cycle: that copy first, and then each step.
+  #from(cycle, isEnd, look) {
     const kept = this.copies.findLast(it => it.cycle <= cycle);
     if (!kept) return null;
     const copy = kept.copy.copy();
     try {
-      if (kept.cycle < cycle) for (const now of this.#goOn(copy, kept.cycle)) if (now >= cycle) break;
-      return look(copy);
-    } finally {
-      copy.free();
-    }
-  }
-
-  /** What `look` says of it one step after this cycle. */
-  after(cycle, look) {
-    const kept = this.copies.findLast(it => it.cycle <= cycle);
-    if (!kept) return null;
-    const copy = kept.copy.copy();
-    try {
-      for (const now of this.#goOn(copy, kept.cycle)) if (now > cycle) break;
+      if (!isEnd(copy, kept.cycle)) for (const now of this.#goOn(copy, kept.cycle)) if (isEnd(copy, now)) break;
       return look(copy);
     } finally {
       copy.free();

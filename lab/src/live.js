@@ -3,7 +3,7 @@
 import { Item, Status } from '../kbd48.mjs';
 import { hex } from './dom.js';
 import { BOTH, Hearing } from './hearing.js';
-import { History } from './history.js';
+import { COPIES_APART, History } from './history.js';
 
 export const CYCLES_OF_A_MS = 400, FIRST_STAMP = 4096;
 // Cycles between two edges: a key file wants as many between two of one key, and so the codes come in the order of the edges.
@@ -73,7 +73,7 @@ export class Live {
   /** So many cycles pass, or a few more. */
   advance(cycles) {
     const end = this.cycle + cycles;
-    while (this.cycle < end) this.#goOn(this.#isQuiet() ? end - this.cycle : 1);
+    while (this.cycle < end) this.#goOn(this.#isQuiet() ? Math.min(end - this.cycle, COPIES_APART) : 1);
     this.#drain();
   }
 

@@ -34,15 +34,23 @@ export class LiveSession {
   /** Steps on, out of the past first, until one of the probes' lines (`arm ..`) is met. */
   go(most, arms) {
     const { live } = this, probes = arms.map(probeOf);
-    let heard = live.bytes.length, hit = null;
+    let made = 0, hit = null;
+    const isMet = (keyboard, bytes) => {
+      made++;
+      hit = probes.find(probe => probe.meets(keyboard, bytes))?.number ?? null;
+      return hit !== null;
+    };
     if (this.state.cycles < live.cycle) {
-      return { state: live.history.after(this.state.cycles, lookAt) ?? lookAt(live.keyboard), hit: null, ended: false };
+      const passed = new Map(live.bytes.map(byte => [byte.end, byte]));
+      const isEnd = (copy, now) => isMet(copy, [passed.get(now)].filter(Boolean)) || made === most || now >= live.cycle;
+      const state = live.history.on(this.state.cycles, isEnd, lookAt) ?? lookAt(live.keyboard);
+      if (hit !== null || made === most) return { state, hit, ended: false };
     }
-    live.steps(most, () => {
+    let heard = live.bytes.length;
+    live.steps(most - made, () => {
       const bytes = live.bytes.slice(heard);
       heard = live.bytes.length;
-      hit = probes.find(probe => probe.meets(live.keyboard, bytes))?.number ?? null;
-      return probes.length > 0 && hit !== null;
+      return isMet(live.keyboard, bytes);
     });
     return { state: lookAt(live.keyboard), hit, ended: false };
   }

@@ -1,7 +1,7 @@
 // The page: it starts the two modules, and shows the panes that are chosen.
 import { Keyboard, Program } from '../kbd48.mjs';
 import { fromKle } from './boards/from_kle.js';
-import { byId, tell } from './dom.js';
+import { byId } from './dom.js';
 import { files, put } from './files.js';
 import { KeyboardPane } from './keyboard_pane.js';
 import { LessonsPane } from './lessons_pane.js';
@@ -18,8 +18,10 @@ const moduleOf = async id => unpacked(bytesOf(byId(id).textContent));
 
 /** Says what went wrong; what still works goes on. */
 function trouble(error) {
-  tell(byId('trouble'), error.message, false);
+  byId('trouble-text').textContent = error.message;
+  byId('trouble').hidden = false;
 }
+byId('trouble-gone').onclick = () => { byId('trouble').hidden = true; };
 addEventListener('error', event => trouble(event.error ?? event));
 addEventListener('unhandledrejection', event => trouble(event.reason));
 

@@ -52,10 +52,11 @@ export class ProcessorPane {
     byId('code').addEventListener('click', event => this.#choose(event.target));
     byId('code').addEventListener('dblclick', event => {
       this.#choose(event.target);
-      byId('stop-place').value = this.chosen === null ? '' : hex(this.chosen, 3);
-      this.#show();
+      this.#stopHere();
     });
+    byId('stop-place').oninput = () => this.#mark();
     byId('code').addEventListener('keydown', event => {
+      if (event.key === 'Enter') this.#stopHere();
       const by = { ArrowDown: 1, ArrowUp: -1 }[event.key];
       if (!by) return;
       event.preventDefault();
@@ -121,6 +122,7 @@ export class ProcessorPane {
       tell(byId('program-fault'), refused.message, false);
     }
     this.before = null;
+    this.chosen = null;
     this.#list();
     this.#show();
   }
@@ -247,27 +249,43 @@ export class ProcessorPane {
     this.rows.get(this.chosen)?.scrollIntoView({ block: 'nearest' });
   }
 
+  // The breakpoint on a place is the chosen line's, or is gone if it was.
+  #stopHere() {
+    const place = this.chosen === null ? '' : hex(this.chosen, 3);
+    byId('stop-place').value = byId('stop-place').value === place ? '' : place;
+    this.#mark();
+  }
+
   #list() {
     this.rows = new Map();
+    this.marked = {};
     byId('code').replaceChildren(...this.code.lines.map(({ text, place }) => {
       const row = make('div', { textContent: `${place === null ? '   ' : hex(place, 3)}  ${text}` });
       if (place !== null) {
         row.dataset.place = place;
+        row.id = `place-${place}`;
         row.setAttribute('role', 'option');
+        row.setAttribute('aria-selected', 'false');
         this.rows.set(place, row);
       }
       return row;
     }));
   }
 
+  // The rows of the program counter, of the cursor and of the breakpoint. Only those that change are touched: there are many.
   #mark() {
-    const counter = this.session?.state.counter, stop = placeOf(byId('stop-place').value.trim(), this.code.labels);
-    for (const [place, row] of this.rows) {
-      row.classList.toggle('here', place === counter);
-      row.classList.toggle('chosen', place === this.chosen);
-      row.classList.toggle('stop', place === stop);
-      row.setAttribute('aria-selected', String(place === this.chosen));
+    const now = { here: this.session?.state.counter, chosen: this.chosen, stop: placeOf(byId('stop-place').value.trim(), this.code.labels) };
+    for (const [name, place] of Object.entries(now)) {
+      if (place === this.marked[name]) continue;
+      for (const [other, on] of [[this.marked[name], false], [place, true]]) {
+        const row = this.rows.get(other);
+        row?.classList.toggle(name, on);
+        if (name === 'chosen') row?.setAttribute('aria-selected', String(on));
+      }
+      this.marked[name] = place;
     }
+    if (this.rows.has(this.chosen)) byId('code').setAttribute('aria-activedescendant', `place-${this.chosen}`);
+    else byId('code').removeAttribute('aria-activedescendant');
   }
 
   #show() {

@@ -46,6 +46,7 @@ export class WorkbenchPane {
       else put(name, text);
       this.open(name);
     };
+    byId('download').onclick = () => save(this.made.name, this.made.said?.text ?? this.made.text);
     this.wave = new Waveform(byId('trace'), () => this.traced ?? { edges: [], bytes: [], cycle: 0 });
     this.open('four_keys.asm');
     byId('words').value = 'board four_keys.hex four_keys.toml four_keys.keys';
@@ -111,10 +112,7 @@ export class WorkbenchPane {
     byId('other').textContent = said.told.join('\n');
     tell(byId('told'), said.status === 0 ? `exit 0, ${said.told.length} remarks` : `exit ${said.status}: ${said.told[0]}`, said.status === 0 ? undefined : false);
     this.#trace(said);
-    byId('keep').hidden = !said.shapes;
-    if (!said.shapes) return;
-    this.made = { name: layoutNameOf(words), said };
-    byId('keep').textContent = `Keep as ${this.made.name}`;
+    this.#made(said.shapes ? { name: layoutNameOf(words), said } : null);
   }
 
   // Makes the image of each source that was edited here, if the words name the image. Whether one was refused.
@@ -160,11 +158,18 @@ export class WorkbenchPane {
   }
 
   #keep(words, said) {
-    const ending = MADE[words[0]], stem = words[1]?.replace(/\.[^.]*$/, '');
-    byId('keep').hidden = said.exit !== EXIT.DONE || !ending;
-    if (byId('keep').hidden) return;
-    this.made = { name: `${stem}.${words.includes('--trace') ? 'vcd' : ending}`, text: said.text };
-    byId('keep').textContent = `Keep as ${this.made.name}`;
+    // A log is called as its key file is, anything else as the file that it is made of.
+    const ending = MADE[words[0]], named = words.find(word => word.endsWith('.keys')) ?? words[1], stem = named?.replace(/\.[^.]*$/, '');
+    this.#made(said.exit === EXIT.DONE && ending ? { name: `${stem}.${words.includes('--trace') ? 'vcd' : ending}`, text: said.text } : null);
+  }
+
+  // What a command made, which may be kept here or downloaded; or nothing.
+  #made(made) {
+    this.made = made;
+    byId('keep').hidden = byId('download').hidden = !made;
+    if (!made) return;
+    byId('keep').textContent = `Keep as ${made.name}`;
+    byId('download').textContent = `Download ${made.name}`;
   }
 
   #new() {

@@ -1,6 +1,6 @@
 #!/usr/bin/env python3
 """Prints what examples/from_kle answers of every board of examples/boards, stored or drawn, as JSON: words, files, and the
-status, the text and what is told."""
+status, the text and the remarks."""
 
 from __future__ import annotations
 
