@@ -1,9 +1,55 @@
 /** The statuses of `c/kbd48.h`. */
 export declare const Status: Readonly<{
   DONE: 0; NOT_OPEN: 1; NO_MEMORY: 2; BAD_TEXT: 3; TOO_LONG: 4; NO_SUCH_PLACE: 5; NO_SUCH_PORT: 6; FULL: 7; STUCK: 8;
-  EARLY: 9; OVER: 10; NO_WORD: 11; ROSE: 12;
+  EARLY: 9; OVER: 10; NO_WORD: 11; ROSE: 12; NO_SUCH_CELL: 13; NOTHING_SAID: 14; LOST: 15;
 }>;
 export type StatusNumber = (typeof Status)[keyof typeof Status];
+
+/** The kinds of items, as `c/kbd48.h` has them. */
+export declare const Item: Readonly<{
+  PORT: 0; READ: 1; WORD: 2; BEEP: 3; OVERRUN: 4; LIGHTS: 5; TAKEN: 6; TAKEN_NONE: 7; STATUS: 8; OUTPUT: 9; PULSE: 10;
+  BROKE: 11; PAUSE: 12; RESUME: 13; PRINT: 14; BOOT: 15; SYS_MAKE: 16; SYS_BREAK: 17;
+}>;
+
+/** An item of the log: the cycle in which it was said, and its byte or word, or 0. */
+export interface Said {
+  readonly cycle: number;
+  readonly kind: (typeof Item)[keyof typeof Item];
+  readonly value: number;
+}
+
+/** What ports 0x64 and 0x60 would read, the command byte, and the output port. */
+export interface Registers {
+  readonly status: number;
+  readonly output: number;
+  readonly commandByte: number;
+  readonly outputPort: number;
+}
+
+/** The keyboard's processor, an 8049. */
+export interface Processor {
+  readonly counter: number;
+  readonly byte: number;
+  readonly a: number;
+  readonly carry: boolean;
+  readonly halfCarry: boolean;
+  readonly f0: boolean;
+  readonly f1: boolean;
+  readonly registerBank: boolean;
+  readonly memoryBank: boolean;
+  readonly stack: number;
+  readonly t: number;
+  readonly prescaler: number;
+  readonly counts: 'off' | 'cycles' | 'falls of T1';
+  readonly timerFlag: boolean;
+  readonly externalOn: boolean;
+  readonly timerOn: boolean;
+  readonly request: boolean;
+  readonly service: boolean;
+  readonly p1: number;
+  readonly p2: number;
+  readonly bus: number;
+}
 
 /** A call that was refused. For a text with a fault: the entry or line (from 1, entry 0 is the whole), and the rule. */
 export declare class Kbd48Error extends Error {
@@ -21,6 +67,9 @@ export declare class Keyboard {
   openLayout(text: Uint8Array): void;
   openHex(text: Uint8Array): void;
   close(): void;
+  free(): void;
+  copy(): Keyboard;
+  copyTo(other: Keyboard): void;
   key(place: number, down: boolean): StatusNumber;
   run(cycles: number, watched?: boolean): StatusNumber;
   step(): StatusNumber;
@@ -31,10 +80,19 @@ export declare class Keyboard {
   status(): number;
   bios(on: boolean): void;
   take(): number | null;
+  next(): Said | null;
+  items(): Generator<Said, void>;
   interrupt(): boolean;
   lights(): number;
   wires(): number;
+  rises(): number;
   cycle(): number;
+  look(): Registers;
+  waiting(): { edges: number; words: number };
+  column(number: number): number;
+  inside(): Processor;
+  pulls(): number;
+  cell(number: number): number;
 }
 
 /** What a command answered: its exit status, and its text. */

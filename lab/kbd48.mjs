@@ -3,12 +3,19 @@
 
 export const Status = Object.freeze({
   DONE: 0, NOT_OPEN: 1, NO_MEMORY: 2, BAD_TEXT: 3, TOO_LONG: 4, NO_SUCH_PLACE: 5, NO_SUCH_PORT: 6, FULL: 7, STUCK: 8, EARLY: 9,
-  OVER: 10, NO_WORD: 11, ROSE: 12,
+  OVER: 10, NO_WORD: 11, ROSE: 12, NO_SUCH_CELL: 13, NOTHING_SAID: 14, LOST: 15,
+});
+
+/** What the log says, item by item. */
+export const Item = Object.freeze({
+  PORT: 0, READ: 1, WORD: 2, BEEP: 3, OVERRUN: 4, LIGHTS: 5, TAKEN: 6, TAKEN_NONE: 7, STATUS: 8, OUTPUT: 9, PULSE: 10, BROKE: 11,
+  PAUSE: 12, RESUME: 13, PRINT: 14, BOOT: 15, SYS_MAKE: 16, SYS_BREAK: 17,
 });
 
 const STATUS_TEXTS = ['done', 'the handle is empty', 'there is no memory left', 'the text has a fault', 'the text is too long',
   'there is no such place', 'there is no such port', 'there is no room', 'the processor is stuck',
-  'the processor stuck before stamp 0', 'the count of cycles is at its end', 'there is no word', 'the interrupt line rose'];
+  'the processor stuck before stamp 0', 'the count of cycles is at its end', 'there is no word', 'the interrupt line rose', 'there is no such cell', 'nothing was said',
+  'more was said than is kept'];
 
 /** A call that was refused. `place` and `number` say which rule a text breaks, and at which entry or line. */
 export class Kbd48Error extends Error {
@@ -75,9 +82,11 @@ async function started(bytes) {
 }
 
 // Where the values lie that calls pass by pointer, in one block.
-const PLACES = { handle: 0, fault: 8, passed: 16, place: 24, byte: 28, word: 30, one: 32, two: 33, cycle: 40 };
-const PLACES_SIZE = 48;
+const PLACES = { handle: 0, fault: 8, passed: 16, place: 24, byte: 28, word: 30, one: 32, two: 33, cycle: 40, item: 48, shown: 64 };
+const PLACES_SIZE = 96;
 const ONE = 1n;
+const P2_AT = 20; // in what kbd48_inside shows
+const COUNTS = ['off', 'cycles', 'falls of T1'];
 
 /** One keyboard, as `c/kbd48.h` has it. Time is counted in cycles of 2.5 microseconds. */
 export class Keyboard {
@@ -85,6 +94,7 @@ export class Keyboard {
     return new Keyboard(await started(bytes));
   }
 
+  /** A keyboard that isn't open yet, in the same module as another. */
   constructor(machine) {
     this.machine = machine;
     const at = machine.take(PLACES_SIZE);
@@ -95,6 +105,10 @@ export class Keyboard {
 
   #byte(place) {
     return this.machine.view.getUint8(this.base + place);
+  }
+
+  #short(place) {
+    return this.machine.view.getUint16(this.base + place, true);
   }
 
   #done(status) {
@@ -121,6 +135,31 @@ export class Keyboard {
 
   close() { this.#done(this.machine.call('kbd48_close', this.to.handle)); }
 
+  /** Closes it, if it is open, and gives its memory back; it is used no more. */
+  free() {
+    this.machine.call('kbd48_close', this.to.handle);
+    this.machine.give(this.to.handle);
+    this.machine = null;
+  }
+
+  /** A second keyboard in the same state: the same calls give the same answers. `free` gives its memory back. */
+  copy() {
+    const other = new Keyboard(this.machine);
+    try {
+      this.copyTo(other);
+    } catch (error) {
+      other.free();
+      throw error;
+    }
+    return other;
+  }
+
+  /** The same at a keyboard of the same module, which is closed before. */
+  copyTo(other) {
+    if (other.machine !== this.machine) throw new TypeError('the two keyboards are in different modules');
+    this.#done(this.machine.call('kbd48_copy', this.to.handle, other.to.handle));
+  }
+
   /** A key goes down or up. The status: DONE, or FULL where four edges wait. */
   key(place, down) { return this.machine.call('kbd48_key', this.to.handle, place, down ? 1 : 0); }
 
@@ -137,7 +176,7 @@ export class Keyboard {
 
   /** Where the processor is stuck, if the last run said STUCK. */
   get stuck() {
-    return { counter: this.machine.view.getUint16(this.base + PLACES.place, true), byte: this.#byte(PLACES.place + 2) };
+    return { counter: this.#short(PLACES.place), byte: this.#byte(PLACES.place + 2) };
   }
 
   /** The host writes port 0x60 or 0x64. The status: DONE, or FULL. */
@@ -161,8 +200,26 @@ export class Keyboard {
     const status = this.machine.call('kbd48_take', this.to.handle, this.to.word);
     if (status === Status.NO_WORD) return null;
     this.#done(status);
-    return this.machine.view.getUint16(this.base + PLACES.word, true);
+    return this.#short(PLACES.word);
   }
+
+  /** What was said next, { cycle, kind, value }, or null if all was handed out. After the 64th of more an error says LOST. */
+  next() {
+    const status = this.machine.call('kbd48_next', this.to.handle, this.to.item);
+    if (status === Status.NOTHING_SAID) return null;
+    this.#done(status);
+    return {
+      cycle: Number(this.machine.view.getBigUint64(this.base + PLACES.item, true)), kind: this.#byte(PLACES.item + 8),
+      value: this.#short(PLACES.item + 10),
+    };
+  }
+
+  /** The items that weren't handed out yet. */
+  * items() {
+    for (let item; (item = this.next()) !== null;) yield item;
+  }
+
+  // The calls from here on make no step and change nothing.
 
   interrupt() {
     this.#done(this.machine.call('kbd48_interrupt', this.to.handle, this.to.one));
@@ -181,10 +238,64 @@ export class Keyboard {
     return this.#byte(PLACES.one) | this.#byte(PLACES.two) << 1;
   }
 
+  /** How often the interrupt line rose in the last call that made a step. */
+  rises() {
+    this.#done(this.machine.call('kbd48_rises', this.to.handle, this.to.cycle));
+    return Number(this.machine.view.getBigUint64(this.base + PLACES.cycle, true));
+  }
+
   /** The cycles since power-on; stamp 0 is cycle 4,096. */
   cycle() {
     this.#done(this.machine.call('kbd48_cycle', this.to.handle, this.to.cycle));
     return Number(this.machine.view.getBigUint64(this.base + PLACES.cycle, true));
+  }
+
+  /** The controller's registers. */
+  look() {
+    this.#done(this.machine.call('kbd48_look', this.to.handle, this.to.shown));
+    const [status, output, commandByte, outputPort] = this.#shown(4);
+    return { status, output, commandByte, outputPort };
+  }
+
+  /** How many edges of keys wait for a step, and how many words in the buffer of INT 09h. */
+  waiting() {
+    this.#done(this.machine.call('kbd48_waiting', this.to.handle, this.to.one, this.to.two));
+    return { edges: this.#byte(PLACES.one), words: this.#byte(PLACES.two) };
+  }
+
+  /** The keys of a column, 0 to 11: bit k is row k, 0 for down. */
+  column(number) {
+    this.#done(this.machine.call('kbd48_column', this.to.handle, number, this.to.byte));
+    return this.#byte(PLACES.byte);
+  }
+
+  /** The keyboard's processor. */
+  inside() {
+    this.#done(this.machine.call('kbd48_inside', this.to.handle, this.to.shown));
+    const [, , byte, a, carry, halfCarry, f0, f1, registerBank, memoryBank, stack, t, prescaler, counts, timerFlag, externalOn, timerOn,
+      request, service, p1, p2, bus] = this.#shown(22), yes = bit => bit !== 0;
+    return {
+      counter: this.#short(PLACES.shown), byte, a, carry: yes(carry), halfCarry: yes(halfCarry), f0: yes(f0), f1: yes(f1),
+      registerBank: yes(registerBank), memoryBank: yes(memoryBank), stack, t, prescaler, counts: COUNTS[counts],
+      timerFlag: yes(timerFlag), externalOn: yes(externalOn), timerOn: yes(timerOn), request: yes(request), service: yes(service),
+      p1, p2, bus,
+    };
+  }
+
+  /** Which wires the keyboard's processor pulls low: 1 the clock, 2 data. It is bits 0 and 1 of its port 2, and no more. */
+  pulls() {
+    this.#done(this.machine.call('kbd48_inside', this.to.handle, this.to.shown));
+    return ~this.#byte(PLACES.shown + P2_AT) & 3;
+  }
+
+  /** A byte of its data memory, 0 to 127. */
+  cell(number) {
+    this.#done(this.machine.call('kbd48_cell', this.to.handle, number, this.to.byte));
+    return this.#byte(PLACES.byte);
+  }
+
+  #shown(many) {
+    return new Uint8Array(this.machine.view.buffer, this.base + PLACES.shown, many);
   }
 }
 

@@ -10,6 +10,8 @@ import json
 import re
 from pathlib import Path
 
+from tables import tables
+
 LAB = Path(__file__).resolve().parent
 ROOT = LAB.parent
 PAGE = LAB / "lab.html"
@@ -108,6 +110,7 @@ def page(keyboard: str, program: str, sources: str) -> str:
         "/*STYLE*/": style,
         "/*FILES*/": data(examples()),
         "/*FAULTS*/": data(faults()),
+        "/*BOARDS*/": data(tables()),
         "/*KEYBOARD*/": keyboard,
         "/*PROGRAM*/": program,
         "/*SCRIPT*/": code,

@@ -1,4 +1,5 @@
 // The keyboard that is drawn: real keys, the mouse and fingers press it.
+import { BoardOpener, shapes } from './board_opener.js';
 import { byId, fill, make, tell } from './dom.js';
 import { files, named, onFile } from './files.js';
 import { HEIGHT, SHAPES, WIDTH, isWhite, keyOfCode, keysOf, legendOf } from './places.js';
@@ -10,8 +11,9 @@ const STICKS = new Set(['lshift', 'rshift', 'ctrl', 'alt']);
 const FEW = 20; // a layout with fewer keys is drawn as its matrix
 
 export class KeyboardPane {
-  /** `open(layout, names)` begins a live keyboard; `press(place, down)` hands it an edge. */
-  constructor({ open, press }) {
+  /** `open(layout, names)` begins a live keyboard; `press(place, down)` hands it an edge; `bench(words)` shows words in the
+      workbench. */
+  constructor({ open, press, bench }) {
     Object.assign(this, { open, press, drawn: new Map(), held: new Map(), stuck: new Set() });
     this.board = byId('board');
     this.select = byId('layout');
@@ -22,7 +24,15 @@ export class KeyboardPane {
     });
     this.select.onchange = () => this.begin();
     byId('restart').onclick = () => { this.begin(); this.board.focus(); };
+    this.boards = new BoardOpener({ chosen: name => this.choose(name), bench });
     this.#listen();
+    this.begin();
+  }
+
+  /** Opens the layout of a file. */
+  choose(name) {
+    fill(this.select, named('.toml'), name);
+    this.select.value = name;
     this.begin();
   }
 
@@ -51,18 +61,26 @@ export class KeyboardPane {
     for (const lamp of document.querySelectorAll('#lamps [data-lamp]')) lamp.classList.toggle('on', (lights & lamp.dataset.lamp) !== 0);
   }
 
-  // Each key at its place on the AT's board; of a layout with few keys, at its place in the matrix.
+  // Each key where the board's file has it; else at its place on the AT's board; of a layout with few keys, in the matrix.
+  #places() {
+    const drawn = shapes.get(this.select.value), few = this.keys.length < FEW;
+    if (drawn && this.keys.every(key => drawn[key.name])) return this.keys.map(key => drawn[key.name]);
+    return this.keys.map(key => (few ? { x: key.place >> 3, y: key.place & 7, width: 1, height: 1 } : SHAPES[key.name]));
+  }
+
   #draw() {
-    const few = this.keys.length < FEW, wide = few ? 1 + Math.max(...this.keys.map(key => key.place >> 3)) : WIDTH;
-    const high = few ? 1 + Math.max(...this.keys.map(key => key.place & 7)) : HEIGHT;
+    const places = this.#places(), whole = places.some(it => it === SHAPES.space);
+    const left = Math.min(...places.map(it => it.x)), top = Math.min(...places.map(it => it.y));
+    const wide = whole ? WIDTH : Math.max(8, ...places.map(it => it.x - left + it.width));
+    const high = whole ? HEIGHT : Math.max(4, ...places.map(it => it.y - top + it.height));
+    this.board.style.setProperty('--rows', String(high));
     this.drawn.clear();
     this.board.replaceChildren();
-    for (const key of this.keys) {
-      const { x, y, width, height } = few ? { x: key.place >> 3, y: key.place & 7, width: 1, height: 1 } : SHAPES[key.name];
-      const element = make('div', { className: isWhite(key.sends) ? 'white' : 'grey' });
-      const unit = 100 / Math.max(wide, few ? 8 : 0), row = 100 / Math.max(high, few ? 4 : 0);
+    for (const [at, key] of this.keys.entries()) {
+      const { x, y, width, height } = places[at], element = make('div', { className: isWhite(key.sends) ? 'white' : 'grey' });
+      const unit = 100 / wide, row = 100 / high, [right, down] = whole ? [x, y] : [x - left, y - top];
       Object.assign(element.style, {
-        left: `${x * unit}%`, top: `calc(${y * row}% + 3px)`,
+        left: `${right * unit}%`, top: `calc(${down * row}% + 3px)`,
         width: `calc(${width * unit}% - 3px)`, height: `calc(${height * row}% - 6px)`,
       });
       element.dataset.key = key.name;

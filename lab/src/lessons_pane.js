@@ -79,6 +79,7 @@ export class LessonsPane {
   check() {
     const lesson = LESSONS[this.number], { right, fault, outputs } = solves(lesson, this.own[this.number]);
     byId('lesson-log').textContent = outputs.join('\n');
+    if (right) document.querySelectorAll('#lesson-list button')[this.number].classList.add('done');
     tell(byId('lesson-result'), right ? 'Done: that is what it must print.' : fault ? `Not yet: ${fault}` : 'Not yet: it must print something else.', right);
   }
 }

@@ -1,15 +1,31 @@
 // The keyboard that runs while one types: it goes on a step at a time, so that each change of a wire is seen. Keys and
 // writes are handed in as soon as they may be, and are kept with their stamps, so that a session is a key file too.
-import { Status } from '../kbd48.mjs';
+import { Item, Status } from '../kbd48.mjs';
 import { hex } from './dom.js';
 import { BOTH, Hearing } from './hearing.js';
+import { COPIES_APART, History } from './history.js';
 
 export const CYCLES_OF_A_MS = 400, FIRST_STAMP = 4096;
 // Cycles between two edges: a key file wants as many between two of one key, and so the codes come in the order of the edges.
 const APART = 2240;
 const KEPT = 40000, TRIMMED = 30000;
+// An item in the words of the log; what the page itself takes from the buffer of INT 09h isn't said.
+const SAYS = {
+  [Item.PORT]: byte => `port ${hex(byte)}`, [Item.READ]: byte => `read ${hex(byte)}`, [Item.WORD]: word => `word ${hex(word, 4)}`,
+  [Item.BEEP]: () => 'beep', [Item.OVERRUN]: () => 'overrun', [Item.LIGHTS]: lights => `lights ${lights}`,
+  [Item.STATUS]: byte => `status ${hex(byte)}`, [Item.OUTPUT]: byte => `output ${hex(byte)}`, [Item.PULSE]: lines => `pulse ${hex(lines, 1)}`,
+  [Item.BROKE]: () => 'break', [Item.PAUSE]: () => 'pause', [Item.RESUME]: () => 'resume', [Item.PRINT]: () => 'print',
+  [Item.BOOT]: () => 'boot', [Item.SYS_MAKE]: () => 'sysreq make', [Item.SYS_BREAK]: () => 'sysreq break',
+};
 // After so many cycles without a change, with no key down and nothing to be handed in, the steps are made many at a time.
 const QUIET = 40 * CYCLES_OF_A_MS, SELF_TEST = 400 * CYCLES_OF_A_MS;
+
+// Noise is on the frame that begins next; a frame begins some cycles before its first fall of the clock.
+const BEFORE_A_FRAME = 100;
+// How long a run with noise goes on: the frame is asked for and sent again.
+const AFTER_NOISE = 80 * CYCLES_OF_A_MS;
+
+const keyFileOf = (events, end) => [...events.map(({ stamp, words }) => `${stamp} ${words}`), `${end} end`, ''].join('\n');
 
 export class Live {
   /** `names` has the key of each place. */
@@ -22,8 +38,10 @@ export class Live {
     this.masked = false;
     keyboard.openLayout(new TextEncoder().encode(layout));
     keyboard.bios(true);
+    this.history = new History(keyboard);
     this.cycle = keyboard.cycle();
     this.levels = BOTH;
+    this.pulls = 0;
     this.onByte = () => {};
     this.onWord = () => {};
   }
@@ -38,26 +56,51 @@ export class Live {
 
   mask(masked) {
     this.masked = masked;
-    this.#told(masked ? 'mask' : 'unmask', () => this.keyboard.bios(!masked));
+    this.#told(masked ? 'mask' : 'unmask', keyboard => keyboard.bios(!masked));
     this.#say(masked ? 'INT 09h is masked' : 'INT 09h is let through');
   }
 
-  read60() { this.#say(`read ${hex(this.#told('read60', () => this.keyboard.read60()))}`); }
+  read60() {
+    this.#told('read60', keyboard => keyboard.read60());
+    this.#drain();
+  }
 
-  status() { this.#say(`status ${hex(this.#told('status', () => this.keyboard.status()))}`); }
+  status() {
+    this.#told('status', keyboard => keyboard.status());
+    this.#drain();
+  }
 
   /** So many cycles pass, or a few more. */
   advance(cycles) {
-    const end = this.cycle + cycles, { keyboard } = this;
-    while (this.cycle < end) {
-      if (this.waiting.length) this.#handEdges();
-      const said = this.#isQuiet() ? keyboard.run(end - this.cycle, true) : keyboard.step();
-      this.cycle += keyboard.passed;
-      this.#look();
-      if (said === Status.ROSE) this.up = true;
-      else if (said !== Status.DONE) throw new Error(`the run ended with status ${said}`);
-      else if (this.up && !keyboard.interrupt()) this.#entered();
-      else if (this.orders.length) this.#hand();
+    const end = this.cycle + cycles;
+    while (this.cycle < end) this.#goOn(this.#isQuiet() ? Math.min(end - this.cycle, COPIES_APART) : 1);
+    this.#drain();
+  }
+
+  /** So many steps are made, or fewer: up to the first after which `isEnd` says yes. */
+  steps(many, isEnd) {
+    for (let made = 0; made < many; made++) {
+      this.#goOn(1);
+      if (isEnd()) break;
+    }
+    this.#drain();
+  }
+
+  // One step, or as many as so many cycles take, in which nothing is handed in.
+  #goOn(cycles) {
+    const { keyboard } = this;
+    this.history.pass(this.cycle);
+    if (this.waiting.length) this.#handEdges();
+    if (this.orders.length && this.#hand()) return;
+    const said = cycles > 1 ? keyboard.run(cycles, true) : keyboard.step();
+    this.cycle += keyboard.passed;
+    this.#look();
+    if (said === Status.ROSE) this.up = true;
+    else if (said !== Status.DONE) throw new Error(`the run ended with status ${said}`);
+    else if (this.up && !keyboard.interrupt()) {
+      // INT 09h, or somebody, has read a byte.
+      this.up = false;
+      this.#drain();
     }
   }
 
@@ -70,18 +113,21 @@ export class Live {
 
   // An event of the host is made in a step of its own.
   #told(words, call) {
-    const { stamp } = this, said = call();
+    const { stamp } = this;
+    this.history.note(this.cycle, call);
+    const said = call(this.keyboard);
     this.cycle = this.keyboard.cycle();
     this.#look();
     this.events.push({ stamp, words });
     return said;
   }
 
+  // The levels of the wires, and which of those that are low the keyboard pulls.
   #look() {
-    const now = this.keyboard.wires();
-    if (now === this.levels) return;
-    this.levels = now;
-    this.edges.push({ cycle: this.cycle, levels: now });
+    const now = this.keyboard.wires(), pulls = now === BOTH ? 0 : this.keyboard.pulls();
+    if (now === this.levels && pulls === this.pulls) return;
+    Object.assign(this, { levels: now, pulls });
+    this.edges.push({ cycle: this.cycle, levels: now, pulls });
     if (this.edges.length > KEPT) this.edges.splice(0, KEPT - TRIMMED);
     const byte = this.hearing.hear(this.cycle, now);
     if (byte) this.bytes.push(byte);
@@ -91,6 +137,7 @@ export class Live {
   #handEdges() {
     const [{ place, down }] = this.waiting, { cycle, stamp } = this;
     if (cycle - this.lastEdge < APART || this.keyboard.key(place, down) !== Status.DONE) return;
+    this.history.note(cycle, copy => copy.key(place, down));
     this.waiting.shift();
     if (down) this.down.add(place);
     else this.down.delete(place);
@@ -98,37 +145,51 @@ export class Live {
     this.events.push({ stamp, words: `${down ? 'press' : 'release'} ${this.names.get(place)}` });
   }
 
+  // The next byte that the PC writes, in a step of its own. Whether there was room for it.
   #hand() {
-    const [{ port, byte }] = this.orders, { stamp } = this;
-    const said = this.keyboard.write(port, byte);
-    if (said === Status.FULL) return;
+    const [{ port, byte }] = this.orders, { stamp } = this, { cycle } = this;
+    if (this.keyboard.write(port, byte) === Status.FULL) return false;
+    this.history.note(cycle, copy => copy.write(port, byte));
     this.cycle = this.keyboard.cycle();
     this.#look();
     this.orders.shift();
     this.events.push({ stamp, words: `write${hex(port)} ${hex(byte)}` });
     this.#say(`the PC writes ${hex(byte)} to port ${hex(port)}`);
+    return true;
   }
 
-  // INT 09h, or somebody, has read a byte: the interrupt line is down again.
-  #entered() {
-    this.up = false;
-    const byte = this.#told('read60', () => this.keyboard.read60());
-    this.#say(`port ${hex(byte)}`);
-    this.onByte(byte);
-    for (let word; (word = this.#told('take', () => this.keyboard.take())) !== null;) {
-      this.#say(`word ${hex(word, 4)}`);
-      this.onWord(word);
+  // What was said since the last time. The program on the PC takes each word.
+  #drain() {
+    let words = 0;
+    try {
+      for (const { cycle, kind, value } of this.keyboard.items()) {
+        if (SAYS[kind]) this.#say(SAYS[kind](value), cycle);
+        if (kind === Item.PORT) this.onByte(value);
+        if (kind !== Item.WORD) continue;
+        words++;
+        this.onWord(value);
+      }
+    } catch (error) {
+      if (error.status !== Status.LOST) throw error;
+      this.#say('more was said than is kept');
     }
+    for (; words; words--) this.#told('take', keyboard => keyboard.take());
   }
 
-  #say(words) {
-    this.items.push({ cycle: this.cycle, words });
+  #say(words, cycle = this.cycle) {
+    this.items.push({ cycle, words });
     if (this.items.length > KEPT) this.items.splice(0, KEPT - TRIMMED);
   }
 
   /** What was done so far, as a key file. */
-  keyFile() {
-    const end = Math.max(this.stamp, 1);
-    return [...this.events.map(({ stamp, words }) => `${stamp} ${words}`), `${end} end`, ''].join('\n');
+  keyFile() { return keyFileOf(this.events, Math.max(this.stamp, 1)); }
+
+  /** The same, but that noise inverts a bit of the last byte that the keyboard sent; or null if it sent none. */
+  noisyFile(bit) {
+    const last = this.bytes.findLast(byte => byte.sender === 'keyboard');
+    if (!last || last.begin <= FIRST_STAMP + BEFORE_A_FRAME) return null;
+    const stamp = last.begin - FIRST_STAMP - BEFORE_A_FRAME, later = this.events.findIndex(event => event.stamp > stamp), events = [...this.events];
+    events.splice(later < 0 ? events.length : later, 0, { stamp, words: `flip ${bit}` });
+    return keyFileOf(events, this.stamp + AFTER_NOISE);
   }
 }

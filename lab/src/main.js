@@ -1,7 +1,8 @@
 // The page: it starts the two modules, and shows the panes that are chosen.
 import { Keyboard, Program } from '../kbd48.mjs';
-import { byId, tell } from './dom.js';
-import { put } from './files.js';
+import { fromKle } from './boards/from_kle.js';
+import { byId } from './dom.js';
+import { files, put } from './files.js';
 import { KeyboardPane } from './keyboard_pane.js';
 import { LessonsPane } from './lessons_pane.js';
 import { CYCLES_OF_A_MS, Live } from './live.js';
@@ -17,8 +18,10 @@ const moduleOf = async id => unpacked(bytesOf(byId(id).textContent));
 
 /** Says what went wrong; what still works goes on. */
 function trouble(error) {
-  tell(byId('trouble'), error.message, false);
+  byId('trouble-text').textContent = error.message;
+  byId('trouble').hidden = false;
 }
+byId('trouble-gone').onclick = () => { byId('trouble').hidden = true; };
 addEventListener('error', event => trouble(event.error ?? event));
 addEventListener('unhandledrejection', event => trouble(event.reason));
 
@@ -26,9 +29,16 @@ class Lab {
   constructor(keyboard) {
     this.keyboard = keyboard;
     this.owed = 0;
-    this.keys = new KeyboardPane({ open: (layout, names) => this.open(layout, names), press: (place, down) => this.live.press(place, down) });
+    Object.assign(this, { files, fromKle });
+    this.keys = new KeyboardPane({
+      open: (layout, names) => this.open(layout, names), press: (place, down) => this.live.press(place, down),
+      bench: words => {
+        this.show('workbench', true);
+        this.workbench.show(words);
+      },
+    });
     this.wires = new WiresPane(() => this.live, () => byId('layout').value);
-    this.processor = new ProcessorPane();
+    this.processor = new ProcessorPane(() => this.live);
     this.workbench = new WorkbenchPane();
     this.lessons = new LessonsPane(name => {
       this.show('workbench', true);
@@ -42,6 +52,7 @@ class Lab {
 
   /** Powers a keyboard on. */
   open(layout, names) {
+    this.live?.history.free();
     this.live = new Live(this.keyboard, layout, names);
     const pc = new Pc((port, byte) => this.live.order(port, byte));
     this.live.onByte = byte => pc.byte(byte);
@@ -49,6 +60,7 @@ class Lab {
     byId('screen').textContent = '▁';
     byId('masked').checked = false;
     this.wires?.begin();
+    this.processor?.begin();
   }
 
   show(name, shown, scrolled = true) {
@@ -70,6 +82,7 @@ class Lab {
     }
     this.keys.lamps(this.keyboard.lights());
     if (!byId('wires').hidden) this.wires.draw();
+    if (!byId('processor').hidden) this.processor.draw();
   }
 
   start() {

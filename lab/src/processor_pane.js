@@ -2,6 +2,7 @@
 import { byId, fill, hex, make, tell } from './dom.js';
 import { files, named, onFile } from './files.js';
 import { FIRST_STAMP } from './live.js';
+import { LiveSession } from './live_session.js';
 import { explained, kbd48 } from './program.js';
 import { FOREVER, Session } from './session.js';
 import { listLines, placeOf, sourceLines } from './source.js';
@@ -15,31 +16,47 @@ const FORMS = {
   byte: /^(keyboard|host|PC)\s+([0-9A-F]{2})$/i,
 };
 const ROW = 16;
+const LIVE_ONE = 'the keyboard that I type on';
+const LOOKS_APART = 200; // ms between two pictures of a keyboard that runs
+const TICK = 30; // ms
+const MOST_STRIDES = 8;
+const A_SECOND = 220000; // steps
 
 export class ProcessorPane {
-  constructor() {
+  /** `live()` answers the keyboard that runs. */
+  constructor(live) {
+    this.live = live;
+    this.looked = 0;
     this.timer = null;
     this.chosen = null;
     this.#fill();
     onFile(({ name, isNew }) => {
       if (isNew) this.#fill();
-      if ([byId('program').value, byId('program-layout').value, byId('program-keys').value].includes(name)) this.session = null;
+      if (!this.#isLive() && this.#files().includes(name)) this.session = null;
     });
     for (const id of ['program', 'program-layout', 'program-keys']) byId(id).onchange = () => this.open();
     byId('power').onclick = () => this.open();
-    byId('step').onclick = () => this.#go(1, []);
-    byId('back').onclick = () => this.#to(Math.max(0, this.session.state.steps - 1));
+    byId('step').onclick = () => {
+      this.#halt();
+      this.#go(1, []);
+    };
+    byId('back').onclick = () => this.#back();
     byId('over').onclick = () => this.#over();
-    byId('cursor').onclick = () => { if (this.chosen !== null) this.#go(FOREVER, [`arm 0 ${hex(this.chosen, 3)} 00`]); };
+    byId('cursor').onclick = () => {
+      this.#halt();
+      if (this.chosen === null) tell(byId('at'), 'choose a line of the program first', false);
+      else this.#go(this.#far(), [`arm 0 ${hex(this.chosen, 3)} 00`]);
+    };
     byId('run').onclick = () => (this.timer ? this.#halt() : this.#run());
     byId('goto').onchange = ({ target }) => { if (/^\d{1,9}$/.test(target.value)) this.#to(Number(target.value)); };
     byId('code').addEventListener('click', event => this.#choose(event.target));
     byId('code').addEventListener('dblclick', event => {
       this.#choose(event.target);
-      byId('stop-place').value = this.chosen === null ? '' : hex(this.chosen, 3);
-      this.#show();
+      this.#stopHere();
     });
+    byId('stop-place').oninput = () => this.#mark();
     byId('code').addEventListener('keydown', event => {
+      if (event.key === 'Enter') this.#stopHere();
       const by = { ArrowDown: 1, ArrowUp: -1 }[event.key];
       if (!by) return;
       event.preventDefault();
@@ -47,8 +64,15 @@ export class ProcessorPane {
     });
   }
 
+  #isLive() { return byId('program').value === LIVE_ONE; }
+
+  #files() { return [byId('program').value, byId('program-layout').value, byId('program-keys').value]; }
+
+  // As far as one looks for a place: a run of a key file has an end, the keyboard that runs has none.
+  #far() { return this.#isLive() ? A_SECOND : FOREVER; }
+
   #fill() {
-    fill(byId('program'), named('.asm', '.hex', '.toml'), 'four_keys.asm');
+    fill(byId('program'), [LIVE_ONE, ...named('.asm', '.hex', '.toml')], 'four_keys.asm');
     fill(byId('program-layout'), named('.toml'), 'four_keys.toml');
     fill(byId('program-keys'), named('.keys'), 'four_keys.keys');
   }
@@ -58,10 +82,33 @@ export class ProcessorPane {
     if (!this.session) this.open();
   }
 
+  /** Another keyboard runs. */
+  begin() { if (this.#isLive()) this.open(); }
+
+  /** A picture of the keyboard that runs, now and then. */
+  draw() {
+    const now = performance.now();
+    if (!this.#isLive() || !this.session || isStopped() || now - this.looked < LOOKS_APART) return;
+    this.looked = now;
+    this.#now(this.session.now());
+    tell(byId('at'), 'it runs; Step stops its time');
+  }
+
   /** Begins a session at power-on. */
   open() {
     this.#halt();
     const name = byId('program').value, how = name.endsWith('.asm') ? 'asm' : name.endsWith('.toml') ? 'compile' : null;
+    for (const id of ['program-layout', 'program-keys', 'goto', 'power']) byId(id).disabled = this.#isLive();
+    if (this.#isLive()) {
+      this.session = new LiveSession(this.live());
+      this.code = sourceLines(files[KERNEL]);
+      this.before = null;
+      tell(byId('program-fault'), '');
+      tell(byId('at'), isStopped() ? wordsOf(this.session.state) : 'it runs; Step stops its time');
+      this.#list();
+      this.#show();
+      return;
+    }
     const made = how ? kbd48([how, name]) : { exit: 0, text: files[name] };
     try {
       if (made.exit !== 0) throw new Error(explained(made)?.words ?? made.text);
@@ -75,6 +122,7 @@ export class ProcessorPane {
       tell(byId('program-fault'), refused.message, false);
     }
     this.before = null;
+    this.chosen = null;
     this.#list();
     this.#show();
   }
@@ -106,20 +154,37 @@ export class ProcessorPane {
     return `${hex(first, 3)} ${found[2]}`;
   }
 
-  #go(most, arms) {
+  // A keyboard that runs stops for it.
+  #go(most, arms, on = false) {
     if (!this.session) return null;
-    const { state } = this.session, gone = this.session.go(state.steps, most, arms);
+    this.#stopTime();
+    const gone = on ? this.session.goOn(most, arms) : this.session.go(most, arms);
     this.#now(gone.state);
-    const words = `step ${gone.state.steps}, cycle ${gone.state.cycles}, stamp ${gone.state.cycles - FIRST_STAMP}`;
+    const words = wordsOf(gone.state);
     tell(byId('at'), gone.hit !== null && most > 1 ? `${words}: stopped at ${STOPS[gone.hit]}` : gone.ended ? `${words}: the run has ended` : words);
     return gone;
+  }
+
+  #stopTime() {
+    if (!this.#isLive() || isStopped()) return;
+    byId('speed').value = STOPPED;
+    this.session.state = this.session.now();
   }
 
   #to(steps) {
     if (!this.session) return;
     this.#halt();
-    this.#now(this.session.go(0, steps, []).state);
-    tell(byId('at'), `step ${this.session.state.steps}, cycle ${this.session.state.cycles}, stamp ${this.session.state.cycles - FIRST_STAMP}`);
+    this.#now(this.session.at(steps));
+    tell(byId('at'), wordsOf(this.session.state));
+  }
+
+  #back() {
+    if (!this.session) return;
+    this.#halt();
+    this.#stopTime();
+    const state = this.session.back(), isFirst = state.cycles === this.session.state.cycles;
+    this.#now(state);
+    tell(byId('at'), isFirst ? `${wordsOf(state)}: nothing before it is kept` : wordsOf(state));
   }
 
   #now(state) {
@@ -131,8 +196,9 @@ export class ProcessorPane {
   // A call is over when the place behind it is reached.
   #over() {
     if (!this.session) return;
+    this.#halt();
     const { counter } = this.session.state, line = this.code.lines.find(it => it.place === counter);
-    if (/\bCALL\b/i.test(line?.text ?? '')) this.#go(FOREVER, [`arm 0 ${hex(counter + 2, 3)} 00`]);
+    if (/\bCALL\b/i.test(line?.text ?? '')) this.#go(this.#far(), [`arm 0 ${hex(counter + 2, 3)} 00`]);
     else this.#go(1, []);
   }
 
@@ -141,21 +207,22 @@ export class ProcessorPane {
     if (!arms || !this.session) return;
     byId('run').setAttribute('aria-pressed', 'true');
     byId('run').textContent = 'Halt';
-    let last = performance.now(), owed = 1;
+    // At a pace each picture is a round number of steps later, so that many of them come of one run.
+    const stride = pace >= FOREVER ? this.#far() : Math.max(1, Math.round(pace * TICK / 1000));
+    let last = performance.now(), owed = stride;
     const tick = () => {
       const now = performance.now();
       owed += Math.min(now - last, 250) / 1000 * pace;
       last = now;
-      const most = Math.min(Math.floor(owed), FOREVER);
-      if (most > 0) {
-        owed -= most;
-        const gone = this.#go(most, arms);
+      for (let strides = Math.min(Math.floor(owed / stride), MOST_STRIDES); strides > 0; strides--) {
+        owed -= stride;
+        const gone = this.#go(stride, arms, true);
         if (!gone || gone.hit !== null || gone.ended) {
           this.#halt();
           return;
         }
       }
-      this.timer = setTimeout(tick, 30);
+      this.timer = setTimeout(tick, TICK);
     };
     this.timer = setTimeout(tick, 0);
   }
@@ -182,27 +249,43 @@ export class ProcessorPane {
     this.rows.get(this.chosen)?.scrollIntoView({ block: 'nearest' });
   }
 
+  // The breakpoint on a place is the chosen line's, or is gone if it was.
+  #stopHere() {
+    const place = this.chosen === null ? '' : hex(this.chosen, 3);
+    byId('stop-place').value = byId('stop-place').value === place ? '' : place;
+    this.#mark();
+  }
+
   #list() {
     this.rows = new Map();
+    this.marked = {};
     byId('code').replaceChildren(...this.code.lines.map(({ text, place }) => {
       const row = make('div', { textContent: `${place === null ? '   ' : hex(place, 3)}  ${text}` });
       if (place !== null) {
         row.dataset.place = place;
+        row.id = `place-${place}`;
         row.setAttribute('role', 'option');
+        row.setAttribute('aria-selected', 'false');
         this.rows.set(place, row);
       }
       return row;
     }));
   }
 
+  // The rows of the program counter, of the cursor and of the breakpoint. Only those that change are touched: there are many.
   #mark() {
-    const counter = this.session?.state.counter, stop = placeOf(byId('stop-place').value.trim(), this.code.labels);
-    for (const [place, row] of this.rows) {
-      row.classList.toggle('here', place === counter);
-      row.classList.toggle('chosen', place === this.chosen);
-      row.classList.toggle('stop', place === stop);
-      row.setAttribute('aria-selected', String(place === this.chosen));
+    const now = { here: this.session?.state.counter, chosen: this.chosen, stop: placeOf(byId('stop-place').value.trim(), this.code.labels) };
+    for (const [name, place] of Object.entries(now)) {
+      if (place === this.marked[name]) continue;
+      for (const [other, on] of [[this.marked[name], false], [place, true]]) {
+        const row = this.rows.get(other);
+        row?.classList.toggle(name, on);
+        if (name === 'chosen') row?.setAttribute('aria-selected', String(on));
+      }
+      this.marked[name] = place;
     }
+    if (this.rows.has(this.chosen)) byId('code').setAttribute('aria-activedescendant', `place-${this.chosen}`);
+    else byId('code').removeAttribute('aria-activedescendant');
   }
 
   #show() {
@@ -217,10 +300,20 @@ export class ProcessorPane {
     byId('registers').replaceChildren(registersTable(state, this.before));
     byId('cells').replaceChildren(cellsTable(state, this.before));
     const said = byId('said');
-    said.textContent = log.filter(item => item.stamp <= state.cycles - FIRST_STAMP).map(item => item.line).join('\n');
+    said.textContent = log.join('\n');
     said.scrollTop = said.scrollHeight;
   }
 }
+
+/** Where a state is. */
+function wordsOf({ steps, cycles }) {
+  const at = `cycle ${cycles}, stamp ${cycles - FIRST_STAMP}`;
+  return steps === null ? at : `step ${steps}, ${at}`;
+}
+
+// The time of the keyboard that one types on.
+const STOPPED = '0';
+const isStopped = () => byId('speed').value === STOPPED;
 
 function cell(text, changed) {
   return make('td', { textContent: text, className: changed ? 'changed' : '' });

@@ -1,14 +1,18 @@
-// A run that is looked at step by step: a number of steps, up to which `probe` makes the run anew. So one step back is the
-// number before.
+// A run of a key file that is looked at step by step. The program makes it under a script, which shows many states in one run.
 import { hex } from './dom.js';
+import { FIRST_STAMP } from './live.js';
 import { explained, kbd48 } from './program.js';
 
-const CELLS = 128;
+export const CELLS = 128;
 const PSW = { carry: 0x80, 'auxiliary carry': 0x40, F0: 0x20, bank: 0x10 };
 const DEPTH = 7, STACK = 8, BANKS = [0x00, 0x18];
 export const FOREVER = 999_999_999;
 
+// A script has at most 65,536 bytes, and what shows a state has 901.
+const STATES_OF_A_RUN = 60;
 const SHOW = ['show', ...Array.from({ length: CELLS }, (_, cell) => `ram ${hex(cell)}`)];
+
+const LINES_OF_A_STATE = SHOW.length + 4;
 
 /** A line of `show` as names and values. */
 function fields(line) {
@@ -23,33 +27,82 @@ function stateOf(lines) {
   const cells = lines.slice(5).map(line => Number.parseInt(line.split(' ')[2], 16)), psw = Number.parseInt(named.psw, 16);
   return {
     steps: Number(steps), cycles: Number(cycles), counter: Number.parseInt(named.pc, 16), named, cells,
-    flags: Object.fromEntries(Object.entries(PSW).map(([name, bit]) => [name, psw & bit ? 1 : 0])),
-    banks: BANKS.map(at => cells.slice(at, at + 8)),
-    stack: Array.from({ length: psw & DEPTH }, (_, n) => {
-      const [low, high] = cells.slice(STACK + 2 * n);
-      return (high & 15) << 8 | low;
-    }),
+    ...partsOf(psw, cells),
   };
 }
+
+/** What the status word and data memory say: the flags, both banks, the stack. */
+export const partsOf = (psw, cells) => ({
+  flags: Object.fromEntries(Object.entries(PSW).map(([name, bit]) => [name, psw & bit ? 1 : 0])),
+  banks: BANKS.map(at => cells.slice(at, at + 8)),
+  stack: Array.from({ length: psw & DEPTH }, (_, n) => {
+    const [low, high] = cells.slice(STACK + 2 * n);
+    return (high & 15) << 8 | low;
+  }),
+});
 
 export class Session {
   /** The texts of an image, a layout and a key file; refused as the program refuses them. */
   constructor(image, layout, keys) {
     this.files = { 'session.image': image, 'session.layout': layout, 'session.keys': keys };
-    this.state = this.go(0, 0, []).state;
+    this.near = new Map();
+    this.ahead = { gone: [] };
+    this.state = this.at(0);
     const said = kbd48(['board', 'session.image', 'session.layout', 'session.keys'], this.files);
-    this.log = said.text.trimEnd().split('\n').filter(line => /^-?\d+ /.test(line))
+    this.said = said.text.trimEnd().split('\n').filter(line => /^-?\d+ /.test(line))
       .map(line => ({ stamp: Number.parseInt(line, 10), line }));
   }
 
-  /** Goes from step `from` on for at most so many steps, up to the first that one of the probes' lines (`arm ..`) meets. */
-  go(from, most, arms) {
-    const way = [...(from ? [`step ${from}`] : []), ...arms, ...(most ? [`${arms.length ? 'go' : 'step'} ${most}`] : [])];
-    const said = kbd48(['probe', 'session.image', 'session.layout', 'session.keys', 'session.script'],
-      { ...this.files, 'session.script': [...way, ...SHOW, ''].join('\n') });
+  /** What the log said up to now. */
+  get log() { return this.said.filter(item => item.stamp <= this.state.cycles - FIRST_STAMP).map(item => item.line); }
+
+  /** The state after so many steps. The program answers those around it in one run, so that the next ones are there. */
+  at(steps) {
+    if (!this.near.has(steps)) {
+      const first = Math.max(0, steps - STATES_OF_A_RUN / 2), way = Array.from({ length: STATES_OF_A_RUN - 1 }, () => 'step 1');
+      const states = this.#run(first ? [`step ${first}`] : [], way).map(({ state }) => state);
+      this.near = new Map(states.map(state => [state.steps, state]));
+      // After the end of the run nothing changes.
+      if (!this.near.has(steps)) return states.at(-1);
+    }
+    return this.near.get(steps);
+  }
+
+  /** Goes on by at most so many steps, up to the first that one of the probes' lines (`arm ..`) meets. */
+  go(most, arms) {
+    const { steps } = this.state;
+    if (most === 1 && !arms.length) {
+      const state = this.at(steps + 1);
+      return { state, hit: null, ended: state.steps === steps };
+    }
+    return this.#run([...(steps ? [`step ${steps}`] : []), ...arms, `${arms.length ? 'go' : 'step'} ${most}`], []).at(-1);
+  }
+
+  /** The same, for somebody who goes on by so many steps time and again: the program answers many of them in one run. */
+  goOn(most, arms) {
+    const { steps } = this.state, asked = [steps, most, ...arms].join();
+    if (most === 1 && !arms.length) return this.go(1, []);
+    if (this.ahead.asked !== asked || !this.ahead.gone.length) {
+      const way = Array.from({ length: STATES_OF_A_RUN - 1 }, () => `${arms.length ? 'go' : 'step'} ${most}`);
+      this.ahead = { gone: this.#run([...(steps ? [`step ${steps}`] : []), ...arms], way).slice(1) };
+    }
+    const next = this.ahead.gone.shift();
+    this.ahead.asked = [next.state.steps, most, ...arms].join();
+    return next;
+  }
+
+  /** Goes back by a step. */
+  back() { return this.at(Math.max(0, this.state.steps - 1)); }
+
+  // The states after the first lines of a script, and after each line of its way.
+  #run(first, way) {
+    const script = [...first, ...SHOW, ...way.flatMap(line => [line, ...SHOW]), ''].join('\n');
+    const said = kbd48(['probe', 'session.image', 'session.layout', 'session.keys', 'session.script'], { ...this.files, 'session.script': script });
     if (said.exit !== 0) throw Object.assign(new Error(explained(said)?.words ?? said.text), { refused: true });
-    const lines = said.text.trimEnd().split('\n'), shown = lines.slice(-(CELLS + 5)), last = lines[way.length - 1] ?? '';
-    const hit = /^hit (\d)/.exec(last);
-    return { state: stateOf(shown), hit: hit ? Number(hit[1]) : null, ended: last.endsWith(' end') };
+    const lines = said.text.trimEnd().split('\n');
+    return Array.from({ length: way.length + 1 }, (_, n) => {
+      const begin = first.length + n * (LINES_OF_A_STATE + 1), last = lines[begin - 1] ?? '', hit = /^hit (\d)/.exec(last);
+      return { state: stateOf(lines.slice(begin, begin + LINES_OF_A_STATE)), hit: hit ? Number(hit[1]) : null, ended: last.endsWith(' end') };
+    });
   }
 }

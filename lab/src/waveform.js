@@ -8,7 +8,8 @@ const COLOURS = { wire: '#7dffb0', gap: '#4fa878', name: '#b9e8cd', keyboard: '#
 const LEAST_ZOOM = 0.125, MOST_ZOOM = 8;
 
 export class Waveform {
-  /** `source()` answers { edges, bytes, cycle }: each edge has a cycle and the levels after it. */
+  /** `source()` answers { edges, bytes, cycle }: each edge has a cycle and the levels after it, and which wires the keyboard
+      pulls, if that is known. */
   constructor(canvas, source) {
     Object.assign(this, { canvas, source, zoom: 0.5, back: 0, shown: null });
     canvas.addEventListener('wheel', event => {
@@ -64,7 +65,6 @@ export class Waveform {
     const pen = canvas.getContext('2d');
     pen.setTransform(scale, 0, 0, scale, 0, 0);
     pen.clearRect(0, 0, width, height);
-    pen.lineWidth = 1.5;
     this.#stretches(edges, cycle, width, stretch => drawStretch(pen, stretch));
     this.#labels(pen, bytes, edges);
     pen.fillStyle = COLOURS.name;
@@ -78,10 +78,10 @@ export class Waveform {
     let x = width - 10 + this.back, last = cycle;
     this.places = new Map();
     for (let n = edges.length - 1; x > 0; n--) {
-      const { cycle: from, levels } = n >= 0 ? edges[n] : { cycle: last - LONG - 1, levels: CLOCK | DATA };
+      const { cycle: from, levels, pulls } = n >= 0 ? edges[n] : { cycle: last - LONG - 1, levels: CLOCK | DATA };
       const cut = last - from > LONG, wide = n < 0 ? x : (cut ? LONG : last - from) * this.zoom;
       this.places.set(from, x - wide);
-      if (x - wide < width) each({ left: x - wide, right: Math.min(x, width), levels, before: n > 0 ? edges[n - 1].levels : CLOCK | DATA, cut });
+      if (x - wide < width) each({ left: x - wide, right: Math.min(x, width), levels, pulls, before: n > 0 ? edges[n - 1].levels : CLOCK | DATA, cut });
       x -= wide;
       last = from;
     }
@@ -99,17 +99,25 @@ export class Waveform {
   }
 }
 
-function drawStretch(pen, { left, right, levels, before, cut }) {
+/** Who pulls a wire that is low. If both do, only the keyboard's pull is known. */
+export function pullerOf(wire, levels, pulls) {
+  if (levels & wire || pulls === undefined) return null;
+  return pulls & wire ? 'keyboard' : 'host';
+}
+
+function drawStretch(pen, { left, right, levels, pulls, before, cut }) {
   for (const wire of [CLOCK, DATA]) {
-    const y = TOP[wire] + (levels & wire ? 0 : SWING);
+    const y = TOP[wire] + (levels & wire ? 0 : SWING), puller = pullerOf(wire, levels, pulls);
     pen.setLineDash(cut ? [2, 4] : []);
-    pen.strokeStyle = cut ? COLOURS.gap : COLOURS.wire;
+    pen.lineWidth = puller ? 3 : 1.5;
+    pen.strokeStyle = COLOURS[puller] ?? (cut ? COLOURS.gap : COLOURS.wire);
     pen.beginPath();
     pen.moveTo(right, y);
     pen.lineTo(left, y);
     pen.stroke();
     if ((levels ^ before) & wire) {
       pen.setLineDash([]);
+      pen.lineWidth = 1.5;
       pen.strokeStyle = COLOURS.wire;
       pen.beginPath();
       pen.moveTo(left, TOP[wire]);

@@ -1,14 +1,18 @@
 // What passes between keyboard and PC while one types, and what the PC says.
 import { byId, fill, hex, make, tell } from './dom.js';
 import { named, onFile, put } from './files.js';
+import { CLOCK, DATA } from './hearing.js';
 import { CYCLES_OF_A_MS, FIRST_STAMP } from './live.js';
 import { explained, kbd48 } from './program.js';
 import { readTrace } from './vcd.js';
-import { Waveform } from './waveform.js';
+import { Waveform, pullerOf } from './waveform.js';
 
 const SHOWN = 200; // lines
 const LIVE = 'what I type';
 const STEP = 160; // pixels
+const NOISY = 'noise.keys';
+const BITS = [...Array.from({ length: 8 }, (_, bit) => `data bit ${bit + 1}`), 'the parity bit'];
+const PULLERS = { keyboard: 'the keyboard pulls it', host: 'the PC pulls it' };
 // Each command with the bytes that the PC writes: to port 60h, or to 64h.
 const COMMANDS = [
   ['ED 07: all lights', [0x60, 0xED], [0x60, 0x07]], ['ED 00: no light', [0x60, 0xED], [0x60, 0x00]],
@@ -52,6 +56,8 @@ export class WiresPane {
       tell(byId('judged'), 'session.keys is in the workbench');
     };
     byId('judge').onclick = () => this.#judge();
+    byId('noisy-bit').append(...BITS.map((words, at) => new Option(words, at + 1)));
+    byId('noise').onclick = () => this.#noise(byId('noisy-bit').value);
   }
 
   /** Another keyboard runs. */
@@ -81,6 +87,19 @@ export class WiresPane {
     }
   }
 
+  // This session once more, with noise on the last frame: a run of the program, which is shown like that of any key file.
+  #noise(bit) {
+    const keys = this.live().noisyFile(bit);
+    if (keys === null) {
+      tell(byId('judged'), 'the keyboard has sent no byte yet', false);
+      return;
+    }
+    put(NOISY, keys);
+    byId('shown').value = NOISY;
+    this.#show(NOISY);
+    tell(byId('judged'), `this is ${NOISY}, which is in the workbench too; “${LIVE}” goes back`);
+  }
+
   // What was done so far as a key file, under the model and under the firmware.
   #judge() {
     const keys = { 'session.keys': this.live().keyFile() }, layout = this.layoutName();
@@ -90,11 +109,19 @@ export class WiresPane {
     else tell(byId('judged'), 'run and expect differ', false);
   }
 
+  #pulled() {
+    if (this.still) return 'a run of a key file, in which that isn\'t said';
+    const { levels, pulls } = this.live(), said = (wire, name) => `${name}: ${PULLERS[pullerOf(wire, levels, pulls)] ?? 'high'}`;
+    return `${said(CLOCK, 'clock')}; ${said(DATA, 'data')}`;
+  }
+
   draw() {
     const { bytes, items, stamp } = this.live();
     this.wave.draw();
     const clock = `${(stamp / CYCLES_OF_A_MS / 1000).toFixed(1)} s of keyboard time`;
     if (byId('clock-text').textContent !== clock) byId('clock-text').textContent = clock;
+    const pulled = this.#pulled();
+    if (byId('pulled').textContent !== pulled) byId('pulled').textContent = pulled;
     const many = this.still ? 0 : bytes.length + items.length;
     if (many === this.drawn) return;
     this.drawn = many;

@@ -1,4 +1,6 @@
 // Files, and what the program makes of them.
+import { keepLayout, layoutNameOf, textOfFile } from './board_opener.js';
+import { fromKle, isKeymapText } from './boards/from_kle.js';
 import { byId, fill, make, save, tell } from './dom.js';
 import { edited, files, onFile, put } from './files.js';
 import { EXIT, explained, kbd48 } from './program.js';
@@ -6,7 +8,6 @@ import { linkOf } from './share.js';
 import { readTrace } from './vcd.js';
 import { Waveform } from './waveform.js';
 
-const LARGEST = 4 << 20;
 // What is offered for a file by its ending; NAME is the file, STEM its name without the ending.
 const OFFERS = {
   asm: [['asm NAME'], ['board STEM.hex STEM.toml STEM.keys'], ['board STEM.hex STEM.toml STEM.keys --trace']],
@@ -16,10 +17,11 @@ const OFFERS = {
   cert: [['cert STEM.hex NAME']],
   script: [['debug us84.toml STEM.keys NAME'], ['probe STEM.hex STEM.toml STEM.keys NAME']],
   text: [['type us84.toml NAME']],
+  json: [['from_kle NAME'], ['from_kle --table NAME'], ['from_kle --wiring NAME']],
 };
 // What a command makes is kept under the file's name with this ending.
-const MADE = { asm: 'hex', compile: 'hex', list: 'asm', type: 'keys', trace: 'vcd', run: 'log', board: 'log' };
-const INPUTS = /\.(asm|hex|toml|keys|cert|script|text|items|log|vcd|json|list)$/;
+const MADE = { asm: 'hex', compile: 'hex', list: 'asm', type: 'keys', trace: 'vcd', run: 'log', board: 'log', from_kle: 'toml' };
+const INPUTS = /\.(asm|hex|toml|keys|cert|script|text|items|log|vcd|json|list|vil)$/;
 
 export class WorkbenchPane {
   constructor() {
@@ -38,7 +40,13 @@ export class WorkbenchPane {
     byId('share').onclick = () => this.#share();
     byId('do').onclick = () => this.run(byId('words').value);
     byId('words').addEventListener('keydown', event => { if (event.key === 'Enter') this.run(byId('words').value); });
-    byId('keep').onclick = () => { put(this.made.name, this.made.text); this.open(this.made.name); };
+    byId('keep').onclick = () => {
+      const { name, text, said } = this.made;
+      if (said) keepLayout(name, said);
+      else put(name, text);
+      this.open(name);
+    };
+    byId('download').onclick = () => save(this.made.name, this.made.said?.text ?? this.made.text);
     this.wave = new Waveform(byId('trace'), () => this.traced ?? { edges: [], bytes: [], cycle: 0 });
     this.open('four_keys.asm');
     byId('words').value = 'board four_keys.hex four_keys.toml four_keys.keys';
@@ -59,7 +67,9 @@ export class WorkbenchPane {
     this.select.value = name;
     this.editor.value = files[name];
     const [, stem, ending] = /^(.*?)\.?([^.]*)$/.exec(name);
-    const offers = (OFFERS[ending] ?? []).map(pair => pair.map(words => words.replaceAll('NAME', name).replaceAll('STEM', stem)));
+    const own = ending === 'json' && isKeymapText(files[name]) ? [] : OFFERS[ending] ?? [];
+    const offers = own.map(pair => pair.map(words => words.replaceAll('NAME', name).replaceAll('STEM', stem)));
+    if (isBoardFile(name)) offers.push(...boardOffers(name));
     byId('offers').replaceChildren(...offers.filter(pair => pair.every(isPossible)).map(pair => {
       const button = make('button', { type: 'button', textContent: pair.join(' and ') });
       button.onclick = () => {
@@ -70,10 +80,20 @@ export class WorkbenchPane {
     }));
   }
 
+  /** Shows a command, and runs it. */
+  show(text) {
+    byId('words').value = text;
+    this.run(text);
+  }
+
   /** Runs one command, and a second one beside it. */
   run(text, beside) {
-    const words = text.trim().split(/\s+/), refused = this.#assemble(words);
-    if (refused) return;
+    const words = text.trim().split(/\s+/);
+    if (words[0] === 'from_kle') {
+      this.#fromKle(words);
+      return;
+    }
+    if (this.#assemble(words)) return;
     const before = performance.now(), said = kbd48(words), took = performance.now() - before;
     byId('answer').textContent = said.text;
     const other = beside ? kbd48(beside.trim().split(/\s+/)).text : null;
@@ -82,6 +102,17 @@ export class WorkbenchPane {
     this.#tell(words, said, other, took);
     this.#trace(said);
     this.#keep(words, said);
+  }
+
+  // A layout of a board file, with what is told of it beside it.
+  #fromKle(words) {
+    const said = fromKle(words.slice(1), files);
+    byId('answer').textContent = said.text || said.told.join('\n');
+    byId('other').hidden = said.status !== 0 || !said.told.length;
+    byId('other').textContent = said.told.join('\n');
+    tell(byId('told'), said.status === 0 ? `exit 0, ${said.told.length} remarks` : `exit ${said.status}: ${said.told[0]}`, said.status === 0 ? undefined : false);
+    this.#trace(said);
+    this.#made(said.shapes ? { name: layoutNameOf(words), said } : null);
   }
 
   // Makes the image of each source that was edited here, if the words name the image. Whether one was refused.
@@ -127,11 +158,18 @@ export class WorkbenchPane {
   }
 
   #keep(words, said) {
-    const ending = MADE[words[0]], stem = words[1]?.replace(/\.[^.]*$/, '');
-    byId('keep').hidden = said.exit !== EXIT.DONE || !ending;
-    if (byId('keep').hidden) return;
-    this.made = { name: `${stem}.${words.includes('--trace') ? 'vcd' : ending}`, text: said.text };
-    byId('keep').textContent = `Keep as ${this.made.name}`;
+    // A log is called as its key file is, anything else as the file that it is made of.
+    const ending = MADE[words[0]], named = words.find(word => word.endsWith('.keys')) ?? words[1], stem = named?.replace(/\.[^.]*$/, '');
+    this.#made(said.exit === EXIT.DONE && ending ? { name: `${stem}.${words.includes('--trace') ? 'vcd' : ending}`, text: said.text } : null);
+  }
+
+  // What a command made, which may be kept here or downloaded; or nothing.
+  #made(made) {
+    this.made = made;
+    byId('keep').hidden = byId('download').hidden = !made;
+    if (!made) return;
+    byId('keep').textContent = `Keep as ${made.name}`;
+    byId('download').textContent = `Download ${made.name}`;
   }
 
   #new() {
@@ -145,11 +183,12 @@ export class WorkbenchPane {
 
   async #take(input) {
     for (const file of input.files) {
-      const name = file.name.replace(/[^\w.-]/g, '_');
-      if (file.size > LARGEST) tell(byId('shared'), `${name} is longer than any file that the program reads`, false);
-      else {
-        put(name, await file.text());
+      try {
+        const { name, text } = await textOfFile(file);
+        put(name, text);
         this.open(name);
+      } catch (error) {
+        tell(byId('shared'), error.message, false);
       }
     }
     input.value = '';
@@ -168,3 +207,11 @@ export class WorkbenchPane {
 const kindOf = name => ({ asm: 'asm', hex: 'hex', toml: 'layout', keys: 'keys', script: 'script', cert: 'cert' })[name.split('.').at(-1)];
 
 const isPossible = words => words.split(' ').filter(word => INPUTS.test(word)).every(name => name in files);
+
+// A keymap is offered for each board that is here, and a board with each keymap.
+const isBoardFile = name => /\.(json|vil)$/.test(name);
+
+function boardOffers(name) {
+  const others = Object.keys(files).filter(other => other !== name && isBoardFile(other)), isMap = isKeymapText(files[name]);
+  return others.filter(other => isKeymapText(files[other]) !== isMap).map(other => [`from_kle ${isMap ? `${other} ${name}` : `${name} ${other}`}`]);
+}

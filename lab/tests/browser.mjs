@@ -66,6 +66,12 @@ export async function open(program, url, [width, height]) {
       await browser.mouse('mousePressed', at);
       await browser.mouse('mouseReleased', at);
     },
+    /** Chooses files in an input. */
+    async choose(selector, files) {
+      const { root } = await send('DOM.getDocument');
+      const { nodeId } = await send('DOM.querySelector', { nodeId: root.nodeId, selector });
+      await send('DOM.setFileInputFiles', { nodeId, files });
+    },
     async screenshot(path) { writeFileSync(path, Buffer.from((await send('Page.captureScreenshot')).data, 'base64')); },
     async close() {
       const gone = new Promise(yes => child.once('exit', yes));

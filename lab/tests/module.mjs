@@ -4,7 +4,7 @@
 import assert from 'node:assert/strict';
 import { existsSync, readFileSync } from 'node:fs';
 import { gunzipSync } from 'node:zlib';
-import { Kbd48Error, Keyboard, Program, Status } from '../kbd48.mjs';
+import { Item, Kbd48Error, Keyboard, Program, Status } from '../kbd48.mjs';
 
 const [, , page, examples, native] = process.argv;
 const CALLS = 10_000, SEED = 7;
@@ -70,6 +70,50 @@ async function refusals() {
   assert.equal(program.run([]).exit, 2);
 }
 
+/** The looks, the items and the copies: two keyboards in one state give the same answers, and a look changes nothing. */
+async function looks() {
+  const keyboard = await Keyboard.load(keyboardModule), seen = of => [of.cycle(), of.wires(), of.inside(), of.look(), of.waiting(), of.lights()];
+  keyboard.openLayout(layout);
+  keyboard.bios(true);
+  while (keyboard.run(400_000, true) !== Status.ROSE);
+  assert.equal(keyboard.rises(), 1);
+  assert.deepEqual(keyboard.look(), { status: 0x15, output: 0xAA, commandByte: 0x45, outputPort: 0xCF });
+  const kept = keyboard.copy();
+  keyboard.run(200);
+  const [said] = [...keyboard.items()];
+  assert.deepEqual({ ...said, cycle: 0 }, { cycle: 0, kind: Item.PORT, value: 0xAA });
+  assert.ok(said.cycle < keyboard.cycle() && said.cycle >= keyboard.cycle() - 200, 'an item has its cycle');
+  assert.equal(keyboard.next(), null);
+  kept.run(200);
+  assert.deepEqual(seen(kept), seen(keyboard));
+  assert.deepEqual([...kept.items()], [said]);
+  assert.equal(keyboard.key(29, true), Status.DONE);
+  assert.deepEqual(keyboard.waiting(), { edges: 1, words: 0 });
+  assert.equal(keyboard.column(3), 0xFF);
+  const before = seen(keyboard);
+  keyboard.cell(0x20);
+  assert.deepEqual(seen(keyboard), before, 'a look changes nothing');
+  keyboard.run(1);
+  assert.equal(keyboard.column(3), 0xDF, 'row 5 of column 3 is down');
+  assert.equal(kept.column(3), 0xFF, 'the copy is a keyboard of its own');
+  keyboard.copyTo(kept);
+  assert.equal(kept.column(3), 0xDF);
+  let pulled = 0;
+  for (let end = keyboard.cycle() + 8000; keyboard.cycle() < end; keyboard.step()) {
+    assert.equal(keyboard.wires() & keyboard.pulls(), 0, 'a wire that is pulled is low');
+    assert.equal(keyboard.pulls(), ~keyboard.inside().p2 & 3);
+    pulled |= keyboard.pulls();
+  }
+  assert.equal(pulled, 3, 'it pulls both wires when it sends');
+  assert.equal(keyboard.take(), 0x1E61);
+  for (let n = 0; n < 65; n++) keyboard.status();
+  assert.throws(() => [...keyboard.items()], error => error.status === Status.LOST);
+  assert.throws(() => keyboard.cell(128), error => error.status === Status.NO_SUCH_CELL);
+  kept.free();
+  assert.equal(keyboard.close(), undefined);
+  assert.throws(() => keyboard.inside(), error => error.status === Status.NOT_OPEN);
+}
+
 /** The calls of native_agree.c, and the checksum of their answers. */
 async function checksum() {
   const keyboard = await Keyboard.load(keyboardModule), all = (1n << 64n) - 1n;
@@ -97,6 +141,7 @@ async function checksum() {
 const commands = everyCommand();
 await typing();
 await refusals();
+await looks();
 const sum = await checksum();
 if (native) assert.equal(sum, native.trim(), 'the native library answers otherwise');
-console.log(`${commands} commands, typing, refusals${native ? ', and the checksum of the native library' : ''}`);
+console.log(`${commands} commands, typing, refusals, looks and copies${native ? ', and the checksum of the native library' : ''}`);

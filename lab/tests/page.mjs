@@ -1,10 +1,12 @@
-// usage: node page.mjs CHROMIUM LAB.html [SHOTS]: the page in a browser, by scripted keys and clicks. Pictures go to SHOTS.
+// usage: node page.mjs CHROMIUM LAB.html BOARDS.json [SHOTS]: the page in a browser, by scripted keys and clicks. BOARDS.json
+// has what examples/from_kle makes of boards. Pictures go to SHOTS.
 import assert from 'node:assert/strict';
-import { join } from 'node:path';
+import { readFileSync } from 'node:fs';
+import { dirname, join, resolve } from 'node:path';
 import { pathToFileURL } from 'node:url';
 import { open } from './browser.mjs';
 
-const [, , chromium, page, shots] = process.argv;
+const [, , chromium, page, answers, shots] = process.argv;
 const url = pathToFileURL(page).href;
 const LEAST_CONTRAST = 4.5; // WCAG 2, AA
 const browser = await open(chromium, url, [1280, 1320]);
@@ -70,6 +72,23 @@ async function wires() {
   await says('bytes', /PC → keyboard {2}FE/);
   await put('shown', 'what I type');
   await says('log', /the PC writes EE/);
+  // In the PC's frame it pulls the clock first and then data; the keyboard clocks it, and pulls data for the answer's last bit.
+  const pulled = await browser.evaluate(`(() => {
+    const { edges, bytes } = lab.live, asked = bytes.findLast(it => it.sender === 'host'), said = bytes.findLast(it => it.sender === 'keyboard');
+    const within = ({ begin, end }) => edges.filter(it => it.cycle >= begin && it.cycle <= end);
+    return { asked: within(asked).map(it => [it.levels, it.pulls]), said: within(said).map(it => [it.levels, it.pulls]),
+      before: edges.filter(it => it.cycle < asked.begin).at(-1) };
+  })()`);
+  assert.equal(pulled.before.levels & 1, 0, 'the clock is low before the PC asks');
+  assert.equal(pulled.before.pulls, 0, 'and the PC holds it');
+  assert.ok(pulled.asked.some(([levels, pulls]) => !(levels & 2) && !(pulls & 2)), 'the PC pulls data in its frame');
+  assert.ok(pulled.asked.some(([, pulls]) => pulls & 1), 'the keyboard pulls the clock in it');
+  assert.ok(pulled.said.every(([levels, pulls]) => (~levels & 3) === pulls), 'the keyboard alone pulls in its own frame');
+  await says('pulled', /^clock: high; data: high$/);
+  await browser.click('#noise');
+  await says('log', /tick \d+ port EE/);
+  await says('bytes', /keyboard → PC {2}EE[^]*PC → keyboard {2}FE[^]*keyboard → PC {2}EE/);
+  await put('shown', 'what I type');
   await browser.click('#pause');
   await browser.click('#zoom-in');
   await browser.click('#wave-back');
@@ -95,6 +114,17 @@ async function processor() {
   await put('stop-byte', 'nothing');
   await browser.click('#run');
   await says('at', /isn't understood/);
+  // A hundred steps back and on are the states of the run, however they are asked for.
+  const same = await browser.evaluate(`(() => {
+    const it = lab.processor.session, at = [0, 1, 59, 60, 4095, 6068, 6069].map(steps => JSON.stringify(it.at(steps)));
+    it.state = it.at(6069);
+    const seen = [];
+    for (let n = 0; n < 100; n++) seen.push(it.state = it.back());
+    for (let n = 0; n < 100; n++) it.state = it.goOn(1, []).state;
+    const on = it.goOn(30, []).state, one = it.go(30, []).state;
+    return [it.state.steps, seen.every((state, n) => state.steps === 6068 - n), at.every(state => state.includes('"steps"')), JSON.stringify(on) === JSON.stringify(one)];
+  })()`);
+  assert.deepEqual(same, [6069, true, true, true]);
   await put('stop-byte', '');
   await put('goto', '60119');
   await says('said', /4440 word 1E61[^]*40879 word 2E63$/);
@@ -110,6 +140,43 @@ async function processor() {
   await put('stop-register', '');
   await browser.click('#run');
   await says('at', /the run has ended/);
+}
+
+// The processor of the keyboard that one types on: its time stops, steps go on and back, and a breakpoint is met.
+async function liveProcessor() {
+  const shown = () => browser.evaluate('JSON.stringify(lab.processor.session.state)');
+  await put('program', 'the keyboard that I type on');
+  await says('at', /it runs/);
+  await browser.click('#step');
+  await says('at', /^cycle \d+, stamp \d+$/);
+  assert.equal(await browser.evaluate('document.getElementById("speed").value'), '0', 'its time is stopped');
+  const states = [await shown()];
+  for (let count = 0; count < 70; count++) {
+    await browser.evaluate('document.getElementById("step").click()');
+    states.push(await shown());
+  }
+  assert.equal(new Set(states).size, 71, 'each step shows another state');
+  for (let count = 69; count >= 0; count--) {
+    await browser.evaluate('document.getElementById("back").click()');
+    assert.equal(await shown(), states[count], 'a step back is the state before');
+  }
+  await browser.evaluate('document.getElementById("step").click()');
+  assert.equal(await shown(), states[1]);
+  // A key goes down while the time is stopped: the program comes to the place that sends its code.
+  await browser.evaluate('lab.keys.hold("a", true, "test")');
+  await put('stop-byte', 'keyboard 1C');
+  await browser.evaluate('document.getElementById("pace").value = "999999999"');
+  await browser.click('#run');
+  await says('at', /: stopped at byte$/);
+  const sent = await shown();
+  for (let count = 0; count < 5; count++) await browser.click('#back');
+  await put('stop-byte', '');
+  for (let count = 0; count < 5; count++) await browser.click('#step');
+  assert.equal(await shown(), sent, 'what was handed in is handed in again');
+  await shot('live_processor');
+  await browser.evaluate('lab.keys.hold("a", false, "test")');
+  await put('speed', '1');
+  await says('at', /it runs/);
 }
 
 async function workbench() {
@@ -154,6 +221,51 @@ async function secondLayer() {
   assert.equal(await browser.evaluate('document.querySelectorAll("#board .down").length'), 0, 'what sticks is let go after the next key');
   await browser.click('#sticky');
 }
+
+// Every board that examples/from_kle is tried with gives the same status, text and remarks in the page.
+async function everyBoard() {
+  const cases = JSON.parse(readFileSync(answers, 'utf8'));
+  await browser.evaluate(`globalThis.cases = ${JSON.stringify(cases)}; 0`);
+  const others = await browser.evaluate(`cases.filter(({ words, files, status, text, told }) => {
+    const said = lab.fromKle(words, files);
+    return said.status !== status || said.text !== text || JSON.stringify(said.told) !== JSON.stringify(told);
+  }).map(({ words }) => words.join(' '))`);
+  assert.deepEqual(others, [], 'from_kle answers otherwise');
+  assert.ok(cases.length > 180, 'there are boards');
+  return cases.length;
+}
+
+// A board file is opened beside the keyboard, its keymap after it, and somebody types on it.
+async function boardFiles() {
+  const boards = resolve(dirname(page), '../examples/boards');
+  await only('keyboard');
+  await browser.choose('#open-board', [join(boards, 'editor/unknown_words.json')]);
+  await says('board-told', /isn't known.*--without unknown/);
+  await pressed('board-told', 'Leave every such key out');
+  await says('board-told', /unknown_words\.toml is made of unknown_words\.json/);
+  await browser.choose('#open-board', [join(boards, 'ortho48/keyboard.json')]);
+  await says('board-told', /it has the layouts LAYOUT_/);
+  await browser.choose('#open-board', [join(boards, 'ortho48/keymap.json')]);
+  await says('board-told', /keyboard\.toml is made of keyboard\.json and keymap\.json\./);
+  assert.equal(await browser.evaluate('document.getElementById("layout").value'), 'keyboard.toml');
+  const stored = readFileSync(join(boards, 'ortho48.toml'), 'utf8');
+  assert.equal(await browser.evaluate('lab.files["keyboard.toml"]'), stored);
+  await browser.until('lab.live.stamp > 200000');
+  const [q, a] = [await browser.place('[data-key=q]'), await browser.place('[data-key=a]')];
+  assert.ok(a.y > q.y && Math.abs(a.x - q.x) < 2, 'the keys lie as the board has them');
+  await shot('board');
+  await browser.click('[data-key=k]');
+  await says('screen', /^k▁$/);
+  await pressed('board-told', 'The words in the workbench');
+  await says('answer', /^# Made by from_kle of keyboard.json and keymap.json/);
+  await browser.evaluate('lab.workbench.open("keyboard.json")');
+  assert.match(await textOf('offers'), /from_kle keyboard\.json keymap\.json/);
+  await put('words', 'from_kle --table keyboard.json keymap.json');
+  await browser.click('#do');
+  await says('answer', /^key +column,row +switch/);
+}
+
+const pressed = (id, text) => browser.evaluate(`[...document.querySelectorAll('#${id} button')].find(it => it.textContent === ${JSON.stringify(text)}).click()`);
 
 async function brokenLayout() {
   await browser.evaluate('lab.workbench.open("sixty.toml")');
@@ -254,8 +366,11 @@ try {
   await contrast();
   await processor();
   await contrast();
+  await liveProcessor();
   await workbench();
   await secondLayer();
+  const boards = await everyBoard();
+  await boardFiles();
   await brokenLayout();
   await shareLink();
   const many = await lessons();
@@ -264,7 +379,7 @@ try {
   await narrow();
   await trap();
   assert.deepEqual(browser.seen, [], 'nothing on the console, and nothing asked for');
-  console.log(`the page in Chromium: keys, wires, processor, workbench, a link, ${many} lessons; ${loads[0]} % of one processor at rest with all panes, ${loads[1]} % while one types`);
+  console.log(`the page in Chromium: keys, wires, processor, workbench, ${boards} boards, a link, ${many} lessons; ${loads[0]} % of one processor at rest with all panes, ${loads[1]} % while one types`);
 } finally {
   await browser.close();
 }

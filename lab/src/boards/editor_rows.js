@@ -1,0 +1,147 @@
+// Rows of keys as keyboard-layout-editor.com has them, plain or with what VIA writes into the legends.
+import { Place, Refused, Shapeless, isTable, listOf, numberIn, numberOf, pairOf, saysYes, textOf, within } from './refused.js';
+
+// Where the next key is drawn, and how wide. The angle of turned keys changes nothing here, and their height neither.
+class Pen {
+  constructor() {
+    Object.assign(this, { x: 0, y: 0, left: 0, top: 0, width: 1, decal: false });
+  }
+
+  take(said) {
+    if ('rx' in said) this.left = this.x = numberOf(said.rx);
+    if ('ry' in said) this.top = numberOf(said.ry);
+    if ('rx' in said || 'ry' in said) [this.x, this.y] = [this.left, this.top];
+    this.x += numberIn(said, 'x', 0);
+    this.y += numberIn(said, 'y', 0);
+    this.width = numberIn(said, 'w', this.width);
+    if ('d' in said) this.decal = saysYes(said.d);
+  }
+
+  passKey() {
+    this.x += this.width;
+    [this.width, this.decal] = [1, false];
+  }
+
+  passRow() {
+    [this.x, this.y] = [this.left, this.y + 1];
+    [this.width, this.decal] = [1, false];
+  }
+}
+
+/** Each key that isn't a decal. */
+function* drawnKeys(all) {
+  let rows = listOf(all);
+  // A file of one row has no brackets around its rows; what is said of the board as a whole may come before them.
+  if (!rows.some(Array.isArray) && rows.some(item => typeof item === 'string')) rows = [rows];
+  if (rows.length && isTable(rows[0])) rows = rows.slice(1);
+  const pen = new Pen();
+  for (const [above, row] of rows.entries()) {
+    if (!Array.isArray(row)) throw new Refused(`row ${above + 1} is no row of keys`);
+    let number = 0;
+    for (const item of row) {
+      if (isTable(item)) pen.take(item);
+      else if (typeof item === 'string') {
+        number++;
+        if (!pen.decal) {
+          yield { row: above + 1, number, legends: item.split('\n').map(part => part.trim()), width: pen.width, x: pen.x, y: pen.y };
+        }
+        pen.passKey();
+      } else throw new Refused(`row ${above + 1} holds what is neither a key nor its properties`);
+    }
+    pen.passRow();
+  }
+}
+
+// VIA's options of a layout: a legend N,M says that a key is there if option N has choice M.
+class Options {
+  constructor(chosen, labels) {
+    Object.assign(this, { chosen: new Map(chosen), labels, seen: new Map() });
+  }
+
+  takes([option, choice]) {
+    if (!this.seen.has(option)) this.seen.set(option, new Set());
+    this.seen.get(option).add(choice);
+    return (this.chosen.get(option) ?? 0) === choice;
+  }
+
+  told() {
+    const unknown = [...this.chosen.keys()].find(number => !this.seen.has(number));
+    if (unknown !== undefined) throw new Refused(`it has no option ${unknown}`);
+    return [...this.seen].sort(([a], [b]) => a - b).map(([number, choices]) => {
+      const taken = this.chosen.get(number) ?? 0, [name, choice] = this.#names(number, taken);
+      if (taken > 1 && !choices.has(taken) && !choice) throw new Refused(`its option ${number} has no choice ${taken}`);
+      return `option ${number}${name}: choice ${taken}${choice} is taken; --option ${number},M takes another`;
+    });
+  }
+
+  #names(number, choice) {
+    const label = this.labels[number] ?? '', words = Array.isArray(label) ? label.map(textOf) : [textOf(label)];
+    if (!words.length) throw new Shapeless('an option without a name');
+    return [words[0] ? ` (${words[0]})` : '', choice + 1 < words.length ? ` (${words[choice + 1]})` : ''];
+  }
+}
+
+const isWheel = legend => /^e\d*$/.test(legend);
+
+/** The legends of a key with a place, without the place, the option and the wheel. */
+function leftOf(legends) {
+  const option = legends.length > 3 && pairOf(legends[3]) ? legends[3] : null;
+  return legends.slice(1).filter(legend => legend !== option && !isWheel(legend));
+}
+
+/** Fills a board with the keys of rows. A place in the matrix is a key's first legend, as VIA has it. */
+function readKeys(board, rows, options) {
+  for (const key of drawnKeys(rows)) {
+    const { legends } = key, where = `row ${key.row}, key ${key.number}`, pair = pairOf(legends[0]);
+    const option = legends.length > 3 ? pairOf(legends[3]) : null, after = legends.slice(4);
+    if (pair && option && !options.takes(option)) continue;
+    if (after.some(isWheel)) {
+      // Vial's numbers in the first legend of a wheel are the wheel and its direction, and no place.
+      if (after.includes('e') || !pair) {
+        board.told.push(`left out: a wheel (${where}): its turns are no keys`);
+        continue;
+      }
+      board.told.push(`a wheel (${where}): its turns are left out, its switch is a key`);
+    }
+    const place = pair ? new Place(...pair) : null;
+    board.keys.push({
+      where: place ? `matrix ${place}` : where, number: place ? `${place}` : `${key.row},${key.number}`,
+      legends: pair ? leftOf(legends) : legends, width: key.width, place, x: key.x, y: key.y,
+    });
+  }
+  board.told.push(...options.told());
+}
+
+/** A board's number on USB as VIA has it, of vendor and product, which files write as text or numbers; or null. */
+export function usbNumber(vendor, product) {
+  const [high, low] = [vendor, product].map(it => {
+    const found = /^\s*(0x[0-9a-f]+|0o[0-7]+|0b[01]+|0+|[1-9]\d*)\s*$/i.exec(textOf(it ?? null));
+    return found ? Number(found[1]) : NaN;
+  });
+  return Number.isNaN(high + low) ? null : high * 65536 + low;
+}
+
+const emptyBoard = { rows: null, columns: null, diodes: null, split: false, usb: null, folder: null, name: '' };
+
+/** A board without keys as yet. */
+export const newBoard = (tool, more) => ({ ...emptyBoard, tool, keys: [], told: [], ...more });
+
+/** The board of the editor's raw data. */
+export function boardOfEditor(rows, choices) {
+  if (choices.layout) throw new Refused('raw data of keyboard-layout-editor has no named layouts');
+  const board = newBoard('editor');
+  readKeys(board, rows, new Options(choices.options, []));
+  return board;
+}
+
+/** The board of VIA's definition. */
+export function boardOfVia(data, choices) {
+  if (choices.layout) throw new Refused("a definition of VIA's has no named layouts, but options: --option N,M");
+  const matrix = within(data, 'matrix'), { layouts } = data;
+  const board = newBoard('VIA', {
+    rows: matrix.rows ?? null, columns: matrix.cols ?? null, name: 'name' in data ? textOf(data.name) : '',
+    usb: usbNumber(data.vendorId, data.productId),
+  });
+  readKeys(board, layouts.keymap, new Options(choices.options, saysYes(layouts.labels) ? layouts.labels : []));
+  return board;
+}

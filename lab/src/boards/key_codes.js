@@ -1,0 +1,67 @@
+// What QMK's key codes, which are VIA's too, mean on a keyboard whose keys each send one code, with one Fn key. A meaning
+// has a `kind`: sends, momentary (it selects a layer while it is held), nothing, below (what the layer below sends), unsaid.
+import { TABLES } from './tables.js';
+
+const { codes, kept, modifiers, chords, shifted, together, switches, says } = TABLES.keycodes;
+const sends = (key, lost = '') => ({ kind: 'sends', key, lost });
+const unsaid = why => ({ kind: 'unsaid', why });
+const momentary = (layer, lost, tap = null) => ({ kind: 'momentary', layer, lost, tap });
+
+/** A code's name and what is in its parentheses, parted at the commas that no further parentheses enclose. */
+function callOf(code) {
+  // Vial has the layer before the parentheses.
+  const found = /^\s*([\p{L}\p{N}_]+)\s*(?:\((.*)\))?\s*$/u.exec(code.replace(/^\s*LT(\d+)\(/, 'LT($1,'));
+  if (!found) return { name: '', words: [] };
+  const parts = [''];
+  let depth = 0;
+  for (const character of found[2] ?? '') {
+    depth += (character === '(') - (character === ')');
+    if (character === ',' && depth === 0) parts.push('');
+    else parts[parts.length - 1] += character;
+  }
+  return { name: found[1], words: found[2] === undefined ? [] : parts.map(part => part.trim()) };
+}
+
+function plainMeaning(code) {
+  if (['KC_NO', 'XXXXXXX'].includes(code)) return { kind: 'nothing' };
+  if (['KC_TRNS', 'KC_TRANSPARENT', '_______'].includes(code)) return { kind: 'below' };
+  if (Object.hasOwn(kept, code)) return sends(...kept[code]);
+  if (/^SPC_FN\d$/.test(code)) return momentary(Number(code.at(-1)), 'its tap is lost', sends('space'));
+  if (Object.hasOwn(together, code)) return momentary(together[code], 'the layer of both Fn keys together is lost');
+  const word = code.startsWith('KC_') ? code.slice(3) : '';
+  if (shifted.includes(word)) return unsaid(says.chord);
+  if (['NUBS', 'NONUS_BACKSLASH'].includes(word)) return unsaid('since the key between Shift and Z is none of the 84');
+  return Object.hasOwn(codes, word) ? sends(...codes[word]) : unsaid(says.strange);
+}
+
+/** What a code does when it is tapped, if that is all that a key can keep of it. */
+function tapped(code, lost) {
+  const tap = meaningOf(code);
+  return tap.kind === 'sends' ? sends(tap.key, [tap.lost, lost].filter(Boolean).join('; ')) : tap;
+}
+
+/** What a code means that selects a layer while its key is held, or null if it isn't one. */
+function heldLayer(name, words) {
+  if (!['MO', 'LT', 'TT', 'OSL'].includes(name) || !/^\d+$/.test(words[0]) || words.length !== (name === 'LT' ? 2 : 1)) return null;
+  const layer = Number(words[0]);
+  if (layer === 0) return unsaid('since it selects layer 0');
+  if (name !== 'LT') return momentary(layer, name === 'MO' ? '' : 'what it does when it is tapped is lost');
+  const tap = meaningOf(words[1]);
+  return momentary(layer, 'its tap is lost', tap.kind === 'sends' ? tap : null);
+}
+
+/** What a code means. */
+export function meaningOf(code) {
+  const { name, words } = callOf(code);
+  if (!words.length) return plainMeaning(name);
+  if (name === 'ANY' && words.length === 1) return meaningOf(words[0]);
+  if (chords.includes(name)) return unsaid(says.chord);
+  if (name === 'TD') return unsaid("since a tap dance is a program of the keyboard's own, and the keymap doesn't have it");
+  if (name === 'MT' && words.length === 2) return tapped(words[1], 'its modifier when it is held is lost');
+  if (name.endsWith('_T') && words.length === 1) return tapped(words[0], 'its modifier when it is held is lost');
+  if (name === 'OSM' && words[0].startsWith('MOD_') && Object.hasOwn(modifiers, words[0].slice(4))) {
+    return sends(modifiers[words[0].slice(4)], 'what it does when it is tapped is lost');
+  }
+  if (switches.includes(name)) return unsaid('since a layer is selected while a key is held, and in no other way');
+  return heldLayer(name, words) ?? unsaid(says.strange);
+}
