@@ -1,0 +1,5 @@
+use Rattle.keys_seen.proofs.Ticks.{seen_in_turn}
+use Rattle.keys_seen.proofs.seen_in_turn.Goals as goal
+
+pub returns : goal.returns
+returns c = record { turns = seen_in_turn }

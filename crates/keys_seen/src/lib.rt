@@ -1,0 +1,15 @@
+//! The keyboard sees the edges of a queue one a tick, in their order, and has time to send each.
+//!
+//! This layer has one law, over `edge_queue` and the ticks of `link_model`; nothing calls it for what it does. Source: our
+//! own.
+#![tactic(auto)]
+
+ghost use Rattle.keys_seen.specs.Turns.{AreSeenInTurn};
+
+/// Whatever is pushed into a queue, and whenever edges are taken from it: let the starts of the ticks keep their cadence.
+/// Then an edge that is handed over behind another is seen in a later tick, and behind a release, which is two bytes, at
+/// least two ticks later. So the keyboard reports them in the caller's order, whatever their places. Nothing is done when
+/// it is called; the law is its contract.
+pub fn seen_in_turn()
+    ensures turns { AreSeenInTurn }
+{}
