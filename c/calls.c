@@ -51,6 +51,7 @@ static void empty_handle(void) {
     number = 7;
     CHECK(kbd48_rises(&k, &number) == KBD48_NOT_OPEN && number == 7);
     CHECK(kbd48_next(&k, &item) == KBD48_NOT_OPEN && item.kind == 7);
+    CHECK(kbd48_lost(&k, &number) == KBD48_NOT_OPEN && number == 7);
     CHECK(kbd48_copy(&k, &other) == KBD48_NOT_OPEN && !other.at);
     CHECK(kbd48_look(&k, &registers) == KBD48_NOT_OPEN && registers.status == 7 && registers.output_port == 7);
     CHECK(kbd48_inside(&k, &inside) == KBD48_NOT_OPEN && inside.counter == 7);
@@ -118,6 +119,37 @@ static void a_rise_within_a_step(kbd48 *k) {
     CHECK(kbd48_next(k, &item) == KBD48_NOTHING_SAID);
 }
 
+/* Six items more than are kept: so many are lost. */
+static void lost_items(kbd48 *k) {
+    kbd48_item item;
+    uint64_t lost;
+    uint8_t byte;
+    CHECK(kbd48_lost(k, &lost) == KBD48_DONE && lost == 0);
+    for (int i = 0; i < 70; i++) CHECK(kbd48_status(k, &byte) == KBD48_DONE);
+    CHECK(kbd48_lost(k, &lost) == KBD48_DONE && lost == 6);
+    for (int i = 0; i < 64; i++) CHECK(kbd48_next(k, &item) == KBD48_DONE && item.kind == KBD48_ITEM_STATUS);
+    CHECK(kbd48_next(k, &item) == KBD48_LOST && kbd48_next(k, &item) == KBD48_NOTHING_SAID);
+    CHECK(kbd48_lost(k, &lost) == KBD48_DONE && lost == 0);
+}
+
+/* A keyboard that is opened ready is the one that was opened and run until the line rose. */
+static void a_ready_one(const uint8_t *hex, size_t length) {
+    kbd48 ready = KBD48_EMPTY, other = KBD48_EMPTY;
+    kbd48_fault fault;
+    kbd48_place place;
+    uint64_t passed, cycle, at;
+    uint8_t byte;
+    bool up;
+    CHECK(kbd48_open_ready_hex(hex, length, &ready, &fault) == KBD48_DONE);
+    CHECK(kbd48_open_hex(hex, length, &other, &fault) == KBD48_DONE);
+    CHECK(kbd48_run(&other, 400000, true, &passed, &place) == KBD48_ROSE);
+    CHECK(kbd48_cycle(&ready, &cycle) == KBD48_DONE && kbd48_cycle(&other, &at) == KBD48_DONE && cycle == at);
+    CHECK(kbd48_interrupt(&ready, &up) == KBD48_DONE && up);
+    CHECK(kbd48_read60(&ready, &byte) == KBD48_DONE && byte == 0xaa);
+    CHECK(kbd48_open_ready_layout(hex, length, &ready, &fault) == KBD48_BAD_TEXT && ready.at);
+    CHECK(kbd48_close(&ready) == KBD48_DONE && kbd48_close(&other) == KBD48_DONE);
+}
+
 /* A copy answers as the original does, and goes its own way. */
 static int32_t a_copy(kbd48 *k) {
     kbd48 copy = KBD48_EMPTY;
@@ -130,6 +162,7 @@ static int32_t a_copy(kbd48 *k) {
         return status;
     }
     a_rise_within_a_step(&copy);
+    lost_items(&copy);
     CHECK(kbd48_key(&copy, 0, true) == KBD48_DONE && kbd48_run(&copy, 4, false, &passed, &place) == KBD48_DONE);
     CHECK(kbd48_column(&copy, 0, &rows) == KBD48_DONE && rows == 0xfe);
     CHECK(kbd48_column(k, 0, &rows) == KBD48_DONE && rows == 0xff);
@@ -225,6 +258,7 @@ int main(void) {
     bad_texts();
     CHECK(a_session() == KBD48_DONE);
     a_stuck_one();
+    a_ready_one(hex, hex_length);
 }
 #else
 static long refuse = -1, calls, live;
@@ -267,6 +301,8 @@ int main(void) {
     refuse = -1;
     CHECK(refused == all);
     a_stuck_one();
+    a_ready_one(hex, hex_length);
+    CHECK(live == 0);
     printf("calls: each of %ld allocations was refused in turn\n", all);
 }
 #endif

@@ -76,15 +76,21 @@ typedef struct {
     uint8_t byte;
 } kbd48_place;
 
-/* Opens a keyboard of this layout (TOML, at most 65,536 bytes) at `handle`, and closes the one that was there: its firmware is compiled, the
-   board is powered on, 4,096 cycles pass, which is stamp 0, and INT 09h is masked. Takes all memory that the keyboard
-   takes: no other call but kbd48_open_hex and kbd48_copy takes any. On KBD48_BAD_TEXT `fault` says where; on any other
+/* Opens a keyboard of this layout (TOML, at most 65,536 bytes) at `handle`, and closes the one that was there: its
+   firmware is compiled, the board is powered on, 4,096 cycles pass, which is stamp 0, and INT 09h is masked. Takes all
+   memory that the keyboard takes: no other call but those that open and kbd48_copy takes any. On KBD48_BAD_TEXT `fault` says where; on any other
    status `fault` is as it was, and on any failure the handle is. */
 int32_t kbd48_open_layout(const uint8_t *text, size_t length, kbd48 *handle, kbd48_fault *fault);
 
 /* The same with a program memory as an Intel HEX text of at most 16,384 bytes, of any program. One that sticks in its
    first cycles is opened too, and stays where it is. */
 int32_t kbd48_open_hex(const uint8_t *text, size_t length, kbd48 *handle, kbd48_fault *fault);
+
+/* The same, and the keyboard's power-on test is over: steps are made until the interrupt line rises for its AA, which is
+   at cycle 136,000 or so, or for a second (400,000 cycles) if it doesn't. A BIOS that waits for 41 ms only after power-on
+   finds such a keyboard. What was said on the way is handed out by kbd48_next. */
+int32_t kbd48_open_ready_layout(const uint8_t *text, size_t length, kbd48 *handle, kbd48_fault *fault);
+int32_t kbd48_open_ready_hex(const uint8_t *text, size_t length, kbd48 *handle, kbd48_fault *fault);
 
 /* Frees the keyboard, and leaves the handle empty. */
 int32_t kbd48_close(kbd48 *handle);
@@ -154,6 +160,9 @@ typedef struct {
 int32_t kbd48_next(kbd48 *handle, kbd48_item *item);
 
 /* The calls from here on make no step and change nothing. */
+
+/* How many items were lost and not reported yet: after the items that are kept, KBD48_LOST means so many. */
+int32_t kbd48_lost(kbd48 *handle, uint64_t *lost);
 
 /* Whether the interrupt line (IRQ 1) is up: the output buffer is full, and its interrupt is enabled. It stays up until
    port 0x60 is read. */

@@ -23,6 +23,8 @@ public:
 
     static Kbd48 of_layout(const std::string &text) { return opened(kbd48_open_layout, text); }
     static Kbd48 of_hex(const std::string &text) { return opened(kbd48_open_hex, text); }
+    static Kbd48 ready_of_layout(const std::string &text) { return opened(kbd48_open_ready_layout, text); }
+    static Kbd48 ready_of_hex(const std::string &text) { return opened(kbd48_open_ready_hex, text); }
 
     Kbd48(const Kbd48 &other) { need(kbd48_copy(&other.handle, &handle)); }
     Kbd48(Kbd48 &&other) noexcept { std::swap(handle.at, other.handle.at); }
@@ -52,6 +54,7 @@ public:
     // Looks, which make no step. They are const, and yet one call at a time may have a keyboard.
     bool interrupt() const { return shown<bool>(kbd48_interrupt); }
     uint64_t rises() const { return shown<uint64_t>(kbd48_rises); }
+    uint64_t lost() const { return shown<uint64_t>(kbd48_lost); }
     uint64_t cycle() const { return shown<uint64_t>(kbd48_cycle); }
     uint8_t lights() const { return shown<uint8_t>(kbd48_lights); }
     kbd48_registers registers() const { return shown<kbd48_registers>(kbd48_look); }

@@ -83,6 +83,8 @@ type Open = unsafe extern "C" fn(*const u8, usize, *mut Handle, *mut Fault) -> i
 unsafe extern "C" {
     fn kbd48_open_layout(text: *const u8, length: usize, handle: *mut Handle, fault: *mut Fault) -> i32;
     fn kbd48_open_hex(text: *const u8, length: usize, handle: *mut Handle, fault: *mut Fault) -> i32;
+    fn kbd48_open_ready_layout(text: *const u8, length: usize, handle: *mut Handle, fault: *mut Fault) -> i32;
+    fn kbd48_open_ready_hex(text: *const u8, length: usize, handle: *mut Handle, fault: *mut Fault) -> i32;
     fn kbd48_copy(from: *mut Handle, to: *mut Handle) -> i32;
     fn kbd48_close(handle: *mut Handle) -> i32;
     fn kbd48_key(handle: *mut Handle, place: u8, down: bool) -> i32;
@@ -94,6 +96,7 @@ unsafe extern "C" {
     fn kbd48_next(handle: *mut Handle, item: *mut Item) -> i32;
     fn kbd48_look(handle: *mut Handle, registers: *mut Registers) -> i32;
     fn kbd48_interrupt(handle: *mut Handle, up: *mut bool) -> i32;
+    fn kbd48_lost(handle: *mut Handle, lost: *mut u64) -> i32;
     fn kbd48_rises(handle: *mut Handle, rises: *mut u64) -> i32;
     fn kbd48_lights(handle: *mut Handle, lights: *mut u8) -> i32;
     fn kbd48_cycle(handle: *mut Handle, cycle: *mut u64) -> i32;
@@ -143,6 +146,15 @@ impl Keyboard {
 
     pub fn of_hex(text: &[u8]) -> Result<Keyboard, Error> {
         Keyboard::opened(kbd48_open_hex, text)
+    }
+
+    /// The same, with the power-on test over: its AA is in the controller's output buffer.
+    pub fn ready_of_layout(text: &[u8]) -> Result<Keyboard, Error> {
+        Keyboard::opened(kbd48_open_ready_layout, text)
+    }
+
+    pub fn ready_of_hex(text: &[u8]) -> Result<Keyboard, Error> {
+        Keyboard::opened(kbd48_open_ready_hex, text)
     }
 
     /// A keyboard of its own in the same state.
@@ -200,6 +212,11 @@ impl Keyboard {
 
     pub fn interrupt(&self) -> bool {
         self.look(kbd48_interrupt)
+    }
+
+    /// How many items were lost and not reported yet.
+    pub fn lost(&self) -> u64 {
+        self.look(kbd48_lost)
     }
 
     pub fn rises(&self) -> u64 {

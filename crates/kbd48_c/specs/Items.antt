@@ -75,12 +75,12 @@ said_of s = record { cycle = s.cycle; kind = kind_of s.item; value = value_of s.
 -- what C is told of what it is handed
 abbrev pub next_status : Next → ℤ
 next_status (nexts.Said said) = done
-next_status nexts.Lost = lost_some
+next_status (nexts.Lost lost) = lost_some
 next_status nexts.Nothing = nothing_said
 
 abbrev pub item_after : Next → Said → Said
 item_after (nexts.Said said) before = said_of said
-item_after nexts.Lost before = before
+item_after (nexts.Lost lost) before = before
 item_after nexts.Nothing before = before
 
 -- what was said next is handed out, and kept no longer

@@ -1,27 +1,29 @@
 -- A keyboard that is opened over a text.
-use Rattle.std.specs.Prelude.{◌≡◌, ℕ, List, Option, None, Some, Ok, Err}
+use Rattle.std.specs.Prelude.{◌≡◌, ℕ, Bool, true, false, List, Option, None, Some, Ok, Err}
 use Rattle.fw_compile.specs.Image.{image_of}
 use Rattle.hexfile.specs.Hex.{hex_of}
 use Rattle.hexfile.specs.declared.fault.HexFault.{HexFault}
 use Rattle.layout_reader.specs.Documents.{layout_of_document}
 use Rattle.layout_reader.specs.Layouts.{KeyLayout}
+use Rattle.live_board.specs.Ready.{IsReady}
 use Rattle.live_board.specs.Running.{IsOpened}
 use Rattle.live_board.specs.declared.parts.Parts.{Parts as Keyboard}
 use Rattle.kbd48_c.specs.declared.opening.Fault.{Fault}
 
--- the handle has a keyboard that has just been opened with this program
-abbrev pub HasOpened : List ℕ → Option Keyboard → Type 0
-HasOpened bytes None = ⊥
-HasOpened bytes (Some k) = IsOpened bytes k
+-- the handle has a keyboard with this program that has just been opened; or that is ready, with its power-on test over
+abbrev pub HasOpened : Bool → List ℕ → Option Keyboard → Type 0
+HasOpened ready bytes None = ⊥
+HasOpened false bytes (Some k) = IsOpened bytes k
+HasOpened true bytes (Some k) = IsReady bytes k
 
 -- with the program of a HEX text
-abbrev pub HasOpenedHex : List ℕ → Option Keyboard → Type 0
-HasOpenedHex text new = (bytes : List ℕ) × (hex_of text ≡ Ok bytes) × HasOpened bytes new
+abbrev pub HasOpenedHex : Bool → List ℕ → Option Keyboard → Type 0
+HasOpenedHex ready text new = (bytes : List ℕ) × (hex_of text ≡ Ok bytes) × HasOpened ready bytes new
 
 -- with the compiled image of a layout's text
-abbrev pub HasOpenedLayout : List ℕ → Option Keyboard → Type 0
-HasOpenedLayout text new =
-    (layout : KeyLayout) × (layout_of_document text ≡ Ok layout) × HasOpened (image_of layout) new
+abbrev pub HasOpenedLayout : Bool → List ℕ → Option Keyboard → Type 0
+HasOpenedLayout ready text new =
+    (layout : KeyLayout) × (layout_of_document text ≡ Ok layout) × HasOpened ready (image_of layout) new
 
 -- where a text is at fault
 abbrev pub IsHexFault : List ℕ → Fault → Type 0

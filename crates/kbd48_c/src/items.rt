@@ -94,7 +94,7 @@ fn put_item(next: Next, item: &mut Said) -> i32
             *item = as_said(said);
             DONE
         }
-        Next::Lost => LOST,
+        Next::Lost(_) => LOST,
         Next::Nothing => NOTHING_SAID,
     }
 }
@@ -118,6 +118,23 @@ pub extern "C" fn kbd48_next(alloc: Global, handle: &mut Handle, item: &mut Said
             let status = put_next(&mut *keyboard, item);
             *handle = Handle::holding(keyboard);
             status
+        }
+        None => NOT_OPEN,
+    }
+}
+
+/// How many items were said and not kept behind those that are kept, and weren't reported yet.
+#[unsafe(no_mangle)]
+pub extern "C" fn kbd48_lost(alloc: Global, handle: &mut Handle, lost: &mut u64) -> i32
+    ensures lost { lost.new ≡ shown_of (λ k. k.heard.lost) handle.old.keyboard lost.old }
+    ensures unchanged { handle.new.keyboard ≡ handle.old.keyboard }
+    ensures status { result ≡ held_status done handle.old.keyboard }
+{
+    match handle.take(alloc) {
+        Some(keyboard) => {
+            *lost = keyboard.lost();
+            *handle = Handle::holding(keyboard);
+            DONE
         }
         None => NOT_OPEN,
     }

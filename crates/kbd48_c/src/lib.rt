@@ -13,6 +13,7 @@ mod items;
 mod looks;
 mod opening;
 mod pointer;
+mod ready;
 mod status;
 #[cfg(test)]
 mod tests;

@@ -1,8 +1,9 @@
 //! Opening a keyboard over a text.
 
-ghost use Rattle.std.specs.Prelude.{◌≡◌, ◌<◌, ◌≤◌, ◌⊎◌, length, Err};
+ghost use Rattle.std.specs.Prelude.{◌≡◌, ◌<◌, ◌⊎◌, false, length, Err, Some};
 ghost use Rattle.hexfile.specs.Hex.{hex_of};
 ghost use Rattle.hexfile.specs.declared.fault.HexFault.{HexFault};
+ghost use Rattle.int09.specs.Bios.{start};
 ghost use Rattle.kbd48_c.specs.Opening.{HasOpened, HasOpenedHex, HasOpenedLayout, IsHexFault, IsLayoutFault};
 ghost use Rattle.kbd48_c.specs.Statuses.{bad_text, done, no_memory, too_long};
 
@@ -10,6 +11,7 @@ use crate::handle::Handle;
 use crate::status::{BAD_TEXT, DONE, NO_MEMORY, TOO_LONG};
 use fw_compile::compile;
 use hexfile::read_hex;
+use int09::Bios;
 use layout_reader::{LayoutFault, read_layout};
 use live_board::Keyboard;
 use mcs48_isa::Image;
@@ -29,33 +31,45 @@ pub struct Fault {
     pub number: u32,
 }
 
+/// A keyboard with this program and this INT 09h: at stamp 0, or ready, with its power-on test over.
+fn board(image: &Image, bios: Bios, ready: bool) -> Keyboard
+    requires start { bios ≡ start }
+    ensures opened { HasOpened ready image.now.bytes (Some result) }
+{
+    if ready {
+        Keyboard::open_ready(image, bios)
+    } else {
+        Keyboard::open(image, bios)
+    }
+}
+
 /// Opens a keyboard with this program at the handle, and closes the one that was there.
-fn open(alloc: Global, image: &Image, handle: &mut Handle) -> i32
-    ensures opened { result ≡ done → HasOpened image.now.bytes handle.new.keyboard }
+fn open(alloc: Global, image: &Image, ready: bool, handle: &mut Handle) -> i32
+    ensures opened { result ≡ done → HasOpened ready image.now.bytes handle.new.keyboard }
     ensures refused { (result ≡ done → ⊥) → handle.new.keyboard ≡ handle.old.keyboard }
     ensures status { (result ≡ done) ⊎ (result ≡ no_memory) }
 {
-    match Keyboard::open(alloc, image) {
-        Ok(keyboard) => match Box::new(alloc, keyboard) {
-            Ok(keyboard) => {
-                *handle = Handle::holding(keyboard);
-                DONE
-            }
-            Err(_) => NO_MEMORY,
-        },
+    let Ok(bios) = Bios::new(alloc) else {
+        return NO_MEMORY;
+    };
+    match Box::new(alloc, board(image, bios, ready)) {
+        Ok(keyboard) => {
+            *handle = Handle::holding(keyboard);
+            DONE
+        }
         Err(_) => NO_MEMORY,
     }
 }
 
 /// Opens a keyboard with the program of a HEX text, of at most 16,384 bytes, and closes the one that was there.
-#[unsafe(no_mangle)]
-pub extern "C" fn kbd48_open_hex(
+pub(crate) fn open_hex(
     alloc: Global,
     text: &[u8],
+    ready: bool,
     handle: &mut Handle,
     fault: &mut Fault,
 ) -> i32
-    ensures opened { result ≡ done → HasOpenedHex text.now handle.new.keyboard }
+    ensures opened { result ≡ done → HasOpenedHex ready text.now handle.new.keyboard }
     ensures refused { (result ≡ done → ⊥) → handle.new.keyboard ≡ handle.old.keyboard }
     ensures fault { result ≡ bad_text → IsHexFault text.now fault.new }
     ensures long { 16384 < length text.now → result ≡ too_long }
@@ -68,7 +82,7 @@ pub extern "C" fn kbd48_open_hex(
         return TOO_LONG;
     }
     match read_hex(text) {
-        Ok(image) => open(alloc, &image, handle),
+        Ok(image) => open(alloc, &image, ready, handle),
         Err(found) => {
             fault.place = found.line;
             fault.number = u32::from(found.number);
@@ -78,14 +92,14 @@ pub extern "C" fn kbd48_open_hex(
 }
 
 /// Opens a keyboard of a layout, from its text of at most 65,536 bytes, and closes the one that was there.
-#[unsafe(no_mangle)]
-pub extern "C" fn kbd48_open_layout(
+pub(crate) fn open_layout(
     alloc: Global,
     text: &[u8],
+    ready: bool,
     handle: &mut Handle,
     fault: &mut Fault,
 ) -> i32
-    ensures opened { result ≡ done → HasOpenedLayout text.now handle.new.keyboard }
+    ensures opened { result ≡ done → HasOpenedLayout ready text.now handle.new.keyboard }
     ensures refused { (result ≡ done → ⊥) → handle.new.keyboard ≡ handle.old.keyboard }
     ensures fault { result ≡ bad_text → IsLayoutFault text.now fault.new }
     ensures long { 65536 < length text.now → result ≡ too_long }
@@ -97,7 +111,7 @@ pub extern "C" fn kbd48_open_layout(
         return TOO_LONG;
     }
     match read_layout(alloc, text) {
-        Ok(layout) => open(alloc, &compile(&layout), handle),
+        Ok(layout) => open(alloc, &compile(&layout), ready, handle),
         Err(LayoutFault::Entry { entry, number }) => {
             fault.place = entry;
             fault.number = u32::from(number);
@@ -105,4 +119,43 @@ pub extern "C" fn kbd48_open_layout(
         }
         Err(LayoutFault::Memory) => NO_MEMORY,
     }
+}
+
+/// Opens a keyboard with the program of a HEX text, of at most 16,384 bytes, and closes the one that was there.
+#[unsafe(no_mangle)]
+pub extern "C" fn kbd48_open_hex(
+    alloc: Global,
+    text: &[u8],
+    handle: &mut Handle,
+    fault: &mut Fault,
+) -> i32
+    ensures opened { result ≡ done → HasOpenedHex false text.now handle.new.keyboard }
+    ensures refused { (result ≡ done → ⊥) → handle.new.keyboard ≡ handle.old.keyboard }
+    ensures fault { result ≡ bad_text → IsHexFault text.now fault.new }
+    ensures long { 16384 < length text.now → result ≡ too_long }
+    ensures only { result ≡ too_long → 16384 < length text.now }
+    ensures status { (result ≡ done) ⊎ (result ≡ no_memory) ⊎ (result ≡ bad_text) ⊎ (result ≡ too_long) }
+    ensures untouched { (result ≡ bad_text → ⊥) → fault.new ≡ fault.old }
+    ensures faulty { (h : HexFault) → hex_of text.now ≡ Err h → (result ≡ bad_text) ⊎ (result ≡ too_long) }
+{
+    open_hex(alloc, text, false, handle, fault)
+}
+
+/// Opens a keyboard of a layout, from its text of at most 65,536 bytes, and closes the one that was there.
+#[unsafe(no_mangle)]
+pub extern "C" fn kbd48_open_layout(
+    alloc: Global,
+    text: &[u8],
+    handle: &mut Handle,
+    fault: &mut Fault,
+) -> i32
+    ensures opened { result ≡ done → HasOpenedLayout false text.now handle.new.keyboard }
+    ensures refused { (result ≡ done → ⊥) → handle.new.keyboard ≡ handle.old.keyboard }
+    ensures fault { result ≡ bad_text → IsLayoutFault text.now fault.new }
+    ensures long { 65536 < length text.now → result ≡ too_long }
+    ensures only { result ≡ too_long → 65536 < length text.now }
+    ensures status { (result ≡ done) ⊎ (result ≡ no_memory) ⊎ (result ≡ bad_text) ⊎ (result ≡ too_long) }
+    ensures untouched { (result ≡ bad_text → ⊥) → fault.new ≡ fault.old }
+{
+    open_layout(alloc, text, false, handle, fault)
 }

@@ -4,9 +4,10 @@ use crate::calls::{kbd48_bios, kbd48_key, kbd48_read60, kbd48_status, kbd48_take
 use crate::copying::kbd48_copy;
 use crate::going::{Spot, kbd48_run};
 use crate::handle::Handle;
-use crate::items::{Said, kbd48_next, kbd48_rises};
+use crate::items::{Said, kbd48_lost, kbd48_next, kbd48_rises};
 use crate::looks::{kbd48_cell, kbd48_column, kbd48_look, kbd48_waiting};
 use crate::opening::{Fault, kbd48_open_hex, kbd48_open_layout};
+use crate::ready::{kbd48_open_ready_hex, kbd48_open_ready_layout};
 use crate::status::{
     BAD_TEXT, DONE, EARLY, FULL, LOST, NO_SUCH_CELL, NO_SUCH_PLACE, NO_SUCH_PORT, NO_WORD,
     NOT_OPEN, NOTHING_SAID, ROSE, STUCK, TOO_LONG,
@@ -233,7 +234,8 @@ fn a_rise_within_a_step_is_counted_and_what_is_said_is_handed_out(
         kind: 99,
         value: 99,
     };
-    let (mut passed, mut rises, mut byte) = (0u64, 9u64, 0u8);
+    let (mut passed, mut rises, mut byte, mut lost) = (0u64, 9u64, 0u8, 9u64);
+    assert!(rt; kbd48_lost(alloc, &mut handle, &mut lost) == NOT_OPEN && lost == 9);
     assert!(rt; kbd48_rises(alloc, &mut handle, &mut rises) == NOT_OPEN && rises == 9);
     assert!(rt; kbd48_next(alloc, &mut handle, &mut said) == NOT_OPEN && said.kind == 99);
     assert!(rt; kbd48_open_hex(alloc, text.as_slice(), &mut handle, &mut fault) == DONE);
@@ -252,8 +254,29 @@ fn a_rise_within_a_step_is_counted_and_what_is_said_is_handed_out(
     for _ in 0..64u8 {
         assert!(rt; kbd48_next(alloc, &mut handle, &mut said) == DONE && said.kind == 8);
     }
+    assert!(rt; kbd48_lost(alloc, &mut handle, &mut lost) == DONE && lost == 6);
     assert!(rt; kbd48_next(alloc, &mut handle, &mut said) == LOST);
+    assert!(rt; kbd48_lost(alloc, &mut handle, &mut lost) == DONE && lost == 0);
     assert!(rt; kbd48_next(alloc, &mut handle, &mut said) == NOTHING_SAID);
+    Ok(())
+}
+
+#[test]
+fn a_ready_keyboard_has_its_answer_waiting(rt: HostRuntime) -> Result<(), AllocError> {
+    let alloc = rt.alloc();
+    let hex = write_hex(alloc, &Image { bytes: KERNEL })?;
+    let text = b"format = 1\n[[key]]\nkey = \"a\"\ncolumn = 11\nrow = 7\n";
+    let mut handle = Handle::none(alloc);
+    let mut fault = Fault {
+        place: 0,
+        number: 0,
+    };
+    let (mut byte, mut up) = (0u8, false);
+    assert!(rt; kbd48_open_ready_hex(alloc, hex.as_slice(), &mut handle, &mut fault) == DONE);
+    assert!(rt; kbd48_interrupt(alloc, &mut handle, &mut up) == DONE && up);
+    assert!(rt; kbd48_open_ready_layout(alloc, text, &mut handle, &mut fault) == DONE);
+    assert!(rt; kbd48_read60(alloc, &mut handle, &mut byte) == DONE && byte == 0xaa);
+    assert!(rt; kbd48_open_ready_layout(alloc, b"x", &mut handle, &mut fault) == BAD_TEXT);
     Ok(())
 }
 

@@ -1,6 +1,6 @@
 -- What a keyboard keeps of its log until the caller takes it, and how often its interrupt line rose.
-use Rattle.std.specs.Prelude.{◌≡◌, ℕ, zero, suc, ◌+◌, Bool, true, false, not, ◌&&◌, nat_lt, if◌then◌else◌}
-use Rattle.std.specs.Prelude.{List, [], ◌∷◌, ◌++◌, ◌-◌, drop, length, Ok, Err}
+use Rattle.std.specs.Prelude.{◌≡◌, ℕ, zero, suc, ◌+◌, ◌-◌, ◌^◌, ◌==◌, min, Bool, ◌&&◌, nat_lt, if◌then◌else◌}
+use Rattle.std.specs.Prelude.{List, [], ◌∷◌, ◌++◌, drop, length, Ok, Err}
 use Rattle.std.specs.declared.result.Result.{Result}
 use Rattle.board_lines.specs.declared.event.HostAct.{HostAct}
 use Rattle.host_turn.specs.declared.stamped.Stamped.{Stamped}
@@ -18,13 +18,13 @@ use Rattle.live_board.specs.declared.refused.Refused.{Refused}
 
 -- there is room for an item: fewer than 64 are kept, and none was lost since all were taken
 abbrev pub has_room : Heard → Bool
-has_room h = not h.lost && nat_lt (length h.items.items) 64
+has_room h = (h.lost == 0) && nat_lt (length h.items.items) 64
 
--- an item more is said: it is kept behind the others, or lost
+-- an item more is said: it is kept behind the others, or lost and counted, as far as a count of 64 bits goes
 abbrev pub heard_one : Heard → Stamped → Heard
 heard_one h said = record {
   items = record { items = if has_room h then h.items.items ++ said ∷ [] else h.items.items };
-  lost = not (has_room h);
+  lost = if has_room h then h.lost else min (h.lost + 1) (2 ^ 64 - 1);
 }
 
 -- items more are said, in order
@@ -32,19 +32,18 @@ abbrev pub heard_all : Heard → List Stamped → Heard
 heard_all h [] = h
 heard_all h (said ∷ later) = heard_all (heard_one h said) later
 
--- what the caller is handed next: the first item; and when there is none, whether others were lost behind those
-abbrev pub next_by : List Stamped → Bool → Next
+-- what the caller is handed next: the first item; and when there is none, how many others were lost behind those
+abbrev pub next_by : List Stamped → ℕ → Next
 next_by (said ∷ later) lost = Said said
-next_by [] true = Lost
-next_by [] false = Nothing
+next_by [] lost = if lost == 0 then Nothing else Lost lost
 
 abbrev pub next_of : Heard → Next
 next_of h = next_by h.items.items h.lost
 
 -- after that: what was told is kept no longer
-abbrev pub lost_by : List Stamped → Bool → Bool
+abbrev pub lost_by : List Stamped → ℕ → ℕ
 lost_by (said ∷ later) lost = lost
-lost_by [] lost = false
+lost_by [] lost = 0
 
 abbrev pub after_next : Heard → Heard
 after_next h = record { items = record { items = drop 1 h.items.items }; lost = lost_by h.items.items h.lost }

@@ -7,4 +7,5 @@ pub mod Acts
 pub mod Calls
 pub mod Rising
 pub mod Running
+pub mod Ready
 pub mod Heard

@@ -1,6 +1,6 @@
 //! What is kept of the log until the caller takes it.
 
-ghost use Rattle.std.specs.Prelude.{◌≡◌, [], false};
+ghost use Rattle.std.specs.Prelude.{◌≡◌, []};
 ghost use Rattle.live_board.specs.Heard.{after_next, has_room, heard_all, heard_one, next_of};
 
 use arrayvec::ArrayVec;
@@ -14,27 +14,27 @@ const MOST: usize = 64;
 pub enum Next {
     /// This was said next.
     Said(Stamped),
-    /// More was said than was kept. From now on items are kept again.
-    Lost,
+    /// So many more were said than were kept. From now on items are kept again.
+    Lost(u64),
     /// Nothing was said since.
     Nothing,
 }
 
-/// The first items of the log that the caller hasn't taken yet, at most 64, and whether others behind them were lost.
+/// The first items of the log that the caller hasn't taken yet, at most 64, and how many others behind them were lost.
 #[derive(Drop)]
 pub struct Heard {
     pub items: ArrayVec<Stamped, 64>,
-    pub lost: bool,
+    pub lost: u64,
 }
 
 impl Heard {
     /// Nothing was said yet.
     pub(crate) fn nothing() -> Heard
-        ensures { (result.items.items ≡ []) × (result.lost ≡ false) }
+        ensures { (result.items.items ≡ []) × (result.lost ≡ 0) }
     {
         Heard {
             items: ArrayVec::new(),
-            lost: false,
+            lost: 0,
         }
     }
 
@@ -59,15 +59,19 @@ impl Heard {
             return Next::Said(self.items.remove(0));
         }
         let lost = self.lost;
-        self.lost = false;
-        if lost { Next::Lost } else { Next::Nothing }
+        self.lost = 0;
+        if lost == 0 {
+            Next::Nothing
+        } else {
+            Next::Lost(lost)
+        }
     }
 
     /// Whether an item more can be kept.
     fn has_room(&self) -> bool
         ensures { result ≡ has_room self.now }
     {
-        !self.lost && self.items.len() < MOST
+        self.lost == 0 && self.items.len() < MOST
     }
 
     /// An item more is said.
@@ -77,7 +81,7 @@ impl Heard {
         if self.has_room() {
             self.items.push(said);
         } else {
-            self.lost = true;
+            self.lost = self.lost.saturating_add(1);
         }
     }
 

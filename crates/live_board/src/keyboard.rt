@@ -2,11 +2,13 @@
 
 ghost use Rattle.std.specs.Prelude.{◌≡◌, ◌+◌, ◌-◌, [], IfOk};
 ghost use Rattle.board_lines.specs.declared.event.HostAct.TheVariants.{Read60, Status, Take};
+ghost use Rattle.int09.specs.Bios.{start};
 ghost use Rattle.live_board.specs.Acts.{masking_of, write_of};
 ghost use Rattle.live_board.specs.Calls.{IsActed, IsKeyed, Tells};
 ghost use Rattle.live_board.specs.Heard.{HasToldAll, IsTold, after_next, next_of};
 ghost use Rattle.live_board.specs.Looks.{IsCopied};
 ghost use Rattle.live_board.specs.Pasts.{Past, acted};
+ghost use Rattle.live_board.specs.Ready.{IsReady};
 ghost use Rattle.live_board.specs.Running.{HasRun, IsOpened};
 ghost use Rattle.live_board.specs.Standing.{Stands};
 
@@ -17,9 +19,13 @@ use crate::ran::Ran;
 use crate::refused::Refused;
 use board_lines::{HostAct, Place};
 use ctl_core::Port;
+use int09::Bios;
 use mcs48_isa::Image;
 use std::alloc::{AllocError, Global};
 use std::marker::Model;
+
+/// The cycles of a second.
+const SECOND: u64 = 400_000;
 
 /// A keyboard on its board, driven by calls. A clause sees its parts.
 #[derive(Drop)]
@@ -120,14 +126,27 @@ impl Keyboard {
         self.parts.run(cycles, watched)
     }
 
-    /// The keyboard's board at power-on with this program, run to stamp 0, with INT 09h masked there. Takes all memory
-    /// that it ever takes. A program that sticks before is opened too: it stays where it is.
-    pub fn open(alloc: Global, image: &Image) -> Result<Keyboard, AllocError>
-        ensures opened { IfOk result (IsOpened image.now.bytes) }
-        ensures stands { IfOk result (λ k. (p : Past) × (p.bytes ≡ image.now.bytes) × (p.edges ≡ []) × Stands p k) }
+    /// The keyboard's board at power-on with this program and with INT 09h at its start, run to stamp 0, with INT 09h
+    /// masked there. INT 09h has all memory that it ever takes. A program that sticks before is opened too: it stays
+    /// where it is.
+    pub fn open(image: &Image, bios: Bios) -> Keyboard
+        requires start { bios ≡ start }
+        ensures opened { IsOpened image.now.bytes result }
+        ensures stands { (p : Past) × (p.bytes ≡ image.now.bytes) × (p.edges ≡ []) × Stands p result }
     {
-        let parts = Parts::open(alloc, image)?;
-        Ok(Keyboard { parts })
+        Keyboard {
+            parts: Parts::open(image, bios),
+        }
+    }
+
+    /// The same, run on until its power-on test is over: until the interrupt line rises, or for a second if it doesn't.
+    pub fn open_ready(image: &Image, bios: Bios) -> Keyboard
+        requires start { bios ≡ start }
+        ensures ready { IsReady image.now.bytes result }
+    {
+        let mut keyboard = Keyboard::open(image, bios);
+        let _ = keyboard.run(SECOND, true);
+        keyboard
     }
 
     /// What was said next since the caller was last handed something, in the order of the log. Sixty-four items are kept;

@@ -108,6 +108,13 @@ impl Keyboard {
         self.parts.joint.lines()
     }
 
+    /// How many items were said and not kept behind those that are kept, and weren't reported yet.
+    pub fn lost(&self) -> u64
+        ensures lost { result ≡ self.now.heard.lost }
+    {
+        self.parts.heard.lost
+    }
+
     /// How many times the interrupt line rose in the last call that made a step.
     pub fn rises(&self) -> u64
         ensures rises { result ≡ self.now.rises }

@@ -1,6 +1,7 @@
 //! The keyboard's parts, and their joint step.
 
 ghost use Rattle.std.specs.Prelude.{◌≡◌, ◌≤◌, ◌<◌, ◌+◌, ◌^◌, ◌∷◌, [], drop, length, IfOk, OnErr, OnOk};
+ghost use Rattle.int09.specs.Bios.{start};
 ghost use Rattle.joint_run.specs.Due.{due_step, told, IsJointStep};
 ghost use Rattle.joint_run.specs.History.{IsStepOfRun};
 ghost use Rattle.live_board.specs.Answers.{line_in, raises};
@@ -49,12 +50,12 @@ fn edge_list(edges: &[Edge]) -> ArrayVec<Edge, 4>
 }
 
 impl Parts {
-    /// At power-on, with this program. Takes all memory that it takes, the buffer of INT 09h.
-    fn power_on(alloc: Global, image: &Image) -> Result<Parts, AllocError>
-        ensures { IfOk result (λ k. Stands (untouched image.now.bytes 0) k × (k.joint.steps ≡ 0) × (k.joint.cycle ≡ 0)) }
+    /// At power-on, with this program.
+    fn power_on(image: &Image, bios: Bios) -> Parts
+        requires start { bios ≡ start }
+        ensures { Stands (untouched image.now.bytes 0) result × (result.joint.steps ≡ 0) × (result.joint.cycle ≡ 0) }
     {
-        let bios = Bios::new(alloc)?;
-        Ok(Parts {
+        Parts {
             joint: Joint::power_on(image, bios),
             due: Due {
                 edges: ArrayVec::new(),
@@ -63,18 +64,19 @@ impl Parts {
             seen: Seen::nothing(),
             heard: Heard::nothing(),
             rises: 0,
-        })
+        }
     }
 
     /// At power-on, run to stamp 0, with INT 09h masked there. A program that sticks before stays where it is.
-    pub(crate) fn open(alloc: Global, image: &Image) -> Result<Parts, AllocError>
-        ensures opened { IfOk result (IsOpened image.now.bytes) }
-        ensures stands { IfOk result (λ k. (p : Past) × (p.bytes ≡ image.now.bytes) × (p.edges ≡ []) × Stands p k) }
+    pub(crate) fn open(image: &Image, bios: Bios) -> Parts
+        requires start { bios ≡ start }
+        ensures opened { IsOpened image.now.bytes result }
+        ensures stands { (p : Past) × (p.bytes ≡ image.now.bytes) × (p.edges ≡ []) × Stands p result }
     {
-        let mut parts = Parts::power_on(alloc, image)?;
+        let mut parts = Parts::power_on(image, bios);
         let _ = parts.run(STAMP_0, false);
         let _ = parts.act(HostAct::Mask);
-        Ok(parts)
+        parts
     }
 
     /// Parts of their own: the machine in the same state, by the same edges that wait. No event of the host does.

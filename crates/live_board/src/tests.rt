@@ -2,6 +2,7 @@ use crate::{Keyboard, Next, Refused, RunEnd};
 use board_lines::Place;
 use ctl_core::Port;
 use fw_kernel::KERNEL;
+use int09::Bios;
 use mcs48_isa::Image;
 use pc_tables::Item;
 use std::alloc::AllocError;
@@ -12,7 +13,7 @@ const SECOND: u64 = 400_000;
 #[test]
 fn the_keyboard_tests_itself_and_is_read_and_told(rt: HostRuntime) -> Result<(), AllocError> {
     let image = Image { bytes: KERNEL };
-    let mut keyboard = Keyboard::open(rt.alloc(), &image)?;
+    let mut keyboard = Keyboard::open(&image, Bios::new(rt.alloc())?);
     assert!(rt;
         keyboard.cycle() > 4096
             && keyboard.cycle() < 4100
@@ -35,7 +36,7 @@ fn the_keyboard_tests_itself_and_is_read_and_told(rt: HostRuntime) -> Result<(),
 #[test]
 fn a_fifth_edge_and_a_second_write_find_no_room(rt: HostRuntime) -> Result<(), AllocError> {
     let image = Image { bytes: KERNEL };
-    let mut keyboard = Keyboard::open(rt.alloc(), &image)?;
+    let mut keyboard = Keyboard::open(&image, Bios::new(rt.alloc())?);
     let place = Place::default();
     for turn in 0..6u8 {
         assert!(rt; keyboard.key(place, turn % 2 == 0).is_ok() == (turn < 4));
@@ -51,7 +52,7 @@ fn looks_change_nothing_and_show_what_the_ports_would_read(
     rt: HostRuntime,
 ) -> Result<(), AllocError> {
     let image = Image { bytes: KERNEL };
-    let mut keyboard = Keyboard::open(rt.alloc(), &image)?;
+    let mut keyboard = Keyboard::open(&image, Bios::new(rt.alloc())?);
     assert!(rt; keyboard.registers().status == 0x14 && keyboard.registers().output == 0);
     assert!(rt;
         keyboard.registers().command_byte == 0x45 && keyboard.registers().output_port == 0xcf
@@ -73,7 +74,7 @@ fn what_is_said_is_handed_out_in_order_and_rises_are_counted(
     rt: HostRuntime,
 ) -> Result<(), AllocError> {
     let image = Image { bytes: KERNEL };
-    let mut keyboard = Keyboard::open(rt.alloc(), &image)?;
+    let mut keyboard = Keyboard::open(&image, Bios::new(rt.alloc())?);
     assert!(rt; keyboard.hand_out() == Next::Nothing);
     assert!(rt; keyboard.run(SECOND, false).end == RunEnd::Passed && keyboard.rises() == 1);
     assert!(rt; keyboard.hand_out() == Next::Nothing);
@@ -91,14 +92,14 @@ fn what_is_said_is_handed_out_in_order_and_rises_are_counted(
     for _ in 0..64u8 {
         assert!(rt; matches!(keyboard.hand_out(), Next::Said(_)));
     }
-    assert!(rt; keyboard.hand_out() == Next::Lost && keyboard.hand_out() == Next::Nothing);
+    assert!(rt; keyboard.hand_out() == Next::Lost(6) && keyboard.hand_out() == Next::Nothing);
     Ok(())
 }
 
 #[test]
 fn a_copy_goes_on_as_the_original_does_and_by_itself(rt: HostRuntime) -> Result<(), AllocError> {
     let image = Image { bytes: KERNEL };
-    let mut keyboard = Keyboard::open(rt.alloc(), &image)?;
+    let mut keyboard = Keyboard::open(&image, Bios::new(rt.alloc())?);
     assert!(rt; keyboard.run(SECOND, true).end == RunEnd::Rose);
     assert!(rt; keyboard.key(Place::default(), true).is_ok());
     let mut copy = keyboard.copied(rt.alloc())?;
@@ -111,10 +112,21 @@ fn a_copy_goes_on_as_the_original_does_and_by_itself(rt: HostRuntime) -> Result<
 }
 
 #[test]
+fn a_ready_keyboard_has_its_answer_waiting(rt: HostRuntime) -> Result<(), AllocError> {
+    let image = Image { bytes: KERNEL };
+    let mut keyboard = Keyboard::open_ready(&image, Bios::new(rt.alloc())?);
+    let mut opened = Keyboard::open(&image, Bios::new(rt.alloc())?);
+    assert!(rt; opened.run(SECOND, true).end == RunEnd::Rose);
+    assert!(rt; keyboard.interrupt() && keyboard.cycle() == opened.cycle());
+    assert!(rt; keyboard.read60() == Ok(0xaa));
+    Ok(())
+}
+
+#[test]
 fn a_program_that_sticks_stays_where_it_is(rt: HostRuntime) -> Result<(), AllocError> {
     let mut bytes = [0; 2048];
     bytes[2] = 0x01;
-    let mut keyboard = Keyboard::open(rt.alloc(), &Image { bytes })?;
+    let mut keyboard = Keyboard::open(&Image { bytes }, Bios::new(rt.alloc())?);
     let ran = keyboard.run(SECOND, false);
     assert!(rt; ran.cycles == 0 && keyboard.cycle() == 2);
     assert!(rt; matches!(ran.end, RunEnd::Stuck(stuck) if stuck.pc == 2 && stuck.byte == 1));

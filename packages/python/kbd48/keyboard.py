@@ -180,14 +180,15 @@ class Keyboard:
         self._handle = library.Handle()
 
     @classmethod
-    def of_layout(cls, text: Union[str, bytes]) -> Keyboard:
-        """A keyboard with the firmware of this layout (TOML), at stamp 0."""
-        return cls._of(LIBRARY.kbd48_open_layout, text)
+    def of_layout(cls, text: Union[str, bytes], ready: bool = False) -> Keyboard:
+        """A keyboard with the firmware of this layout (TOML), at stamp 0; or, if it is to be ready, with its power-on test
+        over and its AA in the controller's output buffer."""
+        return cls._of(LIBRARY.kbd48_open_ready_layout if ready else LIBRARY.kbd48_open_layout, text)
 
     @classmethod
-    def of_hex(cls, text: Union[str, bytes]) -> Keyboard:
-        """A keyboard with this program (Intel HEX), at stamp 0, or stuck before that."""
-        return cls._of(LIBRARY.kbd48_open_hex, text)
+    def of_hex(cls, text: Union[str, bytes], ready: bool = False) -> Keyboard:
+        """A keyboard with this program (Intel HEX), at stamp 0, or stuck before that; `ready` is as for a layout."""
+        return cls._of(LIBRARY.kbd48_open_ready_hex if ready else LIBRARY.kbd48_open_hex, text)
 
     @classmethod
     def _of(cls, call: Callable[..., int], text: Union[str, bytes]) -> Keyboard:
@@ -263,7 +264,7 @@ class Keyboard:
 
     def next(self) -> Optional[Item]:
         """The next item of the log, or None if all are handed out. Sixty-four are kept; Error with Status.LOST says, once,
-        that there were more."""
+        that there were more. `lost` says how many, before that."""
         item = library.Item()
         if not self._done("next", item, unless=Status.NOTHING_SAID):
             return None
@@ -279,6 +280,11 @@ class Keyboard:
     def interrupt(self) -> bool:
         """Whether the interrupt line (IRQ 1) is up."""
         return self._shown("interrupt", c.c_bool)
+
+    @property
+    def lost(self) -> int:
+        """How many items of the log were lost and not reported yet."""
+        return self._shown("lost", c.c_uint64)
 
     @property
     def rises(self) -> int:

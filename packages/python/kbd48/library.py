@@ -54,6 +54,7 @@ PARAMETERS = {
     "take": [_to(c.c_uint16)],
     "next": [_to(Item)],
     "interrupt": [_to(c.c_bool)],
+    "lost": [_to(c.c_uint64)],
     "rises": [_to(c.c_uint64)],
     "lights": [_to(c.c_uint8)],
     "wires": [_to(c.c_bool), _to(c.c_bool)],
@@ -72,7 +73,7 @@ def opened(path: str) -> c.CDLL:
     for name, parameters in PARAMETERS.items():
         function = getattr(library, f"kbd48_{name}")
         function.argtypes, function.restype = [_to(Handle), *parameters], c.c_int32
-    for name in ("open_layout", "open_hex"):
+    for name in ("open_layout", "open_hex", "open_ready_layout", "open_ready_hex"):
         function = getattr(library, f"kbd48_{name}")
         function.argtypes, function.restype = [c.c_char_p, c.c_size_t, _to(Handle), _to(Fault)], c.c_int32
     return library

@@ -4,9 +4,9 @@ use Rattle.live_board.proofs.parts.Parts.open.Goals as goal
 
 pub returns-clause-opened : goal.returns-clause-opened
 returns-clause-opened c =
-    let first = c.in_ok-parts.ensures in
+    let first = c.power_on-parts.ensures in
     record {
-      first = c.in_ok-parts.parts;
+      first = c.power_on-parts.result;
       at_first = first.0;
       first_cycle = first.2;
       middle = c.run.new.self;
@@ -18,7 +18,7 @@ returns-clause-opened c =
 
 pub returns-clause-stands : goal.returns-clause-stands
 returns-clause-stands c =
-    let first = c.in_ok-parts.ensures in
+    let first = c.power_on-parts.ensures in
     let p = untouched c.args.image.now.bytes 0 in
     let ran = c.run.ensures.run p first.0 in
     stands_after (gone_on p c.run.new.self.joint.steps) _ c.run.new.self c.act.new.self c.act.result ran.stands c.act.ensures.acted

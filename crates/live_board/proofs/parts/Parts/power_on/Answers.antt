@@ -5,7 +5,7 @@ use Rattle.live_board.proofs.parts.Parts.power_on.Goals as goal
 pub returns : goal.returns
 returns c =
     let parts = c.power_on.ensures.parts in (
-      at_first c.args.image.now.bytes _ parts c.power_on.ensures.run c.new-2.ensures c.new-3.ensures,
+      at_first c.args.image.now.bytes _ parts c.power_on.ensures.run c.new.ensures c.new-2.ensures,
       ap (λ m. m.steps) parts,
       ap (λ m. m.cycle) parts,
     )
