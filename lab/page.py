@@ -26,6 +26,7 @@ EXAMPLES = """
     wrong_parity.script unset_cell.asm run_on.asm timer.asm delay.asm delay.hex delay.cert us84.hex
     kernel_delay.cert every_instruction.asm
 """.split()
+NAME = re.compile(r"^(?:async )?(?:const|let|class|function\*?) ([A-Za-z_]\w*)", re.MULTILINE)
 IMPORT = re.compile(r"^import [^;]*? from '(\.[^']+)';\n", re.MULTILINE)
 
 
@@ -53,6 +54,9 @@ def script() -> str:
         if re.search(r"^(import|export)\b", text, re.MULTILINE):
             raise Broken(f"{path.name}: an import or export of a form that isn't known")
         parts.append(text)
+    names = [name for part in parts for name in NAME.findall(part)]
+    if twice := sorted({name for name in names if names.count(name) > 1}):
+        raise Broken(f"two scripts have the same name at their top: {', '.join(twice)}")
     return "\n".join(parts)
 
 
