@@ -187,7 +187,10 @@ async function liveProcessor() {
   assert.equal(await shown(), sent, 'what was handed in is handed in again');
   await shot('live_processor');
   await browser.evaluate('lab.keys.hold("a", false, "test")');
-  await put('speed', '1');
+  await only('keyboard');
+  await browser.click('#go-on');
+  await browser.until('document.getElementById("stopped").hidden');
+  await only('processor');
   await says('at', /it runs/);
 }
 
