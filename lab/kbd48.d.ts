@@ -73,6 +73,7 @@ export declare class Keyboard {
   key(place: number, down: boolean): StatusNumber;
   run(cycles: number, watched?: boolean): StatusNumber;
   step(): StatusNumber;
+  watch(cycles: number): StatusNumber;
   readonly passed: number;
   readonly stuck: { counter: number; byte: number };
   write(port: 0x60 | 0x64, byte: number): StatusNumber;

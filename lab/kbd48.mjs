@@ -60,6 +60,17 @@ class Machine {
     }
   }
 
+  /** Many calls in one; `act` gets the exports. */
+  within(act) {
+    if (!this.exports) throw new Trapped(new Error('an earlier call trapped'));
+    try {
+      return act(this.exports);
+    } catch (cause) {
+      this.exports = null;
+      throw new Trapped(cause);
+    }
+  }
+
   take(size) {
     const at = this.call('page_take', BigInt(size));
     if (at === 0n) throw new Kbd48Error(Status.NO_MEMORY);
@@ -170,6 +181,23 @@ export class Keyboard {
 
   /** One step, which ends with ROSE if the interrupt line rose. */
   step() { return this.machine.call('kbd48_run', this.to.handle, ONE, 1, this.to.passed, this.to.place); }
+
+  /** Makes steps one by one until a wire changes its level, the interrupt line rises, or so many cycles have passed. The
+      status; `passed` says how many cycles it were. */
+  watch(cycles) {
+    const { base, to } = this, { view } = this.machine, levels = () => view.getUint8(base + PLACES.one) | view.getUint8(base + PLACES.two) << 1;
+    const before = this.wires();
+    let status = Status.DONE, gone = 0;
+    this.machine.within(exports => {
+      do {
+        status = exports.kbd48_run(to.handle, ONE, 1, to.passed, to.place);
+        gone += view.getUint8(base + PLACES.passed);
+        exports.kbd48_wires(to.handle, to.one, to.two);
+      } while (status === Status.DONE && gone < cycles && levels() === before);
+    });
+    view.setBigUint64(base + PLACES.passed, BigInt(gone), true);
+    return status;
+  }
 
   /** How many cycles the last run took. */
   get passed() { return Number(this.machine.view.getBigUint64(this.base + PLACES.passed, true)); }

@@ -20,12 +20,13 @@ MODULES = ("kbd48_c", "kbd48_call")
 
 # The examples that the page has, and what they are called when that differs.
 EXAMPLES = """
-    us84.toml sixty.toml sixty_fn.toml four_keys.toml typing_hi.keys capital_a.keys held_key.keys caps_lock.keys
+    us84.toml sixty.json sixty.toml sixty_fn.toml four_keys.toml typing_hi.keys capital_a.keys held_key.keys caps_lock.keys
     host.keys ctrl_alt_del.keys noisy_line.keys broken_frame.keys sixty_fn.keys right_ctrl.keys hello.text
     make_code.keys make_code.script four_keys.asm four_keys.hex four_keys.keys four_keys.script four_keys.cert
     wrong_parity.script unset_cell.asm run_on.asm timer.asm delay.asm delay.hex delay.cert us84.hex
     kernel_delay.cert every_instruction.asm
 """.split()
+NAME = re.compile(r"^(?:async )?(?:const|let|class|function\*?) ([A-Za-z_]\w*)", re.MULTILINE)
 IMPORT = re.compile(r"^import [^;]*? from '(\.[^']+)';\n", re.MULTILINE)
 
 
@@ -53,6 +54,9 @@ def script() -> str:
         if re.search(r"^(import|export)\b", text, re.MULTILINE):
             raise Broken(f"{path.name}: an import or export of a form that isn't known")
         parts.append(text)
+    names = [name for part in parts for name in NAME.findall(part)]
+    if twice := sorted({name for name in names if names.count(name) > 1}):
+        raise Broken(f"two scripts have the same name at their top: {', '.join(twice)}")
     return "\n".join(parts)
 
 

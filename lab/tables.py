@@ -8,6 +8,7 @@ import importlib.util
 import sys
 from pathlib import Path
 from types import ModuleType
+from typing import Any
 
 EXAMPLES = Path(__file__).resolve().parent.parent / "examples"
 
@@ -25,10 +26,14 @@ def script(path: Path) -> ModuleType:
     return module
 
 
+def pairs(sends: dict[str, Any]) -> dict[str, list[str]]:
+    """For each code the key that it sends, and what else it would do."""
+    return {code: [it.key, it.lost] for code, it in sends.items()}
+
+
 def of_keycodes(kle: ModuleType) -> dict[str, object]:
     """What QMK's codes mean."""
     codes = kle.keycodes
-    pairs = lambda sends: {code: [it.key, it.lost] for code, it in sends.items()}  # noqa: E731
     return {
         "codes": pairs(codes.CODES),
         "kept": pairs(codes.KEPT),

@@ -73,7 +73,7 @@ export class Live {
   /** So many cycles pass, or a few more. */
   advance(cycles) {
     const end = this.cycle + cycles;
-    while (this.cycle < end) this.#goOn(this.#isQuiet() ? Math.min(end - this.cycle, COPIES_APART) : 1);
+    while (this.cycle < end) this.#goOn(Math.min(end - this.cycle, COPIES_APART));
     this.#drain();
   }
 
@@ -86,13 +86,15 @@ export class Live {
     this.#drain();
   }
 
-  // One step, or as many as so many cycles take, in which nothing is handed in.
+  // One step; or more of them, for so many cycles, as long as nothing is to be seen or to be handed in between them.
   #goOn(cycles) {
     const { keyboard } = this;
     this.history.pass(this.cycle);
     if (this.waiting.length) this.#handEdges();
     if (this.orders.length && this.#hand()) return;
-    const said = cycles > 1 ? keyboard.run(cycles, true) : keyboard.step();
+    const isBusy = this.levels !== BOTH || this.up || this.orders.length > 0;
+    const most = this.waiting.length ? Math.min(cycles, this.lastEdge + APART - this.cycle) : cycles;
+    const said = isBusy || most <= 1 ? keyboard.step() : this.#isQuiet() ? keyboard.run(most, true) : keyboard.watch(most);
     this.cycle += keyboard.passed;
     this.#look();
     if (said === Status.ROSE) this.up = true;

@@ -44,6 +44,10 @@ class Lab {
       this.show('workbench', true);
       this.workbench.open(name);
     });
+    byId('go-on').onclick = () => {
+      byId('speed').value = '1';
+      byId('board').focus();
+    };
     for (const button of document.querySelectorAll('#panes button')) {
       button.onclick = () => this.show(button.dataset.pane, button.getAttribute('aria-pressed') !== 'true');
     }
@@ -74,7 +78,9 @@ class Lab {
 
   /** Lets the time pass that passed since the last picture, and draws. */
   picture(ms) {
-    this.owed += Math.min(ms, LONGEST) * CYCLES_OF_A_MS * Number(byId('speed').value);
+    const speed = Number(byId('speed').value);
+    byId('stopped').hidden = speed !== 0;
+    this.owed += Math.min(ms, LONGEST) * CYCLES_OF_A_MS * speed;
     const cycles = Math.floor(this.owed), before = this.live.cycle;
     if (cycles > 0) {
       this.live.advance(cycles);

@@ -8,6 +8,7 @@ import { readTrace } from './vcd.js';
 import { Waveform, pullerOf } from './waveform.js';
 
 const SHOWN = 200; // lines
+const TEXTS_APART = 100; // ms
 const LIVE = 'what I type';
 const STEP = 160; // pixels
 const NOISY = 'noise.keys';
@@ -27,7 +28,7 @@ const SCREEN = 1500; // characters
 export class WiresPane {
   /** `live()` answers the keyboard that runs. */
   constructor(live, layoutName) {
-    Object.assign(this, { live, layoutName, drawn: -1, still: null });
+    Object.assign(this, { live, layoutName, drawn: -1, still: null, written: -Infinity });
     this.wave = new Waveform(byId('wave'), live);
     for (const [words, ...bytes] of COMMANDS) {
       const button = make('button', { type: 'button', textContent: words });
@@ -118,6 +119,10 @@ export class WiresPane {
   draw() {
     const { bytes, items, stamp } = this.live();
     this.wave.draw();
+    // Texts change ten times a second at most: nobody reads faster, and each costs a layout.
+    const now = performance.now();
+    if (now - this.written < TEXTS_APART) return;
+    this.written = now;
     const clock = `${(stamp / CYCLES_OF_A_MS / 1000).toFixed(1)} s of keyboard time`;
     if (byId('clock-text').textContent !== clock) byId('clock-text').textContent = clock;
     const pulled = this.#pulled();

@@ -1,13 +1,13 @@
-// usage: node --experimental-websocket firefox.mjs FIREFOX LAB.html: the page in a headless Firefox, driven by WebDriver BiDi:
-// it comes up, somebody types, a program is stepped and run, and nothing is said on the console or asked for elsewhere.
+// usage: node --experimental-websocket firefox.mjs FIREFOX LAB.html BOARDS.json: the page in a headless Firefox, driven by WebDriver BiDi:
+// it comes up, somebody types, a program is stepped and run, boards become layouts as examples/from_kle makes them, and nothing is said on the console or asked for elsewhere.
 import assert from 'node:assert/strict';
 import { spawn } from 'node:child_process';
-import { mkdtempSync, rmSync } from 'node:fs';
+import { mkdtempSync, readFileSync, rmSync } from 'node:fs';
 import { tmpdir } from 'node:os';
 import { join } from 'node:path';
 import { pathToFileURL } from 'node:url';
 
-const [, , firefox, page] = process.argv;
+const [, , firefox, page, answers] = process.argv;
 const PATIENCE = 30_000; // ms
 const profile = mkdtempSync(join(tmpdir(), 'kbd48-firefox-'));
 const child = spawn(firefox, ['--headless', '--no-remote', '--profile', profile, '--remote-debugging-port=0'], { stdio: ['ignore', 'ignore', 'pipe'] });
@@ -67,8 +67,17 @@ async function test() {
   await says('at', /step 5800, cycle 8120, stamp 4024: stopped at place/);
   await evaluate('lab.show("workbench", true); lab.workbench.run("run us84.toml typing_hi.keys", "expect us84.toml typing_hi.keys")');
   await says('told', /both print the same/);
+  await evaluate('document.getElementById("program").value = "the keyboard that I type on"; document.getElementById("program").onchange(); document.getElementById("step").click(); document.getElementById("back").click()');
+  await says('at', /^cycle \d+, stamp \d+$/);
+  const others = await evaluate(`${readFileSync(answers, 'utf8')}.filter(({ words, files, status, text, told }) => {
+    const said = lab.fromKle(words, files);
+    return said.status !== status || said.text !== text || String(said.told) !== String(told);
+  }).length`);
+  assert.equal(others, 0, 'from_kle answers otherwise');
+  await evaluate(`lab.files['pad.json'] = '[["7","8","9"],["4","5","6"],["1","2","3"]]'; lab.keys.boards.open('pad.json')`);
+  await says('board-told', /pad\.toml is made of pad\.json/);
   assert.deepEqual(seen, [], 'nothing on the console, and nothing asked for');
-  console.log('the page in Firefox: keys, processor, workbench');
+  console.log('the page in Firefox: keys, processor, workbench, boards');
 }
 
 try {

@@ -106,6 +106,20 @@ async function looks() {
   }
   assert.equal(pulled, 3, 'it pulls both wires when it sends');
   assert.equal(keyboard.take(), 0x1E61);
+  // Watched, and step by step, a release changes the wires at the same cycles.
+  keyboard.key(29, false);
+  keyboard.copyTo(kept);
+  const changes = (of, go) => {
+    const seen = [], end = of.cycle() + 8000;
+    for (let levels = of.wires(); of.cycle() < end;) {
+      go(end - of.cycle());
+      if (of.wires() !== levels) seen.push([of.cycle(), levels = of.wires()]);
+    }
+    return seen;
+  };
+  const edges = changes(keyboard, () => keyboard.step());
+  assert.ok(edges.length > 40, 'two bytes pass');
+  assert.deepEqual(changes(kept, cycles => kept.watch(cycles)), edges);
   for (let n = 0; n < 65; n++) keyboard.status();
   assert.throws(() => [...keyboard.items()], error => error.status === Status.LOST);
   assert.throws(() => keyboard.cell(128), error => error.status === Status.NO_SUCH_CELL);

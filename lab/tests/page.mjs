@@ -114,6 +114,18 @@ async function processor() {
   await put('stop-byte', 'nothing');
   await browser.click('#run');
   await says('at', /isn't understood/);
+  // By keys alone: two lines on, a breakpoint there and none, and a run up to the line.
+  await browser.evaluate('document.getElementById("code").focus()');
+  for (const code of ['ArrowDown', 'ArrowDown', 'Enter']) await browser.stroke(code, 5);
+  const place = await browser.evaluate('document.getElementById("stop-place").value');
+  assert.match(place, /^0[0-9A-F]{2}$/);
+  assert.equal(await browser.evaluate('document.querySelector("#code .stop").textContent.slice(0, 3)'), place);
+  assert.equal(await browser.evaluate('document.getElementById("code").getAttribute("aria-activedescendant")'), `place-${Number.parseInt(place, 16)}`);
+  await browser.stroke('Enter', 5);
+  assert.equal(await browser.evaluate('document.getElementById("stop-place").value'), '');
+  await browser.click('#cursor');
+  await says('at', /stopped at place$/);
+  assert.equal(await browser.evaluate('document.querySelector("#code .here").textContent.slice(0, 3)'), place);
   // A hundred steps back and on are the states of the run, however they are asked for.
   const same = await browser.evaluate(`(() => {
     const it = lab.processor.session, at = [0, 1, 59, 60, 4095, 6068, 6069].map(steps => JSON.stringify(it.at(steps)));
@@ -175,7 +187,10 @@ async function liveProcessor() {
   assert.equal(await shown(), sent, 'what was handed in is handed in again');
   await shot('live_processor');
   await browser.evaluate('lab.keys.hold("a", false, "test")');
-  await put('speed', '1');
+  await only('keyboard');
+  await browser.click('#go-on');
+  await browser.until('document.getElementById("stopped").hidden');
+  await only('processor');
   await says('at', /it runs/);
 }
 
@@ -190,6 +205,7 @@ async function workbench() {
   await put('text', 'MOV A,#5\nloop: DEC A\nJMP loop\n');
   await browser.click('#do');
   await says('answer', /^:100000002305070402/);
+  assert.equal(await textOf('download'), 'Download own1.hex');
   await browser.click('#keep');
   await put('words', 'step own1.hex 3');
   await browser.click('#do');
@@ -306,6 +322,7 @@ async function lessons() {
     await browser.click('#lesson-check');
     await says('lesson-result', /^Done/);
   }
+  assert.equal(await browser.evaluate('document.querySelectorAll("#lesson-list .done").length'), many);
   await shot('lessons');
   return many;
 }
@@ -337,6 +354,20 @@ async function narrow() {
     assert.ok(wide <= 360, `${name} is ${wide} pixels wide`);
     await shot(`narrow_${name}`);
   }
+  // Fingers: Shift sticks until the next key is let go.
+  await only('keyboard');
+  await browser.send('Emulation.setTouchEmulationEnabled', { enabled: true });
+  await browser.click('#restart');
+  await browser.until('lab.live.stamp > 200000');
+  for (const key of ['lshift', 't', 'o']) {
+    const point = await browser.place(`[data-key=${key}]`);
+    await browser.send('Input.dispatchTouchEvent', { type: 'touchStart', touchPoints: [point] });
+    await browser.wait(60);
+    await browser.send('Input.dispatchTouchEvent', { type: 'touchEnd', touchPoints: [] });
+    await browser.wait(60);
+  }
+  await says('screen', /^To▁$/);
+  await browser.send('Emulation.setTouchEmulationEnabled', { enabled: false });
   await browser.send('Emulation.clearDeviceMetricsOverride');
 }
 

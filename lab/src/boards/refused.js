@@ -45,10 +45,16 @@ export function wholeOf(value) {
 /** Whether a value says yes: nothing, zero and what is empty don't. */
 export const saysYes = value => (typeof value === 'object' && value !== null ? Object.keys(value).length > 0 : Boolean(value));
 
+/** A text in quotes, as messages have it. */
+function quotedText(text) {
+  const plain = text.replaceAll('\\', '\\\\').replaceAll('\n', '\\n').replaceAll('\t', '\\t').replaceAll('\r', '\\r');
+  return plain.includes("'") && !plain.includes('"') ? `"${plain}"` : `'${plain.replaceAll("'", "\\'")}'`;
+}
+
 /** A value of JSON as a text. */
 export function textOf(value) {
   if (typeof value === 'string') return value;
-  if (Array.isArray(value)) return `[${value.map(it => (typeof it === 'string' ? `'${it}'` : textOf(it))).join(', ')}]`;
+  if (Array.isArray(value)) return `[${value.map(it => (typeof it === 'string' ? quotedText(it) : textOf(it))).join(', ')}]`;
   if (isTable(value)) return JSON.stringify(value);
   return { null: 'None', true: 'True', false: 'False' }[String(value)] ?? String(value);
 }
