@@ -1,6 +1,8 @@
 """A board as a file describes it: its keys, their places in its matrix, and which way its diodes stand."""
 from __future__ import annotations
 
+import json
+import math
 import re
 from dataclasses import dataclass, field
 from enum import Enum
@@ -86,6 +88,45 @@ class Choices:
     prints: str = "layout"
 
 
+KINDS = {dict: "an object", list: "a list", str: "a text"}
+
+
+def in_short(value: Any) -> str:
+    """A value of JSON as a message has it."""
+    text = json.dumps(value, ensure_ascii=False)
+    return text if len(text) <= 30 else text[:27] + "..."
+
+
+def part_of(data: dict[str, Any], name: str, kind: type, path: str = "") -> Any:
+    """A part of an object by its name, empty if it isn't there. One of another kind is refused by its path."""
+    value = data.get(name)
+    if value is None:
+        return kind()
+    if not isinstance(value, kind):
+        raise Refused("%s is %s, and not %s" % (path + name, in_short(value), KINDS[kind]))
+    return value
+
+
+def number_of(value: Any, what: str) -> float:
+    """A number of a file; `what` names it if it is none."""
+    try:
+        number = math.nan if isinstance(value, bool) else float(value)
+    except (TypeError, ValueError, OverflowError):
+        number = math.nan
+    if not math.isfinite(number):
+        raise Refused("%s is %s, and no number" % (what, in_short(value)))
+    return number
+
+
+def count_of(value: Any, what: str) -> Optional[int]:
+    """A number of rows or columns, or None if the file doesn't say it."""
+    if value is None:
+        return None
+    if isinstance(value, bool) or not isinstance(value, int) or value < 1:
+        raise Refused("%s is %s, and no number of lines" % (what, in_short(value)))
+    return value
+
+
 def usb_number(vendor: Any, product: Any) -> Optional[int]:
     """A board's number on USB as VIA has it, of vendor and product, which files write as text or numbers."""
     try:
@@ -107,7 +148,7 @@ def left_out_by(key: Key, without: frozenset[str]) -> bool:
 
 def judge_left_out(keys: list[Key], without: frozenset[str]) -> None:
     """Each key that is to be left out is there."""
-    strange = sorted(without - {"unknown"} - {key.number for key in keys})
+    strange = sorted(without - {"unknown", "doubles"} - {key.number for key in keys})
     if strange:
         raise Refused("it has no key %s to leave out; keys are named as messages have them, %s for %s"
                       % (strange[0], keys[0].number, keys[0].where))

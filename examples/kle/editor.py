@@ -5,7 +5,8 @@ import re
 from dataclasses import dataclass
 from typing import Any, Iterator
 
-from .board import Board, Choices, Key, Place, Refused, Tool, pair_of, usb_number
+from .board import (Board, Choices, Key, Place, Refused, Tool, count_of, in_short, number_of, pair_of, part_of,
+                    usb_number)
 
 
 @dataclass(frozen=True)
@@ -28,17 +29,16 @@ class Pen:
         self.x = self.y = self.left = self.top = 0.0
         self.width, self.decal = 1.0, False
 
-    def take(self, said: dict[str, Any]) -> None:
+    def take(self, said: dict[str, Any], where: str) -> None:
         """Properties before a key."""
-        if "rx" in said:
-            self.left = self.x = float(said["rx"])
-        if "ry" in said:
-            self.top = float(said["ry"])
-        if "rx" in said or "ry" in said:
+        numbers = {name: number_of(said[name], "%s: its property %s" % (where, name))
+                   for name in ("rx", "ry", "x", "y", "w") if name in said}
+        self.left, self.top = numbers.get("rx", self.left), numbers.get("ry", self.top)
+        if "rx" in numbers or "ry" in numbers:
             self.x, self.y = self.left, self.top
-        self.x += float(said.get("x", 0))
-        self.y += float(said.get("y", 0))
-        self.width, self.decal = float(said.get("w", self.width)), bool(said.get("d", self.decal))
+        self.x += numbers.get("x", 0)
+        self.y += numbers.get("y", 0)
+        self.width, self.decal = numbers.get("w", self.width), bool(said.get("d", self.decal))
 
     def pass_key(self) -> None:
         """A key was drawn."""
@@ -62,18 +62,18 @@ def drawn(rows: list[Any]) -> Iterator[Drawn]:
     pen = Pen()
     for down, row in enumerate(rows, 1):
         if not isinstance(row, list):
-            raise Refused("row %d is no row of keys" % down)
+            raise Refused("row %d is %s, and no row of keys" % (down, in_short(row)))
         number = 0
-        for item in row:
+        for at, item in enumerate(row, 1):
             if isinstance(item, dict):
-                pen.take(item)
+                pen.take(item, "row %d, key %d" % (down, number + 1))
             elif isinstance(item, str):
                 number += 1
                 if not pen.decal:
                     yield Drawn(down, number, [part.strip() for part in item.split("\n")], pen.width, pen.x, pen.y)
                 pen.pass_key()
             else:
-                raise Refused("row %d holds what is neither a key nor its properties" % down)
+                raise Refused("row %d, item %d: %s is neither a key nor its properties" % (down, at, in_short(item)))
         pen.pass_row()
 
 
@@ -157,9 +157,10 @@ def of_via(data: dict[str, Any], choices: Choices) -> Board:
     """The board of VIA's definition."""
     if choices.layout:
         raise Refused("a definition of VIA's has no named layouts, but options: --option N,M")
-    matrix = data.get("matrix", {})
-    board = Board(Tool.VIA, [], matrix.get("rows"), matrix.get("cols"), name=str(data.get("name", "")),
-                  usb=usb_number(data.get("vendorId"), data.get("productId")))
+    matrix = part_of(data, "matrix", dict)
+    board = Board(Tool.VIA, [], count_of(matrix.get("rows"), "matrix.rows"), count_of(matrix.get("cols"), "matrix.cols"),
+                  name=str(data.get("name", "")), usb=usb_number(data.get("vendorId"), data.get("productId")))
     layouts = data["layouts"]
-    read_keys(board, layouts["keymap"], Options(choices.options, layouts.get("labels") or []))
+    rows, labels = part_of(layouts, "keymap", list, "layouts."), part_of(layouts, "labels", list, "layouts.")
+    read_keys(board, rows, Options(choices.options, labels))
     return board

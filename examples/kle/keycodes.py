@@ -142,6 +142,8 @@ def plain(code: str) -> Meaning:
 def within(code: str, lost: str) -> Meaning:
     """What a code does when it is tapped, where that is all that a key can keep of it."""
     tap = meaning(code)
+    if isinstance(tap, Nothing):
+        return Unsaid("since it does nothing when it is tapped; " + lost)
     return Sends(tap.key, "; ".join(part for part in (tap.lost, lost) if part)) if isinstance(tap, Sends) else tap
 
 

@@ -4,7 +4,7 @@ from __future__ import annotations
 from dataclasses import dataclass
 from typing import Any, Optional
 
-from .board import Board, Refused, Tool
+from .board import Board, Refused, Tool, in_short
 
 
 @dataclass(frozen=True)
@@ -20,11 +20,22 @@ class Keymap:
     keyboard: Optional[str] = None
 
 
+def rows_of(layer: Any, number: int) -> list[list[Any]]:
+    """The rows of a layer that Vial has saved."""
+    if not isinstance(layer, list):
+        raise Refused("layer %d of the keymap is %s, and no list of rows" % (number, in_short(layer)))
+    for at, row in enumerate(layer, 1):
+        if not isinstance(row, list):
+            raise Refused("layer %d of the keymap, row %d, is %s, and no list of codes" % (number, at, in_short(row)))
+    return layer
+
+
 def of_vial(data: dict[str, Any]) -> Keymap:
     """The keymap that Vial has saved: a list of layers, each of rows; a place without a key has a number for a code."""
-    layers = [[code if isinstance(code, str) else "KC_NO" for row in layer for code in row] for layer in data["layout"]]
-    if not layers:
+    if not data["layout"]:
         raise Refused("the keymap has no layers")
+    layers = [[code if isinstance(code, str) else "KC_NO" for row in rows_of(layer, number) for code in row]
+              for number, layer in enumerate(data["layout"])]
     return Keymap(None, layers, True, any(data.get("encoder_layout") or []))
 
 
@@ -38,12 +49,14 @@ def keymap_of(data: Any) -> Keymap:
     if is_of_vial(data):
         return of_vial(data)
     layers = data.get("layers") if isinstance(data, dict) else None
-    if not isinstance(layers, list) or not layers or not all(isinstance(layer, list) for layer in layers):
+    if not isinstance(layers, list) or not layers:
         raise Refused("the keymap has no layers")
     for number, layer in enumerate(layers):
+        if not isinstance(layer, list):
+            raise Refused("layer %d of the keymap is %s, and no list of codes" % (number, in_short(layer)))
         for at, code in enumerate(layer):
             if not isinstance(code, str):
-                raise Refused("layer %d of the keymap, code %d, is no text" % (number, at + 1))
+                raise Refused("layer %d of the keymap, code %d, is %s, and no text" % (number, at + 1, in_short(code)))
     by_matrix = "vendorProductId" in data or ("layout" not in data and "keyboard" not in data and "macros" in data)
     layout, keyboard, usb = data.get("layout"), data.get("keyboard"), data.get("vendorProductId")
     if not isinstance(layout, (str, type(None))):

@@ -236,16 +236,25 @@ class Legends:
         if key.width >= 1.5 and name == "kpdot" and not self.has_backspace:
             return Reading("backspace", "is taken as Backspace, since the key is wide and no other is")
         if said.sign() and key.width >= 1.5 and words[0].is_move:
-            return self.of_wide_arrow(key, name)
+            return self.of_wide_arrow(key, name, said.sign())
         if words[0].is_move:
             return Reading(name, NUM_OFF)
         notes = {"prtsc": STAR, "caps": "is taken as Caps Lock" if "shift" in words[0].text.lower() else ""}
         return Reading(name, notes.get(name, ""))
 
-    def of_wide_arrow(self, key: Key, name: str) -> Reading:
-        """A wide key with an arrow alone: Backspace mostly, Shift or Tab where the arrow shows up or right."""
+    def is_left_of_a(self, key: Key) -> bool:
+        """Whether the key A is the next to the right."""
+        return any(abs(other.x - key.x - key.width) < 0.1 and abs(other.y - key.y) < 0.1 and
+                   [character.lower() for character in said.characters] in (["a"], ["q"])
+                   for other, said in zip(self.keys, self.said))
+
+    def of_wide_arrow(self, key: Key, name: str, said: str) -> Reading:
+        """A wide key with an arrow alone: Backspace mostly; Caps Lock if it is hollow, shows down and is beside A, as in
+        Germany. It may be Shift or Tab if the arrow shows up or right."""
         if name == "kp4" and not self.has_backspace:
             return Reading("backspace", "is taken as Backspace, since the key is wide and no other is")
+        if "\u21e9" in said and self.is_left_of_a(key):
+            return Reading("caps", "is taken as Caps Lock, since the key is wide and beside A")
         raise Unclear("its legend %s is on a wide key, which may be Shift, Tab or another" % shown(key))
 
     def of_characters(self, at: int, characters: list[str]) -> str:

@@ -8,20 +8,20 @@ from typing import Optional
 
 # In lower case; `plain_form` passes over marks in words and on letters. First the keys that the 84 have beside the keypad.
 KEYS = {
-    "backspace": "backspace bksp bkspc bkspace bspc bs back backsp rück rücktaste löschen retourarrière retroceso ⌫ "
+    "backspace": "backspace bksp bkspc bkspace bspc bs back backsp rück rücktaste löschen retourarrière retroceso backsteg ⌫ "
                  "⟵ <-- <--- ←-- ←---",
-    "tab": "tab tabulator tabulador tabulation ↹ ⇥ ⇤ ⭾ →| |→ ←| |← |←→|",
+    "tab": "tab tabb tabulator tabulador tabulation ↹ ⇥ ⇤ ⭾ →| |→ ←| |← |←→|",
     "ctrl": "ctrl control ctl lctrl rctrl leftctrl rightctrl leftcontrol rightcontrol lcontrol rcontrol ctrll ctrlr "
             "strg strgl strgr ⌃ ⎈",
-    "enter": "enter return ret entrée eingabe intro entrar invio giriş retur kpenter numenter ⏎ ↵ ⮐ ↩ ⌤ ⎆ ↲",
+    "enter": "enter return ret ent entrée eingabe intro entrar invio giriş retur kpenter numenter ⏎ ↵ ⮐ ↩ ⌤ ⎆ ↲",
     "alt": "alt lalt ralt leftalt rightalt altl altr altgr altgraph opt option ⌥ ⎇",
-    "space": "space spacebar spc leertaste espace espacio espaço spazio boşluk mellemrum mellomrom mellanslag ␣",
-    "caps": "caps capslock capslk capslck shiftlock feststell feststelltaste verrmaj bloqmayús blocmaiusc ⇪ ⇬ 英数",
+    "space": "space spacebar spc leertaste espace espacio espaço spazio boşluk mellemrum mellomrom mellanslag blanksteg ␣",
+    "caps": "caps capslock capslk capslck shiftlock feststell feststelltaste verrmaj bloqmayús blocmaiusc skiftlås ⇪ ⇬ 英数",
     "esc": "esc escape échap ⎋",
     "num": "num numlock nmlk numlk numlck verrnum bloqnum blocnum ⇭",
     "scroll": "scroll scrolllock scrlk scrlock scrlck scrolllk rollen défil arrêtdéfil bloqdespl blocscorr",
     "sysreq": "sysreq sysrq sabf systabf syst petsis petsist",
-    "prtsc": "prtsc prtscn prtscr prntscrn printscreen printscrn print prntscr druck imprécran imprécr imppant "
+    "prtsc": "prtsc prt prtscn prtscr prntscrn printscreen printscrn print prntscr druck imprécran imprécr imppant "
              "imprpant stamp ⎙",
     "grave": "半角全角 全角半角 半全 ej",
     **{"f%d" % number: "f%d" % number for number in range(1, 11)}}
@@ -47,7 +47,7 @@ OTHERS = (
     "win lwin rwin winkey leftwin rightwin leftgui rightgui leftsuper rightsuper windows super lsuper rsuper gui lgui rgui "
     "meta cmd command lcmd rcmd ◇ ◆ mo(1) mo(2) mo(3) l1 l2 l3 os hyper "
     "code logo logowindows8 logowindows7 ⌘ ❖ ⊞ menu app apps application kontextmenü menü menú ≣ ☰ ▤ fn fn1 fn2 fn3 "
-    "function layer lower raise adjust pause break pausebreak brk pauseattn pauseunterbr unterbr pauseuntbr untbr "
+    "function layer lower raise adjust pn pause break pausebreak brk pauseattn pauseunterbr unterbr pauseuntbr untbr "
     "attn pausa pausainterr pausainter interr mute vol vol+ vol- vol↑ vol↓ volup voldown voldn volumeup volumedown volume "
     "play pauseplay playpause next prev previous stop media mail calc power sleep wake eject help undo redo copy cut "
     "paste 00 000 無変換 変換 かな カタカナひらがな カタカナひらがなローマ字 ひらがな ローマ字 muhenkan henkan kana 한영 한자 encoder knob ⏏ ⇓ ⇑ mouse "
