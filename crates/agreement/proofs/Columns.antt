@@ -14,7 +14,7 @@ use Rattle.board_lines.specs.Matrix.{all_up, column_rows, rows_of}
 use Rattle.bits.proofs.Every.{and-left, and-right}
 use Rattle.board_lines.proofs.Shown.{shown_from, edges_shown}
 use Rattle.fw_keys.specs.Edges.{row_edges, column_edges, tick_edges}
-use Rattle.fw_keys.specs.Frameless.{IsStarted, shown_by, edges_now}
+use Rattle.fw_keys.specs.Frameless.{shown_by, edges_now}
 use Rattle.fw_logic.specs.Ticks.{column_read}
 use Rattle.fw_keys.specs.State.{flags, down_at}
 use Rattle.bits.proofs.Every.{every_below, at_each, same, same_is, pair_tests}
@@ -22,8 +22,6 @@ use Rattle.fw_logic.specs.Scan.{in_tick}
 use Rattle.joint_run.specs.Joint.{Beside, joint_board, joint_pins, keys_at}
 use Rattle.joint_run.specs.Run.{Board, World}
 use Rattle.kbd_model.specs.Keyboard.{is_held}
-use Rattle.key_file.specs.Accepted.{IsLawful}
-use Rattle.key_file.specs.Histories.{KeyHistory}
 use Rattle.board_lines.proofs.Shown.{skip, keep}
 use Rattle.link_model.proofs.Edges.{are_at, filter_same}
 use Rattle.link_model.specs.TickEdges.{by_place, change_at, is_down, shown, shown_at}
@@ -280,9 +278,3 @@ pub board_edges : (edges : List Edge) (events : List HostEvent) (w : World Besid
 board_edges edges events w late =
     bytes_shown (is_held (shown_by w.cpu.ram)) (columns_in edges w.cycle) (λ c. slice_index w.cpu.ram (32 + c))
     (column_read (joint_board edges events) w) (held_read w.cpu.ram) (down_read edges events w late)
-
--- the same of a lawful history
-pub edges_are : (history : KeyHistory) (w : World Beside) → IsLawful history → IsStarted w.cpu → 4096 ≤ w.cycle
-    → edges_now (joint_board history.edges history.host) w
-    ≡ shown (is_held (shown_by w.cpu.ram)) (columns_in history.edges w.cycle)
-edges_are history w ok started late = board_edges history.edges history.host w late

@@ -22,7 +22,8 @@ use Rattle.wires_agree.specs.Without.{link_by, without_bits, seen_in_bytes}
 use Rattle.link_model.specs.Machine.{Machine}
 use Rattle.link_model.specs.Expected.{Whole, to_look, to_meeting, from_meeting, begins_from, whole_tick}
 use Rattle.agreement.proofs.Model.{at_first}
-use Rattle.agreement.proofs.PortInBytes.{AsksByte, IsInBytes, writes_next, event_in, read_in, settled_in, happened_in}
+use Rattle.agreement.specs.Bytes.{AsksByte, IsInBytes}
+use Rattle.agreement.proofs.PortInBytes.{writes_next, event_in, read_in, settled_in, happened_in}
 use Rattle.agreement.proofs.PortInBytes.{broken_in}
 
 -- at the start there is no byte

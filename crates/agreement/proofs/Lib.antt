@@ -33,3 +33,6 @@ pub mod Run
 pub mod FewEdges
 pub mod ModelAtEachStart
 pub mod Tied
+pub mod FewShown
+pub mod FromStart
+pub mod AnyStart

@@ -31,31 +31,11 @@ use Rattle.ctl_link.specs.declared.link.Link.TheVariants.{Free, Hold, Ask, Reque
 use Rattle.ctl_link.specs.declared.port.Port.{Port}
 use Rattle.ctl_link.specs.Link.{settled, asking, took_where, takes_input, held_since, link_after, received}
 use Rattle.host_turn.specs.Host.{Host, acted, acted_where, event_turn, read_by_bios, in_silence, is_done}
-use Rattle.host_turn.specs.Run.{Side}
 use Rattle.byte_time.specs.declared.UnderWay.{UnderWay}
 use Rattle.byte_time.specs.ByteTime.{Event, Quiet, Begins, Closes, Arrives, IsWhole, happened_at, arrived_in, arriving}
 use Rattle.byte_time.specs.ByteTime.{closed}
 use Rattle.key_file.specs.Accepted.{WritesByte, AreWritten}
-
--- the input buffer's byte, where it has one, is below 256
-abbrev pub HoldsByte : Option Input → Type 0
-HoldsByte None = Unit {0}
-HoldsByte (Some input) = input.byte < 256
-
--- so is the byte for the keyboard, where the link has one
-abbrev pub AsksByte : Link UnderWay → Type 0
-AsksByte Free = Unit {0}
-AsksByte (Hold since) = Unit {0}
-AsksByte (Ask byte since) = byte < 256
-AsksByte (Request byte) = byte < 256
-AsksByte (Busy under_way) = Unit {0}
-
--- both, of the controller and of the PC's side
-abbrev pub IsPortInBytes : Port UnderWay → Type 0
-IsPortInBytes p = HoldsByte p.core.input × AsksByte p.link
-
-abbrev pub IsInBytes : Side UnderWay → Type 0
-IsInBytes m = IsPortInBytes m.port
+use Rattle.agreement.specs.Bytes.{HoldsByte, AsksByte, IsPortInBytes}
 
 -- the next event, where there is one, writes a byte
 abbrev WritesNext : Option HostEvent → Type 0

@@ -20,6 +20,7 @@ use Rattle.link_model.specs.Machine.{LayeredKeyboard, keyboard}
 use Rattle.mcs48_core.specs.Cpu.{Cpu}
 use Rattle.mcs48_core.specs.Reset.{reset_cpu}
 use Rattle.mcs48_ranges.specs.Sizes.{IsByte, IsFine}
+use Rattle.agreement.specs.AnyStart.{AreFor}
 use Rattle.agreement.specs.Agreement.{AgreementLaw, AnyMemoryLaw, PromptLaw, switched_on}
 use Rattle.agreement.specs.Executed.{ExecutedLaw, LateLaw}
 use Rattle.agreement.specs.Memory.{Holds, MemoryLaw}
@@ -31,6 +32,10 @@ use Rattle.fw_logic.specs.Ticks.{IsOnTime}
 use Rattle.agreement.proofs.Model.{at_first}
 use Rattle.agreement.proofs.ModelAtEachStart.{keeps_time, at_starts, at_run, agrees, drives, prompt}
 use Rattle.agreement.proofs.Tied.{Tied, fits, tied_first, tied_next, passes, tick_drives}
+
+-- a lawful history is one of the layout's
+bare : (layout : KeyLayout) (history : KeyHistory) → IsLawfulFor layout history → AreFor layout history.edges history.host
+bare layout history ok = record { places = ok.places; written = ok.lawful.written; flips = ok.lawful.flips }
 
 module _ (layout : KeyLayout) (history : KeyHistory) (fine : IsKeyLayout layout)
     (ok : IsLawfulFor layout history) where
@@ -54,9 +59,9 @@ module _ (layout : KeyLayout) (history : KeyHistory) (fine : IsKeyLayout layout)
     comes_first : Comes (joint_board edges events) TICK bytes from (λ e. at_tick (joint_board edges events) TICK e ≡ true)
     comes_first =
         comes_as (joint_board edges events) TICK bytes
-        (λ e. IsOnTime 0 e × Tied layout history fine ok e (at_first (keyboard layout) events e.cycle))
+        (λ e. IsOnTime 0 e × Tied layout history fine (bare layout history ok) e (at_first (keyboard layout) events e.cycle))
         (λ e. at_tick (joint_board edges events) TICK e ≡ true) from
-        (λ e h. is_tick edges events e h.1.ties.started) (tied_first layout history fine ok m small)
+        (λ e h. is_tick edges events e h.1.ties.started) (tied_first layout history fine (bare layout history ok) m small)
 
     -- up to it port 1 is as reset leaves it
     stays_dark : (k : ℕ) (one next : World Beside) → calm (joint_board edges events) TICK bytes k from ≡ Some one
@@ -80,13 +85,13 @@ module _ (layout : KeyLayout) (history : KeyHistory) (fine : IsKeyLayout layout)
 pub every_memory : AnyMemoryLaw
 every_memory layout history fine ok m small = (
   keeps_time LayeredKeyboard (switched_on history.edges history.host m) (image_of layout) history ok.lawful (keyboard layout)
-      (Tied layout history fine ok) (λ k. HasPlaces k.keyboard) (fits layout history fine ok) (λ p l. none_held layout p)
-      (holds_now layout) (tied_first layout history fine ok m small) (tied_next layout history fine ok)
+      (Tied layout history fine (bare layout history ok)) (λ k. HasPlaces k.keyboard) (fits layout history fine (bare layout history ok)) (λ p l. none_held layout p)
+      (holds_now layout) (tied_first layout history fine (bare layout history ok) m small) (tied_next layout history fine (bare layout history ok))
       (λ w m t. ap (λ (s : _). s.log) t.ties.side) (λ w m t. (t.ties.started.entered.serves, t.ties.started.entered.bank))
       (λ w m t. (t.ties.started.entered.early, t.ties.started.entered.late)),
   agrees LayeredKeyboard (switched_on history.edges history.host m) (image_of layout) history ok.lawful (keyboard layout)
-      (Tied layout history fine ok) (λ k. HasPlaces k.keyboard) (fits layout history fine ok) (λ p l. none_held layout p)
-      (holds_now layout) (tied_first layout history fine ok m small) (tied_next layout history fine ok)
+      (Tied layout history fine (bare layout history ok)) (λ k. HasPlaces k.keyboard) (fits layout history fine (bare layout history ok)) (λ p l. none_held layout p)
+      (holds_now layout) (tied_first layout history fine (bare layout history ok) m small) (tied_next layout history fine (bare layout history ok))
       (λ w m t. ap (λ (s : _). s.log) t.ties.side) (λ w m t. (t.ties.started.entered.serves, t.ties.started.entered.bank))
       (λ w m t. (t.ties.started.entered.early, t.ties.started.entered.late)),
 )
@@ -114,8 +119,8 @@ every_run layout history fine ok = every_memory layout history fine ok reset_cpu
 pub every_start : PromptLaw
 every_start layout history fine ok m small =
     prompt LayeredKeyboard (switched_on history.edges history.host m) (image_of layout) history ok.lawful (keyboard layout)
-    (Tied layout history fine ok) (λ k. HasPlaces k.keyboard) (fits layout history fine ok) (λ p l. none_held layout p)
-    (holds_now layout) (tied_first layout history fine ok m small) (tied_next layout history fine ok)
+    (Tied layout history fine (bare layout history ok)) (λ k. HasPlaces k.keyboard) (fits layout history fine (bare layout history ok)) (λ p l. none_held layout p)
+    (holds_now layout) (tied_first layout history fine (bare layout history ok) m small) (tied_next layout history fine (bare layout history ok))
     (λ w m t. ap (λ (s : _). s.log) t.ties.side) (λ w m t. (t.ties.started.entered.serves, t.ties.started.entered.bank))
     (λ w m t. (t.ties.started.entered.early, t.ties.started.entered.late))
 
@@ -123,13 +128,13 @@ every_start layout history fine ok m small =
 pub every_wire : WiresLaw
 every_wire layout history fine ok m small =
     drives LayeredKeyboard (switched_on history.edges history.host m) (image_of layout) history ok.lawful (keyboard layout)
-    (Tied layout history fine ok) (λ k. HasPlaces k.keyboard) (fits layout history fine ok) (λ p l. none_held layout p)
-    (holds_now layout) (tied_first layout history fine ok m small) (tied_next layout history fine ok)
+    (Tied layout history fine (bare layout history ok)) (λ k. HasPlaces k.keyboard) (fits layout history fine (bare layout history ok)) (λ p l. none_held layout p)
+    (holds_now layout) (tied_first layout history fine (bare layout history ok) m small) (tied_next layout history fine (bare layout history ok))
     (λ w m t. ap (λ (s : _). s.log) t.ties.side) (λ w m t. (t.ties.started.entered.serves, t.ties.started.entered.bank))
     (λ w m t. (t.ties.started.entered.early, t.ties.started.entered.late))
     (begins_let_go history.edges history.host (image_of layout) (has_kernel layout) (are_bytes layout fine) m small)
     (stays_dark layout history fine ok m small)
-    (tick_drives layout history fine ok)
+    (tick_drives layout history fine (bare layout history ok))
 
 -- and data memory shows the model's keyboard
 pub every_holding : MemoryLaw
@@ -137,8 +142,8 @@ every_holding layout history fine ok m small =
     let a =
     at_starts LayeredKeyboard (switched_on history.edges history.host m) (image_of layout) history ok.lawful
     (keyboard layout)
-    (Tied layout history fine ok) (λ k. HasPlaces k.keyboard) (fits layout history fine ok) (λ p l. none_held layout p)
-    (holds_now layout) (tied_first layout history fine ok m small) (tied_next layout history fine ok)
+    (Tied layout history fine (bare layout history ok)) (λ k. HasPlaces k.keyboard) (fits layout history fine (bare layout history ok)) (λ p l. none_held layout p)
+    (holds_now layout) (tied_first layout history fine (bare layout history ok) m small) (tied_next layout history fine (bare layout history ok))
     (λ w m t. ap (λ (s : _). s.log) t.ties.side)
     (λ w m t. (t.ties.started.entered.serves, t.ties.started.entered.bank))
     (λ w m t. (t.ties.started.entered.early, t.ties.started.entered.late)) (λ w m. Holds w m.keys)
@@ -155,13 +160,13 @@ each_passes : (layout : KeyLayout) (history : KeyHistory) (fine : IsKeyLayout la
 each_passes layout history fine ok m small =
     at_run LayeredKeyboard (switched_on history.edges history.host m) (image_of layout) history ok.lawful
     (keyboard layout)
-    (Tied layout history fine ok) (λ k. HasPlaces k.keyboard) (fits layout history fine ok) (λ p l. none_held layout p)
-    (holds_now layout) (tied_first layout history fine ok m small) (tied_next layout history fine ok)
+    (Tied layout history fine (bare layout history ok)) (λ k. HasPlaces k.keyboard) (fits layout history fine (bare layout history ok)) (λ p l. none_held layout p)
+    (holds_now layout) (tied_first layout history fine (bare layout history ok) m small) (tied_next layout history fine (bare layout history ok))
     (λ w m t. ap (λ (s : _). s.log) t.ties.side)
     (λ w m t. (t.ties.started.entered.serves, t.ties.started.entered.bank))
     (λ w m t. (t.ties.started.entered.early, t.ties.started.entered.late))
     (λ w. Passes (joint_board history.edges history.host) (image_of layout) w)
-    (λ n w m time t few. passes layout history fine ok n w m time t few)
+    (λ n w m time t few. passes layout history fine (bare layout history ok) n w m time t few)
 
 -- so each state of the run is fit
 pub every_execution : ExecutedLaw

@@ -1,4 +1,5 @@
--- For every layout and every lawful history what ties the joint run to the model goes on from tick to tick.
+-- For every layout, whatever its keys and the host do, what ties the joint run to the model goes on from tick to tick, if
+-- the tick shows few edges.
 use Rattle.std.proofs.Common.{◌≡◌, ◌≤◌, ◌<◌, ℕ, suc, ◌+◌, ◌-◌, ◌*◌, ◌/◌, ◌%◌, ◌==◌, true, false, nat_le}
 use Rattle.std.proofs.Common.{slice_index, if◌then◌else◌, All, List, length, refl, ap, sym, ◌∙◌, subst, arith}
 use Rattle.std.proofs.lemmas.Bool.Decides.{nat_tests}
@@ -21,7 +22,6 @@ use Rattle.joint_run.specs.Joint.{Beside, joint_board}
 use Rattle.joint_run.specs.Run.{Board, World}
 use Rattle.joint_run.specs.Starts.{at_tick, Comes, Tick}
 use Rattle.kbd_model.specs.Keyboard.{Keyboard, offer, is_held}
-use Rattle.key_file.specs.Accepted.{IsLawfulFor}
 use Rattle.key_file.specs.Histories.{KeyHistory}
 use Rattle.layout_reader.specs.Layouts.{KeyLayout, IsKeyLayout, HasEntry}
 use Rattle.link_model.specs.Expected.{Whole, meeting_from}
@@ -30,10 +30,12 @@ use Rattle.link_model.specs.TickEdges.{shown}
 use Rattle.mcs48_core.specs.Cpu.{Cpu}
 use Rattle.mcs48_ranges.specs.Sizes.{IsFine}
 use Rattle.agreement.specs.Agreement.{switched_on}
+use Rattle.agreement.specs.AnyStart.{AreFor}
+use Rattle.agreement.specs.Bytes.{IsInBytes}
 use Rattle.agreement.specs.Wires.{DrivesFrame}
 use Rattle.agreement.proofs.Above.{edges_over, low_over}
 use Rattle.agreement.proofs.Beginning.{begins, is_tick}
-use Rattle.agreement.proofs.Columns.{bus_low, edges_are}
+use Rattle.agreement.proofs.Columns.{bus_low, board_edges}
 use Rattle.agreement.proofs.Compiled.{has_kernel, has_rate, is_alike, are_bytes, silent_keys, same_keys, no_prefix}
 use Rattle.agreement.proofs.Cutting.{cut_since, is_cut_by}
 use Rattle.agreement.proofs.Deciding.{every_tick}
@@ -41,7 +43,6 @@ use Rattle.agreement.proofs.Frames.{frame_in}
 use Rattle.agreement.proofs.Going.{Went}
 use Rattle.agreement.proofs.Happened.{lit_latch, at_look}
 use Rattle.agreement.proofs.Holding.{HasPlaces, none_held, holds_now, places_shown}
-use Rattle.agreement.proofs.PortInBytes.{IsInBytes}
 use Rattle.agreement.proofs.InBytes.{look_in_bytes, tick_in_bytes, first_in_bytes, request_in_bytes}
 use Rattle.fw_logic.specs.Ticks.{IsOnTime}
 use Rattle.agreement.proofs.Model.{at_first, by_columns, columns_in}
@@ -52,7 +53,7 @@ use Rattle.agreement.proofs.Ties.{Ties}
 use Rattle.agreement.proofs.Together.{together, goes_with, asks_for}
 
 module _ (layout : KeyLayout) (history : KeyHistory) (fine : IsKeyLayout layout)
-    (ok : IsLawfulFor layout history) where
+    (ok : AreFor layout history.edges history.host) where
   abbrev edges : List Edge
   edges = history.edges
 
@@ -84,7 +85,7 @@ module _ (layout : KeyLayout) (history : KeyHistory) (fine : IsKeyLayout layout)
         h.0,
         record {
           ties = h.1;
-          in_bytes = first_in_bytes events ok.lawful.written LayeredKeyboard (keyboard layout) e.cycle;
+          in_bytes = first_in_bytes events ok.written LayeredKeyboard (keyboard layout) e.cycle;
           placed = λ p l held. absurd (let off : false ≡ true = sym (none_held layout p) ∙ held in cc);
           column =
               let pre : e.cpu.pre ≤ 3 = h.1.started.entered.late in
@@ -94,7 +95,7 @@ module _ (layout : KeyLayout) (history : KeyHistory) (fine : IsKeyLayout layout)
               h.2 ∙ sym (ap (λ b. if b then 255 else 44) first);
         },
       ))
-      (begins edges events ok.lawful.flips bytes (has_kernel layout) (are_bytes layout fine) (bus_low edges events) m small
+      (begins edges events ok.flips bytes (has_kernel layout) (are_bytes layout fine) (bus_low edges events) m small
       layout (has_rate layout))
 
   module _ (n : ℕ) (w : World Beside) (m : Whole LayeredKeyboard) (time : IsOnTime n w) (tied : Tied w m)
@@ -105,7 +106,7 @@ module _ (layout : KeyLayout) (history : KeyHistory) (fine : IsKeyLayout layout)
     columns : edges_now (joint_board edges events) w ≡ shown (is_held m.keys.keyboard) (columns_in edges w.cycle)
     columns =
         let early : 2 ≤ w.cpu.pre = tie.started.entered.early in
-        edges_are history w ok.lawful tie.started (omega (arith, time, early))
+        board_edges edges events w (omega (arith, time, early))
         ∙ ap (λ k. shown (is_held k) (columns_in edges w.cycle)) tie.keyboard
 
     lamps : m.keys.keyboard.lights ≡ Rattle.joint_run.specs.Joint.lights_of (lit_latch edges events w)
@@ -126,7 +127,7 @@ module _ (layout : KeyLayout) (history : KeyHistory) (fine : IsKeyLayout layout)
         (subst (λ s. IsInBytes s)
         (sym (model_looks edges events w tie.released (lit_released edges events w tie.started) tie.idle LayeredKeyboard
         (keyboard layout) m tie.side tie.shown lamps))
-        (look_in_bytes events ok.lawful.written m.shown m.keys.keyboard.lights w.cycle m.side tied.in_bytes))
+        (look_in_bytes events ok.written m.shown m.keys.keyboard.lights w.cycle m.side tied.in_bytes))
         request
 
     -- the latch of the tick, by the cycle
@@ -148,12 +149,12 @@ module _ (layout : KeyLayout) (history : KeyHistory) (fine : IsKeyLayout layout)
 
     went : Tick joint TICK bytes w
         (Went edges events joint (λ b. b) (itself edges events) bytes layout (same_keys layout) (no_prefix layout fine) n w m
-        time tie columns of_layout released lamps ok.lawful.flips frame)
+        time tie columns of_layout released lamps ok.flips frame)
     went =
         every_tick edges events joint (λ b. b) (itself edges events) bytes (has_kernel layout)
         (is_alike layout fine) (are_bytes layout fine) (bus_low edges events) layout (same_keys layout)
         (no_prefix layout fine) n w m time tie columns of_layout (subst (λ v. length v ≤ 4) (sym columns) four)
-        released lamps ok.lawful.flips
+        released lamps ok.flips
         (λ byte is. offers_byte w.cpu tie.started byte (ap offer tie.keyboard ∙ is)) asked
 
     -- by the service's end
@@ -180,7 +181,7 @@ module _ (layout : KeyLayout) (history : KeyHistory) (fine : IsKeyLayout layout)
         there : Tied next (by_columns (keyboard layout) edges events w.cycle next.cycle m)
         there = record {
           ties = went.rest.goal.0.1;
-          in_bytes = tick_in_bytes events ok.lawful.written LayeredKeyboard (keyboard layout)
+          in_bytes = tick_in_bytes events ok.written LayeredKeyboard (keyboard layout)
               (shown (is_held m.keys.keyboard) (columns_in edges w.cycle)) w.cycle (next.cycle - w.cycle - 609) m
               tied.in_bytes;
           placed = λ p l held.
@@ -213,7 +214,7 @@ module _ (layout : KeyLayout) (history : KeyHistory) (fine : IsKeyLayout layout)
         every_tick edges events W beneath above bytes (has_kernel layout) (is_alike layout fine)
         (are_bytes layout fine) (low_over edges events W beneath above) layout (same_keys layout)
         (no_prefix layout fine) n (watched w) m time
-        tie columns_above of_layout (subst (λ v. length v ≤ 4) (sym columns_above) four) released lamps ok.lawful.flips
+        tie columns_above of_layout (subst (λ v. length v ≤ 4) (sym columns_above) four) released lamps ok.flips
         (λ byte is. offers_byte w.cpu tie.started byte (ap offer tie.keyboard ∙ is)) asked in
         record {
           frame = frame;
@@ -239,7 +240,7 @@ module _ (layout : KeyLayout) (history : KeyHistory) (fine : IsKeyLayout layout)
               (offer m.keys.keyboard));
           drives = drives_tick joint latch TICK bytes w
               (Went edges events W beneath above bytes layout (same_keys layout) (no_prefix layout fine) n (watched w) m
-              time tie columns_above of_layout released lamps ok.lawful.flips frame)
+              time tie columns_above of_layout released lamps ok.flips frame)
               (λ e. (at_tick joint TICK e ≡ true) × (e.cpu.p2 ≡ lit))
               (λ e g. (
                 (is_tick edges events (under beneath e) g.0.1.started, g.1.latch),

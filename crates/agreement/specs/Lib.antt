@@ -3,3 +3,5 @@ pub mod Wires
 pub mod Firmware
 pub mod Memory
 pub mod Executed
+pub mod Bytes
+pub mod AnyStart

@@ -8,6 +8,7 @@
 #![tactic(auto)]
 
 ghost use Rattle.agreement.specs.Agreement.{AgreementLaw, AnyMemoryLaw, PromptLaw};
+ghost use Rattle.agreement.specs.AnyStart.{AsShown, FromAnyStart, ThinShowsFew};
 ghost use Rattle.agreement.specs.Executed.{ExecutedLaw, LateLaw};
 ghost use Rattle.agreement.specs.Firmware.{TickLaw};
 ghost use Rattle.agreement.specs.Memory.{MemoryLaw};
@@ -64,4 +65,15 @@ pub fn every_tick()
 pub fn keeps_to_the_board()
     ensures executed { ExecutedLaw }
     ensures late { LateLaw }
+{}
+
+/// From any tick start at which data memory shows a keyboard, whatever the keys did before: the run goes on as the model
+/// does from that keyboard, as long as at most four keys a tick differ from what the tick before saw. The model's tick
+/// gets what the columns show, so keys may bounce between two reads as they like. It is so of the run from power-on, too.
+/// A tick shows few if, of any five edges in a row that it may see, the last is at least 2,240 cycles later than the
+/// first. Nothing is done when it is called; the laws are its contract.
+pub fn goes_on_from_any_start()
+    ensures from_any_start { FromAnyStart }
+    ensures as_shown { AsShown }
+    ensures thin { ThinShowsFew }
 {}
