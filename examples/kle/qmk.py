@@ -9,6 +9,8 @@ from .board import Board, Choices, Diodes, Key, Place, Refused, Tool, count_of, 
 def layout_named(data: dict[str, Any], wanted: set[str]) -> tuple[str, list[Any]]:
     """The layout that is wanted, by its names or aliases of it, and its keys; or else the only one."""
     layouts, aliases = data["layouts"], part_of(data, "layout_aliases", dict)
+    for alias in aliases:
+        part_of(aliases, alias, str, "layout_aliases.")
     names = {aliases.get(name, name) if name not in layouts else name for name in wanted} or set(layouts)
     unknown = [name for name in names if name not in layouts]
     if unknown:
