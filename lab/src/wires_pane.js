@@ -77,6 +77,7 @@ export class WiresPane {
   #show(keys) {
     this.drawn = -1;
     this.still = null;
+    for (const id of ['bytes', 'log']) byId(id).replaceChildren();
     this.wave.show(null);
     if (keys === LIVE) return;
     const trace = kbd48(['trace', this.layoutName(), keys]), run = kbd48(['run', this.layoutName(), keys]);
@@ -137,9 +138,12 @@ export class WiresPane {
 
 const at = cycle => `${((cycle - FIRST_STAMP) / CYCLES_OF_A_MS).toFixed(2).padStart(10)} ms`;
 
-// The lines, with the last one in sight.
+// The lines, with the last one in sight. Lines that are there already stay: each new one costs a layout of its own alone.
 function write(element, lines) {
-  element.textContent = lines.join('\n');
+  const last = element.lastChild?.textContent.slice(0, -1), had = last === undefined ? -1 : lines.lastIndexOf(last);
+  if (had < 0) element.replaceChildren();
+  element.append(...lines.slice(had + 1).map(line => make('div', { textContent: `${line}\n` })));
+  while (element.childElementCount > lines.length) element.firstChild.remove();
   element.scrollTop = element.scrollHeight;
 }
 
