@@ -140,10 +140,15 @@ const at = cycle => `${((cycle - FIRST_STAMP) / CYCLES_OF_A_MS).toFixed(2).padSt
 
 // The lines, with the last one in sight. Lines that are there already stay: each new one costs a layout of its own alone.
 function write(element, lines) {
-  const last = element.lastChild?.textContent.slice(0, -1), had = last === undefined ? -1 : lines.lastIndexOf(last);
-  if (had < 0) element.replaceChildren();
-  element.append(...lines.slice(had + 1).map(line => make('div', { textContent: `${line}\n` })));
-  while (element.childElementCount > lines.length) element.firstChild.remove();
+  const rows = lines.map(line => `${line}\n`), had = rows.lastIndexOf(element.lastChild?.textContent);
+  const add = from => element.append(...rows.slice(from).map(row => make('div', { textContent: row })));
+  add(had + 1);
+  while (element.childElementCount > rows.length) element.firstChild.remove();
+  // Two lines may be equal: then the list may be another than it should be.
+  if (element.childElementCount < rows.length || (rows.length && element.firstChild.textContent !== rows[0])) {
+    element.replaceChildren();
+    add(0);
+  }
   element.scrollTop = element.scrollHeight;
 }
 
