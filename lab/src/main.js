@@ -13,6 +13,7 @@ import { Pc, WiresPane } from './wires_pane.js';
 import { WorkbenchPane } from './workbench_pane.js';
 
 const LONGEST = 100; // ms of a picture that are made up for
+const BETWEEN = 20; // ms: some thirty pictures a second, since each costs the browser more than it costs this page
 
 const moduleOf = async id => unpacked(bytesOf(byId(id).textContent));
 
@@ -101,7 +102,7 @@ class Lab {
         return;
       }
       last = now;
-      requestAnimationFrame(next);
+      setTimeout(() => requestAnimationFrame(next), BETWEEN);
     };
     requestAnimationFrame(next);
   }

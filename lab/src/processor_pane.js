@@ -19,7 +19,7 @@ const ROW = 16;
 const LIVE_ONE = 'the keyboard that I type on';
 const LOOKS_APART = 200; // ms between two pictures of a keyboard that runs
 const TICK = 30; // ms
-const MOST_STRIDES = 8;
+const MOST_STRIDES = 8, LIVE_STRIDE = 20000;
 const A_SECOND = 220000; // steps
 
 export class ProcessorPane {
@@ -161,7 +161,7 @@ export class ProcessorPane {
     const gone = on ? this.session.goOn(most, arms) : this.session.go(most, arms);
     this.#now(gone.state);
     const words = wordsOf(gone.state);
-    tell(byId('at'), gone.hit !== null && most > 1 ? `${words}: stopped at ${STOPS[gone.hit]}` : gone.ended ? `${words}: the run has ended` : words);
+    tell(byId('at'), gone.hit !== null ? `${words}: stopped at ${STOPS[gone.hit]}` : gone.ended ? `${words}: the run has ended` : words);
     return gone;
   }
 
@@ -208,13 +208,16 @@ export class ProcessorPane {
     byId('run').setAttribute('aria-pressed', 'true');
     byId('run').textContent = 'Halt';
     // At a pace each picture is a round number of steps later, so that many of them come of one run.
-    const stride = pace >= FOREVER ? this.#far() : Math.max(1, Math.round(pace * TICK / 1000));
+    // The keyboard that runs has no end, so the page must be able to halt it.
+    const [longest, most] = this.#isLive() ? [LIVE_STRIDE, 1] : [FOREVER, MOST_STRIDES];
+    const stride = Math.min(longest, pace >= FOREVER ? FOREVER : Math.max(1, Math.round(pace * TICK / 1000)));
     let last = performance.now(), owed = stride;
     const tick = () => {
       const now = performance.now();
       owed += Math.min(now - last, 250) / 1000 * pace;
+      owed = Math.min(owed, (most + 1) * stride);
       last = now;
-      for (let strides = Math.min(Math.floor(owed / stride), MOST_STRIDES); strides > 0; strides--) {
+      for (let strides = Math.min(Math.floor(owed / stride), most); strides > 0; strides--) {
         owed -= stride;
         const gone = this.#go(stride, arms, true);
         if (!gone || gone.hit !== null || gone.ended) {

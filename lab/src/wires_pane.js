@@ -77,6 +77,7 @@ export class WiresPane {
   #show(keys) {
     this.drawn = -1;
     this.still = null;
+    for (const id of ['bytes', 'log']) byId(id).replaceChildren();
     this.wave.show(null);
     if (keys === LIVE) return;
     const trace = kbd48(['trace', this.layoutName(), keys]), run = kbd48(['run', this.layoutName(), keys]);
@@ -137,9 +138,17 @@ export class WiresPane {
 
 const at = cycle => `${((cycle - FIRST_STAMP) / CYCLES_OF_A_MS).toFixed(2).padStart(10)} ms`;
 
-// The lines, with the last one in sight.
+// The lines, with the last one in sight. Lines that are there already stay: each new one costs a layout of its own alone.
 function write(element, lines) {
-  element.textContent = lines.join('\n');
+  const rows = lines.map(line => `${line}\n`), had = rows.lastIndexOf(element.lastChild?.textContent);
+  const add = from => element.append(...rows.slice(from).map(row => make('div', { textContent: row })));
+  add(had + 1);
+  while (element.childElementCount > rows.length) element.firstChild.remove();
+  // Two lines may be equal: then the list may be another than it should be.
+  if (element.childElementCount < rows.length || (rows.length && element.firstChild.textContent !== rows[0])) {
+    element.replaceChildren();
+    add(0);
+  }
   element.scrollTop = element.scrollHeight;
 }
 
