@@ -5,7 +5,7 @@
    processor, one cycle or two; between two calls the machine stands between two steps. A call that makes a step says
    so.
 
-   Each function but kbd48_text answers a status. Of an empty handle each answers KBD48_NOT_OPEN and does nothing
+   Each function but kbd48_text and kbd48_version answers a status. Of an empty handle each answers KBD48_NOT_OPEN and does nothing
    (kbd48_run then says that 0 cycles passed). A call that is refused (KBD48_NO_SUCH_PLACE, KBD48_NO_SUCH_PORT,
    KBD48_FULL, KBD48_EARLY; of a call that makes one step also KBD48_STUCK and KBD48_OVER) leaves the keyboard as it
    was. What is written through a pointer is written where the status is KBD48_DONE, but for what the function says.
@@ -26,6 +26,7 @@ extern "C" {
 #endif
 
 #define KBD48_VERSION "1.0.0"
+#define KBD48_VERSION_NUMBER 10000 /* 10,000 times the first part, 100 times the second, and the third */
 
 /* A keyboard, or none. */
 typedef struct {
@@ -49,7 +50,10 @@ enum {
     KBD48_ROSE = 12,          /* the interrupt line rose */
     KBD48_NO_SUCH_CELL = 13,  /* data memory has the cells 0 to 127 */
     KBD48_NOTHING_SAID = 14,  /* nothing was said since something was last handed out */
-    KBD48_LOST = 15           /* more was said than is kept */
+    KBD48_LOST = 15,          /* more was said than is kept */
+    KBD48_REPEATED = 16,      /* after the edges that wait the key is so already: down, or up */
+    KBD48_KEY_DUE = 17,       /* the next edge of the queue is due: call again with the cycles that are left */
+    KBD48_NO_SUCH_KEY = 18    /* no key has the name, or the layout has none of it */
 };
 
 /* The same in words; a text for every number. */
@@ -58,10 +62,14 @@ static inline const char *kbd48_text(int32_t status) {
         "done", "the handle is empty", "there is no memory", "the text has a fault", "the text is too long",
         "no such place", "no such port", "no room", "the processor is stuck", "stuck before stamp 0",
         "the count of cycles is at its end", "no word", "the interrupt line rose", "no such cell",
-        "nothing was said", "more was said than is kept",
+        "nothing was said", "more was said than is kept", "the key is so already", "the next edge is due",
+        "no such key",
     };
     return status >= 0 && (size_t)status < sizeof texts / sizeof *texts ? texts[status] : "no such status";
 }
+
+/* KBD48_VERSION_NUMBER as the library was built with it. */
+int32_t kbd48_version(void);
 
 /* Where a text has its first fault: the entry of a layout or the line of a HEX text, counted from 1, and the number of
    the rule that it breaks (`docs/FORMATS.md`). Entry 0 is the layout as a whole. */
@@ -81,6 +89,15 @@ typedef struct {
    memory that the keyboard takes: no other call but those that open and kbd48_copy takes any. On KBD48_BAD_TEXT `fault` says where; on any other
    status `fault` is as it was, and on any failure the handle is. */
 int32_t kbd48_open_layout(const uint8_t *text, size_t length, kbd48 *handle, kbd48_fault *fault);
+
+/* The same with the sample layout, us84: 84 keys, each at the place of its number. No text is read. */
+int32_t kbd48_open_sample(kbd48 *handle);
+
+/* The place, 0 to 95, of the key with this name in a layout's text, or in the sample layout. `examples/us84.toml` has the
+   names of the 84 keys; they are compared byte by byte. Otherwise KBD48_NO_SUCH_KEY, or as kbd48_open_layout of a text
+   that is no layout. These two calls need no handle. */
+int32_t kbd48_layout_key(const uint8_t *text, size_t length, const uint8_t *name, size_t name_length, uint8_t *place);
+int32_t kbd48_sample_key(const uint8_t *name, size_t length, uint8_t *place);
 
 /* The same with a program memory as an Intel HEX text of at most 16,384 bytes, of any program. One that sticks in its
    first cycles is opened too, and stays where it is. */
@@ -108,6 +125,45 @@ int32_t kbd48_key(kbd48 *handle, uint8_t place, bool down);
    the interrupt line rises, which KBD48_ROSE says. `passed` is how many passed, whatever the status. On KBD48_STUCK
    `place` is where. */
 int32_t kbd48_run(kbd48 *handle, uint64_t cycles, bool watched, uint64_t *passed, kbd48_place *place);
+
+/* A queue of edges of keys. It hands each to the keyboard as soon as the keyboard can see it and has had the time to send
+   the edge before: 2,240 cycles after a press, 4,480 after a release. So keys are reported in the order in which they
+   were pushed, and a stroke of any length is seen. It is a struct of yours: it begins as KBD48_NO_KEYS, is written by
+   these functions alone, takes no memory and has no pointer in it. Copy it by assignment; keep one for each keyboard. */
+typedef struct {
+    uint64_t stamp; /* when it happened: the cycle less 4,096 */
+    uint8_t place;
+    bool down;
+} kbd48_pushed;
+
+typedef struct {
+    uint64_t ready;          /* the stamp from which on the next edge may be handed over */
+    kbd48_pushed edges[160]; /* those that wait, in the order in which they were pushed */
+    bool down[96];           /* whether the key at each place is down after all of them */
+    uint8_t count;           /* how many wait */
+} kbd48_keys;
+#ifdef __cplusplus
+#define KBD48_NO_KEYS {}
+#else
+#define KBD48_NO_KEYS {0} /* what a queue begins as: no edge waits, and all keys are up */
+#endif
+
+/* The key at a place, 0 to 95, goes down or up at this cycle (that of kbd48_cycle, or a later one), after all edges that
+   wait. KBD48_REPEATED if it is so already, as with the repeats of a window system: leave them out. KBD48_FULL if
+   a key goes down and 64 edges wait; a release always finds room. In both cases the queue is as it was. */
+int32_t kbd48_queue_key(kbd48_keys *queue, uint64_t cycle, uint8_t place, bool down);
+
+/* Each key that is down goes up at this cycle, after all edges that wait: as when your window loses the focus. */
+int32_t kbd48_release_all(kbd48_keys *queue, uint64_t cycle);
+
+/* How many edges wait, at most 160. */
+int32_t kbd48_queued(kbd48_keys *queue, uint8_t *count);
+
+/* Hands over the edge of the queue that is due, and then runs as kbd48_run does, but up to the next edge that is due at
+   most. KBD48_KEY_DUE says that fewer than `cycles` cycles have passed: call again with the rest. The edge is handed
+   over as by kbd48_key, so it waits while four edges of that call do. */
+int32_t kbd48_run_keys(kbd48 *handle, kbd48_keys *queue, uint64_t cycles, bool watched, uint64_t *passed,
+                       kbd48_place *place);
 
 /* The host writes a byte to port 0x60 or 0x64, in one step. KBD48_FULL where the controller's input buffer is full. */
 int32_t kbd48_write(kbd48 *handle, uint8_t port, uint8_t byte);

@@ -25,11 +25,35 @@ public:
     static Kbd48 of_hex(const std::string &text) { return opened(kbd48_open_hex, text); }
     static Kbd48 ready_of_layout(const std::string &text) { return opened(kbd48_open_ready_layout, text); }
     static Kbd48 ready_of_hex(const std::string &text) { return opened(kbd48_open_ready_hex, text); }
+    static Kbd48 of_sample() {
+        Kbd48 keyboard;
+        need(kbd48_open_sample(&keyboard.handle));
+        return keyboard;
+    }
 
-    Kbd48(const Kbd48 &other) { need(kbd48_copy(&other.handle, &handle)); }
-    Kbd48(Kbd48 &&other) noexcept { std::swap(handle.at, other.handle.at); }
+    // The place of a key by its name, in a layout's text or in the sample layout.
+    static uint8_t place_of(const std::string &layout, const std::string &name) {
+        uint8_t place;
+        need(kbd48_layout_key(bytes(layout), layout.size(), bytes(name), name.size(), &place));
+        return place;
+    }
+    static uint8_t place_of(const std::string &name) {
+        uint8_t place;
+        need(kbd48_sample_key(bytes(name), name.size(), &place));
+        return place;
+    }
+
+    // How a run with the queue ended: how many cycles passed, how often the line rose, and whether that ended it.
+    struct Ran {
+        uint64_t passed, rises;
+        bool rose;
+    };
+
+    Kbd48(const Kbd48 &other) : keys(other.keys) { need(kbd48_copy(&other.handle, &handle)); }
+    Kbd48(Kbd48 &&other) noexcept : keys(other.keys) { std::swap(handle.at, other.handle.at); }
     Kbd48 &operator=(Kbd48 other) noexcept {
         std::swap(handle.at, other.handle.at);
+        std::swap(keys, other.keys);
         return *this;
     }
     ~Kbd48() { kbd48_close(&handle); }
@@ -47,6 +71,33 @@ public:
         return why == KBD48_ROSE || (need(why), false);
     }
 
+    // Keys by the queue of this keyboard, which hands each edge over when it can be seen. A key that is so already changes
+    // nothing; false if it goes down and there is no room.
+    bool queue_key(uint8_t place, bool down) {
+        int32_t status = kbd48_queue_key(&keys, cycle(), place, down);
+        return status == KBD48_REPEATED || roomy(status);
+    }
+    void release_all() { need(kbd48_release_all(&keys, cycle())); }
+    unsigned queued() {
+        uint8_t count;
+        need(kbd48_queued(&keys, &count));
+        return count;
+    }
+    Ran run_keys(uint64_t cycles, bool watched = false) {
+        Ran ran = {0, 0, false};
+        int32_t status = KBD48_KEY_DUE;
+        while (status == KBD48_KEY_DUE) {
+            uint64_t passed;
+            kbd48_place place;
+            status = kbd48_run_keys(&handle, &keys, cycles - ran.passed, watched, &passed, &place);
+            ran.passed += passed;
+            ran.rises += rises();
+        }
+        ran.rose = status == KBD48_ROSE;
+        if (!ran.rose) need(status);
+        return ran;
+    }
+
     // The next word or item; false if there is none. KBD48_LOST is thrown.
     bool take(uint16_t &word) { return is_there(kbd48_take(&handle, &word), KBD48_NO_WORD); }
     bool next(kbd48_item &item) { return is_there(kbd48_next(&handle, &item), KBD48_NOTHING_SAID); }
@@ -62,6 +113,7 @@ public:
 
 private:
     mutable kbd48 handle = KBD48_EMPTY; // a look goes through it too, and leaves it as it was
+    kbd48_keys keys = KBD48_NO_KEYS;
 
     Kbd48() = default;
 
@@ -69,6 +121,7 @@ private:
         if (status != KBD48_DONE) throw Error(status);
     }
     static bool is_there(int32_t status, int32_t none) { return status != none && (need(status), true); }
+    static const uint8_t *bytes(const std::string &text) { return reinterpret_cast<const uint8_t *>(text.data()); }
     static bool roomy(int32_t status) { return is_there(status, KBD48_FULL); }
 
     template <class T> T shown(int32_t (*call)(kbd48 *, T *)) const {
@@ -80,7 +133,7 @@ private:
     static Kbd48 opened(int32_t (*open)(const uint8_t *, size_t, kbd48 *, kbd48_fault *), const std::string &text) {
         Kbd48 keyboard;
         kbd48_fault fault = {0, 0};
-        int32_t status = open(reinterpret_cast<const uint8_t *>(text.data()), text.size(), &keyboard.handle, &fault);
+        int32_t status = open(bytes(text), text.size(), &keyboard.handle, &fault);
         if (status == KBD48_BAD_TEXT) throw TextFault(status, fault);
         need(status);
         return keyboard;

@@ -15,6 +15,7 @@ pub enum Error {
     TooLong,
     NoSuchPlace,
     NoSuchPort,
+    /// There is no room: for a write, for a fifth edge, or for a press in a queue.
     Full,
     /// The keyboard's processor is at a byte that begins no instruction.
     Stuck,
@@ -23,6 +24,8 @@ pub enum Error {
     NoSuchCell,
     /// More was said than is kept.
     Lost,
+    /// No key has the name, or the layout has none of it.
+    NoSuchKey,
 }
 
 impl fmt::Display for Error {
@@ -59,6 +62,34 @@ pub struct Ran {
     pub rose: bool,
 }
 
+/// How a run with the queue ended: how many cycles passed, how often the interrupt line rose, and whether that ended it.
+#[derive(Clone, Copy, Debug, PartialEq, Eq)]
+pub struct KeysRan {
+    pub passed: u64,
+    pub rises: u64,
+    pub rose: bool,
+}
+
+#[repr(C)]
+#[derive(Clone, Copy)]
+struct Pushed {
+    stamp: u64,
+    place: u8,
+    down: bool,
+}
+
+#[repr(C)]
+#[derive(Clone, Copy)]
+struct Keys {
+    ready: u64,
+    edges: [Pushed; 160],
+    down: [bool; 96],
+    count: u8,
+}
+
+const NO_KEYS: Keys =
+    Keys { ready: 0, edges: [Pushed { stamp: 0, place: 0, down: false }; 160], down: [false; 96], count: 0 };
+
 #[repr(C)]
 struct Handle {
     at: *mut c_void,
@@ -85,6 +116,13 @@ unsafe extern "C" {
     fn kbd48_open_hex(text: *const u8, length: usize, handle: *mut Handle, fault: *mut Fault) -> i32;
     fn kbd48_open_ready_layout(text: *const u8, length: usize, handle: *mut Handle, fault: *mut Fault) -> i32;
     fn kbd48_open_ready_hex(text: *const u8, length: usize, handle: *mut Handle, fault: *mut Fault) -> i32;
+    fn kbd48_open_sample(handle: *mut Handle) -> i32;
+    fn kbd48_layout_key(text: *const u8, length: usize, name: *const u8, name_length: usize, place: *mut u8) -> i32;
+    fn kbd48_sample_key(name: *const u8, length: usize, place: *mut u8) -> i32;
+    fn kbd48_queue_key(queue: *mut Keys, cycle: u64, place: u8, down: bool) -> i32;
+    fn kbd48_release_all(queue: *mut Keys, cycle: u64) -> i32;
+    fn kbd48_queued(queue: *mut Keys, count: *mut u8) -> i32;
+    fn kbd48_run_keys(handle: *mut Handle, queue: *mut Keys, cycles: u64, watched: bool, passed: *mut u64, place: *mut Place) -> i32;
     fn kbd48_copy(from: *mut Handle, to: *mut Handle) -> i32;
     fn kbd48_close(handle: *mut Handle) -> i32;
     fn kbd48_key(handle: *mut Handle, place: u8, down: bool) -> i32;
@@ -117,6 +155,7 @@ fn judged(status: i32, fault: Fault) -> Result<(), Error> {
         10 => Error::Over,
         13 => Error::NoSuchCell,
         15 => Error::Lost,
+        18 => Error::NoSuchKey,
         other => unreachable!("status {other} of an open keyboard"),
     })
 }
@@ -128,6 +167,7 @@ fn done(status: i32) -> Result<(), Error> {
 /// A keyboard. A look goes through its handle too, so it is no `Sync`.
 pub struct Keyboard {
     handle: UnsafeCell<Handle>,
+    keys: UnsafeCell<Keys>,
 }
 
 // One call at a time has it, and it owns all that it leads to.
@@ -157,9 +197,69 @@ impl Keyboard {
         Keyboard::opened(kbd48_open_ready_hex, text)
     }
 
+    /// A keyboard of the sample layout.
+    pub fn of_sample() -> Result<Keyboard, Error> {
+        let keyboard = Keyboard::none();
+        done(unsafe { kbd48_open_sample(keyboard.handle.get()) }).map(|()| keyboard)
+    }
+
+    /// The place of a key by its name, in a layout's text.
+    pub fn place_of(layout: &[u8], name: &str) -> Result<u8, Error> {
+        let mut place = 0;
+        let status =
+            unsafe { kbd48_layout_key(layout.as_ptr(), layout.len(), name.as_ptr(), name.len(), &mut place) };
+        done(status).map(|()| place)
+    }
+
+    /// The place of a key by its name in the sample layout.
+    pub fn sample_place_of(name: &str) -> Result<u8, Error> {
+        let mut place = 0;
+        done(unsafe { kbd48_sample_key(name.as_ptr(), name.len(), &mut place) }).map(|()| place)
+    }
+
+    /// A key by the queue of this keyboard, which hands each edge over when it can be seen. A key that is so already changes
+    /// nothing.
+    pub fn queue_key(&mut self, place: u8, down: bool) -> Result<(), Error> {
+        match unsafe { kbd48_queue_key(self.keys.get(), self.cycle(), place, down) } {
+            16 => Ok(()),
+            status => done(status),
+        }
+    }
+
+    /// Each key that is down goes up, after all edges that wait.
+    pub fn release_all(&mut self) {
+        unsafe { kbd48_release_all(self.keys.get(), self.cycle()) };
+    }
+
+    /// How many edges wait in the queue.
+    pub fn queued(&self) -> u8 {
+        let mut count = 0;
+        unsafe { kbd48_queued(self.keys.get(), &mut count) };
+        count
+    }
+
+    /// Runs as `run` does, and hands over each edge of the queue when it is due.
+    pub fn run_keys(&mut self, cycles: u64, watched: bool) -> Result<KeysRan, Error> {
+        let mut ran = KeysRan { passed: 0, rises: 0, rose: false };
+        loop {
+            let (mut passed, mut place) = (0, Place::default());
+            let left = cycles.saturating_sub(ran.passed);
+            let status =
+                unsafe { kbd48_run_keys(self.handle.get(), self.keys.get(), left, watched, &mut passed, &mut place) };
+            ran.passed += passed;
+            ran.rises += self.rises();
+            match status {
+                12 => return Ok(KeysRan { rose: true, ..ran }),
+                17 => {}
+                _ => return done(status).map(|()| ran),
+            }
+        }
+    }
+
     /// A keyboard of its own in the same state.
     pub fn copied(&self) -> Result<Keyboard, Error> {
         let copy = Keyboard::none();
+        unsafe { *copy.keys.get() = *self.keys.get() };
         done(unsafe { kbd48_copy(self.handle.get(), copy.handle.get()) }).map(|()| copy)
     }
 
@@ -232,7 +332,7 @@ impl Keyboard {
     }
 
     fn none() -> Keyboard {
-        Keyboard { handle: UnsafeCell::new(Handle { at: ptr::null_mut() }) }
+        Keyboard { handle: UnsafeCell::new(Handle { at: ptr::null_mut() }), keys: UnsafeCell::new(NO_KEYS) }
     }
 
     fn opened(open: Open, text: &[u8]) -> Result<Keyboard, Error> {

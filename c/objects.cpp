@@ -28,6 +28,16 @@ int main() {
     kbd48_item item;
     CHECK(moved.next(item) && item.kind == KBD48_ITEM_READ && item.value == 0xaa && !moved.next(item));
     CHECK(moved.key(34, true) && moved.run(400000, true) && moved.read60() == 0x23 && !copy.run(4000, true));
+    Kbd48 sample = Kbd48::of_sample();
+    uint8_t h = Kbd48::place_of("h"), shift = Kbd48::place_of(text, "lshift");
+    CHECK(sample.run(400000, true) && sample.read60() == 0xaa && h == 34 && shift == 41);
+    CHECK(sample.queue_key(shift, true) && sample.queue_key(h, true) && sample.queue_key(h, true));
+    sample.release_all();
+    CHECK(sample.queued() == 4);
+    copy = sample;
+    for (uint8_t byte : {0x2a, 0x23, 0xa3, 0xaa})
+        CHECK(copy.run_keys(400000, true).rose && copy.read60() == byte);
+    CHECK(copy.queued() == 0 && sample.queued() == 4 && sample.run_keys(40000).rises == 1);
     try {
         Kbd48::of_layout("format = ");
         return failed(__LINE__);

@@ -17,6 +17,20 @@ fn main() -> Result<(), Box<dyn std::error::Error>> {
     copy.key(34, true)?;
     assert!(copy.run(400_000, true)?.rose);
     assert_eq!(std::thread::spawn(move || copy.read60()).join().unwrap()?, 0x23);
+    let (h, shift) = (Keyboard::sample_place_of("h")?, Keyboard::place_of(&std::fs::read("examples/us84.toml")?, "lshift")?);
+    assert_eq!((h, shift, Keyboard::sample_place_of("no key").err()), (34, 41, Some(Error::NoSuchKey)));
+    let mut sample = Keyboard::of_sample()?;
+    assert!(sample.run(400_000, true)?.rose && sample.read60()? == 0xaa);
+    sample.queue_key(shift, true)?;
+    sample.queue_key(h, true)?;
+    sample.queue_key(h, true)?;
+    sample.release_all();
+    assert_eq!(sample.copied()?.queued(), 4);
+    for byte in [0x2a, 0x23, 0xa3, 0xaa] {
+        assert!(sample.run_keys(400_000, true)?.rose);
+        assert_eq!(sample.read60()?, byte);
+    }
+    assert_eq!((sample.queued(), sample.run_keys(4000, false)?.rises), (0, 0));
     assert_eq!(first.key(96, true), Err(Error::NoSuchPlace));
     assert_eq!(Keyboard::of_layout(b"format = ").err(), Some(Error::BadText { place: 0, number: 1 }));
     Ok(())

@@ -42,6 +42,21 @@ def check_refusals(layout, stuck):
     assert isinstance(found, Stuck) and (found.counter, found.byte) == (0x003, 0x01), found
 
 
+def check_queue(layout):
+    """Keys that are pushed at once are read in their order, on the sample layout."""
+    shift, h = Keyboard.place_of("lshift", layout), Keyboard.place_of("h")
+    assert (shift, h, refusal(Keyboard.place_of, "H").status) == (41, 34, Status.NO_SUCH_KEY)
+    with Keyboard.of_sample() as keyboard:
+        assert keyboard.run_keys(400_000, watched=True).rose and keyboard.read60() == 0xAA
+        assert keyboard.queue_key(shift, True) and keyboard.queue_key(h, True) and keyboard.queue_key(h, True)
+        keyboard.release_all()
+        assert keyboard.queued == 4 and refusal(keyboard.queue_key, 96, True).status == Status.NO_SUCH_PLACE
+        twin = keyboard.copy()
+        for byte in (0x2A, 0x23, 0xA3, 0xAA):
+            assert twin.run_keys(400_000, watched=True).rose and twin.read60() == byte
+        assert twin.queued == 0 and keyboard.queued == 4 and keyboard.run_keys(40_000).rises == 1
+
+
 def check_docs():
     """Each public name has a docstring, and each method says what it answers."""
     for name in kbd48.__all__:
@@ -79,6 +94,7 @@ def main(layout, stuck):
         layout = file.read()
     with open(stuck, "rb") as file:
         check_refusals(layout, file.read())
+    check_queue(layout)
     check_docs()
     for item in type_hi(layout):
         print(text(item))

@@ -6,3 +6,5 @@ pub mod Looks
 pub mod Copies
 pub mod Items
 pub mod Opening
+pub mod Queueing
+pub mod Names

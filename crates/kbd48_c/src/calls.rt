@@ -23,8 +23,10 @@ fn status_of(answer: Result<(), Refused>) -> i32
 }
 
 /// The key at a place, 0 to 95, goes down or up.
-fn press(keyboard: &mut Keyboard, place: u8, down: bool) -> i32
+pub(crate) fn press(keyboard: &mut Keyboard, place: u8, down: bool) -> i32
     ensures pressed { HasPressed place down keyboard.old result keyboard.new }
+    ensures joint { keyboard.new.joint ≡ keyboard.old.joint }
+    ensures heard { keyboard.new.heard ≡ keyboard.old.heard }
 {
     match Place::at(place / 8, place % 8) {
         Some(at) => status_of(keyboard.key(at, down)),

@@ -18,7 +18,7 @@ pub struct Spot {
 }
 
 /// Where it is stuck, where it is.
-fn put_spot(end: RunEnd, spot: &mut Spot)
+pub(crate) fn put_spot(end: RunEnd, spot: &mut Spot)
     ensures { spot.new ≡ spot_after end spot.old }
 {
     if let RunEnd::Stuck(stuck) = end {

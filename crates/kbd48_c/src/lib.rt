@@ -10,11 +10,17 @@ mod copying;
 mod going;
 mod handle;
 mod items;
+mod keyed;
 mod looks;
+mod names;
 mod opening;
 mod pointer;
+#[cfg(test)]
+mod queue_tests;
+mod queueing;
 mod ready;
 mod status;
 #[cfg(test)]
 mod tests;
+mod version;
 mod views;

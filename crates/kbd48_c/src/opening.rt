@@ -21,7 +21,7 @@ use std::alloc::Global;
 const MOST_HEX: usize = 16384;
 
 /// How long a layout's text may be, in bytes.
-const MOST_LAYOUT: usize = 65536;
+pub(crate) const MOST_LAYOUT: usize = 65536;
 
 /// Where a text has its first fault, and the number of the rule that it breaks.
 #[repr(C)]
@@ -44,7 +44,7 @@ fn board(image: &Image, bios: Bios, ready: bool) -> Keyboard
 }
 
 /// Opens a keyboard with this program at the handle, and closes the one that was there.
-fn open(alloc: Global, image: &Image, ready: bool, handle: &mut Handle) -> i32
+pub(crate) fn open(alloc: Global, image: &Image, ready: bool, handle: &mut Handle) -> i32
     ensures opened { result ≡ done → HasOpened ready image.now.bytes handle.new.keyboard }
     ensures refused { (result ≡ done → ⊥) → handle.new.keyboard ≡ handle.old.keyboard }
     ensures status { (result ≡ done) ⊎ (result ≡ no_memory) }

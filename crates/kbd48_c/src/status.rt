@@ -37,6 +37,12 @@ pub(crate) const NOTHING_SAID: i32 = 14;
 
 pub(crate) const LOST: i32 = 15;
 
+pub(crate) const REPEATED: i32 = 16;
+
+pub(crate) const KEY_DUE: i32 = 17;
+
+pub(crate) const NO_SUCH_KEY: i32 = 18;
+
 /// The status of a call that was refused.
 pub(crate) fn refused_status(refused: Refused) -> i32
     ensures { result ≡ refused_status refused }

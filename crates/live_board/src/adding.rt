@@ -72,6 +72,7 @@ impl Parts {
     pub(crate) fn key(&mut self, place: Place, down: bool) -> Result<(), Refused>
         ensures keyed { IsKeyed place down self.old result self.new }
         ensures untold { (self.new.heard ≡ self.old.heard) × (self.new.rises ≡ self.old.rises) }
+        ensures joint { self.new.joint ≡ self.old.joint }
     {
         let cycle = self.joint.cycle();
         if cycle < STAMP_0 {

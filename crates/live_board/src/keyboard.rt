@@ -112,6 +112,7 @@ impl Keyboard {
     pub fn key(&mut self, place: Place, down: bool) -> Result<(), Refused>
         ensures keyed { IsKeyed place down self.old result self.new }
         ensures untold { (self.new.heard ≡ self.old.heard) × (self.new.rises ≡ self.old.rises) }
+        ensures joint { self.new.joint ≡ self.old.joint }
     {
         self.parts.key(place, down)
     }

@@ -30,6 +30,9 @@ class Status(IntEnum):
     NO_SUCH_CELL = 13
     NOTHING_SAID = 14
     LOST = 15
+    REPEATED = 16
+    KEY_DUE = 17
+    NO_SUCH_KEY = 18
 
 
 TEXTS = {
@@ -44,6 +47,7 @@ TEXTS = {
     Status.OVER: "the count of cycles is at its end",
     Status.NO_SUCH_CELL: "data memory has the cells 0 to 127",
     Status.LOST: "more was said than is kept",
+    Status.NO_SUCH_KEY: "no key has this name",
 }
 
 
@@ -99,6 +103,14 @@ class Ran(NamedTuple):
     """How many cycles a run made, and whether the interrupt line rose, which ends a watched run."""
 
     cycles: int
+    rose: bool
+
+
+class KeysRan(NamedTuple):
+    """How many cycles a run with the queue made, how often the interrupt line rose, and whether that ended it."""
+
+    cycles: int
+    rises: int
     rose: bool
 
 
@@ -178,6 +190,7 @@ class Keyboard:
 
     def __init__(self) -> None:
         self._handle = library.Handle()
+        self._keys = library.Keys()
 
     @classmethod
     def of_layout(cls, text: Union[str, bytes], ready: bool = False) -> Keyboard:
@@ -189,6 +202,25 @@ class Keyboard:
     def of_hex(cls, text: Union[str, bytes], ready: bool = False) -> Keyboard:
         """A keyboard with this program (Intel HEX), at stamp 0, or stuck before that; `ready` is as for a layout."""
         return cls._of(LIBRARY.kbd48_open_ready_hex if ready else LIBRARY.kbd48_open_hex, text)
+
+    @classmethod
+    def of_sample(cls) -> Keyboard:
+        """A keyboard of the sample layout, us84, at stamp 0."""
+        keyboard = cls()
+        keyboard._done("open_sample")
+        return keyboard
+
+    @staticmethod
+    def place_of(name: str, layout: Union[str, bytes, None] = None) -> int:
+        """The place of a key by its name (`h`, `lshift`), in a layout's text or in the sample layout."""
+        key, place = name.encode(), c.c_uint8()
+        if layout is None:
+            status = LIBRARY.kbd48_sample_key(key, len(key), place)
+        else:
+            data = layout.encode() if isinstance(layout, str) else bytes(layout)
+            status = LIBRARY.kbd48_layout_key(data, len(data), key, len(key), place)
+        _need(Status(status))
+        return place.value
 
     @classmethod
     def _of(cls, call: Callable[..., int], text: Union[str, bytes]) -> Keyboard:
@@ -204,6 +236,7 @@ class Keyboard:
         """A second keyboard in the same state. The same calls give the same answers."""
         other = type(self)()
         self._done("copy", other._handle)
+        other._keys = library.Keys.from_buffer_copy(self._keys)
         return other
 
     __copy__ = copy
@@ -237,6 +270,39 @@ class Keyboard:
         if status != Status.ROSE:
             _need(status)
         return Ran(passed.value, status == Status.ROSE)
+
+    def queue_key(self, place: int, down: bool) -> bool:
+        """The key at a place goes down or up after all edges that wait in this keyboard's queue, which hands each over when
+        it can be seen. A key that is so already changes nothing. False if it goes down and 64 edges wait."""
+        status = Status(LIBRARY.kbd48_queue_key(self._keys, self.cycle, _unsigned(place, 8, "a place"), down))
+        if status not in (Status.FULL, Status.REPEATED):
+            _need(status)
+        return status != Status.FULL
+
+    def release_all(self) -> None:
+        """Each key that is down goes up, after all edges that wait."""
+        LIBRARY.kbd48_release_all(self._keys, self.cycle)
+
+    @property
+    def queued(self) -> int:
+        """How many edges wait in the queue, at most 160."""
+        count = c.c_uint8()
+        LIBRARY.kbd48_queued(self._keys, count)
+        return count.value
+
+    def run_keys(self, cycles: int, watched: bool = False) -> KeysRan:
+        """Runs as `run` does, and hands over each edge of the queue when it is due."""
+        made, rises, status = 0, 0, Status.KEY_DUE
+        while status == Status.KEY_DUE:
+            passed, place = c.c_uint64(), library.Place()
+            left = _unsigned(cycles, 64, "a number of cycles") - made
+            status = self._call("run_keys", self._keys, left, watched, passed, place)
+            made, rises = made + passed.value, rises + (self.rises if status != Status.NOT_OPEN else 0)
+        if status == Status.STUCK:
+            raise Stuck(place.counter, place.byte, made)
+        if status != Status.ROSE:
+            _need(status)
+        return KeysRan(made, rises, status == Status.ROSE)
 
     def write(self, port: int, byte: int) -> bool:
         """The host writes a byte to port 0x60 or 0x64, in one step. False, and no step, if the input buffer is full."""

@@ -17,6 +17,14 @@ class Place(c.Structure):
     _fields_ = [("counter", c.c_uint16), ("byte", c.c_uint8)]
 
 
+class Pushed(c.Structure):
+    _fields_ = [("stamp", c.c_uint64), ("place", c.c_uint8), ("down", c.c_bool)]
+
+
+class Keys(c.Structure):
+    _fields_ = [("ready", c.c_uint64), ("edges", Pushed * 160), ("down", c.c_bool * 96), ("count", c.c_uint8)]
+
+
 class Item(c.Structure):
     _fields_ = [("cycle", c.c_uint64), ("kind", c.c_uint8), ("value", c.c_uint16)]
 
@@ -44,9 +52,11 @@ def _to(kind):
 # The parameters after the handle.
 PARAMETERS = {
     "close": [],
+    "open_sample": [],
     "copy": [_to(Handle)],
     "key": [c.c_uint8, c.c_bool],
     "run": [c.c_uint64, c.c_bool, _to(c.c_uint64), _to(Place)],
+    "run_keys": [_to(Keys), c.c_uint64, c.c_bool, _to(c.c_uint64), _to(Place)],
     "write": [c.c_uint8, c.c_uint8],
     "read60": [_to(c.c_uint8)],
     "status": [_to(c.c_uint8)],
@@ -67,15 +77,29 @@ PARAMETERS = {
 }
 
 
+# The parameters of the calls that have no handle.
+OTHERS = {
+    "open_layout": [c.c_char_p, c.c_size_t, _to(Handle), _to(Fault)],
+    "open_hex": [c.c_char_p, c.c_size_t, _to(Handle), _to(Fault)],
+    "open_ready_layout": [c.c_char_p, c.c_size_t, _to(Handle), _to(Fault)],
+    "open_ready_hex": [c.c_char_p, c.c_size_t, _to(Handle), _to(Fault)],
+    "layout_key": [c.c_char_p, c.c_size_t, c.c_char_p, c.c_size_t, _to(c.c_uint8)],
+    "sample_key": [c.c_char_p, c.c_size_t, _to(c.c_uint8)],
+    "queue_key": [_to(Keys), c.c_uint64, c.c_uint8, c.c_bool],
+    "release_all": [_to(Keys), c.c_uint64],
+    "queued": [_to(Keys), _to(c.c_uint8)],
+}
+
+
 def opened(path: str) -> c.CDLL:
     """The library at a path, its functions with their types."""
     library = c.CDLL(path)
     for name, parameters in PARAMETERS.items():
         function = getattr(library, f"kbd48_{name}")
         function.argtypes, function.restype = [_to(Handle), *parameters], c.c_int32
-    for name in ("open_layout", "open_hex", "open_ready_layout", "open_ready_hex"):
+    for name, parameters in OTHERS.items():
         function = getattr(library, f"kbd48_{name}")
-        function.argtypes, function.restype = [c.c_char_p, c.c_size_t, _to(Handle), _to(Fault)], c.c_int32
+        function.argtypes, function.restype = parameters, c.c_int32
     return library
 
 

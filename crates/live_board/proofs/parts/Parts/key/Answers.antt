@@ -17,4 +17,5 @@ returns c =
     record {
       keyed = (late, omega (arith, long, room), λ p s. keyed_on p k _ e late refl refl items refl s);
       untold = (refl, refl);
+      joint = refl;
     }

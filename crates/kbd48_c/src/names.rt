@@ -1,0 +1,92 @@
+//! Keys by their names, and the sample layout.
+
+ghost use Rattle.std.specs.Prelude.{◌≡◌, ◌<◌, ◌⊎◌, false, length};
+ghost use Rattle.fw_compile.specs.Image.{image_of};
+ghost use Rattle.layout_reader.specs.Layouts.{us84};
+ghost use Rattle.pc_tables.specs.Keys.{key_with_name};
+ghost use Rattle.kbd48_c.specs.Names.{IsKeyAt, place_named, place_or, place_status};
+ghost use Rattle.kbd48_c.specs.Opening.{HasOpened};
+ghost use Rattle.kbd48_c.specs.Statuses.{bad_text, done, no_memory, too_long};
+
+use crate::handle::Handle;
+use crate::opening::{MOST_LAYOUT, open};
+use crate::status::{BAD_TEXT, DONE, NO_MEMORY, NO_SUCH_KEY, TOO_LONG};
+use board_lines::Place;
+use fw_compile::compile;
+use layout_reader::{Layout, LayoutFault, read_layout, us84_layout};
+use pc_tables::key_spelled;
+use std::alloc::Global;
+
+/// The place of the key with this name in a layout, if there is one.
+fn place_named(layout: &Layout, name: &[u8]) -> Option<Place>
+    ensures { result ≡ place_named name.now layout.now }
+{
+    match key_spelled(name) {
+        Some(key) => layout.place_of(key),
+        None => None,
+    }
+}
+
+/// Writes a place, where there is one.
+fn put_place(found: Option<Place>, place: &mut u8) -> i32
+    ensures place { place.new ≡ place_or found place.old }
+    ensures status { result ≡ place_status found }
+{
+    match found {
+        Some(at) => {
+            *place = at.number();
+            DONE
+        }
+        None => NO_SUCH_KEY,
+    }
+}
+
+/// Opens a keyboard of the sample layout, us84, at the handle, and closes the one that was there.
+#[unsafe(no_mangle)]
+pub extern "C" fn kbd48_open_sample(alloc: Global, handle: &mut Handle) -> i32
+    ensures opened { result ≡ done → HasOpened false (image_of us84) handle.new.keyboard }
+    ensures refused { (result ≡ done → ⊥) → handle.new.keyboard ≡ handle.old.keyboard }
+    ensures status { (result ≡ done) ⊎ (result ≡ no_memory) }
+{
+    match us84_layout(alloc) {
+        Ok(layout) => open(alloc, &compile(&layout), false, handle),
+        Err(_) => NO_MEMORY,
+    }
+}
+
+/// The number of the key with this name, which is its place in the sample layout.
+#[unsafe(no_mangle)]
+pub extern "C" fn kbd48_sample_key(name: &[u8], place: &mut u8) -> i32
+    ensures place { place.new ≡ place_or (key_with_name name.now) place.old }
+    ensures status { result ≡ place_status (key_with_name name.now) }
+{
+    match key_spelled(name) {
+        Some(key) => {
+            *place = key.number();
+            DONE
+        }
+        None => NO_SUCH_KEY,
+    }
+}
+
+/// The place of the key with this name in a layout, from its text of at most 65,536 bytes.
+#[unsafe(no_mangle)]
+pub extern "C" fn kbd48_layout_key(alloc: Global, text: &[u8], name: &[u8], place: &mut u8) -> i32
+    ensures found { IsKeyAt text.now name.now place.old result place.new }
+    ensures long { 65536 < length text.now → result ≡ too_long }
+    ensures only { result ≡ too_long → 65536 < length text.now }
+{
+    if text.len() > MOST_LAYOUT {
+        return TOO_LONG;
+    }
+    match read_layout(alloc, text) {
+        Ok(layout) => put_place(place_named(&layout, name), place),
+        Err(
+            LayoutFault::Entry {
+                entry: _,
+                number: _,
+            },
+        ) => BAD_TEXT,
+        Err(LayoutFault::Memory) => NO_MEMORY,
+    }
+}
