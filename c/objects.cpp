@@ -28,6 +28,10 @@ int main() {
     kbd48_item item;
     CHECK(moved.next(item) && item.kind == KBD48_ITEM_READ && item.value == 0xaa && !moved.next(item));
     CHECK(moved.key(34, true) && moved.run(400000, true) && moved.read60() == 0x23 && !copy.run(4000, true));
+    Kbd48 ready = Kbd48::ready_of_layout(text);
+    CHECK(ready.interrupt() && ready.lost() == 0 && ready.run_to(0, 400000, 1) == 0);
+    CHECK(ready.run_to(KBD48_STOP_PLACE, 4096, UINT64_MAX, KBD48_TICK) == KBD48_STOP_PLACE);
+    CHECK(ready.processor().counter == KBD48_TICK);
     try {
         Kbd48::of_layout("format = ");
         return failed(__LINE__);

@@ -17,6 +17,10 @@ fn main() -> Result<(), Box<dyn std::error::Error>> {
     copy.key(34, true)?;
     assert!(copy.run(400_000, true)?.rose);
     assert_eq!(std::thread::spawn(move || copy.read60()).join().unwrap()?, 0x23);
+    let mut ready = Keyboard::ready_of_layout(&std::fs::read("examples/us84.toml")?)?;
+    assert!(ready.interrupt() && ready.lost() == 0);
+    assert_eq!(ready.run_to(0, 0, 400_000, 1)?.1, 0);
+    assert_eq!(ready.run_to(8, 7, 4096, u64::MAX)?.1, 8);
     assert_eq!(first.key(96, true), Err(Error::NoSuchPlace));
     assert_eq!(Keyboard::of_layout(b"format = ").err(), Some(Error::BadText { place: 0, number: 1 }));
     Ok(())

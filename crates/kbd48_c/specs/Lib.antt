@@ -6,3 +6,4 @@ pub mod Looks
 pub mod Copies
 pub mod Items
 pub mod Opening
+pub mod Stopping

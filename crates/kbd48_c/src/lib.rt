@@ -15,6 +15,7 @@ mod opening;
 mod pointer;
 mod ready;
 mod status;
+mod stopping;
 #[cfg(test)]
 mod tests;
 mod views;
