@@ -52,6 +52,8 @@ static void empty_handle(void) {
     CHECK(kbd48_rises(&k, &number) == KBD48_NOT_OPEN && number == 7);
     CHECK(kbd48_next(&k, &item) == KBD48_NOT_OPEN && item.kind == 7);
     CHECK(kbd48_lost(&k, &number) == KBD48_NOT_OPEN && number == 7);
+    CHECK(kbd48_run_to(&k, 15, 0, 9, 9, &byte, &number, &place) == KBD48_NOT_OPEN && byte == 0 && number == 0);
+    byte = 7;
     CHECK(kbd48_copy(&k, &other) == KBD48_NOT_OPEN && !other.at);
     CHECK(kbd48_look(&k, &registers) == KBD48_NOT_OPEN && registers.status == 7 && registers.output_port == 7);
     CHECK(kbd48_inside(&k, &inside) == KBD48_NOT_OPEN && inside.counter == 7);
@@ -148,6 +150,36 @@ static void a_ready_one(const uint8_t *hex, size_t length) {
     CHECK(kbd48_read60(&ready, &byte) == KBD48_DONE && byte == 0xaa);
     CHECK(kbd48_open_ready_layout(hex, length, &ready, &fault) == KBD48_BAD_TEXT && ready.at);
     CHECK(kbd48_close(&ready) == KBD48_DONE && kbd48_close(&other) == KBD48_DONE);
+}
+
+/* A run ends at the first step that comes to what it is asked to stop for, and at the same one as a run of single cycles. */
+static void a_run_to(const uint8_t *hex, size_t length) {
+    kbd48 k = KBD48_EMPTY, other = KBD48_EMPTY;
+    kbd48_fault fault;
+    kbd48_place place;
+    kbd48_processor inside;
+    uint64_t passed, one, cycle, at;
+    uint8_t met;
+    bool clock, data, clock_now, data_now;
+    CHECK(kbd48_open_hex(hex, length, &k, &fault) == KBD48_DONE);
+    CHECK(kbd48_copy(&k, &other) == KBD48_DONE);
+    CHECK(kbd48_run_to(&k, 0, 0, 400000, 9, &met, &passed, &place) == KBD48_DONE && met == 0 && passed >= 9 && passed <= 18);
+    CHECK(kbd48_run(&other, passed, false, &one, &place) == KBD48_DONE && one == passed);
+    for (int changes = 0; changes < 30; changes++) {
+        CHECK(kbd48_run_to(&k, KBD48_STOP_WIRES, 0, 400000, UINT64_MAX, &met, &passed, &place) == KBD48_DONE);
+        if (met != KBD48_STOP_WIRES) break;
+        CHECK(kbd48_wires(&other, &clock, &data) == KBD48_DONE);
+        do {
+            CHECK(kbd48_run(&other, 1, false, &one, &place) == KBD48_DONE);
+            CHECK(kbd48_wires(&other, &clock_now, &data_now) == KBD48_DONE);
+        } while (clock == clock_now && data == data_now);
+        CHECK(kbd48_cycle(&k, &cycle) == KBD48_DONE && kbd48_cycle(&other, &at) == KBD48_DONE && cycle == at);
+    }
+    CHECK(kbd48_run_to(&k, KBD48_STOP_RISE | KBD48_STOP_ITEM, 0, 400000, UINT64_MAX, &met, &passed, &place) == KBD48_DONE);
+    CHECK((met & ~(KBD48_STOP_RISE | KBD48_STOP_ITEM)) == 0);
+    CHECK(kbd48_run_to(&k, KBD48_STOP_PLACE, KBD48_TICK, 2049, UINT64_MAX, &met, &passed, &place) == KBD48_DONE);
+    CHECK(met == KBD48_STOP_PLACE && kbd48_inside(&k, &inside) == KBD48_DONE && inside.counter == KBD48_TICK);
+    CHECK(kbd48_close(&k) == KBD48_DONE && kbd48_close(&other) == KBD48_DONE);
 }
 
 /* A copy answers as the original does, and goes its own way. */
@@ -259,6 +291,7 @@ int main(void) {
     CHECK(a_session() == KBD48_DONE);
     a_stuck_one();
     a_ready_one(hex, hex_length);
+    a_run_to(hex, hex_length);
 }
 #else
 static long refuse = -1, calls, live;
@@ -302,6 +335,7 @@ int main(void) {
     CHECK(refused == all);
     a_stuck_one();
     a_ready_one(hex, hex_length);
+    a_run_to(hex, hex_length);
     CHECK(live == 0);
     printf("calls: each of %ld allocations was refused in turn\n", all);
 }

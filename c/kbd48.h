@@ -165,6 +165,21 @@ int32_t kbd48_queued(kbd48_keys *queue, uint8_t *count);
 int32_t kbd48_run_keys(kbd48 *handle, kbd48_keys *queue, uint64_t cycles, bool watched, uint64_t *passed,
                        kbd48_place *place);
 
+/* What a run may be asked to stop for. */
+enum {
+    KBD48_STOP_RISE = 1,  /* the interrupt line rises */
+    KBD48_STOP_ITEM = 2,  /* something is said: kbd48_next hands it out */
+    KBD48_STOP_WIRES = 4, /* a wire is otherwise after a step than before it */
+    KBD48_STOP_PLACE = 8  /* the processor's counter reaches the place `at`, 0 to 2,047 (its low 11 bits) */
+};
+
+/* Makes steps until one of them does what `mask` asks for, but until `cycles` cycles have passed (one more at most) or
+   `steps` steps were made. `met` says which of these the last step did; it is 0 if a limit ended the run. `passed` and `place` are as for kbd48_run. It makes many steps at once, as kbd48_run does; but with
+   KBD48_STOP_PLACE one at a time. A tick of the firmware of a layout begins at the place KBD48_TICK. */
+#define KBD48_TICK 0x007
+int32_t kbd48_run_to(kbd48 *handle, uint8_t mask, uint16_t at, uint64_t cycles, uint64_t steps, uint8_t *met,
+                     uint64_t *passed, kbd48_place *place);
+
 /* The host writes a byte to port 0x60 or 0x64, in one step. KBD48_FULL where the controller's input buffer is full. */
 int32_t kbd48_write(kbd48 *handle, uint8_t port, uint8_t byte);
 
@@ -233,7 +248,7 @@ int32_t kbd48_rises(kbd48 *handle, uint64_t *rises);
 int32_t kbd48_lights(kbd48 *handle, uint8_t *lights);
 
 /* The levels of the two wires after the last cycle, true for high. Each is low where the keyboard or the controller
-   pulls it. A watched run doesn't stop for them: run a cycle at a time to see each change. */
+   pulls it. kbd48_run_to stops at each change. */
 int32_t kbd48_wires(kbd48 *handle, bool *clock, bool *data);
 
 /* How many cycles have passed since power-on. A stamp of a key file counts from cycle 4,096. */

@@ -98,6 +98,15 @@ public:
         return ran;
     }
 
+    // Which the last step did of what the mask asks for (KBD48_STOP_...); 0 if a limit was reached.
+    uint8_t run_to(uint8_t mask, uint64_t cycles, uint64_t steps = UINT64_MAX, uint16_t at = 0) {
+        uint8_t met;
+        uint64_t passed;
+        kbd48_place place;
+        need(kbd48_run_to(&handle, mask, at, cycles, steps, &met, &passed, &place));
+        return met;
+    }
+
     // The next word or item; false if there is none. KBD48_LOST is thrown.
     bool take(uint16_t &word) { return is_there(kbd48_take(&handle, &word), KBD48_NO_WORD); }
     bool next(kbd48_item &item) { return is_there(kbd48_next(&handle, &item), KBD48_NOTHING_SAID); }

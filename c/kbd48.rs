@@ -127,6 +127,8 @@ unsafe extern "C" {
     fn kbd48_close(handle: *mut Handle) -> i32;
     fn kbd48_key(handle: *mut Handle, place: u8, down: bool) -> i32;
     fn kbd48_run(handle: *mut Handle, cycles: u64, watched: bool, passed: *mut u64, place: *mut Place) -> i32;
+    fn kbd48_run_to(handle: *mut Handle, mask: u8, at: u16, cycles: u64, steps: u64, met: *mut u8,
+        passed: *mut u64, place: *mut Place) -> i32;
     fn kbd48_write(handle: *mut Handle, port: u8, byte: u8) -> i32;
     fn kbd48_read60(handle: *mut Handle, byte: *mut u8) -> i32;
     fn kbd48_bios(handle: *mut Handle, on: bool) -> i32;
@@ -273,6 +275,15 @@ impl Keyboard {
             12 => Ok(Ran { passed, rose: true }),
             status => done(status).map(|()| Ran { passed, rose: false }),
         }
+    }
+
+    /// Runs until a step comes to what the mask asks for (1 a rise of the line, 2 something said, 4 a wire that changed, 8
+    /// the place `at` of the program), or to one of the limits. Answers how many cycles passed, and which of them it was.
+    pub fn run_to(&mut self, mask: u8, at: u16, cycles: u64, steps: u64) -> Result<(u64, u8), Error> {
+        let (mut met, mut passed, mut place) = (0, 0, Place::default());
+        let handle = self.handle.get();
+        done(unsafe { kbd48_run_to(handle, mask, at, cycles, steps, &mut met, &mut passed, &mut place) })
+            .map(|()| (passed, met))
     }
 
     pub fn write(&mut self, port: u8, byte: u8) -> Result<(), Error> {

@@ -5,7 +5,7 @@ import inspect
 import sys
 
 import kbd48
-from kbd48 import Error, ItemKind, Keyboard, Status, Stuck, TextFault
+from kbd48 import Error, ItemKind, Keyboard, Status, Stop, Stuck, TextFault
 
 FIRST_TICK, CYCLES_OF_A_TICK, CYCLES_OF_A_MS = 4096, 2048, 400
 LSHIFT, H, I, ENTER = 41, 34, 23, 40
@@ -36,6 +36,9 @@ def check_refusals(layout, stuck):
         assert keyboard.take() is None and keyboard.run(400).cycles >= 400
         twin = keyboard.copy()
         assert twin.run(100_000) == keyboard.run(100_000) and twin.processor == keyboard.processor
+    with Keyboard.of_layout(layout, ready=True) as ready:
+        assert ready.interrupt and ready.lost == 0 and ready.run_to(Stop(0), 400_000, steps=1).met == Stop(0)
+        assert ready.run_to(Stop.PLACE | Stop.RISE, 4096, at=7).met == Stop.PLACE and ready.processor.counter == 7
     assert refusal(keyboard.run, 1).status == Status.NOT_OPEN
     assert twin.cycle > 100_000 and twin.wires.clock in (True, False)
     found = refusal(Keyboard.of_hex(stuck).run, 100)

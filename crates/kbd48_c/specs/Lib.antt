@@ -8,3 +8,4 @@ pub mod Items
 pub mod Opening
 pub mod Queueing
 pub mod Names
+pub mod Stopping

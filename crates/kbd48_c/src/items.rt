@@ -123,7 +123,7 @@ pub extern "C" fn kbd48_next(alloc: Global, handle: &mut Handle, item: &mut Said
     }
 }
 
-/// How many items were said and not kept behind those that are kept, and weren't reported yet.
+/// How many items were said and not kept after those that are kept, and weren't reported yet.
 #[unsafe(no_mangle)]
 pub extern "C" fn kbd48_lost(alloc: Global, handle: &mut Handle, lost: &mut u64) -> i32
     ensures lost { lost.new ≡ shown_of (λ k. k.heard.lost) handle.old.keyboard lost.old }

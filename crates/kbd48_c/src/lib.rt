@@ -20,6 +20,7 @@ mod queue_tests;
 mod queueing;
 mod ready;
 mod status;
+mod stopping;
 #[cfg(test)]
 mod tests;
 mod version;

@@ -12,6 +12,7 @@ use crate::status::{
     BAD_TEXT, DONE, EARLY, FULL, LOST, NO_SUCH_CELL, NO_SUCH_PLACE, NO_SUCH_PORT, NO_WORD,
     NOT_OPEN, NOTHING_SAID, ROSE, STUCK, TOO_LONG,
 };
+use crate::stopping::kbd48_run_to;
 use crate::views::{kbd48_close, kbd48_cycle, kbd48_interrupt, kbd48_lights, kbd48_wires};
 use fw_kernel::KERNEL;
 use hexfile::write_hex;
@@ -277,6 +278,82 @@ fn a_ready_keyboard_has_its_answer_waiting(rt: HostRuntime) -> Result<(), AllocE
     assert!(rt; kbd48_open_ready_layout(alloc, text, &mut handle, &mut fault) == DONE);
     assert!(rt; kbd48_read60(alloc, &mut handle, &mut byte) == DONE && byte == 0xaa);
     assert!(rt; kbd48_open_ready_layout(alloc, b"x", &mut handle, &mut fault) == BAD_TEXT);
+    Ok(())
+}
+
+#[test]
+fn a_run_says_what_ended_it(rt: HostRuntime) -> Result<(), AllocError> {
+    let alloc = rt.alloc();
+    let text = write_hex(alloc, &Image { bytes: KERNEL })?;
+    let mut handle = Handle::none(alloc);
+    let mut fault = Fault {
+        place: 0,
+        number: 0,
+    };
+    let mut spot = Spot {
+        counter: 0,
+        byte: 0,
+    };
+    let (mut met, mut passed, mut up) = (9u8, 9u64, false);
+    assert!(rt;
+        kbd48_run_to(
+            alloc,
+            &mut handle,
+            15,
+            0,
+            9,
+            9,
+            &mut met,
+            &mut passed,
+            &mut spot
+        ) == NOT_OPEN
+    );
+    assert!(rt; met == 0 && passed == 0);
+    assert!(rt; kbd48_open_hex(alloc, text.as_slice(), &mut handle, &mut fault) == DONE);
+    let many = SECOND;
+    assert!(rt;
+        kbd48_run_to(
+            alloc,
+            &mut handle,
+            0,
+            0,
+            many,
+            5,
+            &mut met,
+            &mut passed,
+            &mut spot
+        ) == DONE
+    );
+    assert!(rt; met == 0 && passed >= 5 && passed <= 10);
+    assert!(rt;
+        kbd48_run_to(
+            alloc,
+            &mut handle,
+            4,
+            0,
+            many,
+            many,
+            &mut met,
+            &mut passed,
+            &mut spot
+        ) == DONE
+    );
+    assert!(rt; met == 4 && passed > 0);
+    assert!(rt;
+        kbd48_run_to(
+            alloc,
+            &mut handle,
+            3,
+            0,
+            many,
+            many,
+            &mut met,
+            &mut passed,
+            &mut spot
+        ) == DONE
+    );
+    assert!(rt; met == 1 && passed > 0);
+    assert!(rt; kbd48_interrupt(alloc, &mut handle, &mut up) == DONE && up);
     Ok(())
 }
 

@@ -5,5 +5,6 @@ pub mod Acting
 pub mod Stepping
 pub mod Calling
 pub mod Watching
+pub mod Meeting
 pub mod Gliding
 mod Tallying

@@ -37,7 +37,7 @@ goes_first p old cycles watched s = record {
   calm = λ is j l m. absurd (omega (arith, l, m));
 }
 
-last_or_before : (j k : ℕ) → j < suc k → (j < k) ⊎ (j ≡ k)
+pub last_or_before : (j k : ℕ) → j < suc k → (j < k) ⊎ (j ≡ k)
 last_or_before j k l =
     elim (ltb j k) as (λ b. ltb j k ≡ b → (j < k) ⊎ (j ≡ k)) [
       | true ↦ λ h. inl (grind (arith, nat_tests, h))

@@ -8,4 +8,5 @@ pub mod Calls
 pub mod Rising
 pub mod Running
 pub mod Ready
+pub mod Stopping
 pub mod Heard

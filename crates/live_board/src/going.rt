@@ -39,7 +39,7 @@ impl Parts {
     /// Joint steps by the events that wait: quiet ones, in at most `most` cycles together, and then one of any kind, which
     /// is told in `seen`. Where the processor is stuck the steps before stand.
     #[inline(always)]
-    fn glide(&mut self, most: u64, was: Irq) -> Result<(), Stuck>
+    pub(crate) fn glide(&mut self, most: u64, was: Irq) -> Result<(), Stuck>
         requires near { self.old.joint.cycle + most < 2 ^ 62 }
         requires few { self.old.rises < 2 ^ 63 }
         ensures gone { HasGone self.old.due 2048 most self.old.joint (told result self.new.seen) self.new.joint }

@@ -17,6 +17,8 @@ mod looks;
 mod parts;
 mod ran;
 mod refused;
+mod stopping;
+mod stops;
 
 pub use heard::Next;
 pub use keyboard::Keyboard;
@@ -24,6 +26,7 @@ pub use law::stories_grow_at_end;
 pub use looks::Registers;
 pub use ran::{Ran, RunEnd};
 pub use refused::Refused;
+pub use stops::{Ending, Met, Stopped, Stops};
 
 #[cfg(test)]
 mod tests;

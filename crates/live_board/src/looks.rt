@@ -108,7 +108,7 @@ impl Keyboard {
         self.parts.joint.lines()
     }
 
-    /// How many items were said and not kept behind those that are kept, and weren't reported yet.
+    /// How many items were said and not kept after those that are kept, and weren't reported yet.
     pub fn lost(&self) -> u64
         ensures lost { result ≡ self.now.heard.lost }
     {

@@ -1,4 +1,4 @@
-use crate::{Keyboard, Next, Refused, RunEnd};
+use crate::{Ending, Keyboard, Met, Next, Refused, RunEnd, Stops};
 use board_lines::Place;
 use ctl_core::Port;
 use fw_kernel::KERNEL;
@@ -108,6 +108,58 @@ fn a_copy_goes_on_as_the_original_does_and_by_itself(rt: HostRuntime) -> Result<
     assert!(rt; copy.read60() == Ok(0xaa) && copy.cycle() == keyboard.cycle());
     let first = keyboard.run(SECOND, true);
     assert!(rt; first == copy.run(SECOND, true) && keyboard.read60() == copy.read60());
+    Ok(())
+}
+
+/// What ended such a run, if a step did.
+fn what_ended(end: Ending) -> Option<Met> {
+    match end {
+        Ending::Met(what) => Some(what),
+        _ => None,
+    }
+}
+
+#[test]
+fn a_run_stops_for_what_it_is_asked_to(rt: HostRuntime) -> Result<(), AllocError> {
+    let image = Image { bytes: KERNEL };
+    let mut keyboard = Keyboard::open(&image, Bios::new(rt.alloc())?);
+    let mut other = Keyboard::open(&image, Bios::new(rt.alloc())?);
+    let nothing = Stops {
+        rise: false,
+        item: false,
+        wires: false,
+        place: None,
+    };
+    let cycle = keyboard.cycle();
+    assert!(rt; keyboard.run_to(&nothing, SECOND, 7).end == Ending::Passed);
+    assert!(rt; keyboard.cycle() >= cycle + 7 && keyboard.cycle() <= cycle + 14);
+    let wires = Stops {
+        wires: true,
+        ..nothing
+    };
+    let first = keyboard.run_to(&wires, SECOND, SECOND);
+    assert!(rt; matches!(what_ended(first.end), Some(met) if met.wires && !met.rise));
+    let rise = Stops {
+        rise: true,
+        ..nothing
+    };
+    let risen = keyboard.run_to(&rise, SECOND, SECOND);
+    assert!(rt; matches!(what_ended(risen.end), Some(met) if met.rise && !met.wires));
+    assert!(rt; other.run(SECOND, true).end == RunEnd::Rose && other.cycle() == keyboard.cycle());
+    assert!(rt; keyboard.write(Port::P64, 0xfe).is_ok());
+    let item = Stops {
+        item: true,
+        ..nothing
+    };
+    assert!(rt; keyboard.run_to(&item, SECOND, SECOND).end == Ending::Passed);
+    assert!(rt; keyboard.read60() == Ok(0xaa));
+    let place = Stops {
+        place: Some(keyboard.place().pc),
+        ..nothing
+    };
+    let back = keyboard.run_to(&place, SECOND, SECOND);
+    assert!(rt; matches!(what_ended(back.end), Some(met) if met.place && !met.item));
+    assert!(rt; place.place == Some(keyboard.place().pc));
     Ok(())
 }
 

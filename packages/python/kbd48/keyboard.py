@@ -2,7 +2,7 @@
 from __future__ import annotations
 
 import ctypes as c
-from enum import IntEnum
+from enum import IntEnum, IntFlag
 from typing import Any, Callable, Iterator, NamedTuple, Optional, Tuple, Type, Union
 
 from . import library
@@ -112,6 +112,22 @@ class KeysRan(NamedTuple):
     cycles: int
     rises: int
     rose: bool
+
+
+class Stop(IntFlag):
+    """What a run may stop for: a rise of the interrupt line, something said, a wire that changed, a place of the program."""
+
+    RISE = 1
+    ITEM = 2
+    WIRES = 4
+    PLACE = 8
+
+
+class Stopped(NamedTuple):
+    """How many cycles a run made, and what its last step came to; no Stop if a limit ended it."""
+
+    cycles: int
+    met: Stop
 
 
 class Item(NamedTuple):
@@ -303,6 +319,17 @@ class Keyboard:
         if status != Status.ROSE:
             _need(status)
         return KeysRan(made, rises, status == Status.ROSE)
+
+    def run_to(self, stop: Stop, cycles: int, steps: int = (1 << 64) - 1, at: int = 0) -> Stopped:
+        """Makes steps until one comes to what `stop` asks for, or until so many cycles have passed or steps were made. `at`
+        is the place of Stop.PLACE; 7 is where a tick of the firmware begins."""
+        met, passed, place = c.c_uint8(), c.c_uint64(), library.Place()
+        status = self._call("run_to", int(stop), _unsigned(at, 16, "a place"), _unsigned(cycles, 64, "a number of cycles"),
+                            _unsigned(steps, 64, "a number of steps"), met, passed, place)
+        if status == Status.STUCK:
+            raise Stuck(place.counter, place.byte, passed.value)
+        _need(status)
+        return Stopped(passed.value, Stop(met.value))
 
     def write(self, port: int, byte: int) -> bool:
         """The host writes a byte to port 0x60 or 0x64, in one step. False, and no step, if the input buffer is full."""

@@ -57,6 +57,7 @@ PARAMETERS = {
     "key": [c.c_uint8, c.c_bool],
     "run": [c.c_uint64, c.c_bool, _to(c.c_uint64), _to(Place)],
     "run_keys": [_to(Keys), c.c_uint64, c.c_bool, _to(c.c_uint64), _to(Place)],
+    "run_to": [c.c_uint8, c.c_uint16, c.c_uint64, c.c_uint64, _to(c.c_uint8), _to(c.c_uint64), _to(Place)],
     "write": [c.c_uint8, c.c_uint8],
     "read60": [_to(c.c_uint8)],
     "status": [_to(c.c_uint8)],

@@ -1,0 +1,83 @@
+//! What a run may stop for.
+
+ghost use Rattle.std.specs.Prelude.{◌≡◌};
+ghost use Rattle.live_board.specs.Stopping.{is_met, item_met, place_met, wires_met};
+
+use board_lines::Lines;
+use host_turn::Stamped;
+use mcs48_core::Stuck;
+
+/// What a run is to stop for, beside its limits: a rise of the interrupt line; something that is said; a wire that is
+/// otherwise after a step than before; and the processor at a place of the program, 0 to 2,047.
+#[derive(Clone, Copy, Debug, PartialEq, Eq, Drop)]
+pub struct Stops {
+    pub rise: bool,
+    pub item: bool,
+    pub wires: bool,
+    pub place: Option<u16>,
+}
+
+/// Which of these a step did.
+#[derive(Clone, Copy, Debug, PartialEq, Eq, Drop)]
+pub struct Met {
+    pub rise: bool,
+    pub item: bool,
+    pub wires: bool,
+    pub place: bool,
+}
+
+/// Why such a run ended.
+#[derive(Clone, Copy, Debug, PartialEq, Eq, Drop)]
+pub enum Ending {
+    /// So many cycles have passed, or so many steps were made.
+    Passed,
+    /// The last step did what the run was to stop for.
+    Met(Met),
+    /// 2 to the 62nd cycles are done, and no more are counted.
+    Over,
+    /// The processor is stuck at this place.
+    Stuck(Stuck),
+}
+
+/// How many cycles passed, and why no more.
+#[derive(Clone, Copy, Debug, PartialEq, Eq, Drop)]
+pub struct Stopped {
+    pub cycles: u64,
+    pub end: Ending,
+}
+
+impl Met {
+    /// Whether a step did any of these.
+    pub(crate) fn is_any(&self) -> bool
+        ensures { result ≡ is_met self.now }
+    {
+        self.rise || self.item || self.wires || self.place
+    }
+}
+
+/// Whether a wire is otherwise.
+pub(crate) fn wires_met(before: Lines, after: Lines) -> bool
+    ensures { result ≡ wires_met before after }
+{
+    before.clk != after.clk || before.dat != after.dat
+}
+
+/// Whether something is said.
+pub(crate) fn item_met(items: &[Stamped]) -> bool
+    ensures { result ≡ item_met items.now }
+{
+    match items {
+        [] => false,
+        [_, ..] => true,
+    }
+}
+
+/// Whether the counter is at the place.
+pub(crate) fn place_met(place: Option<u16>, counter: u16) -> bool
+    ensures { result ≡ place_met place counter }
+{
+    match place {
+        Some(place) => counter % 2048 == place,
+        None => false,
+    }
+}
