@@ -173,9 +173,10 @@ enum {
     KBD48_STOP_PLACE = 8  /* the processor's counter reaches the place `at`, 0 to 2,047 (its low 11 bits) */
 };
 
-/* Makes steps until one of them does what `mask` asks for, but until `cycles` cycles have passed (one more at most) or
-   `steps` steps were made. `met` says which of these the last step did; it is 0 if a limit ended the run. `passed` and `place` are as for kbd48_run. It makes many steps at once, as kbd48_run does; but with
-   KBD48_STOP_PLACE one at a time. A tick of the firmware of a layout begins at the place KBD48_TICK. */
+/* Makes steps until one of them does what `mask` asks for, or until `cycles` cycles have passed (one more at most) or
+   `steps` steps were made. `met` says what the last step did of that; it is 0 if a limit ended the run. `passed` and
+   `place` are as for kbd48_run. It makes many steps at once, as kbd48_run does; with KBD48_STOP_PLACE it makes them one
+   at a time. A tick of a layout's firmware begins at the place KBD48_TICK. */
 #define KBD48_TICK 0x007
 int32_t kbd48_run_to(kbd48 *handle, uint8_t mask, uint16_t at, uint64_t cycles, uint64_t steps, uint8_t *met,
                      uint64_t *passed, kbd48_place *place);
