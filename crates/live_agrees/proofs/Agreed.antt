@@ -4,7 +4,12 @@ use Rattle.std.proofs.Common.{length, drop, leb, Some, refl, ap, sym, subst, ◌
 use Rattle.std.proofs.Math.Seq.{drop-append_seam}
 use Rattle.std.proofs.lemmas.Bool.Decides.{nat_tests}
 use Rattle.std.specs.declared.option.Option.{Option}
+use Rattle.std.proofs.lemmas.List.Elements.{All-replicate}
 use Rattle.agreement.specs.Agreement.{AgreementLaw}
+use Rattle.agreement.specs.AnyStart.{AsShown}
+use Rattle.fw_kernel.specs.declared.labels.TheConstants.{TICK}
+use Rattle.joint_run.specs.Starts.{IsStart}
+use Rattle.mcs48_ranges.specs.Sizes.{IsByte, IsFine}
 use Rattle.fw_compile.specs.Image.{image_of}
 use Rattle.host_turn.specs.declared.stamped.Stamped.{Stamped}
 use Rattle.joint_feed.proofs.Going.{same_state}
@@ -13,7 +18,8 @@ use Rattle.joint_run.specs.Joint.{joint_board, joint_start, log_of}
 use Rattle.joint_run.specs.Run.{run_at}
 use Rattle.mcs48_core.specs.Reset.{reset_cpu}
 use Rattle.live_agrees.proofs.Logs.{goes_between}
-use Rattle.live_agrees.specs.Law.{AnswersAreAlike, AnyUseIsLawful, LogsAgree, StatesAreAlike, WordsAreAlike, history_of}
+use Rattle.live_agrees.specs.Law.{AnswersAreAlike, AnyUseIsLawful, LogsAgree, LogsAreShown, StatesAreAlike, WordsAreAlike}
+use Rattle.live_agrees.specs.Law.{history_of}
 use Rattle.live_board.specs.Calls.{Tells}
 use Rattle.live_board.specs.Standing.{Stands}
 use Rattle.live_board.specs.declared.parts.Parts.{Parts as Keyboard}
@@ -73,20 +79,15 @@ any_use_is_lawful layout p stop none order written flips =
     subst (λ es. IsLawfulFor layout (record { edges = es; host = p.events; end = stop })) (sym none)
     (without_edges layout p.events stop order written flips)
 
-pub logs_agree : AgreementLaw → LogsAgree
-logs_agree law layout p stop k s is bytes lawful =
-    let both = law layout (history_of p stop) is lawful in
-    let keeps = both.0 in
-    let agrees = both.1 in
+-- the log so far begins that of a start which is later
+log_begins : (layout : KeyLayout) (p : Past) (k : Keyboard) (s : Stands p k) → p.bytes ≡ image_of layout → (stamp : ℕ)
+    (start : IsStart (joint_board p.edges p.events) TICK (image_of layout) joint_start s.world.cycle stamp)
+    → s.world.cycle ≤ stamp → (rest : List Stamped) × (log_of start.state.board ≡ log_of s.world.board ++ rest)
+log_begins layout p k s bytes stamp start low =
     let w = s.world in
     let story : Story = record { bytes = image_of layout; edges = p.edges; events = p.events; stop = 0; held = reset_cpu } in
     let at : state_at story p.steps ≡ Some w =
     subst (λ b. run_at (joint_board p.edges p.events) b joint_start p.steps ≡ Some w) bytes (here p k s) in
-    let n : ℕ = w.cycle in
-    let start = agrees.each n in
-    let stamp : ℕ = agrees.starts n in
-    let near = keeps.near n stamp start in
-    let low : n ≤ stamp = let l = near.least in omega (arith, l) in
     let cycle = start.cycle in
     let later : w.cycle < start.state.cycle = omega (arith, low, cycle) in
     let order : p.steps ≤ start.steps =
@@ -99,11 +100,53 @@ logs_agree law layout p stop k s is bytes lawful =
           absurd (omega (arith, back, later))
     ] refl in
     let up : start.steps - p.steps + p.steps ≡ start.steps = omega (arith, order) in
-    let on = (goes_between story p.steps (start.steps - p.steps) w start.state at (ap (state_at story) up ∙ start.reached)).1 in
+    (goes_between story p.steps (start.steps - p.steps) w start.state at (ap (state_at story) up ∙ start.reached)).1
+
+pub logs_agree : AgreementLaw → LogsAgree
+logs_agree law layout p stop k s is bytes lawful =
+    let both = law layout (history_of p stop) is lawful in
+    let agrees = both.1 in
+    let n : ℕ = s.world.cycle in
+    let start = agrees.each n in
+    let stamp : ℕ = agrees.starts n in
+    let near = both.0.near n stamp start in
+    let low : n ≤ stamp = let l = near.least in omega (arith, l) in
+    let on = log_begins layout p k s bytes stamp start low in
     record {
       starts = agrees.starts;
       each = agrees.each;
       tick = n;
       rest = on.0;
       beginning = sym (agrees.log n stamp start) ∙ on.1;
+    }
+
+-- cleared memory is one that a part may hold
+cleared : IsFine reset_cpu
+cleared = record {
+  pc = omega arith;
+  a = omega arith;
+  ram = All-replicate IsByte 128 0 (omega arith);
+  long = refl;
+  t = omega arith;
+  pre = omega arith;
+  p1 = omega arith;
+  p2 = omega arith;
+  bus = omega arith;
+  sp = omega arith;
+}
+
+pub logs_are_shown : AsShown → LogsAreShown
+logs_are_shown law layout p k s is bytes ok few =
+    let goes = law layout p.edges p.events is ok few reset_cpu cleared in
+    let n : ℕ = s.world.cycle in
+    let start = goes.each n in
+    let stamp : ℕ = goes.starts n in
+    let low : n ≤ stamp = let l = (goes.prompt n).least in omega (arith, l) in
+    let on = log_begins layout p k s bytes stamp start low in
+    record {
+      starts = goes.starts;
+      each = goes.each;
+      tick = n;
+      rest = on.0;
+      beginning = sym (goes.log n stamp start) ∙ on.1;
     }

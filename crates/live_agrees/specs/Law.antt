@@ -1,6 +1,9 @@
 -- A keyboard that runs as one goes, against the model.
-use Rattle.std.specs.Prelude.{◌≡◌, ℕ, List, [], ◌++◌}
+use Rattle.std.specs.Prelude.{◌≡◌, ◌<◌, ◌^◌, ℕ, Bool, List, [], ◌++◌}
 use Rattle.std.specs.declared.option.Option.{Option}
+use Rattle.std.specs.declared.result.Result.{Result}
+use Rattle.agreement.specs.AnyStart.{AreFor, ShowsFew, model_from}
+use Rattle.board_lines.specs.declared.event.HostAct.{HostAct}
 use Rattle.fw_compile.specs.Image.{image_of}
 use Rattle.fw_kernel.specs.declared.labels.TheConstants.{TICK}
 use Rattle.host_turn.specs.declared.stamped.Stamped.{Stamped}
@@ -13,10 +16,13 @@ use Rattle.layout_reader.specs.Layouts.{IsKeyLayout, KeyLayout}
 use Rattle.link_model.specs.Expected.{whole_at}
 use Rattle.link_model.specs.Machine.{keyboard}
 use Rattle.live_board.specs.Answers.{Told}
-use Rattle.live_board.specs.Calls.{Tells}
+use Rattle.live_board.specs.Calls.{IsActed, Tells}
 use Rattle.live_board.specs.Pasts.{Past}
+use Rattle.live_board.specs.Running.{HasRun}
 use Rattle.live_board.specs.Standing.{Stands}
 use Rattle.live_board.specs.declared.parts.Parts.{Parts as Keyboard}
+use Rattle.live_board.specs.declared.ran.RunEnd.{RunEnd}
+use Rattle.live_board.specs.declared.refused.Refused.{Refused}
 
 -- the keys and host events of a past, as a history with this end stamp
 abbrev pub history_of : Past → ℕ → KeyHistory
@@ -52,6 +58,36 @@ abbrev pub WordsAreAlike : Type 0
 WordsAreAlike =
     (f : Told → Option (Option ℕ)) (p q : Past) (a b : Keyboard) (x y : Option ℕ) → Stands p a → Stands q b
     → Tells f p q x → Tells f p q y → x ≡ y
+
+-- a call of the host is done of both, or refused of both for one cause
+abbrev pub CallsAreAlike : Type 0
+CallsAreAlike =
+    (act : HostAct) (p : Past) (a b c d : Keyboard) (x y : Result (Unit {0}) Refused) → Stands p a → Stands p b
+    → IsActed act a x c → IsActed act b y d → x ≡ y
+
+-- a run of so many cycles, with the interrupt line watched or not, ends for one reason and after as many steps, if the
+-- count of cycles doesn't come to its end
+abbrev pub RunsEndAlike : Type 0
+RunsEndAlike =
+    (p : Past) (a b c d : Keyboard) (cycles : ℕ) (watched : Bool) (x y : RunEnd) → Stands p a → Stands p b
+    → HasRun p a cycles watched x c → HasRun p b cycles watched y d → c.joint.cycle < 2 ^ 62 → d.joint.cycle < 2 ^ 62
+    → (x ≡ y) × (c.joint.steps ≡ d.joint.steps)
+
+-- a log is the beginning of what the model says, which goes by what the columns show, up to one of the run's own tick
+-- starts
+pub record BeginsShown (layout : KeyLayout) (p : Past) (log : List Stamped) : Type 0 where
+  pub starts : ℕ → ℕ
+  pub each : (n : ℕ) → IsStart (joint_board p.edges p.events) TICK (image_of layout) joint_start n (starts n)
+  pub tick : ℕ
+  pub rest : List Stamped
+  pub beginning : (model_from (keyboard layout) p.edges p.events starts
+      (whole_at (keyboard layout) p.edges p.events starts 0) tick).side.log ≡ log ++ rest
+
+-- so is what was said so far, whether or not keys bounced, if no tick shows more than four keys that changed
+abbrev pub LogsAreShown : Type 0
+LogsAreShown =
+    (layout : KeyLayout) (p : Past) (k : Keyboard) (s : Stands p k) → IsKeyLayout layout → p.bytes ≡ image_of layout
+    → AreFor layout p.edges p.events → ((n : ℕ) → ShowsFew p.edges n) → BeginsShown layout p (log_of s.world.board)
 
 -- a program may use the ports as often and as long as it likes: if no key moved, a past is lawful whose events are in
 -- order, write bytes, and turn round data bits or the parity alone

@@ -4,22 +4,36 @@
 //! do. Source: our own.
 #![tactic(auto)]
 
-ghost use Rattle.live_agrees.specs.Law.{AnswersAreAlike, AnyUseIsLawful, LogsAgree, StatesAreAlike, WordsAreAlike};
+ghost use Rattle.live_agrees.specs.Law.{AnswersAreAlike, AnyUseIsLawful, CallsAreAlike, LogsAgree, LogsAreShown};
+ghost use Rattle.live_agrees.specs.Law.{RunsEndAlike, StatesAreAlike, WordsAreAlike};
 
-use agreement::run_and_model_agree;
+use agreement::{goes_on_from_any_start, run_and_model_agree};
 
 /// Whatever calls were made, in whatever order, however many and for however long: let a keyboard stand in a past that
 /// begins with a layout's compiled image, and let the keys and host events of that past be lawful for the layout. Then
 /// what was said so far is the beginning of what the model says of them, at the run's own tick starts. How often a
 /// program uses the ports is free: without keys, events in order that write bytes are lawful. And the same calls give the
 /// same answers: two keyboards in one past are in one state of the run, and what is told between two pasts is one byte,
-/// and one word or none. Nothing is done when it is called; the laws are its contract.
+/// and one word or none; a call of the host is done of both, or refused for one cause; and a run ends for one reason.
+/// Nothing is done when it is called; the laws are its contract.
 pub fn calls_agree()
     ensures agrees { LogsAgree }
     ensures one_state { StatesAreAlike }
     ensures one_answer { AnswersAreAlike }
     ensures one_word { WordsAreAlike }
+    ensures one_outcome { CallsAreAlike }
+    ensures one_end { RunsEndAlike }
     ensures any_use { AnyUseIsLawful }
 {
     run_and_model_agree();
+}
+
+/// Whatever calls were made, and whether or not keys bounced: let the edges be at places of the layout, what is written be
+/// bytes, and let no tick show more than four keys that changed. Then what was said so far is the beginning of what the
+/// model says, whose ticks get what the columns show. So a key that bounced once is the model's again. Nothing is done
+/// when it is called; the law is its contract.
+pub fn bounces_agree()
+    ensures shown { LogsAreShown }
+{
+    goes_on_from_any_start();
 }

@@ -1,4 +1,5 @@
 use Rattle.live_agrees.proofs.Agreed.{answers_alike, any_use_is_lawful, logs_agree, states_alike, words_alike}
+use Rattle.live_agrees.proofs.Ends.{calls_alike, runs_end_alike}
 use Rattle.live_agrees.proofs.calls_agree.Goals as goal
 
 pub returns : goal.returns
@@ -7,5 +8,7 @@ returns c = record {
   one_state = states_alike;
   one_answer = answers_alike;
   one_word = words_alike;
+  one_outcome = calls_alike;
+  one_end = runs_end_alike;
   any_use = any_use_is_lawful;
 }
