@@ -2,9 +2,10 @@
 //! top call, and ends with its status.
 #![tactic(auto)]
 
+use app_words::Exit;
 use board_probes::{AddressProbe, CellProbe, LineProbe, Probe, RegisterProbe};
 use io_edge::{FileShelf, StreamSink};
-use kbd48_app::{Exit, kbd48};
+use kbd48_app::kbd48;
 use std::process::ExitCode;
 use std::{env, io};
 

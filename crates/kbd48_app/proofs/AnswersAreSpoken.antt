@@ -1,6 +1,6 @@
 -- What a command comes to, said or still to be said.
 use Rattle.std.proofs.Common.{◌≡◌, ◌<◌, ℕ, List, [], length, map, string_bytes, slice_index_or}
-use Rattle.std.proofs.Common.{String, Global, Some, Ok, Err, refl, sym, subst}
+use Rattle.std.proofs.Common.{String, Global, Some, Ok, refl, sym, subst}
 use Rattle.std.specs.Option.{option_map}
 use Rattle.std.specs.declared.option.Option.{Option}
 use Rattle.std.specs.declared.result.Result.{Result}
@@ -11,68 +11,32 @@ use Rattle.io_edge.specs.Shelf.{Told, after_fetch}
 use Rattle.key_file.specs.KeyFile.{history_of}
 use Rattle.layout_reader.specs.Documents.{layout_of_document}
 use Rattle.layout_reader.specs.Layouts.{KeyLayout}
-use Rattle.kbd48_app.specs.declared.kind.Kind.TheVariants as kinds
-use Rattle.kbd48_app.specs.declared.refusal.Refusal.{Refusal}
-use Rattle.kbd48_app.specs.declared.refusal.Refusal.TheVariants as refusals
-use Rattle.kbd48_app.specs.declared.spoken.Spoken.{Spoken}
-use Rattle.kbd48_app.specs.declared.spoken.Spoken.TheVariants.{Text, Said, Stuck}
-use Rattle.kbd48_app.specs.declared.words.Command.{Command}
-use Rattle.kbd48_app.specs.declared.words.Command.TheVariants.{OverFile, OverPair, Debug, Probe, Sample}
-use Rattle.kbd48_app.specs.declared.words.FileCommand.{FileCommand}
-use Rattle.kbd48_app.specs.declared.words.PairCommand.{PairCommand}
-use Rattle.kbd48_app.specs.declared.words.PairCommand.TheVariants.{OverRun}
-use Rattle.kbd48_app.specs.declared.words.RunCommand.{RunCommand}
-use Rattle.kbd48_app.specs.Answers.{Left, MayAnswer, MayAnswerSample, MayEnd, MayEndAs, answer_of}
-use Rattle.kbd48_app.specs.Fetching.{MayGive}
-use Rattle.kbd48_app.specs.Kinds.{kind_of}
-use Rattle.kbd48_app.specs.Plans.{Answer, Gives, Fetches, Runs, debug_plan, file_said, keys_next}
+use Rattle.app_words.specs.declared.kind.Kind.TheVariants as kinds
+use Rattle.app_words.specs.declared.refusal.Refusal.{Refusal}
+use Rattle.app_answers.specs.declared.spoken.Spoken.{Spoken}
+use Rattle.app_words.specs.declared.words.Command.{Command}
+use Rattle.app_words.specs.declared.words.Command.TheVariants.{OverFile, OverPair, Debug, Probe, Sample}
+use Rattle.app_words.specs.declared.words.FileCommand.{FileCommand}
+use Rattle.app_words.specs.declared.words.PairCommand.{PairCommand}
+use Rattle.app_words.specs.declared.words.PairCommand.TheVariants.{OverRun}
+use Rattle.app_words.specs.declared.words.RunCommand.{RunCommand}
+use Rattle.app_answers.specs.Leaving.{Left}
+use Rattle.kbd48_app.specs.Answers.{MayAnswer, MayEnd, MayEndAs}
+use Rattle.app_runs.specs.RunAnswers.{MayAnswerSample}
+use Rattle.app_answers.specs.Answers.{answer_of}
+use Rattle.app_answers.specs.Fetching.{MayGive}
+use Rattle.app_words.specs.Kinds.{kind_of}
+use Rattle.app_answers.specs.FileAnswers.{Answer, file_said}
+use Rattle.kbd48_app.specs.Plans.{Gives, Fetches, Runs, debug_plan, keys_next}
 use Rattle.kbd48_app.specs.Plans.{pair_plan, probe_plan, with_history, with_layout}
-use Rattle.kbd48_app.specs.Spoken.{IsSpoken, May, still_to_say}
-use Rattle.kbd48_app.specs.Taking.{Taking, Whole, CutOff}
-use Rattle.kbd48_app.specs.Telling.{MayTell}
-use Rattle.kbd48_app.specs.Words.{command_of}
-use Rattle.kbd48_app.proofs.FilesAreFound.{found_so}
+use Rattle.app_answers.specs.Spoken.{IsSpoken, May, still_to_say}
+use Rattle.app_answers.specs.Taking.{Taking}
+use Rattle.app_runs.specs.Telling.{MayTell, MayTellRun}
+use Rattle.app_words.specs.Words.{command_of}
+use Rattle.kbd48_app.proofs.FilesAreFound.{end_of_history, found_so}
 use Rattle.kbd48_app.proofs.WordsAreNames.{ends_over_debug, ends_over_file, ends_over_pair, ends_over_probe}
 use Rattle.kbd48_app.proofs.RunPlans.{LayoutOutcome, plan_from}
-use Rattle.kbd48_app.proofs.RunsAreSaid.{left_behind, left_so}
-
--- what one thing may say, another may
-pub spoken_on : (P Q : May) → ((answer : Answer) (taking : Taking) (log : List ℕ) → P answer taking log → Q answer taking log)
-    → (result : Result Spoken Refusal) (x y : Shown) → IsSpoken P result x y → IsSpoken Q result x y
-spoken_on P Q on (Err refusal) x y h = (λ taking. on (Err refusal) taking [] (h.0 taking), h.1)
-spoken_on P Q on (Ok (Text said)) x y h = (λ taking. on (Ok said.items) taking [] (h.0 taking), h.1)
-spoken_on P Q on (Ok (Said (Ok done))) x y h = (h.0, h.1, on (Ok h.0) Whole h.1 h.2, h.3)
-spoken_on P Q on (Ok (Said (Err fault))) x y h = (h.0, h.1, on h.0 (CutOff x y) h.1 h.2, h.3)
-spoken_on P Q on (Ok (Stuck place)) x y h =
-    let answer : Answer = Err (refusals.Stuck place) in
-    (h.0, on answer Whole h.0 h.1, λ later broken. on answer (CutOff x later) h.0 (h.2 later broken), h.3)
-
--- nothing of it is said yet
-unsaid : (may : May) (said : Result (Vec ℕ Global) Refusal) (x : Shown)
-    → ((taking : Taking) → may (answer_of said) taking []) → IsSpoken may (still_to_say said) x x
-unsaid may (Ok text) x h = (h, refl)
-unsaid may (Err refusal) x h = (h, refl)
-
-unsaid_so : (may : May) (said : Result (Vec ℕ Global) Refusal) (result : Result Spoken Refusal) (x : Shown) → result ≡ still_to_say said
-    → ((taking : Taking) → may (answer_of said) taking []) → IsSpoken may result x x
-unsaid_so may said result x is h = subst (λ (r : Result Spoken Refusal). IsSpoken may r x x) (sym is) (unsaid may said x h)
-
--- `run` and `expect`, of a layout and a key file's text
-pub told_by : (c d : RunCommand) (layout : KeyLayout) (text : List ℕ) (probes left : List Watch)
-    (result : Result Spoken Refusal) (x y : Shown) → c ≡ d
-    → IsSpoken (λ answer taking log. MayTell d layout text answer probes (left_behind left taking log)) result x y
-    → IsSpoken (λ answer taking log. MayTell c layout text answer probes (left_behind left taking log)) result x y
-told_by c d layout text probes left result x y is h =
-    subst (λ (k : RunCommand). IsSpoken (λ answer taking log. MayTell k layout text answer probes (left_behind left taking log)) result x y)
-    (sym is) h
-
-pub told_unsaid : (c d : RunCommand) (layout : KeyLayout) (text : List ℕ) (probes left : List Watch)
-    (said : Result (Vec ℕ Global) Refusal) (result : Result Spoken Refusal) (x : Shown) → c ≡ d
-    → result ≡ still_to_say said → ((taking : Taking) → MayTell d layout text (answer_of said) probes (left_so left taking))
-    → IsSpoken (λ answer taking log. MayTell c layout text answer probes (left_behind left taking log)) result x x
-told_unsaid c d layout text probes left said result x is so h =
-    told_by c d layout text probes left result x x is
-    (unsaid_so (λ answer taking log. MayTell d layout text answer probes (left_behind left taking log)) said result x so h)
+use Rattle.app_answers.proofs.AreSpoken.{left_behind, left_so, spoken_on, unsaid_so}
 
 -- behind both files
 module _ (command : RunCommand) (first second : List ℕ) (shelf on last : Option Told)
@@ -88,7 +52,8 @@ module _ (command : RunCommand) (first second : List ℕ) (shelf on last : Optio
       (found_so kinds.Keys second (λ t. with_history (Runs command layout) (history_of layout t)) on last last answer probes left keys given
       then
       (subst (λ (t : List ℕ). MayEnd (with_history (Runs command layout) (history_of layout t)) last answer last probes left)
-      same (tells last))))
+      same (end_of_history (MayTellRun command layout probes) (Runs command layout) last answer probes left
+      (λ history h. (h.0, refl, h.1)) (history_of layout text) tells))))
 
   pub ran_spoken : (probes left : List Watch) (result : Result Spoken Refusal) (x y : Shown)
       → IsSpoken (λ answer taking log. MayTell command layout text answer probes (left_behind left taking log)) result x y

@@ -8,18 +8,18 @@ use Rattle.io_edge.specs.Faults.{Rose}
 use Rattle.io_edge.specs.Said.{IsBrokenOff, IsSaid, Shown}
 use Rattle.io_edge.specs.Shelf.{Told}
 use Rattle.mcs48_core.specs.declared.stepping.Stuck.{Stuck as Place}
-use Rattle.kbd48_app.specs.declared.exit.Exit.{Exit}
-use Rattle.kbd48_app.specs.declared.exit.Exit.TheVariants as exits
-use Rattle.kbd48_app.specs.declared.refusal.Refusal.{Refusal}
-use Rattle.kbd48_app.specs.declared.refusal.Refusal.TheVariants as refusals
-use Rattle.kbd48_app.specs.declared.spoken.Spoken.{Spoken}
-use Rattle.kbd48_app.specs.declared.spoken.Spoken.TheVariants.{Text, Said, Stuck}
+use Rattle.app_words.specs.declared.exit.Exit.{Exit}
+use Rattle.app_words.specs.declared.exit.Exit.TheVariants as exits
+use Rattle.app_words.specs.declared.refusal.Refusal.{Refusal}
+use Rattle.app_words.specs.declared.refusal.Refusal.TheVariants as refusals
+use Rattle.app_answers.specs.declared.spoken.Spoken.{Spoken}
+use Rattle.app_answers.specs.declared.spoken.Spoken.TheVariants.{Text, Said, Stuck}
 use Rattle.kbd48_app.specs.Answers.{MayAnswer}
-use Rattle.kbd48_app.specs.Plans.{Answer}
-use Rattle.kbd48_app.specs.Refusals.{exit_of, line_of}
-use Rattle.kbd48_app.specs.Says.{Says, exit_said, text_said}
-use Rattle.kbd48_app.specs.Spoken.{Concludes, IsSpoken, IsStuckBehind, May, Prints}
-use Rattle.kbd48_app.specs.Taking.{Taking, Whole, CutOff, taking_of}
+use Rattle.app_answers.specs.FileAnswers.{Answer}
+use Rattle.app_words.specs.Refusals.{exit_of, line_of}
+use Rattle.app_answers.specs.Says.{Says, exit_said, text_said}
+use Rattle.app_answers.specs.Spoken.{Concludes, IsSpoken, IsStuckBehind, May, Prints}
+use Rattle.app_answers.specs.Taking.{Taking, Whole, CutOff, taking_of}
 use Rattle.kbd48_app.proofs.LogsAreLines.{lines_before}
 
 -- no refusal ends with Write

@@ -12,17 +12,17 @@ use Rattle.key_file.specs.KeyFile.{history_of}
 use Rattle.layout_reader.specs.Documents.{layout_of_document}
 use Rattle.layout_reader.specs.Layouts.{KeyLayout}
 use Rattle.mcs48_core.specs.declared.stepping.Stuck.{Stuck as Place}
-use Rattle.kbd48_app.specs.declared.exit.Exit.TheVariants as exits
-use Rattle.kbd48_app.specs.declared.kind.Kind.TheVariants as kinds
-use Rattle.kbd48_app.specs.declared.words.BoardRun.{BoardRun}
-use Rattle.kbd48_app.specs.declared.words.Command.TheVariants.{Board}
-use Rattle.kbd48_app.specs.BoardTexts.{board_story}
-use Rattle.kbd48_app.specs.Kinds.{limit_of}
+use Rattle.app_words.specs.declared.exit.Exit.TheVariants as exits
+use Rattle.app_words.specs.declared.kind.Kind.TheVariants as kinds
+use Rattle.app_words.specs.declared.words.BoardRun.{BoardRun}
+use Rattle.app_words.specs.declared.words.Command.TheVariants.{Board}
+use Rattle.app_boards.specs.BoardTexts.{board_story}
+use Rattle.app_words.specs.Kinds.{limit_of}
 use Rattle.kbd48_app.specs.Plans.{Plan, Boards, program_plan}
 use Rattle.kbd48_app.specs.Reached.{Reads}
 use Rattle.kbd48_app.proofs.ExitAndCause.{IsCaused}
 use Rattle.kbd48_app.proofs.PlansEnd.{board_exit, leads}
-use Rattle.kbd48_app.proofs.FirstFaultHasExit.{Fault, HasFault, exit_at}
+use Rattle.kbd48_app.specs.Causes.{Fault, HasFault, exit_at}
 use Rattle.kbd48_app.proofs.ProgramExits.{program_caused}
 use Rattle.kbd48_app.proofs.ProgramPlans.{fault_led_by_program, image_found, leads_all, read_behind}
 use Rattle.kbd48_app.proofs.RunExits.{ReadsBoth}

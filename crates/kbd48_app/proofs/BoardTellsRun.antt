@@ -4,11 +4,11 @@ use Rattle.std.proofs.lemmas.List.{append-nil}
 use Rattle.board_run.specs.Agreement.{BoardsTellRuns}
 use Rattle.subsystem.specs.Running.{Outcome}
 use Rattle.subsystem.specs.Texts.{log_text}
-use Rattle.kbd48_app.specs.declared.refusal.Refusal.TheVariants.{Memory}
-use Rattle.kbd48_app.specs.declared.words.BoardCommand.TheVariants.{Log, Trace}
+use Rattle.app_words.specs.declared.refusal.Refusal.TheVariants.{Memory}
+use Rattle.app_words.specs.declared.words.BoardCommand.TheVariants.{Log, Trace}
 use Rattle.kbd48_app.specs.BoardTells.{BoardTellsRun, BoardTracesRun}
-use Rattle.kbd48_app.specs.BoardTexts.{board_said}
-use Rattle.kbd48_app.specs.RunTexts.{run_text}
+use Rattle.app_boards.specs.BoardTexts.{board_said}
+use Rattle.app_runs.specs.RunTexts.{run_text}
 use Rattle.key_file.proofs.Lawful.{lawful_for}
 use Rattle.kbd48_app.proofs.OneText.{no_refusal}
 

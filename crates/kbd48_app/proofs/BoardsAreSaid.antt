@@ -1,149 +1,40 @@
--- What `board` may say, behind files that were judged.
+-- What `board` may say of three files.
 use Rattle.std.proofs.Common.{◌≡◌, ◌<◌, ℕ, List, length, map, string_bytes, slice_index_or, String}
-use Rattle.std.proofs.Common.{Global, Some, Ok, Err, inl, inr, refl, ap, sym, subst, ◌∙◌}
-use Rattle.std.specs.Prelude.{OnErr, OnOk}
+use Rattle.std.proofs.Common.{Global, Some, Ok, Err, refl, sym, subst}
 use Rattle.std.specs.Option.{option_map}
 use Rattle.std.specs.Result.{IsErrAnd}
 use Rattle.std.specs.declared.option.Option.{Option}
 use Rattle.std.specs.declared.result.Result.{Result}
 use Rattle.std.specs.declared.vec.Vec.{Vec}
-use Rattle.board_run.proofs.Lines.{are_lines}
-use Rattle.board_run.specs.Running.{IsOutcome, Outcome}
-use Rattle.story_run.specs.declared.ending.End.TheVariants.{Over, Stuck as BoardStuck}
 use Rattle.board_probes.specs.Probes.{Watch}
 use Rattle.hexfile.specs.Hex.{HexOutcome, hex_of}
-use Rattle.io_edge.proofs.Pieces.{AreLines, broken_before, lines_behind, said_then_broken, said_then_said}
-use Rattle.io_edge.specs.Said.{IsBrokenOff, IsSaid, Shown}
+use Rattle.io_edge.specs.Said.{Shown}
 use Rattle.io_edge.specs.Shelf.{Told, after_fetch}
-use Rattle.io_edge.specs.declared.sink.SinkFault.{SinkFault}
-use Rattle.joint_feed.specs.Stories.{Story}
 use Rattle.key_file.specs.Histories.{KeyHistory}
 use Rattle.key_file.specs.KeyFile.{history_of}
-use Rattle.key_file.specs.declared.fault.KeyFault.{KeyFault}
 use Rattle.layout_reader.specs.Documents.{layout_of_document}
 use Rattle.layout_reader.specs.Layouts.{KeyLayout}
-use Rattle.mcs48_core.specs.declared.stepping.Stuck.{Stuck as Place}
-use Rattle.kbd48_app.specs.declared.kind.Kind.TheVariants as kinds
-use Rattle.kbd48_app.specs.declared.refusal.Refusal.{Refusal}
-use Rattle.kbd48_app.specs.declared.refusal.Refusal.TheVariants.{Memory}
-use Rattle.kbd48_app.specs.declared.spoken.Spoken.{Spoken}
-use Rattle.kbd48_app.specs.declared.spoken.Spoken.TheVariants.{Said, Stuck}
-use Rattle.wire_trace.proofs.OfLines.{changes_are_lines, header_is_lines}
-use Rattle.wire_trace.specs.Text.{header}
-use Rattle.wire_trace.specs.Trace.{changes_to}
-use Rattle.kbd48_app.specs.declared.words.BoardCommand.{BoardCommand}
-use Rattle.kbd48_app.specs.declared.words.BoardRun.{BoardRun}
-use Rattle.kbd48_app.specs.declared.words.BoardCommand.TheVariants.{Log, Trace}
-use Rattle.kbd48_app.specs.declared.words.Command.TheVariants.{Board}
-use Rattle.kbd48_app.specs.Answers.{IsBoardTold, Left, MayAnswerBoard, MayEnd}
-use Rattle.kbd48_app.specs.BoardTexts.{HaveLookedToLine, board_end, board_log, board_said, board_story}
-use Rattle.kbd48_app.specs.Fetching.{MayGive}
-use Rattle.kbd48_app.specs.Plans.{Answer, Plan, Boards, keys_next, keys_refusal, program_next, program_plan, with_history, with_image}
+use Rattle.app_words.specs.declared.kind.Kind.TheVariants as kinds
+use Rattle.app_words.specs.declared.refusal.Refusal.{Refusal}
+use Rattle.app_answers.specs.declared.spoken.Spoken.{Spoken}
+use Rattle.app_words.specs.declared.words.BoardRun.{BoardRun}
+use Rattle.app_words.specs.declared.words.Command.TheVariants.{Board}
+use Rattle.app_answers.specs.Leaving.{Left}
+use Rattle.kbd48_app.specs.Answers.{MayEnd}
+use Rattle.app_answers.specs.Fetching.{MayGive}
+use Rattle.app_answers.specs.FileAnswers.{Answer}
+use Rattle.kbd48_app.specs.Plans.{Plan, Boards, keys_next, program_next, program_plan, with_history, with_image}
 use Rattle.kbd48_app.specs.Plans.{with_layout}
-use Rattle.kbd48_app.specs.RunTexts.{HaveLookedAtAll}
-use Rattle.kbd48_app.specs.Says.{text_said}
-use Rattle.kbd48_app.specs.Spoken.{IsSpoken, May}
-use Rattle.kbd48_app.specs.Taking.{Taking, Whole, CutOff}
-use Rattle.kbd48_app.specs.Telling.{MayTellBoard}
-use Rattle.kbd48_app.specs.Words.{command_of}
-use Rattle.kbd48_app.proofs.FilesAreFound.{found_so, keys_unfound}
+use Rattle.app_answers.specs.Spoken.{IsSpoken}
+use Rattle.app_answers.specs.Taking.{Taking}
+use Rattle.app_boards.specs.Telling.{MayTellBoard}
+use Rattle.app_words.specs.Words.{command_of}
+use Rattle.app_boards.proofs.BoardsAreSaid.{MayRun}
+use Rattle.kbd48_app.proofs.FilesAreFound.{end_of_history, found_so, keys_unfound}
 use Rattle.kbd48_app.proofs.WordsAreNames.{ends_over_board}
-use Rattle.kbd48_app.proofs.RunPlans.{HistoryOutcome, LayoutOutcome, plan_from}
-use Rattle.kbd48_app.proofs.AnswersAreSpoken.{MaySay, spoken_on}
-use Rattle.kbd48_app.proofs.RunsAreSaid.{left_behind, left_so}
-
--- what is said of a run as it is made is of whole lines
-pub log_is_lines : (wanted : BoardCommand) (s : Story) (run : Outcome) → AreLines (board_log wanted s run)
-log_is_lines (Log steps) s run = are_lines run.log
-log_is_lines Trace s run = lines_behind header (changes_to s run.steps) header_is_lines (changes_are_lines s run.steps)
-
--- what a run that was made says
-module _ (wanted : BoardCommand) (s : Story) (probes left : List Watch) where
-  abbrev pub MayBoard : May
-  MayBoard answer taking log = IsBoardTold wanted s answer probes (left_behind left taking log)
-
-  module _ (run : Outcome) (is : IsOutcome s run) where
-    -- a put failed as it was made
-    pub cut : (fault : SinkFault) (x z : Shown) → HaveLookedToLine wanted s x z probes left → IsBrokenOff x z (board_log wanted s run)
-        → IsSpoken MayBoard (Ok (Said (Err fault))) x z
-    cut fault x z looked h =
-        let log = board_log wanted s run in
-        let answer = board_said wanted run run.end in
-        (answer, log, (run, is, refl, refl, inl looked), broken_before x z log (text_said answer) (log_is_lines wanted s run) h)
-
-    module _ (all : HaveLookedAtAll s run.steps probes left) where
-      -- all of what follows is taken
-      told : (answer : Answer) → answer ≡ board_said wanted run run.end → MayBoard answer Whole (board_log wanted s run)
-      told answer same = (run, is, refl, same, all)
-
-      -- or it is broken off
-      told_in_part : (answer : Answer) (x y z : Shown) → answer ≡ board_said wanted run run.end → IsSaid x y (board_log wanted s run)
-          → IsBrokenOff y z (text_said answer) → MayBoard answer (CutOff x z) (board_log wanted s run)
-      told_in_part answer x y z same said broken =
-          (run, is, refl, same, inr (record { between = y; said = said; broken = subst (IsBrokenOff y z) (ap text_said same) broken }, all))
-
-      -- it is stuck
-      pub stuck_behind : (place : Place) (x y : Shown) → run.end ≡ BoardStuck place → IsSaid x y (board_log wanted s run)
-          → IsSpoken MayBoard (Ok (Stuck place)) x y
-      stuck_behind place x y end said =
-          let same = sym (ap (board_said wanted run) end) in
-          (board_log wanted s run, told _ same, λ later broken. told_in_part _ x y later same said broken, said)
-
-      -- it is over
-      pub over_behind : (result : Result (Unit {0}) SinkFault) (x y z : Shown) → run.end ≡ Over → IsSaid x y (board_log wanted s run)
-          → OnOk result (IsSaid y z (board_end wanted run)) → OnErr result (IsBrokenOff y z (board_end wanted run))
-          → IsSpoken MayBoard (Ok (Said result)) x z
-      over_behind (Ok done) x y z end said whole part =
-          let log = board_log wanted s run in
-          let text = board_end wanted run in
-          let same = sym (ap (board_said wanted run) end) in
-          (text, log, told (Ok text) same, said_then_said x y z log text (log_is_lines wanted s run) said whole)
-      over_behind (Err fault) x y z end said whole part =
-          let log = board_log wanted s run in
-          let text = board_end wanted run in
-          let same = sym (ap (board_said wanted run) end) in (
-            Ok text,
-            log,
-            told_in_part (Ok text) x y z same said part,
-            said_then_broken x y z log text (log_is_lines wanted s run) said part,
-          )
-
--- behind a key file
-module _ (wanted : BoardRun) (image : List ℕ) (layout : KeyLayout) (text : List ℕ) where
-  pub board_refused : (fault : KeyFault) (refusal : Refusal) (probes : List Watch) (taking : Taking)
-      → history_of layout text ≡ Err fault → refusal ≡ keys_refusal fault
-      → MayTellBoard wanted image layout text (Err refusal) probes (left_so probes taking)
-  board_refused fault refusal probes taking is same = λ shelf.
-      subst (λ (o : HistoryOutcome). MayEnd (with_history (Boards wanted image) o) shelf (Err refusal) shelf probes (left_so probes taking))
-      (sym is)
-      (inr (ap (λ (r : Refusal). Err r) same), (refl, refl, refl))
-
-  pub board_keys_refused : (refusal : Refusal) (probes : List Watch) (result : Result Spoken Refusal) (x : Shown)
-      → (fault : KeyFault) × (history_of layout text ≡ Err fault) × (refusal ≡ keys_refusal fault)
-      → IsErrAnd result (λ (r : Refusal). r ≡ refusal)
-      → IsSpoken (λ answer taking log. MayTellBoard wanted image layout text answer probes (left_behind probes taking log)) result x x
-  board_keys_refused refusal probes (Ok said) x h same = absurd same
-  board_keys_refused refusal probes (Err r) x h same =
-      (λ taking. board_refused h.0 r probes taking h.1 (same ∙ h.2), refl)
-
-  board_ran : (history : KeyHistory) (answer : Answer) (probes : List Watch) (left : Left) → history_of layout text ≡ Ok history
-      → MayAnswerBoard wanted image history answer probes left → MayTellBoard wanted image layout text answer probes left
-  board_ran history answer probes left is may = λ shelf.
-      subst (λ (o : HistoryOutcome). MayEnd (with_history (Boards wanted image) o) shelf answer shelf probes left) (sym is) (may, refl)
-
-  module _ (history : KeyHistory) (is : history_of layout text ≡ Ok history) where
-    pub board_lacking : (probes : List Watch) (taking : Taking)
-        → MayTellBoard wanted image layout text (Err Memory) probes (left_so probes taking)
-    board_lacking probes taking = board_ran history (Err Memory) probes (left_so probes taking) is (inl (refl, refl, refl))
-
-    pub boarded : (s : Story) (probes left : List Watch) (result : Result Spoken Refusal) (x y : Shown)
-        → s ≡ board_story wanted image history → IsSpoken (MayBoard wanted.told s probes left) result x y
-        → IsSpoken (λ answer taking log. MayTellBoard wanted image layout text answer probes (left_behind left taking log)) result x y
-    boarded s probes left result x y this h =
-        spoken_on (MayBoard wanted.told s probes left)
-        (λ answer taking log. MayTellBoard wanted image layout text answer probes (left_behind left taking log))
-        (λ answer taking log k. board_ran history answer probes (left_behind left taking log) is
-        (inr (subst (λ (t : Story). IsBoardTold wanted.told t answer probes (left_behind left taking log)) this k))) result x y h
+use Rattle.kbd48_app.proofs.RunPlans.{LayoutOutcome, plan_from}
+use Rattle.kbd48_app.proofs.AnswersAreSpoken.{MaySay}
+use Rattle.app_answers.proofs.AreSpoken.{spoken_on, left_behind, left_so}
 
 -- behind all three files
 module _ (wanted : BoardRun) (first second third : List ℕ) (shelf on mid last : Option Told)
@@ -164,7 +55,8 @@ module _ (wanted : BoardRun) (first second third : List ℕ) (shelf on mid last 
       (found_so kinds.Keys third (λ t. with_history (Boards wanted image) (history_of layout t)) mid
       last last answer probes left keys gives'' fetched''
       (subst (λ (t : List ℕ). MayEnd (with_history (Boards wanted image) (history_of layout t)) last answer last probes left)
-      same (tells last))))))
+      same (end_of_history (MayRun wanted image probes) (Boards wanted image) last answer probes left (λ history h. (h, refl))
+      (history_of layout text) tells))))))
 
   pub three_spoken : (probes left : List Watch) (result : Result Spoken Refusal) (x y : Shown)
       → IsSpoken (λ answer taking log. MayTellBoard wanted image layout text answer probes (left_behind left taking log)) result x y

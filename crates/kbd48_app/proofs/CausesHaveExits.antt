@@ -5,30 +5,31 @@ use Rattle.fw_compile.specs.Image.{image_of}
 use Rattle.fw_debug.specs.Sessions.{Debuggee, of_layout, of_program, with_fill}
 use Rattle.joint_feed.specs.Stories.{story}
 use Rattle.io_edge.specs.Shelf.{Told, Fetched, Fails, Long, Found, after_fetch, fetched}
-use Rattle.kbd48_app.specs.declared.exit.Exit.{Exit}
-use Rattle.kbd48_app.specs.declared.exit.Exit.TheVariants as exits
-use Rattle.kbd48_app.specs.declared.kind.Kind.{Kind}
-use Rattle.kbd48_app.specs.declared.kind.Kind.TheVariants as kinds
-use Rattle.kbd48_app.specs.declared.words.Command.{Command}
-use Rattle.kbd48_app.specs.declared.words.Command.TheVariants.{OverFile, OverPair, Debug, Probe, Board, Feed, Sample}
-use Rattle.kbd48_app.specs.declared.words.PairCommand.TheVariants.{Certify, OverRun, Spell}
-use Rattle.kbd48_app.specs.declared.words.FileCommand.{FileCommand}
-use Rattle.kbd48_app.specs.declared.words.FileCommand.TheVariants.{Step, Listing, Assemble, Compile}
+use Rattle.app_words.specs.declared.exit.Exit.{Exit}
+use Rattle.app_words.specs.declared.exit.Exit.TheVariants as exits
+use Rattle.app_words.specs.declared.kind.Kind.{Kind}
+use Rattle.app_words.specs.declared.kind.Kind.TheVariants as kinds
+use Rattle.app_words.specs.declared.words.Command.{Command}
+use Rattle.app_words.specs.declared.words.Command.TheVariants.{OverFile, OverPair, Debug, Probe, Board, Feed, Sample}
+use Rattle.app_words.specs.declared.words.PairCommand.TheVariants.{Certify, OverRun, Spell}
+use Rattle.app_words.specs.declared.words.FileCommand.{FileCommand}
+use Rattle.app_words.specs.declared.words.FileCommand.TheVariants.{Step, Listing, Assemble, Compile}
 use Rattle.kbd48_app.specs.Answers.{OnFetched}
 use Rattle.kbd48_app.specs.Causes.{BoardIsStuck, IsStuck, StepIsStuck}
-use Rattle.kbd48_app.specs.Debugging.{script_fault}
-use Rattle.kbd48_app.specs.Kinds.{kind_of, limit_of}
-use Rattle.kbd48_app.specs.Plans.{Plan, Gives, Certifies, Runs, Boards, Samples, Debugs, Fetches, plan_of, file_said, Spells}
+use Rattle.app_boards.specs.Debugging.{script_fault}
+use Rattle.app_words.specs.Kinds.{kind_of, limit_of}
+use Rattle.kbd48_app.specs.Plans.{Plan, Gives, Certifies, Runs, Boards, Samples, Debugs, Fetches, plan_of, Spells}
+use Rattle.app_answers.specs.FileAnswers.{file_said}
 use Rattle.kbd48_app.specs.Plans.{debug_next, probe_next, script_next}
 use Rattle.kbd48_app.specs.Reached.{on_fetched, IsUnserved, IsTooLong, Reads}
-use Rattle.kbd48_app.specs.Says.{exit_said}
-use Rattle.kbd48_app.specs.Words.{name_in, second_in, third_in, fourth_in}
+use Rattle.app_answers.specs.Says.{exit_said}
+use Rattle.app_words.specs.Words.{name_in, second_in, third_in, fourth_in}
 use Rattle.kbd48_app.proofs.BoardExits.{board_stuck, fault_led_by_board}
 use Rattle.kbd48_app.proofs.CertPlans.{fault_led_by_cert}
 use Rattle.kbd48_app.proofs.PlansEnd.{leads, exit_by}
-use Rattle.kbd48_app.proofs.FirstFaultHasExit.{Fault, InHex, InAsm, InLayout, InCert, InKeys, InScript, InText, HasFault, exit_at}
+use Rattle.kbd48_app.specs.Causes.{Fault, InHex, InAsm, InLayout, InCert, InKeys, InScript, InText, HasFault, exit_at}
 use Rattle.kbd48_app.proofs.FirstFaultHasExit.{faulty_file}
-use Rattle.kbd48_app.proofs.FileExits.{hex_answered, asm_answered, layout_answered, stop_answered}
+use Rattle.app_answers.proofs.FileExits.{hex_answered, asm_answered, layout_answered, stop_answered}
 use Rattle.kbd48_app.proofs.ProgramPlans.{fault_led_by_program}
 use Rattle.kbd48_app.proofs.FetchesReach.{fetch_read, leads_found}
 use Rattle.kbd48_app.proofs.RunPlans.{IsReadThird, IsScriptLed, fault_led_by_run}

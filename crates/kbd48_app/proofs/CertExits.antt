@@ -3,14 +3,14 @@ use Rattle.std.proofs.Common.{◌≡◌, ℕ, List, Ok, Err, inl, inr, refl, ap}
 use Rattle.std.specs.declared.option.Option.{Option}
 use Rattle.hexfile.specs.Hex.{HexOutcome, hex_of}
 use Rattle.io_edge.specs.Shelf.{Told, after_fetch}
-use Rattle.kbd48_app.specs.declared.exit.Exit.TheVariants as exits
-use Rattle.kbd48_app.specs.declared.kind.Kind.TheVariants as kinds
-use Rattle.kbd48_app.specs.declared.words.Command.{Command}
-use Rattle.kbd48_app.specs.declared.words.PairCommand.TheVariants.{Certify}
-use Rattle.kbd48_app.specs.CertTexts.{cert_said}
+use Rattle.app_words.specs.declared.exit.Exit.TheVariants as exits
+use Rattle.app_words.specs.declared.kind.Kind.TheVariants as kinds
+use Rattle.app_words.specs.declared.words.Command.{Command}
+use Rattle.app_words.specs.declared.words.PairCommand.TheVariants.{Certify}
+use Rattle.app_answers.specs.CertTexts.{cert_said}
 use Rattle.kbd48_app.specs.Plans.{Plan, Certifies, cert_next, pair_plan, with_image}
 use Rattle.kbd48_app.specs.Reached.{Reads}
-use Rattle.kbd48_app.specs.Says.{exit_said}
+use Rattle.app_answers.specs.Says.{exit_said}
 use Rattle.kbd48_app.proofs.ExitAndCause.{IsCaused, caused_as}
 use Rattle.kbd48_app.proofs.CertPlans.{cert_exits}
 use Rattle.kbd48_app.proofs.FileFaults.{cert_fault, hex_fault}

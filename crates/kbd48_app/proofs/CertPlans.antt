@@ -8,19 +8,19 @@ use Rattle.first_fault.specs.FirstFault.{Fault as FirstFault}
 use Rattle.hexfile.specs.Hex.{HexOutcome, hex_of}
 use Rattle.hexfile.specs.declared.fault.HexFault.{HexFault}
 use Rattle.io_edge.specs.Shelf.{Told, Fetched, Found, after_fetch, fetched}
-use Rattle.kbd48_app.specs.declared.exit.Exit.TheVariants as exits
-use Rattle.kbd48_app.specs.declared.kind.Kind.{Kind}
-use Rattle.kbd48_app.specs.declared.kind.Kind.TheVariants as kinds
-use Rattle.kbd48_app.specs.declared.refusal.Refusal.TheVariants.{Cert}
-use Rattle.kbd48_app.specs.declared.words.PairCommand.TheVariants.{Certify}
+use Rattle.app_words.specs.declared.exit.Exit.TheVariants as exits
+use Rattle.app_words.specs.declared.kind.Kind.{Kind}
+use Rattle.app_words.specs.declared.kind.Kind.TheVariants as kinds
+use Rattle.app_words.specs.declared.refusal.Refusal.TheVariants.{Cert}
+use Rattle.app_words.specs.declared.words.PairCommand.TheVariants.{Certify}
 use Rattle.kbd48_app.specs.Causes.{HasHexFault, HasCertFault}
-use Rattle.kbd48_app.specs.Kinds.{limit_of}
-use Rattle.kbd48_app.specs.CertTexts.{certified, cert_said}
+use Rattle.app_words.specs.Kinds.{limit_of}
+use Rattle.app_answers.specs.CertTexts.{certified, cert_said}
 use Rattle.kbd48_app.specs.Plans.{Plan, Certifies, cert_next, pair_plan, with_image}
 use Rattle.kbd48_app.specs.Reached.{Reads}
-use Rattle.kbd48_app.specs.Says.{exit_said}
+use Rattle.app_answers.specs.Says.{exit_said}
 use Rattle.kbd48_app.proofs.PlansEnd.{leads}
-use Rattle.kbd48_app.proofs.FirstFaultHasExit.{Fault, InHex, InAsm, InLayout, InCert, InKeys, InScript, InText, HasFault, exit_at}
+use Rattle.kbd48_app.specs.Causes.{Fault, InHex, InAsm, InLayout, InCert, InKeys, InScript, InText, HasFault, exit_at}
 use Rattle.kbd48_app.proofs.FetchesReach.{fetch_read, leads_found}
 
 abbrev plan_from : List ℕ → List ℕ → Plan

@@ -2,9 +2,9 @@
 use Rattle.std.proofs.Common.{◌≡◌, ℕ, true, None, sym, subst}
 use Rattle.std.specs.declared.option.Option.{Option}
 use Rattle.io_edge.specs.Shelf.{Told}
-use Rattle.kbd48_app.specs.declared.exit.Exit.{Exit}
-use Rattle.kbd48_app.specs.declared.exit.Exit.TheVariants.{Done, Words, Input, Timing, Read, Write, Memory, Stuck}
-use Rattle.kbd48_app.specs.declared.words.Command.{Command}
+use Rattle.app_words.specs.declared.exit.Exit.{Exit}
+use Rattle.app_words.specs.declared.exit.Exit.TheVariants.{Done, Words, Input, Timing, Read, Write, Memory, Stuck}
+use Rattle.app_words.specs.declared.words.Command.{Command}
 use Rattle.kbd48_app.specs.Causes.{HasFileFault, IsStuck, IsUntimely}
 use Rattle.kbd48_app.specs.Plans.{Plan}
 use Rattle.kbd48_app.specs.Reached.{IsUnserved, may_lack}

@@ -5,19 +5,20 @@ use Rattle.key_file.specs.declared.fault.KeyFault.TheVariants.{Timing}
 use Rattle.board_probes.specs.Probes.{Watch}
 use Rattle.io_edge.specs.Said.{Shown}
 use Rattle.io_edge.specs.Shelf.{Told}
-use Rattle.kbd48_app.specs.declared.exit.Exit.{Exit}
-use Rattle.kbd48_app.specs.declared.exit.Exit.TheVariants as exits
-use Rattle.kbd48_app.specs.declared.kind.Kind.{Kind}
-use Rattle.kbd48_app.specs.Answers.{MayAnswer, Left}
-use Rattle.kbd48_app.specs.Causes.{HasFileFault, HasTimingFault, IsStuck, IsUntimely, MayExit}
-use Rattle.kbd48_app.specs.Plans.{Answer, plan}
+use Rattle.app_words.specs.declared.exit.Exit.{Exit}
+use Rattle.app_words.specs.declared.exit.Exit.TheVariants as exits
+use Rattle.app_words.specs.declared.kind.Kind.{Kind}
+use Rattle.kbd48_app.specs.Answers.{MayAnswer}
+use Rattle.app_answers.specs.Leaving.{Left}
+use Rattle.kbd48_app.specs.Causes.{HasFileFault, IsStuck, IsUntimely, MayExit, Fault, HasFault, exit_at}
+use Rattle.app_answers.specs.FileAnswers.{Answer}
+use Rattle.kbd48_app.specs.Plans.{plan}
 use Rattle.kbd48_app.specs.Reached.{IsTooLong, IsUnserved, Makes, fetches_of, may_lack}
-use Rattle.kbd48_app.specs.Says.{Says}
-use Rattle.kbd48_app.specs.Words.{command_of}
+use Rattle.app_answers.specs.Says.{Says}
+use Rattle.app_words.specs.Words.{command_of}
 use Rattle.kbd48_app.proofs.CausesHaveExits.{unserved, too_long, fault_led, stuck}
 use Rattle.kbd48_app.proofs.PlansEnd.{exits_so}
 use Rattle.kbd48_app.proofs.ExitsTell.{Ended, ended, read_only, input_only, timing_only, stuck_only, memory_only, may_exit}
-use Rattle.kbd48_app.proofs.FirstFaultHasExit.{Fault, InKeys, HasFault, exit_at}
 use Rattle.kbd48_app.proofs.FetchesAreMade.{makes}
 
 -- a call has ended so
@@ -56,25 +57,14 @@ told_too_long words (Some shelf) after probes left taken taken' exit h =
     (exits_so words shelf taken taken' exit after probes left h)
 
 -- a fault of a file, where the probes are so many
-pub told_fault : {A : Type 0} (of : A → Fault) (n : ℕ) (words : List (List ℕ)) (shelf after : Option Told)
-    (probes : List Watch) (left : Left) (taken taken' : Shown) (exit : Exit) → length probes ≡ n
-    → Ending words shelf after probes left taken taken' exit
-    → IfSome shelf (λ told. (fault : A) → HasFault n (of fault) (plan words) told → MayExit (exit_at (of fault)) exit)
-told_fault of n words None after probes left taken taken' exit same h = tt
-told_fault of n words (Some shelf) after probes left taken taken' exit same h =
-    λ fault cause. may_exit _ _ (exit_at (of fault)) exit
-    (fault_led (length probes) (of fault) (command_of words) words shelf
-    (subst (λ (k : ℕ). HasFault k (of fault) (plan words) shelf) (sym same) cause))
-    (exits_so words shelf taken taken' exit after probes left h)
-
-pub told_timing : (words : List (List ℕ)) (shelf after : Option Told) (probes : List Watch) (left : Left) (taken taken' : Shown)
-    (exit : Exit) → Ending words shelf after probes left taken taken' exit
-    → IfSome shelf (λ told. (fault : ℕ × ℕ) (stamps : ℕ × ℕ) → HasTimingFault fault stamps (plan words) told → MayExit exits.Timing exit)
-told_timing words None after probes left taken taken' exit h = tt
-told_timing words (Some shelf) after probes left taken taken' exit h =
-    λ fault stamps cause.
-    may_exit _ _ exits.Timing exit
-    (fault_led (length probes) (InKeys (Timing fault.0 fault.1 stamps.0 stamps.1)) (command_of words) words shelf cause)
+pub told_fault : (n : ℕ) (words : List (List ℕ)) (shelf after : Option Told) (probes : List Watch) (left : Left) (taken taken' : Shown)
+    (exit : Exit) → length probes ≡ n → Ending words shelf after probes left taken taken' exit
+    → IfSome shelf (λ told. (fault : Fault) → HasFault n fault (plan words) told → MayExit (exit_at fault) exit)
+told_fault n words None after probes left taken taken' exit same h = tt
+told_fault n words (Some shelf) after probes left taken taken' exit same h =
+    λ fault cause. may_exit _ _ (exit_at fault) exit
+    (fault_led (length probes) fault (command_of words) words shelf
+    (subst (λ (k : ℕ). HasFault k fault (plan words) shelf) (sym same) cause))
     (exits_so words shelf taken taken' exit after probes left h)
 
 pub told_timing_only : (words : List (List ℕ)) (shelf after : Option Told) (probes : List Watch) (left : Left) (taken taken' : Shown)

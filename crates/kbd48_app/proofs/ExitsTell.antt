@@ -2,26 +2,27 @@
 use Rattle.std.proofs.Common.{◌≡◌, ℕ, Bool, true, List, Some, None, inl, inr, refl, ap, sym, subst, ◌∙◌, ◌⊎◌}
 use Rattle.std.specs.declared.option.Option.{Option}
 use Rattle.io_edge.specs.Shelf.{Told}
-use Rattle.kbd48_app.specs.declared.exit.Exit.{Exit}
-use Rattle.kbd48_app.specs.declared.exit.Exit.TheVariants as exits
-use Rattle.kbd48_app.specs.declared.kind.Kind.{Kind}
-use Rattle.kbd48_app.specs.declared.kind.Kind.TheVariants as kinds
-use Rattle.kbd48_app.specs.declared.words.Command.{Command}
-use Rattle.kbd48_app.specs.declared.words.Command.TheVariants.{OverFile, OverPair, Debug, Probe, Board, Feed, Sample}
-use Rattle.kbd48_app.specs.declared.words.PairCommand.TheVariants.{Certify, OverRun, Spell}
-use Rattle.kbd48_app.specs.declared.words.FileCommand.{FileCommand}
+use Rattle.app_words.specs.declared.exit.Exit.{Exit}
+use Rattle.app_words.specs.declared.exit.Exit.TheVariants as exits
+use Rattle.app_words.specs.declared.kind.Kind.{Kind}
+use Rattle.app_words.specs.declared.kind.Kind.TheVariants as kinds
+use Rattle.app_words.specs.declared.words.Command.{Command}
+use Rattle.app_words.specs.declared.words.Command.TheVariants.{OverFile, OverPair, Debug, Probe, Board, Feed, Sample}
+use Rattle.app_words.specs.declared.words.PairCommand.TheVariants.{Certify, OverRun, Spell}
+use Rattle.app_words.specs.declared.words.FileCommand.{FileCommand}
 use Rattle.kbd48_app.specs.Causes.{HasFileFault, IsStuck, IsUntimely, MayExit}
-use Rattle.kbd48_app.specs.Kinds.{kind_of}
-use Rattle.kbd48_app.specs.Plans.{Answer, Plan, Gives, file_said, plan_of}
+use Rattle.app_words.specs.Kinds.{kind_of}
+use Rattle.app_answers.specs.FileAnswers.{Answer, file_said}
+use Rattle.kbd48_app.specs.Plans.{Plan, Gives, plan_of}
 use Rattle.kbd48_app.specs.Reached.{may_lack, IsUnserved, Reads}
-use Rattle.kbd48_app.specs.Says.{exit_said}
-use Rattle.kbd48_app.specs.Words.{name_in, second_in, third_in, fourth_in}
+use Rattle.app_answers.specs.Says.{exit_said}
+use Rattle.app_words.specs.Words.{name_in, second_in, third_in, fourth_in}
 use Rattle.kbd48_app.proofs.BoardExits.{board_caused}
 use Rattle.kbd48_app.proofs.ExitAndCause.{IsCaused, caused_as}
 use Rattle.kbd48_app.proofs.CertExits.{cert_caused}
 use Rattle.kbd48_app.proofs.FileFaults.{asm_fault, hex_fault, layout_fault}
 use Rattle.kbd48_app.proofs.PlansEnd.{leads, IsExit}
-use Rattle.kbd48_app.proofs.FileExits.{Exits, file_exits}
+use Rattle.app_answers.proofs.FileExits.{Exits, file_exits}
 use Rattle.kbd48_app.proofs.ProgramExits.{probe_caused}
 use Rattle.kbd48_app.proofs.RunExits.{run_caused, debug_caused}
 use Rattle.kbd48_app.proofs.TextExits.{text_caused}

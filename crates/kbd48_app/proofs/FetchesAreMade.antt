@@ -4,16 +4,18 @@ use Rattle.std.specs.declared.option.Option.{Option}
 use Rattle.board_probes.specs.Probes.{Watch}
 use Rattle.io_edge.specs.Said.{Shown}
 use Rattle.io_edge.specs.Shelf.{Told, Fetched, Fails, Long, Found, after_fetch, fetched}
-use Rattle.kbd48_app.specs.declared.exit.Exit.{Exit}
-use Rattle.kbd48_app.specs.declared.kind.Kind.{Kind}
-use Rattle.kbd48_app.specs.declared.refusal.Refusal.TheVariants.{Read, TooLong, Memory}
-use Rattle.kbd48_app.specs.declared.words.Command.{Command}
-use Rattle.kbd48_app.specs.Answers.{OnFetched, MayEnd, MayEndAs, MayAnswer, Left}
-use Rattle.kbd48_app.specs.Kinds.{limit_of}
-use Rattle.kbd48_app.specs.Plans.{Answer, Plan, Gives, Certifies, Runs, Boards, Samples, Debugs, Fetches, plan, plan_of, Spells}
+use Rattle.app_words.specs.declared.exit.Exit.{Exit}
+use Rattle.app_words.specs.declared.kind.Kind.{Kind}
+use Rattle.app_words.specs.declared.refusal.Refusal.TheVariants.{Read, TooLong, Memory}
+use Rattle.app_words.specs.declared.words.Command.{Command}
+use Rattle.kbd48_app.specs.Answers.{OnFetched, MayEnd, MayEndAs, MayAnswer}
+use Rattle.app_answers.specs.Leaving.{Left}
+use Rattle.app_words.specs.Kinds.{limit_of}
+use Rattle.app_answers.specs.FileAnswers.{Answer}
+use Rattle.kbd48_app.specs.Plans.{Plan, Gives, Certifies, Runs, Boards, Samples, Debugs, Fetches, plan, plan_of, Spells}
 use Rattle.kbd48_app.specs.Reached.{on_fetched, fetches_of, after_fetches, Makes}
-use Rattle.kbd48_app.specs.Says.{Says, exit_said}
-use Rattle.kbd48_app.specs.Words.{command_of}
+use Rattle.app_answers.specs.Says.{Says, exit_said}
+use Rattle.app_words.specs.Words.{command_of}
 
 -- the same by the answer: all of them, or the first ones where memory was wanting
 abbrev MakesSo : List (List ℕ × ℕ) → Told → Option Told → Answer → Type 0

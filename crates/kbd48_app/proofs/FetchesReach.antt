@@ -1,10 +1,10 @@
 -- What a plan with a fetch reaches: the file that it finds, and what is reached behind it.
 use Rattle.std.proofs.Common.{◌≡◌, ℕ, true, false, List, inl, inr, refl, ap, ◌⊎◌}
 use Rattle.io_edge.specs.Shelf.{Told, Fetched, Fails, Long, Found, after_fetch, fetched}
-use Rattle.kbd48_app.specs.declared.exit.Exit.TheVariants as exits
-use Rattle.kbd48_app.specs.declared.kind.Kind.{Kind}
+use Rattle.app_words.specs.declared.exit.Exit.TheVariants as exits
+use Rattle.app_words.specs.declared.kind.Kind.{Kind}
 use Rattle.kbd48_app.specs.Answers.{OnFetched}
-use Rattle.kbd48_app.specs.Kinds.{limit_of}
+use Rattle.app_words.specs.Kinds.{limit_of}
 use Rattle.kbd48_app.specs.Plans.{Plan, Gives, Certifies, Runs, Boards, Samples, Debugs, Fetches, Spells}
 use Rattle.kbd48_app.specs.Reached.{on_fetched, may_lack, Reads}
 use Rattle.kbd48_app.proofs.PlansEnd.{leads}

@@ -13,13 +13,17 @@ use Rattle.key_file.specs.Histories.{KeyHistory}
 use Rattle.key_file.specs.KeyFile.{history_of}
 use Rattle.layout_reader.specs.Documents.{layout_of_document}
 use Rattle.layout_reader.specs.Layouts.{KeyLayout}
-use Rattle.kbd48_app.specs.declared.kind.Kind.{Kind}
-use Rattle.kbd48_app.specs.declared.kind.Kind.TheVariants as kinds
-use Rattle.kbd48_app.specs.declared.refusal.Refusal.{Refusal}
-use Rattle.kbd48_app.specs.Answers.{MayAnswerDebug, MayEnd, MayFetch, Left, answer_of}
-use Rattle.kbd48_app.specs.Fetching.{IsGiven, MayGive}
-use Rattle.kbd48_app.specs.Kinds.{limit_of}
-use Rattle.kbd48_app.specs.Plans.{Answer, Plan, Debugs, Fetches, history_plan, keys_next, program_next}
+use Rattle.app_words.specs.declared.kind.Kind.{Kind}
+use Rattle.app_words.specs.declared.kind.Kind.TheVariants as kinds
+use Rattle.app_words.specs.declared.refusal.Refusal.{Refusal}
+use Rattle.app_boards.specs.SessionAnswers.{MayAnswerDebug}
+use Rattle.kbd48_app.specs.Answers.{MayEnd}
+use Rattle.app_answers.specs.Fetching.{MayFetch, IsGiven, MayGive}
+use Rattle.app_answers.specs.Leaving.{Left, OfHistory}
+use Rattle.app_answers.specs.Answers.{answer_of}
+use Rattle.app_words.specs.Kinds.{limit_of}
+use Rattle.app_answers.specs.FileAnswers.{Answer}
+use Rattle.kbd48_app.specs.Plans.{Plan, Debugs, Fetches, history_plan, keys_next, program_next}
 use Rattle.kbd48_app.specs.Plans.{program_plan, script_next, with_history, with_image, with_layout}
 use Rattle.kbd48_app.proofs.ProgramPlans.{Behind, program_from}
 use Rattle.kbd48_app.proofs.RunPlans.{Following, HistoryOutcome, LayoutOutcome, plan_from}
@@ -61,6 +65,15 @@ pub unfound : (kind : Kind) (name : List ℕ) (next : List ℕ → Plan) (shelf 
     → answer ≡ Err refusal → left.probes ≡ probes → left.log ≡ [] → MayEnd (Fetches kind name next) shelf answer on probes left
 unfound kind name next shelf on answer probes left refusal gives fetched same kept alone =
     unfound_by kind name next shelf on answer probes left refusal gives.0 gives.1 gives.2 fetched same kept alone
+
+-- what may be said of a key file is how the plan that reads it ends
+pub end_of_history : (may : KeyHistory → Answer → Left → Type 0) (next : KeyHistory → Plan) (shelf : Option Told)
+    (answer : Answer) (probes : List Watch) (left : Left)
+    → ((history : KeyHistory) → may history answer left → MayEnd (next history) shelf answer shelf probes left)
+    → (outcome : HistoryOutcome) → OfHistory may outcome answer probes left
+    → MayEnd (with_history next outcome) shelf answer shelf probes left
+end_of_history may next shelf answer probes left on (Ok history) h = on history h
+end_of_history may next shelf answer probes left on (Err fault) h = (h.0, (refl, h.1, h.2))
 
 -- behind a layout and a key file without a fault
 pub both_found : (first second : List ℕ) (next : Following) (shelf on on' after : Option Told) (answer : Answer) (probes : List Watch)

@@ -17,26 +17,30 @@ use Rattle.board_probes.specs.Probes.{Watch}
 use Rattle.fw_debug.specs.Sessions.{Debuggee}
 use Rattle.io_edge.specs.Said.{Shown}
 use Rattle.io_edge.specs.Shelf.{Told, Fetched, Fails, Long, Found, after_fetch}
-use Rattle.kbd48_app.specs.declared.exit.Exit.{Exit}
-use Rattle.kbd48_app.specs.declared.exit.Exit.TheVariants as exits
-use Rattle.kbd48_app.specs.declared.refusal.Refusal.TheVariants.{Words, Read, TooLong, Memory}
-use Rattle.kbd48_app.specs.declared.words.BoardCommand.{BoardCommand}
-use Rattle.kbd48_app.specs.declared.words.Command.{Command}
-use Rattle.kbd48_app.specs.declared.words.Command.TheVariants.{OverFile, OverPair, Debug, Probe, Board, Feed, Sample}
-use Rattle.kbd48_app.specs.declared.words.PairCommand.TheVariants.{Certify, OverRun, Spell}
-use Rattle.kbd48_app.specs.declared.words.FileCommand.{FileCommand}
+use Rattle.app_words.specs.declared.exit.Exit.{Exit}
+use Rattle.app_words.specs.declared.exit.Exit.TheVariants as exits
+use Rattle.app_words.specs.declared.refusal.Refusal.TheVariants.{Words, Read, TooLong, Memory}
+use Rattle.app_words.specs.declared.words.BoardCommand.{BoardCommand}
+use Rattle.app_words.specs.declared.words.Command.{Command}
+use Rattle.app_words.specs.declared.words.Command.TheVariants.{OverFile, OverPair, Debug, Probe, Board, Feed, Sample}
+use Rattle.app_words.specs.declared.words.PairCommand.TheVariants.{Certify, OverRun, Spell}
+use Rattle.app_words.specs.declared.words.FileCommand.{FileCommand}
 use Rattle.std.specs.Option.{option_map}
-use Rattle.kbd48_app.specs.Answers.{OnFetched, MayAnswerOf, MayAnswerSession, MayAnswer, MayEnd, MayEndAs, Left}
-use Rattle.kbd48_app.specs.Debugging.{script_fault}
-use Rattle.kbd48_app.specs.declared.kind.Kind.{Kind}
-use Rattle.kbd48_app.specs.BoardTexts.{board_said}
-use Rattle.kbd48_app.specs.CertTexts.{cert_said}
-use Rattle.kbd48_app.specs.Plans.{Answer, Plan, Gives, Certifies, Runs, Boards, Samples, Debugs, Fetches, cert_next, file_said, keys_next}
+use Rattle.kbd48_app.specs.Answers.{OnFetched, MayAnswer, MayEnd, MayEndAs}
+use Rattle.app_answers.specs.Answers.{MayAnswerOf}
+use Rattle.app_boards.specs.SessionAnswers.{MayAnswerSession}
+use Rattle.app_answers.specs.Leaving.{Left}
+use Rattle.app_boards.specs.Debugging.{script_fault}
+use Rattle.app_words.specs.declared.kind.Kind.{Kind}
+use Rattle.app_boards.specs.BoardTexts.{board_said}
+use Rattle.app_answers.specs.CertTexts.{cert_said}
+use Rattle.app_answers.specs.FileAnswers.{Answer, file_said}
+use Rattle.kbd48_app.specs.Plans.{Plan, Gives, Certifies, Runs, Boards, Samples, Debugs, Fetches, cert_next, keys_next}
 use Rattle.kbd48_app.specs.Plans.{plan_of, debug_next, probe_next, program_next, with_history, with_image, with_layout, Spells, text_next}
-use Rattle.kbd48_app.specs.Says.{Says, exit_said}
-use Rattle.kbd48_app.specs.Words.{command_of, second_in, third_in, fourth_in}
+use Rattle.app_answers.specs.Says.{Says, exit_said}
+use Rattle.app_words.specs.Words.{command_of, second_in, third_in, fourth_in}
 use Rattle.kbd48_app.proofs.CertPlans.{cert_exits}
-use Rattle.kbd48_app.proofs.FileExits.{Exits, file_exits}
+use Rattle.app_answers.proofs.FileExits.{Exits, file_exits}
 
 -- the exit is that of the answer, or the sink failed
 pub said_exit : (log : List ℕ) (answer : Answer) (taken taken' : Shown) (exit : Exit)

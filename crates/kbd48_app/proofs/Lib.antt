@@ -1,11 +1,5 @@
-pub mod CountsParse
-pub mod StepsGoOn
-pub mod KeysGiveCodes
-pub mod BytesAreSaid
-pub mod ShelvesGive
 pub mod WordsAreNames
 pub mod PlansEnd
-pub mod FileExits
 pub mod CausesHaveExits
 pub mod FirstFaultHasExit
 pub mod FetchesReach
@@ -21,12 +15,9 @@ pub mod RunPlans
 pub mod ProgramPlans
 pub mod PairsAlike
 pub mod OneText
-pub mod OptionsAreFew
 pub mod PrintAlike
-pub mod RunPrintsExpected
 pub mod RunExits
 pub mod ProgramExits
-pub mod ScriptsAreAnswered
 pub mod FilesAreFound
 pub mod ExitAndCause
 pub mod FileFaults
@@ -34,12 +25,8 @@ pub mod CertExits
 pub mod TextPlans
 pub mod TextExits
 pub mod MemoryComesFirst
-pub mod StrokesAreAccepted
-pub mod StartsAreLines
-pub mod RunsAreSaid
 pub mod AnswersAreSpoken
 pub mod LogsAreLines
 pub mod BoardExits
 pub mod BoardsAreSaid
 pub mod BoardTellsRun
-pub mod LinesStandInText

@@ -5,14 +5,16 @@ use Rattle.std.specs.declared.option.Option.{Option}
 use Rattle.board_probes.specs.Probes.{Watch}
 use Rattle.io_edge.proofs.Pieces.{AreLines}
 use Rattle.io_edge.specs.Shelf.{Told, Fetched, Fails, Long, Found, after_fetch}
-use Rattle.kbd48_app.specs.BoardTexts.{board_story}
-use Rattle.kbd48_app.specs.declared.kind.Kind.{Kind}
-use Rattle.kbd48_app.specs.declared.refusal.Refusal.TheVariants.{Read, TooLong, Memory}
-use Rattle.kbd48_app.specs.declared.words.Command.{Command}
-use Rattle.kbd48_app.specs.Answers.{IsKept, Left, MayAnswer, MayEnd, MayEndAs, OnFetched}
-use Rattle.kbd48_app.specs.Plans.{Answer, Plan, Gives, Certifies, Runs, Boards, Samples, Debugs, Fetches, plan_of, Spells}
-use Rattle.kbd48_app.specs.Words.{command_of}
-use Rattle.kbd48_app.proofs.BoardsAreSaid.{log_is_lines}
+use Rattle.app_boards.specs.BoardTexts.{board_story}
+use Rattle.app_words.specs.declared.kind.Kind.{Kind}
+use Rattle.app_words.specs.declared.refusal.Refusal.TheVariants.{Read, TooLong, Memory}
+use Rattle.app_words.specs.declared.words.Command.{Command}
+use Rattle.kbd48_app.specs.Answers.{IsKept, MayAnswer, MayEnd, MayEndAs, OnFetched}
+use Rattle.app_answers.specs.Leaving.{Left}
+use Rattle.app_answers.specs.FileAnswers.{Answer}
+use Rattle.kbd48_app.specs.Plans.{Plan, Gives, Certifies, Runs, Boards, Samples, Debugs, Fetches, plan_of, Spells}
+use Rattle.app_words.specs.Words.{command_of}
+use Rattle.app_boards.proofs.BoardsAreSaid.{log_is_lines}
 
 fetch_lines : (kind : Kind) (answer : Answer) (on after : Option Told) (probes : List Watch) (left : Left) (more : List ℕ → Type 0)
     → ((bytes : List ℕ) → more bytes → AreLines left.log) → (outcome : Fetched)

@@ -14,26 +14,28 @@ use Rattle.key_file.specs.Histories.{KeyHistory}
 use Rattle.key_file.specs.KeyFile.{history_of}
 use Rattle.layout_reader.specs.Documents.{layout_of_document}
 use Rattle.layout_reader.specs.Layouts.{KeyLayout}
-use Rattle.kbd48_app.specs.declared.exit.Exit.{Exit}
-use Rattle.kbd48_app.specs.declared.exit.Exit.TheVariants as exits
-use Rattle.kbd48_app.specs.declared.kind.Kind.{Kind}
-use Rattle.kbd48_app.specs.declared.kind.Kind.TheVariants as kinds
-use Rattle.kbd48_app.specs.declared.refusal.Refusal.TheVariants.{Read, TooLong, Memory}
-use Rattle.kbd48_app.specs.declared.words.BoardCommand.{BoardCommand}
-use Rattle.kbd48_app.specs.declared.words.BoardRun.{BoardRun}
-use Rattle.kbd48_app.specs.declared.words.Command.{Command}
-use Rattle.kbd48_app.specs.declared.words.Command.TheVariants.{OverFile, OverPair, Debug, Probe, Board, Feed, Sample}
-use Rattle.kbd48_app.specs.declared.words.PairCommand.TheVariants.{Certify, Spell, OverRun}
-use Rattle.kbd48_app.specs.declared.words.RunCommand.{RunCommand}
-use Rattle.kbd48_app.specs.declared.words.RunCommand.TheVariants.{Log, Expect, Trace}
-use Rattle.kbd48_app.specs.Answers.{IsKept, Left, MayEnd, MayEndAs, OnFetched}
-use Rattle.kbd48_app.specs.BoardTexts.{board_said}
-use Rattle.kbd48_app.specs.Plans.{Answer, Plan, Boards, Fetches, Runs, Samples, history_plan, keys_next, pair_plan, program_plan}
+use Rattle.app_words.specs.declared.exit.Exit.{Exit}
+use Rattle.app_words.specs.declared.exit.Exit.TheVariants as exits
+use Rattle.app_words.specs.declared.kind.Kind.{Kind}
+use Rattle.app_words.specs.declared.kind.Kind.TheVariants as kinds
+use Rattle.app_words.specs.declared.refusal.Refusal.TheVariants.{Read, TooLong, Memory}
+use Rattle.app_words.specs.declared.words.BoardCommand.{BoardCommand}
+use Rattle.app_words.specs.declared.words.BoardRun.{BoardRun}
+use Rattle.app_words.specs.declared.words.Command.{Command}
+use Rattle.app_words.specs.declared.words.Command.TheVariants.{OverFile, OverPair, Debug, Probe, Board, Feed, Sample}
+use Rattle.app_words.specs.declared.words.PairCommand.TheVariants.{Certify, Spell, OverRun}
+use Rattle.app_words.specs.declared.words.RunCommand.{RunCommand}
+use Rattle.app_words.specs.declared.words.RunCommand.TheVariants.{Log, Expect, Trace}
+use Rattle.kbd48_app.specs.Answers.{IsKept, MayEnd, MayEndAs, OnFetched}
+use Rattle.app_answers.specs.Leaving.{Left}
+use Rattle.app_boards.specs.BoardTexts.{board_said}
+use Rattle.app_answers.specs.FileAnswers.{Answer}
+use Rattle.kbd48_app.specs.Plans.{Plan, Boards, Fetches, Runs, Samples, history_plan, keys_next, pair_plan, program_plan}
 use Rattle.kbd48_app.specs.Plans.{with_history, with_image, with_layout}
-use Rattle.kbd48_app.specs.RunTexts.{AreLeftWanting}
-use Rattle.kbd48_app.specs.Refusals.{line_of}
-use Rattle.kbd48_app.specs.Says.{text_said}
-use Rattle.kbd48_app.specs.Words.{command_of, name_in, second_in, takes_memory_first, third_in}
+use Rattle.app_runs.specs.RunTexts.{AreLeftWanting}
+use Rattle.app_words.specs.Refusals.{line_of}
+use Rattle.app_answers.specs.Says.{text_said}
+use Rattle.app_words.specs.Words.{command_of, name_in, second_in, takes_memory_first, third_in}
 use Rattle.kbd48_app.proofs.AnswersEndCalls.{EndedBehind, memory_said}
 use Rattle.kbd48_app.proofs.OneText.{no_refusal}
 use Rattle.kbd48_app.proofs.RunPlans.{HistoryOutcome, LayoutOutcome, plan_from}

@@ -8,15 +8,19 @@ use Rattle.key_file.specs.Histories.{KeyHistory}
 use Rattle.key_file.specs.KeyFile.{history_of}
 use Rattle.layout_reader.specs.Documents.{layout_of_document}
 use Rattle.layout_reader.specs.Layouts.{KeyLayout}
-use Rattle.kbd48_app.specs.declared.kind.Kind.{Kind}
-use Rattle.kbd48_app.specs.declared.kind.Kind.TheVariants as kinds
-use Rattle.kbd48_app.specs.declared.refusal.Refusal.{Refusal}
-use Rattle.kbd48_app.specs.declared.refusal.Refusal.TheVariants.{Layout, Read, TooLong, Memory}
-use Rattle.kbd48_app.specs.declared.words.PairCommand.TheVariants.{OverRun}
-use Rattle.kbd48_app.specs.declared.words.RunCommand.{RunCommand}
-use Rattle.kbd48_app.specs.Answers.{MayAnswerOf, MayAnswerRun, MayEnd, OnFetched, Left}
-use Rattle.kbd48_app.specs.Kinds.{limit_of}
-use Rattle.kbd48_app.specs.Plans.{Plan, Fetches, Runs, keys_next, keys_refusal, pair_plan, with_history, with_layout}
+use Rattle.app_words.specs.declared.kind.Kind.{Kind}
+use Rattle.app_words.specs.declared.kind.Kind.TheVariants as kinds
+use Rattle.app_words.specs.declared.refusal.Refusal.{Refusal}
+use Rattle.app_words.specs.declared.refusal.Refusal.TheVariants.{Layout, Read, TooLong, Memory}
+use Rattle.app_words.specs.declared.words.PairCommand.TheVariants.{OverRun}
+use Rattle.app_words.specs.declared.words.RunCommand.{RunCommand}
+use Rattle.app_answers.specs.Answers.{MayAnswerOf}
+use Rattle.app_runs.specs.RunAnswers.{MayAnswerRun}
+use Rattle.kbd48_app.specs.Answers.{MayEnd, OnFetched}
+use Rattle.app_answers.specs.Leaving.{Left}
+use Rattle.app_words.specs.Kinds.{limit_of}
+use Rattle.kbd48_app.specs.Plans.{Plan, Fetches, Runs, keys_next, pair_plan, with_history, with_layout}
+use Rattle.app_answers.specs.FileAnswers.{keys_refusal}
 use Rattle.kbd48_app.proofs.RunPlans.{HistoryOutcome, LayoutOutcome, plan_from}
 
 -- a text is no refusal

@@ -8,15 +8,18 @@ use Rattle.key_file.specs.Histories.{KeyHistory}
 use Rattle.key_file.specs.KeyFile.{history_of}
 use Rattle.layout_reader.specs.Documents.{layout_of_document}
 use Rattle.layout_reader.specs.Layouts.{KeyLayout}
-use Rattle.kbd48_app.specs.declared.kind.Kind.{Kind}
-use Rattle.kbd48_app.specs.declared.kind.Kind.TheVariants as kinds
-use Rattle.kbd48_app.specs.declared.refusal.Refusal.TheVariants.{Read, TooLong, Memory}
-use Rattle.kbd48_app.specs.declared.words.PairCommand.TheVariants.{OverRun}
-use Rattle.kbd48_app.specs.declared.words.RunCommand.{RunCommand}
-use Rattle.kbd48_app.specs.Answers.{IsKept, MayAnswerRun, MayEnd, MayFetch, OnFetched}
-use Rattle.kbd48_app.specs.Kinds.{limit_of}
+use Rattle.app_words.specs.declared.kind.Kind.{Kind}
+use Rattle.app_words.specs.declared.kind.Kind.TheVariants as kinds
+use Rattle.app_words.specs.declared.refusal.Refusal.TheVariants.{Read, TooLong, Memory}
+use Rattle.app_words.specs.declared.words.PairCommand.TheVariants.{OverRun}
+use Rattle.app_words.specs.declared.words.RunCommand.{RunCommand}
+use Rattle.kbd48_app.specs.Answers.{IsKept, MayEnd, OnFetched}
+use Rattle.app_runs.specs.RunAnswers.{MayAnswerRun}
+use Rattle.app_answers.specs.Fetching.{MayFetch}
+use Rattle.app_words.specs.Kinds.{limit_of}
 use Rattle.kbd48_app.specs.PrintAlike.{leaving}
-use Rattle.kbd48_app.specs.Plans.{Answer, Plan, Fetches, Runs, keys_next, pair_plan, with_history, with_layout}
+use Rattle.app_answers.specs.FileAnswers.{Answer}
+use Rattle.kbd48_app.specs.Plans.{Plan, Fetches, Runs, keys_next, pair_plan, with_history, with_layout}
 use Rattle.kbd48_app.proofs.RunPlans.{HistoryOutcome, LayoutOutcome, plan_from}
 
 -- one plan may end with what another may, over `R`, which says of an answer how the probes are left by the other and by it

@@ -11,21 +11,25 @@ use Rattle.io_edge.specs.Said.{Shown}
 use Rattle.layout_reader.specs.Layouts.{KeyLayout}
 use Rattle.typed_log.specs.Typing.{first_without}
 use Rattle.io_edge.specs.Shelf.{Told, Fetched, Fails, Long, Found, after_fetch, fetched}
-use Rattle.kbd48_app.specs.declared.exit.Exit.{Exit}
-use Rattle.kbd48_app.specs.declared.exit.Exit.TheVariants as exits
-use Rattle.kbd48_app.specs.declared.kind.Kind.{Kind}
-use Rattle.kbd48_app.specs.declared.refusal.Refusal.TheVariants.{Read, TooLong, Memory}
-use Rattle.kbd48_app.specs.declared.words.BoardCommand.{BoardCommand}
-use Rattle.kbd48_app.specs.declared.words.Command.{Command}
-use Rattle.kbd48_app.specs.Answers.{OnFetched, MayAnswerOf, MayAnswerSession, MayEnd, MayEndAs, MayAnswer, Left, MayAnswerText}
-use Rattle.kbd48_app.specs.BoardTexts.{board_said, board_story}
-use Rattle.kbd48_app.specs.CertTexts.{cert_said}
-use Rattle.kbd48_app.specs.Debugging.{script_fault}
-use Rattle.kbd48_app.specs.Kinds.{limit_of}
-use Rattle.kbd48_app.specs.Plans.{Answer, Plan, Gives, Certifies, Runs, Boards, Samples, Debugs, Fetches, plan, plan_of, Spells}
+use Rattle.app_words.specs.declared.exit.Exit.{Exit}
+use Rattle.app_words.specs.declared.exit.Exit.TheVariants as exits
+use Rattle.app_words.specs.declared.kind.Kind.{Kind}
+use Rattle.app_words.specs.declared.refusal.Refusal.TheVariants.{Read, TooLong, Memory}
+use Rattle.app_words.specs.declared.words.BoardCommand.{BoardCommand}
+use Rattle.app_words.specs.declared.words.Command.{Command}
+use Rattle.kbd48_app.specs.Answers.{OnFetched, MayEnd, MayEndAs, MayAnswer}
+use Rattle.app_answers.specs.Answers.{MayAnswerOf, MayAnswerText}
+use Rattle.app_boards.specs.SessionAnswers.{MayAnswerSession}
+use Rattle.app_answers.specs.Leaving.{Left}
+use Rattle.app_boards.specs.BoardTexts.{board_said, board_story}
+use Rattle.app_answers.specs.CertTexts.{cert_said}
+use Rattle.app_boards.specs.Debugging.{script_fault}
+use Rattle.app_words.specs.Kinds.{limit_of}
+use Rattle.app_answers.specs.FileAnswers.{Answer}
+use Rattle.kbd48_app.specs.Plans.{Plan, Gives, Certifies, Runs, Boards, Samples, Debugs, Fetches, plan, plan_of, Spells}
 use Rattle.kbd48_app.specs.Reached.{on_fetched, may_lack}
-use Rattle.kbd48_app.specs.Says.{Says, exit_said}
-use Rattle.kbd48_app.specs.Words.{command_of}
+use Rattle.app_answers.specs.Says.{Says, exit_said}
+use Rattle.app_words.specs.Words.{command_of}
 
 -- the exit of a script or a text, by its first fault
 abbrev pub exit_by : Option (ℕ × ℕ) → Exit

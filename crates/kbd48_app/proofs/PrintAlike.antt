@@ -15,19 +15,21 @@ use Rattle.subsystem.specs.Agreement.{IsAsExpected}
 use Rattle.subsystem.specs.Running.{Outcome}
 use Rattle.subsystem.specs.Texts.{log_text}
 use Rattle.subsystem.proofs.Alike.{runs_alike}
-use Rattle.kbd48_app.specs.declared.words.Command.{Command}
-use Rattle.kbd48_app.specs.declared.words.Command.TheVariants.{OverPair}
-use Rattle.kbd48_app.specs.declared.words.PairCommand.TheVariants.{OverRun}
-use Rattle.kbd48_app.specs.declared.words.RunCommand.{RunCommand}
-use Rattle.kbd48_app.specs.declared.words.RunCommand.TheVariants.{Log, Expect}
-use Rattle.kbd48_app.specs.Answers.{MayAnswerRun, MayEndAs, Left}
-use Rattle.kbd48_app.specs.Plans.{Answer}
+use Rattle.app_words.specs.declared.words.Command.{Command}
+use Rattle.app_words.specs.declared.words.Command.TheVariants.{OverPair}
+use Rattle.app_words.specs.declared.words.PairCommand.TheVariants.{OverRun}
+use Rattle.app_words.specs.declared.words.RunCommand.{RunCommand}
+use Rattle.app_words.specs.declared.words.RunCommand.TheVariants.{Log, Expect}
+use Rattle.app_runs.specs.RunAnswers.{MayAnswerRun}
+use Rattle.kbd48_app.specs.Answers.{MayEndAs}
+use Rattle.app_answers.specs.Leaving.{Left}
+use Rattle.app_answers.specs.FileAnswers.{Answer}
 use Rattle.kbd48_app.specs.PrintAlike.{AnswerAlike, leaving, run_words, expect_words}
-use Rattle.kbd48_app.specs.RunTexts.{run_text, expected_text}
-use Rattle.kbd48_app.specs.Words.{is_name}
+use Rattle.app_runs.specs.RunTexts.{run_text, expected_text}
+use Rattle.app_words.specs.Words.{is_name}
 use Rattle.kbd48_app.proofs.PairsAlike.{pairs_alike}
 use Rattle.kbd48_app.proofs.OneText.{no_refusal, pairs_one}
-use Rattle.kbd48_app.specs.declared.refusal.Refusal.TheVariants.{Memory}
+use Rattle.app_words.specs.declared.refusal.Refusal.TheVariants.{Memory}
 
 -- a run's text without options is that of its log, which is the one that the model expects
 texts_alike : (layout : KeyLayout) (history : KeyHistory) (run : Outcome)

@@ -5,8 +5,8 @@ use Rattle.fw_debug.specs.Sessions.{of_program, with_fill}
 use Rattle.hexfile.specs.Hex.{HexOutcome, hex_of}
 use Rattle.io_edge.specs.Shelf.{Told, after_fetch}
 use Rattle.joint_feed.specs.Stories.{story}
-use Rattle.kbd48_app.specs.declared.kind.Kind.TheVariants as kinds
-use Rattle.kbd48_app.specs.declared.words.Command.{Command}
+use Rattle.app_words.specs.declared.kind.Kind.TheVariants as kinds
+use Rattle.app_words.specs.declared.words.Command.{Command}
 use Rattle.kbd48_app.specs.Plans.{Plan, probe_next, probe_plan, program_next, program_plan, with_image}
 use Rattle.kbd48_app.specs.Reached.{Reads}
 use Rattle.kbd48_app.proofs.ExitAndCause.{IsCaused}

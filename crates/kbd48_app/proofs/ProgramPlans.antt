@@ -7,16 +7,16 @@ use Rattle.key_file.specs.Histories.{KeyHistory}
 use Rattle.key_file.specs.KeyFile.{history_of}
 use Rattle.layout_reader.specs.Documents.{layout_of_document}
 use Rattle.layout_reader.specs.Layouts.{KeyLayout}
-use Rattle.kbd48_app.specs.declared.exit.Exit.TheVariants as exits
-use Rattle.kbd48_app.specs.declared.kind.Kind.{Kind}
-use Rattle.kbd48_app.specs.declared.kind.Kind.TheVariants as kinds
+use Rattle.app_words.specs.declared.exit.Exit.TheVariants as exits
+use Rattle.app_words.specs.declared.kind.Kind.{Kind}
+use Rattle.app_words.specs.declared.kind.Kind.TheVariants as kinds
 use Rattle.kbd48_app.specs.Answers.{OnFetched}
 use Rattle.kbd48_app.specs.Causes.{HasHexFault}
-use Rattle.kbd48_app.specs.Kinds.{limit_of}
+use Rattle.app_words.specs.Kinds.{limit_of}
 use Rattle.kbd48_app.specs.Plans.{Plan, program_next, program_plan, with_image}
 use Rattle.kbd48_app.specs.Reached.{Reads}
 use Rattle.kbd48_app.proofs.PlansEnd.{leads}
-use Rattle.kbd48_app.proofs.FirstFaultHasExit.{Fault, InHex, InAsm, InLayout, InCert, InKeys, InScript, InText, HasFault, exit_at}
+use Rattle.kbd48_app.specs.Causes.{Fault, InHex, InAsm, InLayout, InCert, InKeys, InScript, InText, HasFault, exit_at}
 use Rattle.kbd48_app.proofs.FetchesReach.{fetch_read, leads_found}
 use Rattle.kbd48_app.proofs.RunPlans.{IsOfRun, IsReadThird, IsScriptLed, fault_led_by_run, history_exit, is_of_run}
 use Rattle.kbd48_app.proofs.RunPlans.{leads_both as leads_run}

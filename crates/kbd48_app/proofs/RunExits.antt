@@ -10,11 +10,11 @@ use Rattle.key_file.specs.KeyFile.{history_of}
 use Rattle.key_file.specs.declared.fault.KeyFault.TheVariants as faults
 use Rattle.layout_reader.specs.Documents.{layout_of_document}
 use Rattle.layout_reader.specs.Layouts.{KeyLayout}
-use Rattle.kbd48_app.specs.declared.kind.Kind.TheVariants as kinds
-use Rattle.kbd48_app.specs.declared.words.Command.{Command}
-use Rattle.kbd48_app.specs.declared.words.PairCommand.TheVariants.{OverRun}
-use Rattle.kbd48_app.specs.declared.words.RunCommand.{RunCommand}
-use Rattle.kbd48_app.specs.Debugging.{script_fault}
+use Rattle.app_words.specs.declared.kind.Kind.TheVariants as kinds
+use Rattle.app_words.specs.declared.words.Command.{Command}
+use Rattle.app_words.specs.declared.words.PairCommand.TheVariants.{OverRun}
+use Rattle.app_words.specs.declared.words.RunCommand.{RunCommand}
+use Rattle.app_boards.specs.Debugging.{script_fault}
 use Rattle.kbd48_app.specs.Plans.{Plan, Debugs, Runs, debug_next, debug_plan, history_plan, keys_next, pair_plan}
 use Rattle.kbd48_app.specs.Plans.{script_next, with_history, with_layout}
 use Rattle.kbd48_app.specs.Reached.{Reads}

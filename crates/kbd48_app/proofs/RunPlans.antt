@@ -8,18 +8,19 @@ use Rattle.key_file.specs.declared.fault.KeyFault.{KeyFault}
 use Rattle.layout_reader.specs.Documents.{layout_of_document}
 use Rattle.layout_reader.specs.Faults.{Refusal as LayoutRefusal}
 use Rattle.layout_reader.specs.Layouts.{KeyLayout}
-use Rattle.kbd48_app.specs.declared.exit.Exit.{Exit}
-use Rattle.kbd48_app.specs.declared.exit.Exit.TheVariants as exits
-use Rattle.kbd48_app.specs.declared.kind.Kind.{Kind}
-use Rattle.kbd48_app.specs.declared.kind.Kind.TheVariants as kinds
+use Rattle.app_words.specs.declared.exit.Exit.{Exit}
+use Rattle.app_words.specs.declared.exit.Exit.TheVariants as exits
+use Rattle.app_words.specs.declared.kind.Kind.{Kind}
+use Rattle.app_words.specs.declared.kind.Kind.TheVariants as kinds
 use Rattle.kbd48_app.specs.Causes.{HasScriptFault}
-use Rattle.kbd48_app.specs.Debugging.{script_fault}
-use Rattle.kbd48_app.specs.Kinds.{limit_of}
-use Rattle.kbd48_app.specs.Plans.{Plan, history_plan, keys_next, keys_refusal, with_history, with_layout}
+use Rattle.app_boards.specs.Debugging.{script_fault}
+use Rattle.app_words.specs.Kinds.{limit_of}
+use Rattle.kbd48_app.specs.Plans.{Plan, history_plan, keys_next, with_history, with_layout}
+use Rattle.app_answers.specs.FileAnswers.{keys_refusal}
 use Rattle.kbd48_app.specs.Reached.{Reads}
-use Rattle.kbd48_app.specs.Refusals.{exit_of}
+use Rattle.app_words.specs.Refusals.{exit_of}
 use Rattle.kbd48_app.proofs.PlansEnd.{leads}
-use Rattle.kbd48_app.proofs.FirstFaultHasExit.{Fault, InHex, InAsm, InLayout, InCert, InKeys, InScript, InText, HasFault, exit_at}
+use Rattle.kbd48_app.specs.Causes.{Fault, InHex, InAsm, InLayout, InCert, InKeys, InScript, InText, HasFault, exit_at}
 use Rattle.kbd48_app.proofs.FetchesReach.{fetch_read, leads_found}
 
 abbrev pub HistoryOutcome : Type 0

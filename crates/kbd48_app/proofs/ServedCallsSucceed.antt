@@ -8,26 +8,29 @@ use Rattle.story_run.specs.declared.ending.End.TheVariants.{Over, Stuck}
 use Rattle.cycle_cert.specs.Answers.{answer_of as certificate_said}
 use Rattle.cycle_cert.specs.Faults.{number_of}
 use Rattle.board_probes.specs.Probes.{Watch}
-use Rattle.kbd48_app.specs.BoardTexts.{board_story}
+use Rattle.app_boards.specs.BoardTexts.{board_story}
 use Rattle.io_edge.specs.Faults.{Rose}
 use Rattle.io_edge.specs.MemorySink.{HeldBytes}
 use Rattle.io_edge.specs.Said.{said}
 use Rattle.io_edge.specs.Said.{Shown}
 use Rattle.io_edge.specs.Shelf.{Told, Fetched, after_fetch}
-use Rattle.kbd48_app.specs.declared.exit.Exit.{Exit}
-use Rattle.kbd48_app.specs.declared.exit.Exit.TheVariants as exits
-use Rattle.kbd48_app.specs.declared.refusal.Refusal.TheVariants as refusals
-use Rattle.kbd48_app.specs.declared.words.Command.{Command}
-use Rattle.kbd48_app.specs.declared.words.Command.TheVariants.{OverFile, OverPair, Debug, Probe, Board, Feed, Sample}
-use Rattle.kbd48_app.specs.declared.words.PairCommand.TheVariants.{Certify, OverRun, Spell}
-use Rattle.kbd48_app.specs.declared.words.FileCommand.TheVariants.{Step, Listing, Assemble, Compile}
-use Rattle.kbd48_app.specs.Answers.{MayAnswerOf, MayAnswer, MayEndAs, Left}
+use Rattle.app_words.specs.declared.exit.Exit.{Exit}
+use Rattle.app_words.specs.declared.exit.Exit.TheVariants as exits
+use Rattle.app_words.specs.declared.refusal.Refusal.TheVariants as refusals
+use Rattle.app_words.specs.declared.words.Command.{Command}
+use Rattle.app_words.specs.declared.words.Command.TheVariants.{OverFile, OverPair, Debug, Probe, Board, Feed, Sample}
+use Rattle.app_words.specs.declared.words.PairCommand.TheVariants.{Certify, OverRun, Spell}
+use Rattle.app_words.specs.declared.words.FileCommand.TheVariants.{Step, Listing, Assemble, Compile}
+use Rattle.app_answers.specs.Answers.{MayAnswerOf}
+use Rattle.kbd48_app.specs.Answers.{MayAnswer, MayEndAs}
+use Rattle.app_answers.specs.Leaving.{Left}
 use Rattle.kbd48_app.specs.Causes.{IsStuck}
 use Rattle.kbd48_app.specs.Complete.{IsFaultless, IsLeft, IsNoFault, IsServed}
-use Rattle.kbd48_app.specs.Plans.{Answer, Plan, Gives, Certifies, Spells, Runs, Boards, Samples, Debugs, Fetches, plan_of}
+use Rattle.app_answers.specs.FileAnswers.{Answer}
+use Rattle.kbd48_app.specs.Plans.{Plan, Gives, Certifies, Spells, Runs, Boards, Samples, Debugs, Fetches, plan_of}
 use Rattle.kbd48_app.specs.Reached.{on_fetched}
-use Rattle.kbd48_app.specs.Says.{Says, exit_said, text_said}
-use Rattle.kbd48_app.specs.Words.{command_of}
+use Rattle.app_answers.specs.Says.{Says, exit_said, text_said}
+use Rattle.app_words.specs.Words.{command_of}
 use Rattle.kbd48_app.proofs.ExitAndCause.{caused_as}
 use Rattle.kbd48_app.proofs.CertPlans.{right_exit}
 use Rattle.kbd48_app.proofs.AnswersEndCalls.{never_write}

@@ -5,9 +5,9 @@ use Rattle.io_edge.specs.Shelf.{Told, after_fetch}
 use Rattle.layout_reader.specs.Documents.{layout_of_document}
 use Rattle.layout_reader.specs.Layouts.{KeyLayout}
 use Rattle.typed_log.specs.Typing.{first_without}
-use Rattle.kbd48_app.specs.declared.kind.Kind.TheVariants as kinds
-use Rattle.kbd48_app.specs.declared.words.Command.{Command}
-use Rattle.kbd48_app.specs.declared.words.PairCommand.TheVariants.{Spell}
+use Rattle.app_words.specs.declared.kind.Kind.TheVariants as kinds
+use Rattle.app_words.specs.declared.words.Command.{Command}
+use Rattle.app_words.specs.declared.words.PairCommand.TheVariants.{Spell}
 use Rattle.kbd48_app.specs.Plans.{Plan, Spells, pair_plan, text_next, with_layout}
 use Rattle.kbd48_app.specs.Reached.{Reads}
 use Rattle.kbd48_app.proofs.ExitAndCause.{IsCaused}

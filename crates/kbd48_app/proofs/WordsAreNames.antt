@@ -4,15 +4,17 @@ use Rattle.std.proofs.Common.{slice_index_or, String, Global, Some, ap, sym, sub
 use Rattle.std.specs.declared.option.Option.{Option}
 use Rattle.board_probes.specs.Probes.{Watch}
 use Rattle.io_edge.specs.Shelf.{Told}
-use Rattle.kbd48_app.specs.declared.words.BoardRun.{BoardRun}
-use Rattle.kbd48_app.specs.declared.words.Command.{Command}
-use Rattle.kbd48_app.specs.declared.words.Command.TheVariants.{OverFile, OverPair, Debug, Probe, Board}
-use Rattle.kbd48_app.specs.declared.words.PairCommand.{PairCommand}
-use Rattle.kbd48_app.specs.declared.words.FileCommand.{FileCommand}
-use Rattle.kbd48_app.specs.Answers.{MayAnswer, MayEnd, MayEndAs, Left}
-use Rattle.kbd48_app.specs.Kinds.{kind_of}
-use Rattle.kbd48_app.specs.Plans.{Answer, Boards, Gives, Fetches, debug_plan, file_said, pair_plan, probe_plan, program_plan}
-use Rattle.kbd48_app.specs.Words.{command_of, name_in, second_in, third_in, fourth_in}
+use Rattle.app_words.specs.declared.words.BoardRun.{BoardRun}
+use Rattle.app_words.specs.declared.words.Command.{Command}
+use Rattle.app_words.specs.declared.words.Command.TheVariants.{OverFile, OverPair, Debug, Probe, Board}
+use Rattle.app_words.specs.declared.words.PairCommand.{PairCommand}
+use Rattle.app_words.specs.declared.words.FileCommand.{FileCommand}
+use Rattle.kbd48_app.specs.Answers.{MayAnswer, MayEnd, MayEndAs}
+use Rattle.app_answers.specs.Leaving.{Left}
+use Rattle.app_words.specs.Kinds.{kind_of}
+use Rattle.app_answers.specs.FileAnswers.{Answer, file_said}
+use Rattle.kbd48_app.specs.Plans.{Boards, Gives, Fetches, debug_plan, pair_plan, probe_plan, program_plan}
+use Rattle.app_words.specs.Words.{command_of, name_in, second_in, third_in, fourth_in}
 
 -- the second word is the first name
 name_is : (words : List (String Global)) (word : String Global)

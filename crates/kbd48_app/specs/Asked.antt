@@ -3,9 +3,9 @@ use Rattle.std.specs.Prelude.{ℕ, List, map, string_bytes}
 use Rattle.std.specs.declared.alloc.Global.{Global}
 use Rattle.std.specs.declared.option.Option.{Option}
 use Rattle.std.specs.declared.string.String.{String}
-use Rattle.kbd48_app.specs.declared.words.Command.{Command}
+use Rattle.app_words.specs.declared.words.Command.{Command}
 use Rattle.kbd48_app.specs.Plans.{Plan, plan}
-use Rattle.kbd48_app.specs.Words.{command_of}
+use Rattle.app_words.specs.Words.{command_of}
 
 -- the bytes of each word
 abbrev pub texts : List (String Global) → List (List ℕ)

@@ -11,12 +11,14 @@ use Rattle.key_file.specs.Histories.{KeyHistory}
 use Rattle.layout_reader.specs.Layouts.{IsKeyLayout, KeyLayout}
 use Rattle.subsystem.specs.Running.{Outcome}
 use Rattle.subsystem.specs.Texts.{log_text}
-use Rattle.kbd48_app.specs.declared.refusal.Refusal.TheVariants.{Memory}
-use Rattle.kbd48_app.specs.declared.words.BoardCommand.TheVariants as board_commands
-use Rattle.kbd48_app.specs.declared.words.RunCommand.TheVariants.{Log, Trace}
-use Rattle.kbd48_app.specs.Answers.{Left, MayAnswerBoard, MayAnswerRun}
-use Rattle.kbd48_app.specs.Plans.{Answer}
-use Rattle.kbd48_app.specs.Words.{on_board}
+use Rattle.app_words.specs.declared.refusal.Refusal.TheVariants.{Memory}
+use Rattle.app_words.specs.declared.words.BoardCommand.TheVariants as board_commands
+use Rattle.app_words.specs.declared.words.RunCommand.TheVariants.{Log, Trace}
+use Rattle.app_answers.specs.Leaving.{Left}
+use Rattle.app_boards.specs.BoardAnswers.{MayAnswerBoard}
+use Rattle.app_runs.specs.RunAnswers.{MayAnswerRun}
+use Rattle.app_answers.specs.FileAnswers.{Answer}
+use Rattle.app_words.specs.Words.{on_board}
 
 -- a text has a line with its tick for each item that a run said, and a log has a line with its stamp for each that was
 -- said up to the end stamp

@@ -13,24 +13,27 @@ use Rattle.typed_log.specs.Typing.{first_without}
 use Rattle.key_file.specs.Histories.{KeyHistory}
 use Rattle.key_file.specs.KeyFile.{history_of}
 use Rattle.key_file.specs.declared.fault.KeyFault.{KeyFault}
-use Rattle.key_file.specs.declared.fault.KeyFault.TheVariants.{Input as InputFault, Timing as TimingFault}
+use Rattle.key_file.specs.declared.fault.KeyFault.TheVariants.{Timing as TimingFault}
 use Rattle.mcs48_core.specs.declared.stepping.Stuck.{Stuck}
 use Rattle.io_edge.specs.Shelf.{Told}
-use Rattle.kbd48_app.specs.declared.exit.Exit.{Exit}
-use Rattle.kbd48_app.specs.declared.exit.Exit.TheVariants.{Memory, Write}
-use Rattle.kbd48_app.specs.declared.kind.Kind.{Kind}
-use Rattle.kbd48_app.specs.declared.kind.Kind.TheVariants.{Hex, Asm, Layout, Keys, Cert, Script, Text}
-use Rattle.kbd48_app.specs.declared.refusal.Refusal.TheVariants as refusals
-use Rattle.kbd48_app.specs.declared.words.BoardRun.{BoardRun}
-use Rattle.kbd48_app.specs.declared.words.Command.{Command}
-use Rattle.kbd48_app.specs.declared.words.Command.TheVariants.{OverFile, Board}
-use Rattle.kbd48_app.specs.declared.words.FileCommand.TheVariants.{Step}
-use Rattle.kbd48_app.specs.BoardTexts.{board_story}
-use Rattle.kbd48_app.specs.CertTexts.{cert_said}
-use Rattle.kbd48_app.specs.Debugging.{script_fault}
+use Rattle.app_words.specs.declared.exit.Exit.{Exit}
+use Rattle.app_words.specs.declared.exit.Exit.TheVariants as exits
+use Rattle.app_words.specs.declared.exit.Exit.TheVariants.{Memory, Write}
+use Rattle.app_words.specs.declared.kind.Kind.{Kind}
+use Rattle.app_words.specs.declared.kind.Kind.TheVariants.{Hex, Asm, Layout, Keys, Cert, Script, Text}
+use Rattle.app_words.specs.declared.refusal.Refusal.TheVariants as refusals
+use Rattle.app_words.specs.declared.words.BoardRun.{BoardRun}
+use Rattle.app_words.specs.declared.words.Command.{Command}
+use Rattle.app_words.specs.declared.words.Command.TheVariants.{OverFile, Board}
+use Rattle.app_words.specs.declared.words.FileCommand.TheVariants.{Step}
+use Rattle.app_boards.specs.BoardTexts.{board_story}
+use Rattle.app_answers.specs.CertTexts.{cert_said}
+use Rattle.app_boards.specs.Debugging.{script_fault}
+use Rattle.app_answers.specs.FileAnswers.{keys_refusal}
+use Rattle.app_words.specs.Refusals.{exit_of}
 use Rattle.kbd48_app.specs.Plans.{Plan}
 use Rattle.kbd48_app.specs.Reached.{IsTooLong, Reads}
-use Rattle.kbd48_app.specs.Stepping.{Stopped, after_steps}
+use Rattle.app_answers.specs.Stepping.{Stopped, after_steps}
 
 -- a HEX file is reached, and this is its first fault
 abbrev pub HasHexFault : HexFault → Plan → Told → Type 0
@@ -57,15 +60,10 @@ HasKeyFault fault plan shelf =
     (bytes : List ℕ) × Reads Layout bytes plan shelf × (layout : KeyLayout) × (layout_of_document bytes ≡ Ok layout)
     × (text : List ℕ) × Reads Keys text plan shelf × (history_of layout text ≡ Err fault)
 
--- the first fault is one of the key file's lines or events, or one of time, with two stamps
-abbrev pub HasKeysFault : ℕ × ℕ → Plan → Told → Type 0
-HasKeysFault fault plan shelf = HasKeyFault (InputFault fault.0 fault.1) plan shelf
-
-abbrev pub HasTimingFault : ℕ × ℕ → ℕ × ℕ → Plan → Told → Type 0
-HasTimingFault fault stamps plan shelf = HasKeyFault (TimingFault fault.0 fault.1 stamps.0 stamps.1) plan shelf
-
+-- one of time, with two stamps
 abbrev pub IsUntimely : Plan → Told → Type 0
-IsUntimely plan shelf = (fault : ℕ × ℕ) × (stamps : ℕ × ℕ) × HasTimingFault fault stamps plan shelf
+IsUntimely plan shelf =
+    (fault : ℕ × ℕ) × (stamps : ℕ × ℕ) × HasKeyFault (TimingFault fault.0 fault.1 stamps.0 stamps.1) plan shelf
 
 -- a script is reached, and this is its first fault, with its line, where there are so many probes
 abbrev pub HasScriptFault : ℕ → ℕ × ℕ → Plan → Told → Type 0
@@ -79,17 +77,41 @@ HasTextFault fault plan shelf =
     (bytes : List ℕ) × Reads Layout bytes plan shelf × (layout : KeyLayout) × (layout_of_document bytes ≡ Ok layout)
     × (text : List ℕ) × Reads Text text plan shelf × (first_without layout text ≡ Some fault)
 
--- a file that is reached has too many bytes, or a fault, which is none of time
+-- a first fault, by the kind of its file
+pub data Fault : Type 0 where
+  InHex : HexFault → Fault
+  InAsm : ℕ × ℕ → Fault
+  InLayout : LayoutRefusal → Fault
+  InCert : ℕ × ℕ → Fault
+  InKeys : KeyFault → Fault
+  InScript : ℕ × ℕ → Fault
+  InText : ℕ × ℕ → Fault
+
+-- its exit
+abbrev pub exit_at : Fault → Exit
+exit_at (InHex fault) = exits.Input
+exit_at (InAsm fault) = exits.Input
+exit_at (InLayout fault) = exits.Input
+exit_at (InCert fault) = exits.Input
+exit_at (InKeys fault) = exit_of (keys_refusal fault)
+exit_at (InScript fault) = exits.Input
+exit_at (InText fault) = exits.Input
+
+-- the file is reached, and this is its first fault, where there are so many probes
+abbrev pub HasFault : ℕ → Fault → Plan → Told → Type 0
+HasFault n (InHex fault) plan shelf = HasHexFault fault plan shelf
+HasFault n (InAsm fault) plan shelf = HasAsmFault fault plan shelf
+HasFault n (InLayout fault) plan shelf = HasLayoutFault fault plan shelf
+HasFault n (InCert fault) plan shelf = HasCertFault fault plan shelf
+HasFault n (InKeys fault) plan shelf = HasKeyFault fault plan shelf
+HasFault n (InScript fault) plan shelf = HasScriptFault n fault plan shelf
+HasFault n (InText fault) plan shelf = HasTextFault fault plan shelf
+
+-- a file that is reached has too many bytes, or a first fault, which is none of time
 abbrev pub HasFileFault : ℕ → Plan → Told → Type 0
 HasFileFault probes plan shelf =
     ((kind : Kind) × IsTooLong kind plan shelf)
-    ⊎ ((fault : HexFault) × HasHexFault fault plan shelf)
-    ⊎ ((fault : ℕ × ℕ) × HasAsmFault fault plan shelf)
-    ⊎ ((fault : LayoutRefusal) × HasLayoutFault fault plan shelf)
-    ⊎ ((fault : ℕ × ℕ) × HasCertFault fault plan shelf)
-    ⊎ ((fault : ℕ × ℕ) × HasKeysFault fault plan shelf)
-    ⊎ ((fault : ℕ × ℕ) × HasScriptFault probes fault plan shelf)
-    ⊎ ((fault : ℕ × ℕ) × HasTextFault fault plan shelf)
+    ⊎ ((fault : Fault) × (exit_at fault ≡ exits.Input) × HasFault probes fault plan shelf)
 
 -- one of the COUNT steps of `step`, over the image of the HEX file, meets a byte without an instruction
 abbrev pub StepIsStuck : Option Command → Plan → Told → Type 0

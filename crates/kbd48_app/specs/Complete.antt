@@ -5,15 +5,16 @@ use Rattle.cycle_cert.specs.Answers.{answer_of as certificate_said}
 use Rattle.cycle_cert.specs.declared.checking.Proved.{Proved}
 use Rattle.io_edge.specs.Shelf.{Told, Found, after_fetch, fetched}
 use Rattle.typed_log.specs.Typing.{first_without}
-use Rattle.kbd48_app.specs.declared.exit.Exit.{Exit}
-use Rattle.kbd48_app.specs.declared.exit.Exit.TheVariants.{Done, Memory, Stuck}
-use Rattle.kbd48_app.specs.declared.refusal.Refusal.TheVariants.{Stuck as StuckAt}
-use Rattle.kbd48_app.specs.declared.words.Command.{Command}
-use Rattle.kbd48_app.specs.declared.words.Command.TheVariants.{OverFile, Board}
-use Rattle.kbd48_app.specs.declared.words.FileCommand.TheVariants.{Step}
-use Rattle.kbd48_app.specs.Debugging.{script_fault}
-use Rattle.kbd48_app.specs.Kinds.{limit_of}
-use Rattle.kbd48_app.specs.Plans.{Answer, Plan, Gives, Certifies, Spells, Debugs, Fetches, plan}
+use Rattle.app_words.specs.declared.exit.Exit.{Exit}
+use Rattle.app_words.specs.declared.exit.Exit.TheVariants.{Done, Memory, Stuck}
+use Rattle.app_words.specs.declared.refusal.Refusal.TheVariants.{Stuck as StuckAt}
+use Rattle.app_words.specs.declared.words.Command.{Command}
+use Rattle.app_words.specs.declared.words.Command.TheVariants.{OverFile, Board}
+use Rattle.app_words.specs.declared.words.FileCommand.TheVariants.{Step}
+use Rattle.app_boards.specs.Debugging.{script_fault}
+use Rattle.app_words.specs.Kinds.{limit_of}
+use Rattle.app_answers.specs.FileAnswers.{Answer}
+use Rattle.kbd48_app.specs.Plans.{Plan, Gives, Certifies, Spells, Debugs, Fetches, plan}
 
 -- what is said is a text; or, in `step`, that a byte without an instruction was met, which is no fault of a file
 abbrev pub IsNoFault : Answer → Type 0

@@ -3,41 +3,28 @@ use Rattle.std.specs.Prelude.{ℕ, List, Ok, Err, None, Some}
 use Rattle.std.specs.declared.option.Option.{Option}
 use Rattle.std.specs.declared.result.Result.{Result}
 use Rattle.hexfile.specs.Hex.{HexOutcome, hex_of}
-use Rattle.hexfile.specs.Spelling.{hex_text_of}
-use Rattle.mcs48_asm.specs.Assembly.{assembly_of}
 use Rattle.layout_reader.specs.Documents.{layout_of_document}
 use Rattle.layout_reader.specs.Faults.{Refusal as LayoutRefusal}
 use Rattle.layout_reader.specs.Layouts.{KeyLayout}
 use Rattle.key_file.specs.Histories.{KeyHistory}
 use Rattle.key_file.specs.KeyFile.{history_of}
 use Rattle.key_file.specs.declared.fault.KeyFault.{KeyFault}
-use Rattle.key_file.specs.declared.fault.KeyFault.TheVariants as keys
 use Rattle.fw_compile.specs.Image.{image_of}
 use Rattle.fw_debug.specs.Sessions.{Debuggee, of_layout, of_program, with_fill}
 use Rattle.joint_feed.specs.Stories.{story}
-use Rattle.mcs48_isa.specs.Listing.{listing_of}
-use Rattle.mcs48_core.specs.StateText.{state_text_of}
-use Rattle.kbd48_app.specs.declared.kind.Kind.{Kind}
-use Rattle.kbd48_app.specs.declared.kind.Kind.TheVariants as kinds
-use Rattle.kbd48_app.specs.declared.refusal.Refusal.{Refusal}
-use Rattle.kbd48_app.specs.declared.refusal.Refusal.TheVariants.{Words, Hex, Asm, Layout, Keys, Timing}
-use Rattle.kbd48_app.specs.declared.refusal.Refusal.TheVariants.{Stuck, Memory}
-use Rattle.kbd48_app.specs.declared.words.BoardRun.{BoardRun}
-use Rattle.kbd48_app.specs.declared.words.Command.{Command}
-use Rattle.kbd48_app.specs.declared.words.Command.TheVariants.{OverFile, OverPair, Debug, Probe, Board, Feed, Sample}
-use Rattle.kbd48_app.specs.declared.words.FileCommand.{FileCommand}
-use Rattle.kbd48_app.specs.declared.words.FileCommand.TheVariants.{Step, Listing, Assemble, Compile}
-use Rattle.kbd48_app.specs.declared.words.PairCommand.{PairCommand}
-use Rattle.kbd48_app.specs.declared.words.PairCommand.TheVariants.{Certify, Spell, OverRun}
-use Rattle.kbd48_app.specs.declared.words.RunCommand.{RunCommand}
-use Rattle.kbd48_app.specs.Kinds.{kind_of}
-use Rattle.kbd48_app.specs.Feeding.{fed_text}
-use Rattle.kbd48_app.specs.Words.{command_of, name_in, second_in, third_in, fourth_in}
-use Rattle.kbd48_app.specs.Stepping.{Progress, Stands, Stopped, after_steps}
-
--- a text, or a refusal
-abbrev pub Answer : Type 0
-Answer = Result (List ℕ) Refusal
+use Rattle.app_words.specs.declared.kind.Kind.{Kind}
+use Rattle.app_words.specs.declared.kind.Kind.TheVariants as kinds
+use Rattle.app_words.specs.declared.refusal.Refusal.TheVariants.{Words, Hex, Layout, Keys}
+use Rattle.app_words.specs.declared.words.BoardRun.{BoardRun}
+use Rattle.app_words.specs.declared.words.Command.{Command}
+use Rattle.app_words.specs.declared.words.Command.TheVariants.{OverFile, OverPair, Debug, Probe, Board, Feed, Sample}
+use Rattle.app_words.specs.declared.words.PairCommand.{PairCommand}
+use Rattle.app_words.specs.declared.words.PairCommand.TheVariants.{Certify, Spell, OverRun}
+use Rattle.app_words.specs.declared.words.RunCommand.{RunCommand}
+use Rattle.app_words.specs.Kinds.{kind_of}
+use Rattle.app_answers.specs.Feeding.{fed_text}
+use Rattle.app_words.specs.Words.{command_of, name_in, second_in, third_in, fourth_in}
+use Rattle.app_answers.specs.FileAnswers.{Answer, file_said, keys_refusal}
 
 -- a plan says something, or what is found of a certificate for an image, or with which keys of a layout a text is
 -- typed, or what a command says of the run of a layout under a history, or what is wanted of the run of an image on the
@@ -52,33 +39,6 @@ pub data Plan : Type 0 where
   Samples : ℕ → Plan
   Debugs : Debuggee → List ℕ → Plan
   Fetches : Kind → List ℕ → (List ℕ → Plan) → Plan
-
--- `step` of a run that stands or has stopped after its steps
-abbrev pub run_said : ℕ → Progress → Answer
-run_said count (Stands cpu cycles) = Ok (state_text_of cpu count cycles)
-run_said count (Stopped stuck) = Err (Stuck stuck)
-
--- what is said of the image of a HEX file, or the file's first fault
-abbrev pub of_image : (List ℕ → Answer) → HexOutcome → Answer
-of_image said (Ok image) = said image
-of_image said (Err fault) = Err (Hex fault)
-
--- the HEX text of a source's image, or the source's first fault
-abbrev pub assembled : Result (List ℕ) (ℕ × ℕ) → Answer
-assembled (Ok image) = Ok (hex_text_of image)
-assembled (Err fault) = Err (Asm fault.0 fault.1)
-
--- the HEX text of a layout's image, or the layout's first fault
-abbrev pub compiled : Result KeyLayout LayoutRefusal → Answer
-compiled (Ok layout) = Ok (hex_text_of (image_of layout))
-compiled (Err refusal) = Err (Layout refusal.entry refusal.number)
-
--- a command over one file, of the file's bytes
-abbrev pub file_said : FileCommand → List ℕ → Answer
-file_said (Step count) bytes = of_image (λ image. run_said count (after_steps image count)) (hex_of bytes)
-file_said Listing bytes = of_image (λ image. Ok (listing_of image)) (hex_of bytes)
-file_said Assemble bytes = assembled (assembly_of bytes)
-file_said Compile bytes = compiled (layout_of_document bytes)
 
 -- what is fetched for the image of a HEX file, or the file's first fault
 abbrev pub with_image : (List ℕ → Plan) → HexOutcome → Plan
@@ -97,12 +57,6 @@ with_layout next (Err refusal) = Gives (Err (Layout refusal.entry refusal.number
 -- `type`: the layout comes first, and then the text
 abbrev pub text_next : List ℕ → KeyLayout → Plan
 text_next name layout = Fetches kinds.Text name (Spells layout)
-
--- the refusal of a key file; want of memory is no fault of the file
-abbrev pub keys_refusal : KeyFault → Refusal
-keys_refusal (keys.Input line number) = Keys line number
-keys_refusal (keys.Timing line number first second) = Timing line number first second
-keys_refusal keys.Memory = Memory
 
 -- what is said of a history, or the key file's first fault
 abbrev pub with_history : (KeyHistory → Plan) → Result KeyHistory KeyFault → Plan

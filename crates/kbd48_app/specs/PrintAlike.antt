@@ -3,10 +3,11 @@ use Rattle.std.specs.Prelude.{◌≡◌, ◌⊎◌, ℕ, List, [], ◌∷◌, So
 use Rattle.std.specs.declared.option.Option.{Option}
 use Rattle.board_probes.specs.Probes.{Watch}
 use Rattle.io_edge.specs.Shelf.{Told}
-use Rattle.kbd48_app.specs.Answers.{Left, MayAnswer}
-use Rattle.kbd48_app.specs.Plans.{Answer}
-use Rattle.kbd48_app.specs.Taking.{Whole}
-use Rattle.kbd48_app.specs.declared.refusal.Refusal.TheVariants.{Memory}
+use Rattle.app_answers.specs.Leaving.{Left}
+use Rattle.kbd48_app.specs.Answers.{MayAnswer}
+use Rattle.app_answers.specs.FileAnswers.{Answer}
+use Rattle.app_answers.specs.Taking.{Whole}
+use Rattle.app_words.specs.declared.refusal.Refusal.TheVariants.{Memory}
 
 -- `run` LAYOUT KEYS, and `expect` LAYOUT KEYS
 abbrev pub run_words : List ℕ → List ℕ → List (List ℕ)

@@ -2,11 +2,11 @@
 use Rattle.std.specs.Prelude.{◌≡◌, ◌⊎◌, ℕ, zero, suc, ◌<◌, ◌≤◌, Bool, true, false, List, [], ◌∷◌, length, Some}
 use Rattle.std.specs.declared.option.Option.{Option}
 use Rattle.io_edge.specs.Shelf.{Told, Fetched, Fails, Long, Found, after_fetch, fetched}
-use Rattle.kbd48_app.specs.declared.exit.Exit.{Exit}
-use Rattle.kbd48_app.specs.declared.exit.Exit.TheVariants.{Memory, Write}
-use Rattle.kbd48_app.specs.declared.kind.Kind.{Kind}
+use Rattle.app_words.specs.declared.exit.Exit.{Exit}
+use Rattle.app_words.specs.declared.exit.Exit.TheVariants.{Memory, Write}
+use Rattle.app_words.specs.declared.kind.Kind.{Kind}
 use Rattle.kbd48_app.specs.Answers.{OnFetched}
-use Rattle.kbd48_app.specs.Kinds.{limit_of}
+use Rattle.app_words.specs.Kinds.{limit_of}
 use Rattle.kbd48_app.specs.Plans.{Plan, Fetches}
 
 -- a value for each thing that a fetch may come to

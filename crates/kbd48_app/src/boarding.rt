@@ -1,128 +1,17 @@
-//! `board`: the log of the run of any program on the board under a key file, or its two wires, said line by line as it
-//! arises.
+//! `board`: the files of a run on the board.
 
-ghost use Rattle.std.specs.Prelude.{◌≡◌, ◌⊎◌, ◌≤◌, Err, length, map, Ok};
+ghost use Rattle.std.specs.Prelude.{◌≡◌, ◌⊎◌, Err, map};
 ghost use Rattle.io_edge.specs.Faults.{Rose};
-ghost use Rattle.key_file.specs.Accepted.{IsAccepted};
-ghost use Rattle.story_run.specs.Gliding.{history_of};
-ghost use Rattle.kbd48_app.specs.Kinds.{limit_of};
-ghost use Rattle.kbd48_app.specs.Answers.{IsBoardTold, MayEnd};
+ghost use Rattle.app_answers.specs.Spoken.{IsSpoken};
+ghost use Rattle.kbd48_app.specs.Answers.{MayEnd};
 ghost use Rattle.kbd48_app.specs.Plans.{Boards, program_plan};
-ghost use Rattle.kbd48_app.specs.Spoken.{IsSpoken};
-ghost use Rattle.kbd48_app.specs.Telling.{MayTellBoard};
 
-use crate::end_state::put_end;
-use crate::fetching::fetch_file;
-use crate::judging::{events_in, image_in, layout_in};
-use crate::kind::Kind;
-use crate::refusal::Refusal;
-use crate::spoken::Spoken;
-use crate::words::{BoardCommand, BoardRun};
+use app_answers::{Spoken, fetch_file, image_in, layout_in};
+use app_boards::run_board;
+use app_words::{BoardRun, Kind, Refusal};
 use board_probes::Probe;
-use board_run::{Board, End};
 use io_edge::{Shelf, Sink};
-use key_file::Feed;
-use layout_reader::Layout;
-use mcs48_isa::Image;
 use std::alloc::Global;
-
-/// Makes a run on the board and puts its log as it arises, and then, where the run is over, the state at its end where
-/// that is wanted. It takes no memory.
-fn put_log<F: Feed, K: Sink>(
-    board: Board<F>,
-    steps: bool,
-    out: &mut K,
-    probes: &mut Vec<Box<dyn Probe>>,
-) -> Spoken
-    requires accepted { IsAccepted (history_of board) }
-    ensures says { let before = map (λ b. watch b) probes.old.items in
-        let after = map (λ b. watch b) probes.new.items in
-        IsSpoken (λ answer taking log. IsBoardTold (BoardCommand.Log steps) board answer before
-        (record { probes = after; taking = taking; log = log }))
-        (Ok result) (K.shown out.old) (K.shown out.new) }
-{
-    match board.run_to(out, probes) {
-        Err(fault) => Spoken::Said(Err(fault)),
-        Ok(ended) => match ended.end() {
-            End::Over => Spoken::Said(put_end(
-                out,
-                ended.mcu(),
-                ended.steps(),
-                ended.cycles(),
-                steps,
-            )),
-            End::Stuck(stuck) => Spoken::Stuck(stuck),
-        },
-    }
-}
-
-/// Makes a run on the board and puts its two wires as they change. It takes no memory.
-fn put_trace<F: Feed, K: Sink>(
-    board: Board<F>,
-    out: &mut K,
-    probes: &mut Vec<Box<dyn Probe>>,
-) -> Spoken
-    requires accepted { IsAccepted (history_of board) }
-    ensures says { let before = map (λ b. watch b) probes.old.items in
-        let after = map (λ b. watch b) probes.new.items in
-        IsSpoken (λ answer taking log. IsBoardTold BoardCommand.Trace board answer before
-        (record { probes = after; taking = taking; log = log }))
-        (Ok result) (K.shown out.old) (K.shown out.new) }
-{
-    match board.trace_to(out, probes) {
-        Err(fault) => Spoken::Said(Err(fault)),
-        Ok(ended) => match ended.end() {
-            End::Over => Spoken::Said(Ok(())),
-            End::Stuck(stuck) => Spoken::Stuck(stuck),
-        },
-    }
-}
-
-/// Makes a run on the board and puts what is wanted of it as it arises. It takes no memory.
-fn put_board<F: Feed, K: Sink>(
-    board: Board<F>,
-    wanted: BoardCommand,
-    out: &mut K,
-    probes: &mut Vec<Box<dyn Probe>>,
-) -> Spoken
-    requires accepted { IsAccepted (history_of board) }
-    ensures says { let before = map (λ b. watch b) probes.old.items in
-        let after = map (λ b. watch b) probes.new.items in
-        IsSpoken (λ answer taking log. IsBoardTold wanted board answer before
-        (record { probes = after; taking = taking; log = log }))
-        (Ok result) (K.shown out.old) (K.shown out.new) }
-{
-    match wanted {
-        BoardCommand::Log { steps } => put_log(board, steps, out, probes),
-        BoardCommand::Trace => put_trace(board, out, probes),
-    }
-}
-
-/// `board`, of an image, a layout and the text of a key file. The text is judged in one pass, all memory is taken, and then
-/// each line is put as it arises in the run.
-fn run_board<K: Sink>(
-    alloc: Global,
-    wanted: BoardRun,
-    image: &Image,
-    layout: &Layout,
-    text: &[u8],
-    out: &mut K,
-    probes: &mut Vec<Box<dyn Probe>>,
-) -> Result<Spoken, Refusal>
-    requires within { length text.now ≤ limit_of Kind.Keys }
-    ensures says { let before = map (λ b. watch b) probes.old.items in
-        let after = map (λ b. watch b) probes.new.items in
-        IsSpoken (λ answer taking log. MayTellBoard wanted image.now.bytes layout.now text.now answer before
-        (record { probes = after; taking = taking; log = log }))
-        result (K.shown out.old) (K.shown out.new) }
-    ensures unread { result ≡ Err Refusal.Read → ⊥ }
-{
-    let feed = events_in(text, layout)?;
-    match Board::new(alloc, image, wanted.fill, feed) {
-        Err(_) => Err(Refusal::Memory),
-        Ok(board) => Ok(put_board(board, wanted.told, out, probes)),
-    }
-}
 
 /// `board`: fetches the image, the layout and the key file, judges each before the next is fetched, and then makes the
 /// run.

@@ -1,74 +1,19 @@
-//! `debug` and `probe`: what the lines of a script say in a session over the run of a layout, or of any program, under a
-//! key history.
+//! `debug` and `probe`: the files of a session.
 
-ghost use Rattle.std.specs.Prelude.{◌≡◌, ◌⊎◌, [], Err, length, map, MatchResult};
-ghost use Rattle.fw_debug.specs.Faults.{IsRight, IsVerdict};
-ghost use Rattle.fw_debug.specs.Obeyed.{IsObeyed, IsObeyedInPart};
-ghost use Rattle.fw_debug.specs.Scripts.{script_of};
+ghost use Rattle.std.specs.Prelude.{◌≡◌, ◌⊎◌, [], Err, map};
 ghost use Rattle.io_edge.specs.Faults.{Rose};
-ghost use Rattle.kbd48_app.specs.Answers.{MayAnswerDebug, MayEnd, answer_of};
-ghost use Rattle.kbd48_app.specs.Debugging.{script_refusal};
+ghost use Rattle.app_answers.specs.Answers.{answer_of};
+ghost use Rattle.app_answers.specs.Taking.{Taking};
+ghost use Rattle.kbd48_app.specs.Answers.{MayEnd};
 ghost use Rattle.kbd48_app.specs.Plans.{debug_plan, probe_plan, script_next};
-ghost use Rattle.kbd48_app.specs.Taking.{Taking};
 
-use crate::fetching::fetch_file;
-use crate::judging::{history_in, image_in, layout_in};
-use crate::kind::Kind;
-use crate::refusal::Refusal;
+use app_answers::{fetch_file, history_in, image_in, layout_in};
+use app_boards::debug;
+use app_words::{Kind, Refusal};
 use board_probes::Probe;
-use fw_debug::{Debuggee, SessionFault, check_script, obey_script};
+use fw_debug::{Debuggee, check_script};
 use io_edge::Shelf;
 use std::alloc::Global;
-
-/// What the lines of a script that is right for these probes print in a session over the run of what is debugged.
-fn over_session(
-    alloc: Global,
-    debuggee: Debuggee,
-    script: &[u8],
-    probes: &mut Vec<Box<dyn Probe>>,
-) -> Result<Vec<u8>, Refusal>
-    requires right { IsRight (length probes.old.items) script.now }
-    ensures says { let before = map (λ b. watch b) probes.old.items in
-        MatchResult result
-        (λ text. IsObeyed debuggee script.now before text.items (map (λ b. watch b) probes.new.items))
-        (λ refusal. refusal ≡ Refusal.Memory) }
-    ensures obeyed_so_far { let before = map (λ b. watch b) probes.old.items in
-        IsObeyedInPart debuggee script.now before (map (λ b. watch b) probes.new.items) }
-{
-    match obey_script(alloc, debuggee, script, probes) {
-        Ok(text) => Ok(text),
-        Err(_memory) => Err(Refusal::Memory),
-    }
-}
-
-/// The refusal of a script, by its first fault.
-fn refusal_of(fault: SessionFault) -> Refusal
-    ensures { result ≡ script_refusal fault }
-{
-    match fault {
-        SessionFault::Line { line, number } => Refusal::Script { line, number },
-    }
-}
-
-/// Refuses a script with a fault, by the verdict on it; obeys the lines of any other.
-fn debug(
-    alloc: Global,
-    debuggee: Debuggee,
-    script: &[u8],
-    verdict: Result<(), SessionFault>,
-    probes: &mut Vec<Box<dyn Probe>>,
-) -> Result<Vec<u8>, Refusal>
-    requires judged { IsVerdict (script_of (length probes.old.items) script.now) verdict }
-    ensures says { let before = map (λ b. watch b) probes.old.items in (taking : Taking) →
-        MayAnswerDebug debuggee script.now (answer_of result) before
-        (record { probes = map (λ b. watch b) probes.new.items; taking = taking; log = [] }) }
-    ensures unread { result ≡ Err Refusal.Read → ⊥ }
-{
-    match verdict {
-        Err(fault) => Err(refusal_of(fault)),
-        Ok(()) => over_session(alloc, debuggee, script, probes),
-    }
-}
 
 /// Once it is known what is debugged: fetches the script, judges it, and obeys its lines.
 fn over_script<F: Shelf>(

@@ -1,29 +1,24 @@
 //! The top call.
 
 ghost use Rattle.std.specs.Prelude.{◌≡◌, ℕ, ◌-◌, ◌^◌, ◌<◌, ◌⊎◌, List, length, map, true, false, None, Some, IfSome};
-ghost use Rattle.hexfile.specs.declared.fault.HexFault.{HexFault};
 ghost use Rattle.io_edge.specs.Faults.{Rose};
 ghost use Rattle.io_edge.specs.Said.{TakesAll, said};
-ghost use Rattle.layout_reader.specs.Faults.{Refusal as LayoutRefusal};
-ghost use Rattle.kbd48_app.specs.declared.kind.Kind.{Kind};
+ghost use Rattle.app_words.specs.declared.kind.Kind.{Kind};
 ghost use Rattle.kbd48_app.specs.Answers.{MayAnswer};
 ghost use Rattle.kbd48_app.specs.Asked.{asked, planned, texts};
-ghost use Rattle.kbd48_app.specs.Causes.{HasAsmFault, HasCertFault, HasFileFault, HasHexFault, HasKeysFault};
-ghost use Rattle.kbd48_app.specs.Causes.{HasLayoutFault, HasScriptFault, HasTextFault, HasTimingFault, IsStuck, IsUntimely};
-ghost use Rattle.kbd48_app.specs.Causes.{MayExit};
+ghost use Rattle.kbd48_app.specs.Causes.{Fault, HasFault, HasFileFault, IsStuck, IsUntimely, MayExit, exit_at};
 ghost use Rattle.kbd48_app.specs.Complete.{IsFaultless, IsLeft};
-ghost use Rattle.kbd48_app.specs.Plans.{Answer};
+ghost use Rattle.app_answers.specs.FileAnswers.{Answer};
 ghost use Rattle.kbd48_app.specs.Reached.{IsTooLong, IsUnserved, fetches_of, Makes, may_lack};
-ghost use Rattle.kbd48_app.specs.Refusals.{exit_of, line_of};
-ghost use Rattle.kbd48_app.specs.Says.{Says};
-ghost use Rattle.kbd48_app.specs.Spoken.{Concludes, Prints};
-ghost use Rattle.kbd48_app.specs.Taking.{taking_of};
-ghost use Rattle.kbd48_app.specs.Words.{leaves_probes, takes_memory_first};
+ghost use Rattle.app_words.specs.Refusals.{exit_of, line_of};
+ghost use Rattle.app_answers.specs.Says.{Says};
+ghost use Rattle.app_answers.specs.Spoken.{Concludes, Prints};
+ghost use Rattle.app_answers.specs.Taking.{taking_of};
+ghost use Rattle.app_words.specs.Words.{leaves_probes, takes_memory_first};
 
 use crate::answering::answer;
-use crate::exit::Exit;
-use crate::refusal::Refusal;
-use crate::spoken::Spoken;
+use app_answers::Spoken;
+use app_words::{Exit, Refusal};
 use board_probes::Probe;
 use io_edge::{Shelf, Sink, say};
 use std::alloc::Global;
@@ -58,6 +53,31 @@ fn conclude<K: Sink>(out: &mut K, answer: &Result<Spoken, Refusal>) -> Exit
         Ok(Spoken::Stuck(stuck)) => print_refusal(out, &Refusal::Stuck(*stuck)),
         Err(refusal) => print_refusal(out, refusal),
     }
+}
+
+/// Answers the words, and prints what is left of the answer to be said.
+fn answer_and_print<F: Shelf, K: Sink>(
+    alloc: Global,
+    words: &[String],
+    shelf: &mut F,
+    out: &mut K,
+    probes: &mut Vec<Box<dyn Probe>>,
+) -> Exit
+    ensures says { let before = map (λ b. watch b) probes.old.items in
+        let after = map (λ b. watch b) probes.new.items in
+        let first = K.shown out.old in
+        let last = K.shown out.new in
+        (log : List ℕ) × (answer : Answer)
+        × MayAnswer (texts words.now) (F.told shelf.old) answer (F.told shelf.new) before
+        (record { probes = after; taking = taking_of result first last; log = log })
+        × Says log answer first last result }
+    ensures untouched { leaves_probes (asked words.now) ≡ true
+        → map (λ b. watch b) probes.new.items ≡ map (λ b. watch b) probes.old.items }
+    ensures read { result ≡ Exit.Read → Rose (F.faults shelf.old) (F.faults shelf.new) }
+    ensures fetch_failed { F.faults shelf.old < F.faults shelf.new → (result ≡ Exit.Read) ⊎ (result ≡ Exit.Write) }
+{
+    let answer = answer(alloc, words, shelf, out, probes);
+    conclude(out, &answer)
 }
 
 /// The program, from the words that follow its name to its exit.
@@ -105,29 +125,15 @@ pub fn kbd48<F: Shelf, K: Sink>(
         IsUnserved (planned words.now) told → MayExit Exit.Read result) }
     ensures unserved_only { IfSome (F.told shelf.old) (λ told.
         result ≡ Exit.Read → IsUnserved (planned words.now) told) }
-    // Input, of a shelf that tells its files: exactly where a file that is reached is too long, or has a fault.
+    // Input, of a shelf that tells its files: exactly where a file that is reached is too long, or has a first fault. A fault of
+    // time is Timing.
     ensures too_long { IfSome (F.told shelf.old) (λ told. (kind : Kind) →
         IsTooLong kind (planned words.now) told → MayExit Exit.Input result) }
-    ensures hex { IfSome (F.told shelf.old) (λ told. (fault : HexFault) →
-        HasHexFault fault (planned words.now) told → MayExit Exit.Input result) }
-    ensures asm { IfSome (F.told shelf.old) (λ told. (fault : ℕ × ℕ) →
-        HasAsmFault fault (planned words.now) told → MayExit Exit.Input result) }
-    ensures layout { IfSome (F.told shelf.old) (λ told. (fault : LayoutRefusal) →
-        HasLayoutFault fault (planned words.now) told → MayExit Exit.Input result) }
-    ensures cert { IfSome (F.told shelf.old) (λ told. (fault : ℕ × ℕ) →
-        HasCertFault fault (planned words.now) told → MayExit Exit.Input result) }
-    ensures keys { IfSome (F.told shelf.old) (λ told. (fault : ℕ × ℕ) →
-        HasKeysFault fault (planned words.now) told → MayExit Exit.Input result) }
-    ensures script { IfSome (F.told shelf.old) (λ told. (fault : ℕ × ℕ) →
-        HasScriptFault (length probes.old.items) fault (planned words.now) told
-        → MayExit Exit.Input result) }
-    ensures text { IfSome (F.told shelf.old) (λ told. (fault : ℕ × ℕ) →
-        HasTextFault fault (planned words.now) told → MayExit Exit.Input result) }
+    ensures fault { IfSome (F.told shelf.old) (λ told. (fault : Fault) →
+        HasFault (length probes.old.items) fault (planned words.now) told → MayExit (exit_at fault) result) }
     ensures input_only { IfSome (F.told shelf.old) (λ told.
         result ≡ Exit.Input → HasFileFault (length probes.old.items) (planned words.now) told) }
-    // Timing, of a shelf that tells its files: exactly where a key file that is reached has a fault of time first.
-    ensures timing { IfSome (F.told shelf.old) (λ told. (fault : ℕ × ℕ) (stamps : ℕ × ℕ) →
-        HasTimingFault fault stamps (planned words.now) told → MayExit Exit.Timing result) }
+    // Timing, of a shelf that tells its files: only where a key file that is reached has a fault of time first.
     ensures timing_only { IfSome (F.told shelf.old) (λ told.
         result ≡ Exit.Timing → IsUntimely (planned words.now) told) }
     // Stuck, of a shelf that tells its files: exactly where a step of `step`, or of the run of `board`, would execute a
@@ -161,6 +167,5 @@ pub fn kbd48<F: Shelf, K: Sink>(
     ensures fetches { IfSome (F.told shelf.old) (λ told.
         Makes (fetches_of (planned words.now) told) told (F.told shelf.new) result) }
 {
-    let answer = answer(alloc, words, shelf, out, probes);
-    conclude(out, &answer)
+    answer_and_print(alloc, words, shelf, out, probes)
 }

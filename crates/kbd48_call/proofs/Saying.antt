@@ -6,10 +6,10 @@ use Rattle.io_edge.specs.MemorySink.{HeldBytes}
 use Rattle.io_edge.specs.Shelf.{Told}
 use Rattle.board_probes.specs.Probes.{Watch}
 use Rattle.kbd48_app.specs.Answers.{MayAnswer}
-use Rattle.kbd48_app.specs.Plans.{Answer}
-use Rattle.kbd48_app.specs.Says.{Says}
-use Rattle.kbd48_app.specs.Taking.{taking_of}
-use Rattle.kbd48_app.specs.declared.exit.Exit.{Exit}
+use Rattle.app_answers.specs.FileAnswers.{Answer}
+use Rattle.app_answers.specs.Says.{Says}
+use Rattle.app_answers.specs.Taking.{taking_of}
+use Rattle.app_words.specs.declared.exit.Exit.{Exit}
 use Rattle.kbd48_call.specs.Calls.{HasSaid, shown}
 
 -- of probes that are these

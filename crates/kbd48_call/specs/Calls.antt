@@ -6,11 +6,11 @@ use Rattle.io_edge.specs.Said.{Shown}
 use Rattle.io_edge.specs.Shelf.{Told}
 use Rattle.board_probes.specs.Probes.{Watch, address_kind, cell_kind, line_kind, register_kind, unarmed}
 use Rattle.kbd48_app.specs.Answers.{MayAnswer}
-use Rattle.kbd48_app.specs.Exits.{status_of}
-use Rattle.kbd48_app.specs.Plans.{Answer}
-use Rattle.kbd48_app.specs.Says.{Says}
-use Rattle.kbd48_app.specs.Taking.{taking_of}
-use Rattle.kbd48_app.specs.declared.exit.Exit.{Exit}
+use Rattle.app_words.specs.Exits.{status_of}
+use Rattle.app_answers.specs.FileAnswers.{Answer}
+use Rattle.app_answers.specs.Says.{Says}
+use Rattle.app_answers.specs.Taking.{taking_of}
+use Rattle.app_words.specs.declared.exit.Exit.{Exit}
 
 -- the probes of the program, of which none is armed
 abbrev pub new_probes : List Watch

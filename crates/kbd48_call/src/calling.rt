@@ -2,14 +2,15 @@
 
 ghost use Rattle.std.specs.Prelude.{◌≡◌, ℕ, ◌≤◌, length, map, pos, take, string_bytes, IfOk, IfSome};
 ghost use Rattle.board_probes.specs.Probes.{address_kind, cell_kind, line_kind, register_kind, unarmed};
-ghost use Rattle.kbd48_app.specs.Exits.{status_of};
+ghost use Rattle.app_words.specs.Exits.{status_of};
 ghost use Rattle.kbd48_call.specs.Calls.{IsCall};
 ghost use Rattle.kbd48_call.specs.Pieces.{piece_in, shelf_in};
 
 use crate::pieces::{Named, Piece, Untaken, shelf_of, words_of};
+use app_words::Exit;
 use board_probes::{AddressProbe, CellProbe, LineProbe, Probe, RegisterProbe};
 use io_edge::{MemShelf, MemSink};
-use kbd48_app::{Exit, kbd48};
+use kbd48_app::kbd48;
 use std::alloc::{AllocError, Global};
 
 const DONE: i32 = 0;

@@ -1,9 +1,9 @@
 //! Probes that ride on the runs of `run` and `expect`, and are left alone by the other commands.
 
 use crate::calls::call;
+use app_words::Exit;
 use board_probes::{CellProbe, Probe, Tally};
 use io_edge::MemSink;
-use kbd48_app::Exit;
 use std::test::Fail;
 
 /// A probe of one cell, armed with a place and a value.

@@ -3,8 +3,8 @@
 ghost use Rattle.std.specs.Prelude.{◌<◌};
 
 use crate::calls::{Outcome, all_probes, call};
+use app_words::Exit;
 use io_edge::MemSink;
-use kbd48_app::Exit;
 use std::alloc::{AllocError, Global};
 use std::test::Fail;
 

@@ -1,4 +1,4 @@
-use Rattle.kbd48_app.specs.declared.words.PairCommand.TheVariants.{Certify, Spell, OverRun}
+use Rattle.app_words.specs.declared.words.PairCommand.TheVariants.{Certify, Spell, OverRun}
 use Rattle.kbd48_app.proofs.AnswersAreSpoken.{pair_by, pair_unsaid}
 use Rattle.kbd48_app.proofs.answering.over_pair.Goals as goal
 

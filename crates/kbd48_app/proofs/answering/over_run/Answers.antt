@@ -9,6 +9,6 @@ returns-clause-ends g c =
     _ _ c.in_ok-document.document c.in_ok-text.text c.in_ok-layout.layout _
     c.in_ok-document.ensures.gives c.in_ok-document.ensures.fetched
     (ap layout_of_document (sym c.deref.ensures.value) ∙ c.in_ok-layout.ensures)
-    c.in_ok-text.ensures.gives c.in_ok-text.ensures.fetched c.deref-2.ensures.value _ _ c.told.result
+    c.in_ok-text.ensures.gives c.in_ok-text.ensures.fetched c.deref-2.ensures.value _ _ c.say_run.result
     (g.K.Sink.shown c.args.out.now)
-    (g.K.Sink.shown c.told.new.out) c.told.ensures.says
+    (g.K.Sink.shown c.say_run.new.out) c.say_run.ensures.says

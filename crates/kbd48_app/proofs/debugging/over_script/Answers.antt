@@ -1,5 +1,5 @@
 use Rattle.std.proofs.Common.{refl}
-use Rattle.kbd48_app.specs.declared.kind.Kind.TheVariants as kinds
+use Rattle.app_words.specs.declared.kind.Kind.TheVariants as kinds
 use Rattle.kbd48_app.specs.Plans.{Debugs}
 use Rattle.kbd48_app.proofs.FilesAreFound.{debugged, found_so}
 use Rattle.kbd48_app.proofs.debugging.over_script.Goals as goal

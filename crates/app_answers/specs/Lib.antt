@@ -1,0 +1,13 @@
+pub mod Stepping
+pub mod Feeding
+pub mod TranslationLaw
+pub mod Taking
+pub mod FileAnswers
+pub mod CertTexts
+pub mod TextPlans
+pub mod Answers
+pub mod Leaving
+pub mod Says
+pub mod Spoken
+pub mod Fetching
+pub mod ListingLaw

@@ -1,0 +1,2 @@
+pub mod BoardsAreSaid
+pub mod ScriptsAreAnswered

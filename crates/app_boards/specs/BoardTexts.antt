@@ -1,0 +1,58 @@
+-- `board`: what is said of the run of a program on the board, and how it leaves the probes that ride on it.
+use Rattle.std.specs.Prelude.{◌⊎◌, ℕ, List, [], Ok, Err, if◌then◌else◌}
+use Rattle.board_run.specs.Putting.{HaveLookedToBreak}
+use Rattle.board_run.specs.Running.{Outcome}
+use Rattle.board_run.specs.Texts.{log_text}
+use Rattle.board_run.specs.Tracing.{HaveTracedToBreak}
+use Rattle.story_run.specs.declared.ending.End.{End}
+use Rattle.story_run.specs.declared.ending.End.TheVariants.{Over, Stuck}
+use Rattle.board_probes.specs.Probes.{Watch}
+use Rattle.io_edge.specs.Said.{Shown}
+use Rattle.joint_feed.specs.Filled.{filled_story}
+use Rattle.joint_feed.specs.Stories.{Story}
+use Rattle.key_file.specs.Histories.{KeyHistory}
+use Rattle.mcs48_core.specs.StateText.{state_text_of}
+use Rattle.story_run.specs.Telling.{IsBrokenBehind}
+use Rattle.wire_trace.specs.Trace.{trace_to}
+use Rattle.app_words.specs.declared.refusal.Refusal.TheVariants as refusals
+use Rattle.app_words.specs.declared.words.BoardCommand.{BoardCommand}
+use Rattle.app_words.specs.declared.words.BoardCommand.TheVariants.{Log, Trace}
+use Rattle.app_words.specs.declared.words.BoardRun.{BoardRun}
+use Rattle.app_answers.specs.FileAnswers.{Answer}
+use Rattle.app_answers.specs.Leaving.{HaveLookedAtAll}
+use Rattle.app_answers.specs.Says.{text_said}
+use Rattle.app_answers.specs.Taking.{Taking, Whole, CutOff}
+
+-- what runs: the image, in a part that holds the byte of `--fill` at power-on, under the history
+abbrev pub board_story : BoardRun → List ℕ → KeyHistory → Story
+board_story wanted image history = filled_story wanted.fill image history
+
+-- what is said of a run as it is made: its log, or its two wires, as they change
+abbrev pub board_log : BoardCommand → Story → Outcome → List ℕ
+board_log (Log steps) s run = log_text run.log
+board_log Trace s run = trace_to s run.steps
+
+-- what is said behind that, where the run is over: with `--steps`, the state at its end
+abbrev pub board_end : BoardCommand → Outcome → List ℕ
+board_end (Log steps) run = if steps then state_text_of run.mcu run.steps run.cycles else []
+board_end Trace run = []
+
+-- the answer behind it: of a run that is stuck, where it is
+abbrev pub board_said : BoardCommand → Outcome → End → Answer
+board_said wanted run Over = Ok (board_end wanted run)
+board_said wanted run (Stuck place) = Err (refusals.Stuck place)
+
+-- the log, or the trace, is broken off, and each probe has looked at the states up to the one that the step which said
+-- the broken line led to; in a trace's header, at none
+abbrev pub HaveLookedToLine : BoardCommand → Story → Shown → Shown → List Watch → List Watch → Type 0
+HaveLookedToLine (Log steps) s before after probes left = HaveLookedToBreak s before after probes left
+HaveLookedToLine Trace s before after probes left = HaveTracedToBreak s before after probes left
+
+-- each has looked at the state after each step; where a put failed, at those up to the broken line, or, behind the log,
+-- at all of them
+abbrev pub AreLeftOnBoard : BoardCommand → Story → Outcome → Taking → List Watch → List Watch → Type 0
+AreLeftOnBoard wanted s run Whole probes left = HaveLookedAtAll s run.steps probes left
+AreLeftOnBoard wanted s run (CutOff before after) probes left =
+    HaveLookedToLine wanted s before after probes left
+    ⊎ (IsBrokenBehind before after (board_log wanted s run) (text_said (board_said wanted run run.end))
+    × HaveLookedAtAll s run.steps probes left)

@@ -1,0 +1,5 @@
+pub mod Debugging
+pub mod BoardTexts
+pub mod BoardAnswers
+pub mod SessionAnswers
+pub mod Telling

@@ -1,0 +1,5 @@
+pub mod RunPrintsExpected
+pub mod StrokesAreAccepted
+pub mod StartsAreLines
+pub mod RunsAreSaid
+pub mod LinesStandInText

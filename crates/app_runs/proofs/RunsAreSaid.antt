@@ -1,0 +1,194 @@
+-- What `run`, `expect` and `sample` may say, behind files that were judged.
+use Rattle.std.proofs.Common.{◌≡◌, ◌≤◌, ℕ, Bool, List, [], Global, Ok, Err, inl, inr, refl, ap, sym, subst}
+use Rattle.std.specs.Prelude.{OnErr, OnOk}
+use Rattle.std.specs.declared.result.Result.{Result}
+use Rattle.std.specs.declared.vec.Vec.{Vec}
+use Rattle.fw_compile.specs.Image.{image_of}
+use Rattle.board_probes.specs.Probes.{Watch}
+use Rattle.io_edge.specs.Said.{IsBrokenOff, IsSaid, Shown}
+use Rattle.io_edge.specs.declared.sink.SinkFault.{SinkFault}
+use Rattle.joint_feed.specs.Stories.{Story, story}
+use Rattle.key_file.specs.Accepted.{IsAcceptedFor}
+use Rattle.key_file.specs.Histories.{KeyHistory}
+use Rattle.key_file.specs.KeyFile.{history_of}
+use Rattle.layout_reader.specs.Layouts.{IsKeyLayout, KeyLayout, us84}
+use Rattle.story_run.specs.declared.ending.Ending.TheVariants.{TickStart}
+use Rattle.story_run.specs.Running.{IsOverBehind}
+use Rattle.subsystem.specs.Agreement.{RunsAsExpected}
+use Rattle.subsystem.specs.Outcomes.{RunsComeToOutcomes}
+use Rattle.subsystem.specs.Running.{IsOutcome, Outcome}
+use Rattle.app_words.specs.declared.refusal.Refusal.{Refusal}
+use Rattle.app_words.specs.declared.refusal.Refusal.TheVariants.{Memory}
+use Rattle.app_answers.specs.declared.spoken.Spoken.{Spoken}
+use Rattle.app_answers.specs.declared.spoken.Spoken.TheVariants.{Said}
+use Rattle.app_words.specs.declared.words.RunCommand.{RunCommand}
+use Rattle.app_words.specs.declared.words.RunCommand.TheVariants.{Log, Expect, Trace}
+use Rattle.app_answers.specs.Answers.{answer_of}
+use Rattle.app_answers.specs.Leaving.{Left, HaveLookedAtAll}
+use Rattle.app_runs.specs.RunAnswers.{MayAnswerRun, MayAnswerSample}
+use Rattle.app_answers.specs.FileAnswers.{Answer}
+use Rattle.app_runs.specs.RunTexts.{HaveLooked, HaveLookedToCut, IsRunText, run_text}
+use Rattle.app_runs.specs.Sampling.{sample_history, sample_story, sample_text}
+use Rattle.app_answers.specs.Spoken.{IsSpoken, May, still_to_say}
+use Rattle.app_answers.specs.Taking.{Taking, Whole, CutOff}
+use Rattle.app_runs.specs.Telling.{MayTell, MayTellRun}
+use Rattle.app_answers.proofs.AreSpoken.{left_behind, left_so, unsaid_so, with_history}
+use Rattle.wire_trace.specs.Ending.{IsTraceBrokenOff, IsTraceSaid}
+use Rattle.wire_trace.specs.Trace.{trace_to}
+use Rattle.wires_heard.specs.Hearing.{HearsAll}
+use Rattle.key_file.proofs.Lawful.{lawful_for}
+use Rattle.app_runs.proofs.StrokesAreAccepted.{sample_accepted}
+
+-- the run of a key file without a fault
+pub ran : (command : RunCommand) (layout : KeyLayout) (text : List ℕ) (history : KeyHistory)
+    (answer : Answer) (probes : List Watch) (left : Left)
+    → history_of layout text ≡ Ok history
+    → left.log ≡ [] → MayAnswerRun command layout history answer probes left → MayTell command layout text answer probes left
+ran command layout text history answer probes left is alone may =
+    with_history (MayTellRun command layout probes) (history_of layout text) history answer probes left is (may, alone)
+
+module _ (ticks steps : Bool) (layout : KeyLayout) (text : List ℕ) (history : KeyHistory) (is : history_of layout text ≡ Ok history) where
+  -- memory is wanting before it begins
+  pub lacking : (probes : List Watch) (taking : Taking) → MayTell (Log ticks steps) layout text (Err Memory) probes (left_so probes taking)
+  lacking probes taking = ran (Log ticks steps) layout text history (Err Memory) probes (left_so probes taking) is refl (inl (refl, refl))
+
+  module _ (law : RunsAsExpected) (sound : IsKeyLayout layout) (accepted : IsAcceptedFor layout history)
+      (s : Story) (this : s ≡ story (image_of layout) history)
+      (run : Outcome) (made : IsOutcome s run) (probes left : List Watch) where
+    outcome : IsOutcome (story (image_of layout) history) run
+    outcome = subst (λ (t : Story). IsOutcome t run) this made
+
+    said_so : IsRunText (Log ticks steps) layout history (run_text ticks steps run) run
+    said_so = (outcome, law layout history run sound (lawful_for accepted) outcome, refl, tt)
+
+    -- it is said whole
+    pub told_whole : HaveLookedAtAll s run.steps probes left
+        → MayTell (Log ticks steps) layout text (Ok (run_text ticks steps run)) probes (left_so left Whole)
+    told_whole looked =
+        ran (Log ticks steps) layout text history (Ok (run_text ticks steps run)) probes (left_so left Whole) is refl
+        (inr (
+          run_text ticks steps run,
+          run,
+          said_so,
+          refl,
+          subst (λ (t : Story). HaveLookedAtAll t run.steps probes left) this looked,
+        ))
+
+    -- it is broken off
+    pub told_in_part : (x y : Shown) → HaveLookedToCut ticks steps s run x y probes left
+        → MayTell (Log ticks steps) layout text (Ok (run_text ticks steps run)) probes (left_so left (CutOff x y))
+    told_in_part x y looked =
+        ran (Log ticks steps) layout text history (Ok (run_text ticks steps run)) probes (left_so left (CutOff x y)) is refl
+        (inr (
+          run_text ticks steps run,
+          run,
+          said_so,
+          refl,
+          subst (λ (t : Story). HaveLookedToCut ticks steps t run x y probes left) this looked,
+        ))
+
+  -- what the run said while it was made
+  pub streamed : (law : RunsAsExpected)
+      → IsKeyLayout layout → IsAcceptedFor layout history → (s : Story) → s ≡ story (image_of layout) history
+      → (result : Result (Unit {0}) SinkFault) (x y : Shown) (probes left : List Watch)
+      → OnOk result ((run : Outcome) × IsOutcome s run × IsSaid x y (run_text ticks steps run) × HaveLookedAtAll s run.steps probes left)
+      → OnErr result ((run : Outcome) × IsOutcome s run × IsBrokenOff x y (run_text ticks steps run)
+      × HaveLookedToCut ticks steps s run x y probes left)
+      → IsSpoken (λ answer taking log. MayTell (Log ticks steps) layout text answer probes (left_behind left taking log))
+      (Ok (Said result)) x y
+  streamed law sound accepted s this (Ok done) x y probes left h k =
+      (run_text ticks steps h.0, [], told_whole law sound accepted s this h.0 h.1 probes left h.3, h.2)
+  streamed law sound accepted s this (Err fault) x y probes left h k =
+      (Ok (run_text ticks steps k.0), [], told_in_part law sound accepted s this k.0 k.1 probes left x y k.3, k.2)
+
+-- a text that was said at the end, whole or not
+said_at_end : (may : May) (result : Result (Unit {0}) SinkFault) (text : List ℕ) (x y : Shown)
+    → ((taking : Taking) → may (Ok text) taking [])
+    → OnOk result (IsSaid x y text) → OnErr result (IsBrokenOff x y text) → IsSpoken may (Ok (Said result)) x y
+said_at_end may (Ok done) text x y h said broken = (text, [], h Whole, said)
+said_at_end may (Err fault) text x y h said broken = (Ok text, [], h (CutOff x y), broken)
+
+pub said_sample : (count : ℕ) (result : Result (Unit {0}) SinkFault) (text : List ℕ) (x y : Shown) (probes left : List Watch)
+    → MayAnswerSample count (Ok text) probes left
+    → OnOk result (IsSaid x y text) → OnErr result (IsBrokenOff x y text)
+    → IsSpoken (λ answer taking log. MayAnswerSample count answer probes left × (log ≡ [])) (Ok (Said result)) x y
+said_sample count result text x y probes left may said broken =
+    said_at_end (λ answer taking log. MayAnswerSample count answer probes left × (log ≡ []))
+    result text x y (λ taking. (may, refl)) said broken
+
+-- what `sample` says
+pub sampled : (count : ℕ)
+    → count ≤ 10000 → RunsAsExpected → IsKeyLayout us84 → (s : Story) → s ≡ sample_story count → (text : List ℕ) (probes left : List Watch)
+    → ((run : Outcome) × IsOutcome s run × (text ≡ sample_text count run) × HaveLookedAtAll s run.steps probes left)
+    → MayAnswerSample count (Ok text) probes left
+sampled count few law sound s this text probes left h =
+    let made : IsOutcome (sample_story count) h.0 = subst (λ (t : Story). IsOutcome t h.0) this h.1 in
+    inr (
+      text,
+      h.0,
+      (made, law us84 (sample_history count) h.0 sound (lawful_for (sample_accepted count few)) made, h.2),
+      refl,
+      subst (λ (t : Story). HaveLookedAtAll t h.0.steps probes left) this h.3,
+    )
+
+-- what `expect` says, where memory isn't wanting
+abbrev pub IsExpectText : KeyLayout → KeyHistory → List Watch → List Watch → List ℕ → Type 0
+IsExpectText layout history probes left said =
+    (run : Outcome) × IsRunText Expect layout history said run × HaveLookedAtAll (story (image_of layout) history) run.steps probes left
+
+module _ (layout : KeyLayout) (text : List ℕ) (history : KeyHistory) (is : history_of layout text ≡ Ok history)
+    (probes left : List Watch) (taking : Taking) where
+  pub expected_lacking : HaveLooked layout history probes left → MayTell Expect layout text (Err Memory) probes (left_so left taking)
+  expected_lacking looked = ran Expect layout text history (Err Memory) probes (left_so left taking) is refl (inl (refl, looked))
+
+  pub expected_said : (said : List ℕ)
+      → IsExpectText layout history probes left said → MayTell Expect layout text (Ok said) probes (left_so left taking)
+  expected_said said h =
+      ran Expect layout text history (Ok said) probes (left_so left taking) is refl (inr (said, h.0, h.1, refl, h.2))
+
+-- what `trace` says, which leaves the probes alone
+module _ (layout : KeyLayout) (text : List ℕ) (history : KeyHistory) (is : history_of layout text ≡ Ok history) (probes : List Watch) where
+  pub trace_lacking : (taking : Taking) → MayTell Trace layout text (Err Memory) probes (left_so probes taking)
+  trace_lacking taking = ran Trace layout text history (Err Memory) probes (left_so probes taking) is refl (inl (refl, refl))
+
+  module _ (law : RunsAsExpected) (outcomes : RunsComeToOutcomes)
+      (heard : HearsAll (story (image_of layout) history)) (sound : IsKeyLayout layout) (accepted : IsAcceptedFor layout history)
+      (x y : Shown) where
+    abbrev s : Story
+    s = story (image_of layout) history
+
+    trace_told : (k : ℕ) → IsOverBehind TickStart s k → (taking : Taking)
+        → MayTell Trace layout text (Ok (trace_to s k)) probes (left_so probes taking)
+    trace_told k over taking =
+        let made = outcomes layout history k sound (lawful_for accepted) over in
+        let run = made.0 in
+        ran Trace layout text history (Ok (trace_to s k)) probes (left_so probes taking) is refl
+        (inr (trace_to s k, run, (made.1, law layout history run sound (lawful_for accepted) made.1, ap (trace_to s) (sym made.2), heard), refl, refl))
+
+    -- it is said whole
+    pub traced : (done : Unit {0}) → IsTraceSaid s x y
+        → IsSpoken (λ answer taking log. MayTell Trace layout text answer probes (left_behind probes taking log)) (Ok (Said (Ok done))) x y
+    traced done h = (trace_to s h.steps, [], trace_told h.steps h.is_over Whole, h.said)
+
+    -- it is broken off
+    pub trace_stopped : (fault : SinkFault) → IsTraceBrokenOff s x y
+        → IsSpoken (λ answer taking log. MayTell Trace layout text answer probes (left_behind probes taking log))
+        (Ok (Said (Err fault))) x y
+    trace_stopped fault h = (Ok (trace_to s h.steps), [], trace_told h.steps h.is_over (CutOff x y), h.broken)
+
+-- `run` and `expect`, of a layout and a key file's text
+pub told_by : (c d : RunCommand) (layout : KeyLayout) (text : List ℕ) (probes left : List Watch)
+    (result : Result Spoken Refusal) (x y : Shown) → c ≡ d
+    → IsSpoken (λ answer taking log. MayTell d layout text answer probes (left_behind left taking log)) result x y
+    → IsSpoken (λ answer taking log. MayTell c layout text answer probes (left_behind left taking log)) result x y
+told_by c d layout text probes left result x y is h =
+    subst (λ (k : RunCommand). IsSpoken (λ answer taking log. MayTell k layout text answer probes (left_behind left taking log)) result x y)
+    (sym is) h
+
+pub told_unsaid : (c d : RunCommand) (layout : KeyLayout) (text : List ℕ) (probes left : List Watch)
+    (said : Result (Vec ℕ Global) Refusal) (result : Result Spoken Refusal) (x : Shown) → c ≡ d
+    → result ≡ still_to_say said → ((taking : Taking) → MayTell d layout text (answer_of said) probes (left_so left taking))
+    → IsSpoken (λ answer taking log. MayTell c layout text answer probes (left_behind left taking log)) result x x
+told_unsaid c d layout text probes left said result x is so h =
+    told_by c d layout text probes left result x x is
+    (unsaid_so (λ answer taking log. MayTell d layout text answer probes (left_behind left taking log)) said result x so h)

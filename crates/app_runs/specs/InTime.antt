@@ -1,0 +1,62 @@
+-- `run` and `expect` print in time what a key sends.
+use Rattle.std.specs.Prelude.{◌≡◌, ◌≤◌, ◌<◌, ℕ, suc, ◌+◌, ◌-◌, ◌*◌, ◌/◌, List, [], ◌∷◌, ◌++◌, length, Ok, Some, slice_get}
+use Rattle.board_lines.specs.Cadence.{listed}
+use Rattle.board_lines.specs.declared.event.Edge.{Edge}
+use Rattle.board_probes.specs.Probes.{Watch}
+use Rattle.kbd_model.specs.Once.{waiting}
+use Rattle.key_file.specs.Histories.{KeyHistory}
+use Rattle.layout_reader.specs.Layouts.{KeyLayout}
+use Rattle.link_model.specs.declared.line.LogLine.{LogLine}
+use Rattle.link_times.specs.Coming.{keyboard_at}
+use Rattle.link_times.specs.Flowing.{IsHostQuiet}
+use Rattle.link_times.specs.Latency.{StandsBehind, Strikes, put_out_in, read_stamp}
+use Rattle.pc_tables.specs.declared.item.Item.TheVariants.{Port}
+use Rattle.subsystem.specs.Running.{Outcome}
+use Rattle.subsystem.specs.Texts.{line_text}
+use Rattle.app_answers.specs.Leaving.{Left}
+use Rattle.app_runs.specs.RunAnswers.{MayAnswerRun}
+use Rattle.app_runs.specs.RunTexts.{IsRunText}
+use Rattle.app_words.specs.declared.words.RunCommand.{RunCommand}
+use Rattle.app_words.specs.declared.words.RunCommand.TheVariants.{Log, Expect, Trace}
+
+-- a text is empty or ends in LF
+abbrev pub EndsLine : List ℕ → Type 0
+EndsLine [] = Unit {0}
+EndsLine (x ∷ []) = x ≡ 10
+EndsLine (x ∷ y ∷ ys) = EndsLine (y ∷ ys)
+
+-- a line stands in a text, whole and with its LF: what is before it is empty or ends in LF
+pub record HasLine (text : List ℕ) (line : LogLine) : Type 0 where
+  pub before : List ℕ
+  pub begins : EndsLine before
+  pub behind : List ℕ
+  pub is : text ≡ before ++ (line_text line ++ behind)
+
+-- tick n of a run sees an edge, whose code waits at the next tick's start behind so many bytes. What the controller puts
+-- out for byte i of it has its line, as a `port` with the tick in which INT 09h reads it; and it is read at most two ticks
+-- and 660 cycles behind the edge, and a tick for each byte before it, less 16 cycles for each column before the key's
+pub record IsPrintedInTime (layout : KeyLayout) (history : KeyHistory) (run : Outcome) (text : List ℕ) (n : ℕ)
+    (edge : Edge) (code : List ℕ) : Type 0 where
+  pub place : ℕ
+  pub stands : StandsBehind place code (waiting (keyboard_at layout history (listed run.starts) (suc n)))
+  pub prints : (i byte put : ℕ) → slice_get code i ≡ Some byte → i + place + suc n < length run.starts - 1
+      → put_out_in layout history (listed run.starts) (i + place + suc n) byte ≡ Some put
+      → HasLine text (record { tick = i + place + suc n; item = Port put })
+  pub soon : (i : ℕ) → i + place + suc n ≤ length run.starts - 1
+      → read_stamp (listed run.starts) (i + place + suc n) + 16 * (edge.place / 8)
+      ≤ edge.stamp + 2 * 2048 + 660 + 2048 * (i + place)
+
+-- `run`, with its options or without, and `expect`
+abbrev pub PrintsLog : RunCommand → Type 0
+PrintsLog (Log ticks steps) = Unit {0}
+PrintsLog Expect = Unit {0}
+PrintsLog Trace = ⊥
+
+-- so it is of each text that one of them may print of a history whose host is quiet, with the run that it is of
+abbrev pub KeysArePrintedInTime : Type 0
+KeysArePrintedInTime =
+    (layout : KeyLayout) (history : KeyHistory) (command : RunCommand) (text : List ℕ) (probes : List Watch) (left : Left)
+    → PrintsLog command → IsHostQuiet history → MayAnswerRun command layout history (Ok text) probes left
+    → (run : Outcome) × IsRunText command layout history text run
+    × ((n : ℕ) (edge : Edge) (code : List ℕ) → n < length run.starts - 1
+    → Strikes layout history (listed run.starts) n edge code → IsPrintedInTime layout history run text n edge code)

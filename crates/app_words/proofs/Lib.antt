@@ -1,0 +1,2 @@
+pub mod CountsParse
+pub mod OptionsAreFew

@@ -1,5 +1,0 @@
-use Rattle.kbd48_app.proofs.StepsGoOn.{stopped_after}
-use Rattle.kbd48_app.proofs.stepping.run.Goals as goal
-
-pub returns-in-Err : goal.returns-in-Err
-returns-in-Err c = record { ran = stopped_after _ _ _ _ _ _ _ c.loop-step-test.true c.loop-step.invariant.0 c.in-Err.ensures.step }

@@ -1,6 +1,0 @@
-use Rattle.std.proofs.Common.{◌≡◌, ◌≤◌, ◌*◌}
-use Rattle.kbd48_app.specs.Stepping.{after_steps, Stands}
-use Rattle.kbd48_app.proofs.stepping.run.Given as goal
-
-abbrev pub invariant-loop-step : goal.invariant-loop-step
-invariant-loop-step l = (after_steps l.image.bytes l._step ≡ Stands l.mcu l.cycles) × (l.cycles ≤ 2 * l._step)
