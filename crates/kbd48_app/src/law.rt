@@ -5,7 +5,7 @@ ghost use Rattle.kbd48_app.specs.ListingLaw.{ListAndAsmAreInverse};
 ghost use Rattle.kbd48_app.specs.PrintAlike.{RunAndExpectPrintAlike};
 ghost use Rattle.kbd48_app.specs.TranslationLaw.{EachKeyGivesItsScanCode};
 
-use board_run::boards_tell_runs;
+use runs_agree::boards_tell_runs;
 
 /// With the translate bit set and the break mark clear, translation gives for the keyboard code of each of the 84 keys
 /// its scan code. Nothing is done when it is called; the law is its contract.
