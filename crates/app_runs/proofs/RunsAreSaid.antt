@@ -15,7 +15,7 @@ use Rattle.layout_reader.specs.Layouts.{IsKeyLayout, KeyLayout, us84}
 use Rattle.story_run.specs.declared.ending.Ending.TheVariants.{TickStart}
 use Rattle.story_run.specs.Running.{IsOverBehind}
 use Rattle.subsystem.specs.Agreement.{RunsAsExpected}
-use Rattle.subsystem.specs.Outcomes.{RunsComeToOutcomes}
+use Rattle.runs_agree.specs.Outcomes.{RunsComeToOutcomes}
 use Rattle.subsystem.specs.Running.{IsOutcome, Outcome}
 use Rattle.app_words.specs.declared.refusal.Refusal.{Refusal}
 use Rattle.app_words.specs.declared.refusal.Refusal.TheVariants.{Memory}

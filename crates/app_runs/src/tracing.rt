@@ -12,8 +12,9 @@ use app_answers::{Spoken, events_in};
 use app_words::Refusal;
 use io_edge::{Sink, SinkFault};
 use layout_reader::Layout;
+use runs_agree::runs_come_to_outcomes;
 use std::alloc::Global;
-use subsystem::{runs_are_expected, runs_come_to_outcomes};
+use subsystem::runs_are_expected;
 use wire_trace::{TraceFault, trace};
 
 /// `trace`, of a layout and the text of a key file. The text is judged in one pass, all memory is taken, and then each

@@ -11,8 +11,7 @@ use Rattle.story_run.specs.declared.ending.End.{End}
 use Rattle.story_run.specs.declared.ending.End.TheVariants.{Over, Stuck}
 use Rattle.story_run.specs.declared.ending.Ending.TheVariants.{Stamp}
 use Rattle.story_run.specs.Running.{EndsAt, GoesOnTo, is_over, place_of}
-use Rattle.story_run.proofs.Steps.{before, on_at, step_later}
-use Rattle.board_run.proofs.Alike.{reached_by}
+use Rattle.story_run.proofs.Steps.{before, on_at, reached_by, step_later}
 use Rattle.board_run.proofs.ComesToEnd.{comes_to, is_stuck, outcome_at}
 
 -- the end at a state that may be there, as may the next one, or what follows

@@ -1,4 +1,3 @@
-pub mod Alike
 pub mod Lines
 pub mod ByName
 pub mod ComesToEnd
@@ -6,5 +5,4 @@ pub mod BrokenOff
 pub mod ToldByStamp
 pub mod Traced
 pub mod Ends
-pub mod TellsBeginning
 pub mod EndOf

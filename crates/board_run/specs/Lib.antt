@@ -4,4 +4,3 @@ pub mod Ending
 pub mod Advance
 pub mod Putting
 pub mod Tracing
-pub mod Agreement

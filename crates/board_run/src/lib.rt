@@ -10,11 +10,9 @@
 
 mod board;
 mod ended;
-mod law;
 mod line;
 mod telling;
 
 pub use board::Board;
 pub use ended::Ended;
-pub use law::{boards_are_alike, boards_tell_runs};
 pub use story_run::End;

@@ -1,7 +1,7 @@
 -- What `board` says of a layout's image beside what `run` and `trace` say.
 use Rattle.std.proofs.Common.{◌≡◌, false, [], ◌++◌, inl, inr, ap, sym, ◌∙◌}
 use Rattle.std.proofs.lemmas.List.{append-nil}
-use Rattle.board_run.specs.Agreement.{BoardsTellRuns}
+use Rattle.runs_agree.specs.Boards.{BoardsTellRuns}
 use Rattle.subsystem.specs.Running.{Outcome}
 use Rattle.subsystem.specs.Texts.{log_text}
 use Rattle.app_words.specs.declared.refusal.Refusal.TheVariants.{Memory}

@@ -14,7 +14,7 @@ use Rattle.link_model.specs.Expected.{expected_log}
 use Rattle.subsystem.specs.Agreement.{IsAsExpected}
 use Rattle.subsystem.specs.Running.{Outcome}
 use Rattle.subsystem.specs.Texts.{log_text}
-use Rattle.subsystem.proofs.Alike.{runs_alike}
+use Rattle.runs_agree.proofs.RunsAlike.{runs_alike}
 use Rattle.app_words.specs.declared.words.Command.{Command}
 use Rattle.app_words.specs.declared.words.Command.TheVariants.{OverPair}
 use Rattle.app_words.specs.declared.words.PairCommand.TheVariants.{OverRun}

@@ -1,6 +1,6 @@
 -- `board`, of the image that `compile` makes of a layout, beside `run` and `trace` of the layout.
 use Rattle.std.specs.Prelude.{◌≡◌, ◌⊎◌, ℕ, false, List, [], ◌++◌, Ok, Err}
-use Rattle.board_run.specs.Agreement.{TellsRun}
+use Rattle.runs_agree.specs.Boards.{TellsRun}
 use Rattle.board_run.specs.Running as board
 use Rattle.board_run.specs.Texts.{log_text as stamped_text}
 use Rattle.fw_compile.specs.Image.{image_of}

@@ -3,7 +3,7 @@
 ghost use Rattle.kbd48_app.specs.BoardTells.{BoardTellsRun, BoardTracesRun};
 ghost use Rattle.kbd48_app.specs.PrintAlike.{RunAndExpectPrintAlike};
 
-use board_run::boards_tell_runs;
+use runs_agree::boards_tell_runs;
 
 /// `run` without options and `expect`, over two files: what one may answer, over any shelf, the other may, and over a
 /// shelf that tells its files both print one text. Nothing is done when it is called; the law is its contract.

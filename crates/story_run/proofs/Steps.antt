@@ -1,6 +1,6 @@
 -- The states of a run, one after another.
 use Rattle.std.proofs.Common.{◌≡◌, ◌≤◌, ◌<◌, ℕ, zero, suc, ◌+◌, Bool, true, false, List, []}
-use Rattle.std.proofs.Common.{leb, Some, None, refl, ap, sym, subst, ◌∙◌, arith}
+use Rattle.std.proofs.Common.{leb, ltb, Some, None, refl, ap, sym, subst, ◌∙◌, arith}
 use Rattle.std.proofs.lemmas.Bool.Decides.{nat_tests}
 use Rattle.std.proofs.lemmas.List.{append-nil}
 use Rattle.std.specs.Prelude.{slice_index, ◌%◌}
@@ -79,6 +79,15 @@ module _ (s : Story) where
   -- before a state is another
   pub before : (k : ℕ) (v : World Beside) → state_at s (suc k) ≡ Some v → (w : World Beside) × (state_at s k ≡ Some w)
   before k v h = before_some k v (state_at s k) refl h
+
+  -- the state behind one that is before another
+  pub reached_by : (m j : ℕ) (v : World Beside) → state_at s m ≡ Some v → j < m → (w : World Beside) × (state_at s (suc j) ≡ Some w)
+  reached_by zero j v h l = absurd (omega (arith, l))
+  reached_by (suc m) j v h l =
+      elim (ltb j m) as (λ b. ltb j m ≡ b → (w : World Beside) × (state_at s (suc j) ≡ Some w)) [
+        | true ↦ λ f. let u = before m v h in reached_by m j u.0 u.1 (grind (arith, nat_tests, f))
+        | false ↦ λ f. let e : suc m ≡ suc j = grind (arith, nat_tests, f, l) in (v, ap (state_at s) (sym e) ∙ h)
+      ] refl
 
   -- between two states the cycle doesn't fall, and what is said then is behind what was said before
   pub said_between : (k d : ℕ) (w v : World Beside) → state_at s k ≡ Some w → state_at s (d + k) ≡ Some v

@@ -2,6 +2,7 @@
 
 ghost use Rattle.std.specs.Prelude.{◌≡◌, IfOk};
 ghost use Rattle.fw_compile.specs.Image.{image_of};
+ghost use Rattle.fw_logic.specs.JointRun.{KeepsTime};
 ghost use Rattle.joint_feed.specs.Ahead.{HasTaken};
 ghost use Rattle.joint_feed.specs.Stories.{story};
 ghost use Rattle.key_file.specs.Accepted.{IsAccepted, IsAcceptedFor};
@@ -10,7 +11,6 @@ ghost use Rattle.layout_reader.specs.Layouts.{IsKeyLayout, KeyLayout};
 ghost use Rattle.story_run.specs.declared.ending.Ending.TheVariants.{TickStart};
 ghost use Rattle.story_run.specs.Gliding.{IsStanding, IsTimely};
 
-use agreement::run_and_model_agree;
 use fw_compile::compile;
 use int09::Bios;
 use joint_feed::Course;
@@ -19,8 +19,8 @@ use layout_reader::Layout;
 use std::alloc::{AllocError, Global};
 
 /// The run of a layout's compiled image under the history of a feed of which nothing was taken and which is accepted for
-/// this layout, at power-on, with all the memory that it takes: the buffer of INT 09h. It keeps its time, so it may be told
-/// up to a tick start.
+/// this layout, at power-on, with all the memory that it takes: the buffer of INT 09h. The image keeps its time, as the
+/// caller knows by a law; so the run may be told up to a tick start.
 pub fn begin_run<F: Feed>(
     alloc: Global,
     layout: &Layout,
@@ -29,6 +29,8 @@ pub fn begin_run<F: Feed>(
     requires no_edge { (F.told feed.old).edges ≡ 0 }
     requires no_host { (F.told feed.old).host ≡ 0 }
     requires accepted { IsAcceptedFor layout.now (F.told feed.old).history }
+    requires timely { IsKeyLayout layout.now
+        → KeepsTime (image_of layout.now) (F.told feed.old).history.edges (F.told feed.old).history.host }
     ensures layout { IsKeyLayout layout.now }
     ensures history { (F.told feed.new).history ≡ (F.told feed.old).history }
     ensures accepted { IsAccepted (F.told feed.new).history }
@@ -41,7 +43,6 @@ pub fn begin_run<F: Feed>(
 {
     let _ = layout.rate();
     let _ = layout.entries();
-    run_and_model_agree();
     let image = compile(layout);
     let bios = Bios::new(alloc)?;
     Ok(Course::begin(&image, bios, feed))

@@ -3,7 +3,7 @@
 //! This layer begins the run of a layout's compiled image, knows where a run ends, makes its steps one after another as
 //! long as nothing of them has to be told, lets probes look at each state, and leaves what is told to whoever tells it. Its
 //! code knows no line of a log and no sink; its definitions say what it is that a text which is told breaks off. Of the
-//! firmware it knows where a tick starts, by `fw_logic`, and that a layout's image keeps its time, by `agreement`. Source:
+//! firmware it knows where a tick starts, by `fw_logic`. That a layout's image keeps its time is a premise here. Source:
 //! our own.
 #![tactic(auto)]
 

@@ -1,5 +1,4 @@
 pub mod Agreed
-pub mod Alike
 pub mod Beginning
 pub mod Ends
 pub mod Lines
@@ -13,5 +12,3 @@ pub mod Tellers
 pub mod Ticks
 pub mod Timekeeping
 pub mod FirstStepsBeginLog
-pub mod Sessions
-pub mod Outcomes

@@ -2,7 +2,7 @@
 use Rattle.std.specs.Prelude.{◌≡◌, ◌<◌, ◌-◌, length}
 use Rattle.board_lines.specs.Cadence.{KeepsCadenceTo, listed}
 use Rattle.fw_compile.specs.Image.{image_of}
-use Rattle.joint_feed.specs.Stories.{Story, story}
+use Rattle.joint_feed.specs.Stories.{story}
 use Rattle.key_file.specs.Accepted.{IsAccepted, IsLawfulFor}
 use Rattle.key_file.specs.Histories.{KeyHistory}
 use Rattle.layout_reader.specs.Layouts.{KeyLayout, IsKeyLayout}
@@ -23,15 +23,3 @@ abbrev pub RunsAsExpected : Type 0
 RunsAsExpected =
     (layout : KeyLayout) (history : KeyHistory) (run : Outcome) → IsKeyLayout layout → IsLawfulFor layout history
     → IsOutcome (story (image_of layout) history) run → IsAsExpected layout history run
-
--- two runs tell the same
-pub record AreAlike (a b : Outcome) : Type 0 where
-  pub log : a.log ≡ b.log
-  pub starts : a.starts ≡ b.starts
-  pub end : a.end ≡ b.end
-  pub steps : a.steps ≡ b.steps
-  pub cycles : a.cycles ≡ b.cycles
-
--- what is run has one run
-abbrev pub RunsAreAlike : Type 0
-RunsAreAlike = (s : Story) (a b : Outcome) → IsOutcome s a → IsOutcome s b → AreAlike a b

@@ -3,8 +3,6 @@ pub mod Agreement
 pub mod Looking
 pub mod Progress
 pub mod Running
-pub mod Sessions
-pub mod Outcomes
 pub mod Texts
 pub mod Counts
 pub mod Putting

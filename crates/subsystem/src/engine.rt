@@ -24,6 +24,7 @@ use crate::law::runs_are_expected;
 use crate::outcome::copied;
 use crate::starts::Starts;
 use crate::telling::Putting;
+use agreement::run_and_model_agree;
 use board_probes::Probe;
 use io_edge::{Sink, SinkFault};
 use joint_feed::Course;
@@ -88,6 +89,7 @@ impl<F: Feed> Engine<F> {
         ensures engine { IfOk result (λ engine. engine ≡ story (image_of layout.now) (F.told feed).history) }
         ensures accepted { IfOk result (λ engine. IsAccepted (history_of engine)) }
     {
+        run_and_model_agree();
         let mut feed = feed;
         let course = begin_run(alloc, layout, &mut feed)?;
         let most = feed.end() / TICK_CYCLES + 2;

@@ -1,8 +1,6 @@
-//! Laws of every run, each the contract of a function that does nothing.
+//! The law of every run, the contract of a function that does nothing.
 
-ghost use Rattle.subsystem.specs.Agreement.{RunsAreAlike, RunsAsExpected};
-ghost use Rattle.subsystem.specs.Outcomes.{RunsComeToOutcomes};
-ghost use Rattle.subsystem.specs.Sessions.{SessionsEndWithRuns};
+ghost use Rattle.subsystem.specs.Agreement.{RunsAsExpected};
 
 use agreement::run_and_model_agree;
 use quiet_log::{logs_are_limited, quiet_histories};
@@ -17,27 +15,4 @@ pub fn runs_are_expected()
     run_and_model_agree();
     quiet_histories();
     logs_are_limited();
-}
-
-/// A program, edges of keys, events of the host, an end stamp and what the part held at power-on have one run: two runs of
-/// them tell the same. Nothing is done when it is called; the law is its contract.
-pub fn runs_are_alike()
-    ensures alike { RunsAreAlike }
-{}
-
-/// Where the run of a layout's compiled image, under a history that is lawful for it, is over, it has come to an
-/// outcome, of as many steps. Nothing is done when it is called; the law is its contract.
-pub fn runs_come_to_outcomes()
-    ensures outcomes { RunsComeToOutcomes }
-{
-    run_and_model_agree();
-}
-
-/// A debugger's session over a layout's compiled image, under a history that is lawful for it, ends exactly where the
-/// run of `run` does: it makes each of the run's steps, and none behind them. Nothing is done when it is called; the
-/// law is its contract.
-pub fn sessions_end_with_runs()
-    ensures ends { SessionsEndWithRuns }
-{
-    run_and_model_agree();
 }

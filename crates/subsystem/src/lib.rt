@@ -22,7 +22,7 @@ mod ticking;
 pub use counts::Counts;
 pub use ended::Ended;
 pub use engine::Engine;
-pub use law::{runs_are_alike, runs_are_expected, runs_come_to_outcomes, sessions_end_with_runs};
+pub use law::runs_are_expected;
 pub use link_model::LogLine;
 pub use outcome::Run;
 pub use printing::print_log;

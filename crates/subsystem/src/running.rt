@@ -15,6 +15,7 @@ use crate::law::runs_are_expected;
 use crate::outcome::{Run, copied};
 use crate::starts::Starts;
 use crate::telling::Keeping;
+use agreement::run_and_model_agree;
 use board_probes::Probe;
 use joint_feed::Course;
 use key_file::{History, ListFeed};
@@ -72,6 +73,7 @@ pub fn run(
     ensures looked_so_far { let s = story (image_of layout.now) history.now in
         HaveLookedAtSome s (map (λ b. watch b) probes.old.items) (map (λ b. watch b) probes.new.items) }
 {
+    run_and_model_agree();
     runs_are_expected();
     let mut feed = ListFeed::new(history);
     let mut course = begin_run(alloc, layout, &mut feed)?;

@@ -10,6 +10,7 @@ ghost use Rattle.subsystem.specs.Looking.{HaveLookedAtSome};
 ghost use Rattle.subsystem.specs.Starts.{AreStartsOf};
 
 use crate::starts::Starts;
+use agreement::run_and_model_agree;
 use board_probes::Probe;
 use key_file::{History, ListFeed};
 use layout_reader::Layout;
@@ -33,6 +34,7 @@ pub fn tick_starts(
     ensures looked_so_far { let s = story (image_of layout.now) history.now in
         HaveLookedAtSome s (map (λ b. watch b) probes.old.items) (map (λ b. watch b) probes.new.items) }
 {
+    run_and_model_agree();
     let mut feed = ListFeed::new(history);
     let mut course = begin_run(alloc, layout, &mut feed)?;
     let stamps = Vec::new(alloc);

@@ -17,6 +17,7 @@ ghost use Rattle.wires_heard.specs.Hearing.{HearsAll};
 
 use crate::fault::TraceFault;
 use crate::telling::Changes;
+use agreement::run_and_model_agree;
 use io_edge::{Sink, SinkFault, say};
 use joint_feed::Course;
 use key_file::Feed;
@@ -98,6 +99,7 @@ pub fn trace<F: Feed, K: Sink>(
         result ≡ Err Write → IsTraceBrokenOff run (K.shown out.old) (K.shown out.new) }
     ensures nothing { result ≡ Err Memory → K.shown out.new ≡ K.shown out.old }
 {
+    run_and_model_agree();
     wires_are_heard();
     let mut feed = feed;
     match begin_run(alloc, layout, &mut feed) {

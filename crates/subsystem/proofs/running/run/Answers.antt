@@ -1,6 +1,7 @@
 use Rattle.std.proofs.Common.{ap, subst, sym, ◌∙◌}
 use Rattle.std.proofs.lemmas.List.{append-nil}
 use Rattle.fw_compile.specs.Image.{image_of}
+use Rattle.fw_logic.specs.JointRun.{KeepsTime}
 use Rattle.joint_feed.specs.Stories.{Story, story}
 use Rattle.subsystem.specs.Running.{IsOutcome, outcome}
 use Rattle.subsystem.proofs.Beginning.{begins}
@@ -9,6 +10,11 @@ use Rattle.subsystem.proofs.Looking.{looked_some, looked_whole}
 use Rattle.subsystem.proofs.Timekeeping.{serves_at_end}
 use Rattle.key_file.proofs.Lawful.{lawful_for}
 use Rattle.subsystem.proofs.running.run.Goals as goal
+
+pub begin_run-requires-clause-timely : goal.begin_run-requires-clause-timely
+begin_run-requires-clause-timely g c = λ sound.
+    subst (λ f. KeepsTime (image_of c.args.layout.now) f.history.edges f.history.host) (sym c.new-feed.ensures)
+    (c.run_and_model_agree.ensures.agreement c.args.layout.now c.args.history.now sound (lawful_for c.requires)).0
 
 pub tell_run-requires-clause-told : goal.tell_run-requires-clause-told
 tell_run-requires-clause-told g c =

@@ -4,6 +4,10 @@ use Rattle.wire_trace.specs.Ending.{IsTraceBrokenOff, IsTraceSaid}
 use Rattle.key_file.proofs.Lawful.{lawful_for}
 use Rattle.wire_trace.proofs.tracing.trace.Goals as goal
 
+pub begin_run-requires-clause-timely : goal.begin_run-requires-clause-timely
+begin_run-requires-clause-timely g c = λ sound.
+    (c.run_and_model_agree.ensures.agreement c.args.layout.now (g.F.Feed.told c.args.feed).history sound (lawful_for c.requires.accepted)).0
+
 pub returns-in-Err-put_trace-clause-broken : goal.returns-in-Err-put_trace-clause-broken
 returns-in-Err-put_trace-clause-broken g c = λ _.
     subst (λ (t : Story).

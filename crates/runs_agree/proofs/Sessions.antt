@@ -16,9 +16,9 @@ use Rattle.joint_run.specs.Run.{World}
 use Rattle.story_run.specs.Starts.{start_stamp, starts_among}
 use Rattle.subsystem.specs.Running.{IsOutcome, Outcome}
 use Rattle.subsystem.proofs.Going.{GoesOnTo, is_over}
-use Rattle.subsystem.specs.Sessions.{EndsBehind}
+use Rattle.runs_agree.specs.Sessions.{EndsBehind}
 use Rattle.subsystem.proofs.Agreed.{run_last, run_starts}
-use Rattle.subsystem.proofs.Alike.{starts_stay}
+use Rattle.runs_agree.proofs.RunsAlike.{starts_stay}
 use Rattle.subsystem.proofs.Lines.{one_longer}
 use Rattle.story_run.proofs.Timekeeping.{still_near}
 

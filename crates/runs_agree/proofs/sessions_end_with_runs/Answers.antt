@@ -1,7 +1,7 @@
 use Rattle.fw_compile.specs.Image.{image_of}
 use Rattle.joint_feed.specs.Stories.{story}
-use Rattle.subsystem.proofs.Sessions.{ends_behind}
-use Rattle.subsystem.proofs.law.sessions_end_with_runs.Goals as goal
+use Rattle.runs_agree.proofs.Sessions.{ends_behind}
+use Rattle.runs_agree.proofs.sessions_end_with_runs.Goals as goal
 
 pub returns : goal.returns
 returns c = record {

@@ -8,7 +8,7 @@ use Rattle.joint_feed.proofs.Going.{same_state}
 use Rattle.joint_feed.specs.Stories.{Story, state_at}
 use Rattle.joint_run.specs.Joint.{Beside, log_of}
 use Rattle.joint_run.specs.Run.{World}
-use Rattle.subsystem.specs.Agreement.{AreAlike}
+use Rattle.runs_agree.specs.Alike.{AreAlike}
 use Rattle.subsystem.specs.Running.{IsOutcome, lines_of, Outcome}
 use Rattle.story_run.specs.Starts.{start_stamp, starts_among}
 use Rattle.subsystem.proofs.Agreed.{run_starts, run_last}

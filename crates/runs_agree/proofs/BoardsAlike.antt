@@ -1,5 +1,5 @@
 -- What is run has one run on the board.
-use Rattle.std.proofs.Common.{◌≡◌, ◌<◌, ℕ, zero, suc, true, false, List, ltb, Some, refl, ap, sym, subst, ◌∙◌, arith}
+use Rattle.std.proofs.Common.{◌≡◌, ◌<◌, ℕ, suc, true, false, List, ltb, Some, refl, ap, sym, subst, ◌∙◌, arith}
 use Rattle.std.proofs.lemmas.Bool.Decides.{nat_tests}
 use Rattle.story_run.specs.declared.ending.End.{End}
 use Rattle.story_run.specs.declared.ending.End.TheVariants.{Over, Stuck}
@@ -12,7 +12,7 @@ use Rattle.joint_feed.specs.Stories.{Story, state_at}
 use Rattle.joint_run.specs.Joint.{Beside, log_of}
 use Rattle.joint_run.specs.Run.{World}
 use Rattle.mcs48_core.specs.Cpu.{Cpu}
-use Rattle.story_run.proofs.Steps.{before, on_at}
+use Rattle.story_run.proofs.Steps.{on_at, reached_by}
 
 module _ (s : Story) where
   -- a run doesn't go on where it ends
@@ -21,21 +21,12 @@ module _ (s : Story) where
   ends_not_on k w v Over h on next = absurd (cc (h, on))
   ends_not_on k w v (Stuck place) h on next = let none = h.none in absurd (cc (none, next))
 
-  -- the state behind one that is before another
-  pub reached_by : (m j : ℕ) (v : World Beside) → state_at s m ≡ Some v → j < m → (w : World Beside) × (state_at s (suc j) ≡ Some w)
-  reached_by zero j v h l = absurd (omega (arith, l))
-  reached_by (suc m) j v h l =
-      elim (ltb j m) as (λ b. ltb j m ≡ b → (w : World Beside) × (state_at s (suc j) ≡ Some w)) [
-        | true ↦ λ f. let u = before s m v h in reached_by m j u.0 u.1 (grind (arith, nat_tests, f))
-        | false ↦ λ f. let e : suc m ≡ suc j = grind (arith, nat_tests, f, l) in (v, ap (state_at s) (sym e) ∙ h)
-      ] refl
-
   -- no run ends before a state up to which it goes on
-  pub not_before : (a : Outcome) (m : ℕ) (v : World Beside) → IsOutcome s a → GoesOnTo Stamp s m → state_at s m ≡ Some v → a.steps < m → ⊥
+  not_before : (a : Outcome) (m : ℕ) (v : World Beside) → IsOutcome s a → GoesOnTo Stamp s m → state_at s m ≡ Some v → a.steps < m → ⊥
   not_before a m v p on there l =
       let here = on_at s Stamp m a.steps on l in
       let same : p.world ≡ here.0 = same_state (sym p.reached ∙ here.1) in
-      let after = reached_by m a.steps v there l in
+      let after = reached_by s m a.steps v there l in
       ends_not_on a.steps p.world after.0 a.end p.ends (ap (is_over Stamp s) same ∙ here.2) after.1
 
   same_steps : (a b : Outcome) → IsOutcome s a → IsOutcome s b → a.steps ≡ b.steps

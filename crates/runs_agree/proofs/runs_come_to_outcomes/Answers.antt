@@ -1,8 +1,8 @@
 use Rattle.std.proofs.Common.{refl}
 use Rattle.fw_compile.specs.Image.{image_of}
 use Rattle.joint_feed.specs.Stories.{story}
-use Rattle.subsystem.proofs.Outcomes.{is_outcome_there, outcome_there}
-use Rattle.subsystem.proofs.law.runs_come_to_outcomes.Goals as goal
+use Rattle.runs_agree.proofs.Outcomes.{is_outcome_there, outcome_there}
+use Rattle.runs_agree.proofs.runs_come_to_outcomes.Goals as goal
 
 pub returns : goal.returns
 returns c = record {

@@ -1,4 +1,4 @@
--- The laws of runs on the board.
+-- What a run on the board says, against the run of a layout.
 use Rattle.std.specs.Prelude.{◌≡◌, ◌≤◌, ◌<◌, ℕ, ◌+◌, List, ◌++◌}
 use Rattle.story_run.specs.declared.ending.End.TheVariants.{Over}
 use Rattle.board_run.specs.Running.{IsOutcome, Outcome}
@@ -12,10 +12,6 @@ use Rattle.story_run.specs.Running.{AreIn}
 use Rattle.subsystem.specs.Running.{lines_of}
 use Rattle.subsystem.specs.Running as layout
 use Rattle.wire_trace.specs.Trace.{trace_to}
-
--- what is run has one run on the board
-abbrev pub BoardsAreAlike : Type 0
-BoardsAreAlike = (s : Story) (a b : Outcome) → IsOutcome s a → IsOutcome s b → a ≡ b
 
 -- a run on the board tells the beginning of a layout's run: it ends at the end stamp or a cycle later; what it said
 -- was said before it ended, and the layout's run said the same, with the ticks in place of the cycles, and then what

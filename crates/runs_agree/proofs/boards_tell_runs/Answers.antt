@@ -1,7 +1,7 @@
 use Rattle.fw_compile.specs.Image.{image_of}
 use Rattle.joint_feed.specs.Stories.{story}
-use Rattle.board_run.proofs.TellsBeginning.{tells}
-use Rattle.board_run.proofs.law.boards_tell_runs.Goals as goal
+use Rattle.runs_agree.proofs.TellsBeginning.{tells}
+use Rattle.runs_agree.proofs.boards_tell_runs.Goals as goal
 
 pub returns : goal.returns
 returns c = record {

@@ -6,7 +6,7 @@ use Rattle.std.proofs.Math.Seq.{get_or-append_seam}
 use Rattle.board_lines.specs.Cadence.{listed}
 use Rattle.story_run.specs.declared.ending.End.{End}
 use Rattle.story_run.specs.declared.ending.End.TheVariants.{Over, Stuck}
-use Rattle.board_run.specs.Agreement.{TellsRun}
+use Rattle.runs_agree.specs.Boards.{TellsRun}
 use Rattle.board_run.specs.Running.{IsOutcome, Outcome}
 use Rattle.story_run.specs.declared.ending.Ending.TheVariants.{Stamp}
 use Rattle.fw_logic.specs.JointRun.{KeepsTimeFrom}

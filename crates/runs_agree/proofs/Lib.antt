@@ -1,0 +1,5 @@
+pub mod RunsAlike
+pub mod BoardsAlike
+pub mod Outcomes
+pub mod Sessions
+pub mod TellsBeginning
