@@ -14,7 +14,7 @@
         } \
     } while (0)
 
-enum { SECOND = 400000, TICK = 2048, STAMP_0 = 4096, BETWEEN = 19, BEFORE_READ = 8, STROKES = 12 };
+enum { SECOND = 400000, TICK = 2048, STAMP_0 = 4096, BETWEEN = 18, BEFORE_READ = 8, STROKES = 12 };
 
 static kbd48 k = KBD48_EMPTY;
 static unsigned long accesses, bytes;
