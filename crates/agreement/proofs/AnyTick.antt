@@ -18,8 +18,9 @@ use Rattle.fw_keys.specs.State.{Inv}
 use Rattle.fw_link.proofs.Latches.{driven}
 use Rattle.fw_link.proofs.TickLatch.{before_data, within, behind, without_frame}
 use Rattle.fw_link.proofs.Wired.{IsReleased, lights_leave, spans_on, spans_as}
+use Rattle.fw_link.proofs.Wires.{look_within}
 use Rattle.fw_link.specs.Latch.{Frame, NoFrame, SentFrame, CutFrame, ReceivedFrame, frame_latch, frame_cycles}
-use Rattle.fw_link.specs.Latch.{wired, frame_bit, cut_after, tick_latch}
+use Rattle.fw_link.specs.Latch.{IsLook, sent_latch, cut_after, tick_latch}
 use Rattle.fw_link.specs.Reading.{byte_in, right_in}
 use Rattle.fw_logic.proofs.Laws.{comes_as}
 use Rattle.fw_logic.proofs.Path.{Stage}
@@ -192,19 +193,19 @@ module _ (d : Board) (bytes : List ℕ) (hk : HasKernel bytes) (alike : IsSilent
   abbrev look_off : ℕ → ℕ
   look_off k = 28 + 32 * k + 18
 
-  clock_look_is : (l : Bool) (byte k : ℕ) → k < 10
+  clock_look_is : (l : Bool) (byte look : ℕ) → IsLook look
       → clock_look d bytes hk alike small low held (start + 3) (first l) third (stacked f) ring start refl released byte
-      k
-      ≡ clock_in d w byte k
-  clock_look_is l byte k few =
+      look
+      ≡ clock_in d w byte look
+  clock_look_is l byte look is =
       let frame : Frame = SentFrame byte in
-      let o : 260 + look_off k ≡ 306 + 32 * k = omega arith in
-      let a : 260 + start + look_off k ≡ start + (306 + 32 * k) = omega arith in
-      ap (λ b. (d.pins 44 (wired v true (frame_bit byte k)) (260 + start + look_off k) b).t0)
-      (in_frame frame l (look_off k) (omega (arith, few)) ∙ ap (gone frame) o)
-      ∙ ap (λ u. (d.pins 44 u (260 + start + look_off k) (gone frame (306 + 32 * k))).t0)
-      (sym (sent_at w.cpu.p2 v byte k few))
-      ∙ ap (λ c. (d.pins 44 (latch frame (306 + 32 * k)) c (gone frame (306 + 32 * k))).t0) a
+      let far : look ≤ 344 = look_within look is in
+      let a : 260 + start + look ≡ start + (260 + look) = omega arith in
+      ap (λ b. (d.pins 44 (sent_latch v byte look) (260 + start + look) b).t0)
+      (in_frame frame l look (omega (arith, far)))
+      ∙ ap (λ u. (d.pins 44 u (260 + start + look) (gone frame (260 + look))).t0)
+      (sym (sent_at w.cpu.p2 v byte look is))
+      ∙ ap (λ c. (d.pins 44 (latch frame (260 + look)) c (gone frame (260 + look))).t0) a
 
   data_look_is : (l : Bool) (k : ℕ) → k < 10
       → data_look d bytes hk alike small low held (start + 3) (first l) third (stacked f) ring start refl released k
@@ -259,9 +260,9 @@ module _ (d : Board) (bytes : List ℕ) (hk : HasKernel bytes) (alike : IsSilent
       let max : a.0 ≤ 56 = a.1 in
       by_way meeting NoFrame (231 + (a.0 + (56 + (2 + most)))) head (omega (arith, h, max)) a.2 (still_came meeting)
 
-  -- what is offered is sent, or cut in a cell
+  -- what is offered is sent, or cut at a look
   pub sent : (byte : ℕ) → HasWholeCodes w.cpu.ram → Offers d w byte
-      → ((k : ℕ) → k < 10 → clock_in d w byte k ≡ true) → Tick d TICK bytes w (So Sent (SentFrame byte))
+      → ((look : ℕ) → IsLook look → clock_in d w byte look ≡ true) → Tick d TICK bytes w (So Sent (SentFrame byte))
   sent byte codes o looks =
       let h : most ≤ 728 = edges_few in
       let frame : Frame = SentFrame byte in
@@ -271,22 +272,24 @@ module _ (d : Board) (bytes : List ℕ) (hk : HasKernel bytes) (alike : IsSilent
       begins o.0.0 codes
       (sends_frame d bytes hk alike small low held (start + 3) (first l) third (stacked f) ring start refl released
       o.0.0 (clock_is l ∙ o.0.1) byte o.2 (data_is l ∙ o.1)
-      (λ k u. clock_look_is l byte k u ∙ looks k u)) (safe l))
+      (λ look is. clock_look_is l byte look is ∙ looks look is)) (safe l))
       (frame_came Sent frame)
 
-  pub cut : (byte j : ℕ) → Offers d w byte → j < 10 → ((k : ℕ) → k < j → clock_in d w byte k ≡ true)
-      → clock_in d w byte j ≡ false → Tick d TICK bytes w (So Cut (CutFrame byte j))
-  cut byte j o below looks last =
+  pub cut : (byte look : ℕ) → Offers d w byte → IsLook look
+      → ((earlier : ℕ) → IsLook earlier → earlier < look → clock_in d w byte earlier ≡ true)
+      → clock_in d w byte look ≡ false → Tick d TICK bytes w (So Cut (CutFrame byte look))
+  cut byte look o is looks last =
       let h : most ≤ 728 = edges_few in
-      let frame : Frame = CutFrame byte j in
-      let n : ℕ = cut_after j in
-      by_way Cut frame (231 + (26 + n + (0 + (56 + (2 + most))))) (framed frame) (omega (arith, h, below))
+      let far : look ≤ 344 = look_within look is in
+      let frame : Frame = CutFrame byte look in
+      let n : ℕ = cut_after look in
+      by_way Cut frame (231 + (26 + n + (0 + (56 + (2 + most))))) (framed frame) (omega (arith, h, far))
       (λ l.
       cut_works d bytes hk alike small low held (start + 3) (first l) third (stacked f) ring (26 + n) (framed frame l)
       begins o.0.0
       (cuts_frame d bytes hk alike small low held (start + 3) (first l) third (stacked f) ring start refl released
-      o.0.0 (clock_is l ∙ o.0.1) byte o.2 (data_is l ∙ o.1) j below
-      (λ k u. clock_look_is l byte k (omega (arith, u, below)) ∙ looks k u) (clock_look_is l byte j below ∙ last))
+      o.0.0 (clock_is l ∙ o.0.1) byte o.2 (data_is l ∙ o.1) look is
+      (λ earlier at u. clock_look_is l byte earlier at ∙ looks earlier at u) (clock_look_is l byte look is ∙ last))
       (safe l))
       (frame_came Cut frame)
 
@@ -313,8 +316,8 @@ module _ (d : Board) (bytes : List ℕ) (hk : HasKernel bytes) (alike : IsSilent
   every NoFrame meeting codes q = quiet meeting q
   every (SentFrame byte) meeting codes q =
       subst (λ m. Tick d TICK bytes w (So m (SentFrame byte))) (sym q.0) (sent byte codes q.1 q.2)
-  every (CutFrame byte j) meeting codes q =
-      subst (λ m. Tick d TICK bytes w (So m (CutFrame byte j))) (sym q.0) (cut byte j q.1 q.2 q.3 q.4)
+  every (CutFrame byte look) meeting codes q =
+      subst (λ m. Tick d TICK bytes w (So m (CutFrame byte look))) (sym q.0) (cut byte look q.1 q.2 q.3 q.4)
   every ReceivedFrame meeting codes q =
       subst (λ m. Tick d TICK bytes w (So m ReceivedFrame)) (sym q.0)
       (got (byte_in (data_in d w)) (right_in (data_in d w)) refl refl q.1 q.2 q.3)

@@ -1,9 +1,10 @@
 -- The looks of a frame: what the latch of port 2 is there, and what levels that agree say.
-use Rattle.std.proofs.Common.{◌≡◌, ◌<◌, ℕ, ◌+◌, ◌*◌, Bool, true, refl, ap, ◌∙◌, arith}
+use Rattle.std.proofs.Common.{◌≡◌, ◌≤◌, ◌<◌, ℕ, ◌+◌, ◌*◌, Bool, refl, ap, ◌∙◌, arith}
 use Rattle.fw_link.proofs.Taking.{cell_rise as received_high}
 use Rattle.fw_link.proofs.TickLatch.{within}
-use Rattle.fw_link.proofs.Wired.{IsReleased, both_high, cell_high}
-use Rattle.fw_link.specs.Latch.{SentFrame, ReceivedFrame, wired, frame_bit, sent_latch, received_latch, tick_latch}
+use Rattle.fw_link.proofs.Wired.{IsReleased, both_high}
+use Rattle.fw_link.proofs.Wires.{look_within}
+use Rattle.fw_link.specs.Latch.{SentFrame, ReceivedFrame, IsLook, sent_latch, received_latch, tick_latch}
 use Rattle.fw_link.specs.Reading.{byte_in, right_in}
 
 -- levels that agree give one byte, and one answer on its parity
@@ -20,15 +21,10 @@ one_byte a b h =
     let e8 : a 8 ≡ b 8 = h 8 (omega arith) in
     (rw (e0, e1, e2, e3, e4, e5, e6, e7) refl, rw (e0, e1, e2, e3, e4, e5, e6, e7, e8) refl)
 
--- in a sent frame the clock is let go, and data holds the cell's bit
-pub sent_at : (old v byte k : ℕ) → k < 10
-    → tick_latch old v (SentFrame byte) (306 + 32 * k) ≡ wired v true (frame_bit byte k)
-sent_at old v byte k few =
-    let i : ℕ = 28 + 32 * k + 18 in
-    let o : 306 + 32 * k ≡ 260 + i = omega arith in
-    let p : i ≡ 28 + 32 * k + 16 + 2 = omega arith in
-    ap (λ o. tick_latch old v (SentFrame byte) o) o ∙ within old v (SentFrame byte) i (omega (arith, few))
-    ∙ ap (λ o. sent_latch v byte o) p ∙ cell_high v byte k 2 (omega arith)
+-- at a look the latch is that of the frame
+pub sent_at : (old v byte look : ℕ) → IsLook look → tick_latch old v (SentFrame byte) (260 + look) ≡ sent_latch v byte look
+sent_at old v byte look is =
+    within old v (SentFrame byte) look (let far : look ≤ 344 = look_within look is in omega (arith, far))
 
 -- in a received one both wires are let go
 pub received_at : (old v : ℕ) → IsReleased v → (k : ℕ) → k < 10 → tick_latch old v ReceivedFrame (306 + 32 * k) ≡ v

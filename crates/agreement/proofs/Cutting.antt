@@ -1,7 +1,6 @@
--- Where a frame is cut: the look of its cell is the first behind the cycle in which the controller began to pull the
--- clock.
-use Rattle.std.proofs.Common.{◌≡◌, ◌≤◌, ◌<◌, ◌⊎◌, inl, inr, ℕ, suc, zero, ◌+◌, ◌*◌, List, Bool, true, false, Some, None}
-use Rattle.std.proofs.Common.{refl, ap, sym, ◌∙◌, arith}
+-- Where a frame is cut: its look is the first behind the cycle in which the controller began to pull the clock.
+use Rattle.std.proofs.Common.{◌≡◌, ◌≤◌, ◌<◌, ◌⊎◌, inl, inr, ℕ, ◌+◌, List, Bool, true, false, Some, None}
+use Rattle.std.proofs.Common.{refl, ap, ◌∙◌, arith}
 use Rattle.std.specs.declared.option.Option.{Option}
 use Rattle.board_lines.specs.declared.event.Edge.{Edge}
 use Rattle.board_lines.specs.declared.event.HostEvent.{HostEvent}
@@ -11,117 +10,61 @@ use Rattle.ctl_link.specs.declared.link.Link.{Link}
 use Rattle.ctl_link.specs.declared.link.Link.TheVariants.{Free, Hold, Ask, Request, Busy}
 use Rattle.ctl_wire.specs.declared.wire.Wire.{Wire}
 use Rattle.fw_keys.specs.Frameless.{latch_now}
-use Rattle.fw_link.proofs.Outside.{sent_lines}
+use Rattle.fw_link.proofs.Lets.{lets_at}
 use Rattle.fw_link.proofs.Over.{itself}
 use Rattle.fw_link.proofs.TickLatch.{lines_by}
-use Rattle.fw_link.proofs.Ticked.{cut_is_sent, cut_meets, cut_leaves, cut_sides, cut_up}
+use Rattle.fw_link.proofs.Ticked.{cut_sides}
 use Rattle.fw_link.proofs.Wired.{IsReleased}
-use Rattle.fw_link.specs.Latch.{Frame, NoFrame, SentFrame, CutFrame, ReceivedFrame, frame_bit, tick_latch}
+use Rattle.fw_link.specs.Latch.{Frame, NoFrame, SentFrame, CutFrame, ReceivedFrame, IsLook, tick_latch}
 use Rattle.joint_run.specs.Joint.{Beside, joint_board, lights_of}
 use Rattle.joint_run.specs.Run.{World}
 use Rattle.pc_wires.specs.Wires.{Pc}
-use Rattle.wires_agree.proofs.Meetings.{free_at, free_or_pulls}
-use Rattle.wires_agree.proofs.Off.{in_cell}
-use Rattle.wires_agree.proofs.Pulls.{pulled_span}
 use Rattle.wires_agree.specs.Cycles.{board_cycles}
-use Rattle.wires_agree.specs.Ticks.{at_meeting, leaves_clock}
-use Rattle.agreement.proofs.Frames.{FailsFirst, free_or_not, first_fails, ten, frame_offered, frame_free, frame_ended}
-use Rattle.agreement.proofs.Frames.{frame_in}
+use Rattle.agreement.proofs.CutLooks.{since}
+use Rattle.agreement.proofs.Frames.{FirstLow, first_low, frame_offered, frame_free, frame_ended, frame_in}
 use Rattle.agreement.proofs.Happened.{at_look}
-use Rattle.agreement.proofs.OnWires.{at_cell}
-use Rattle.agreement.specs.Wires.{IsCutBy, look_before, beside_in}
+use Rattle.agreement.proofs.OnWires.{at_clock_look}
+use Rattle.agreement.specs.Wires.{IsCutBy, beside_in}
 
 module _ (events : List HostEvent) (latch start : ℕ) (released : IsReleased latch) (look : Pc) where
   abbrev lines : Frame → ℕ → Lines
   lines frame = lines_by frame latch start released
 
-  -- the controller's link at the look of a cell
+  -- the controller's link at a look
   abbrev pub link_at : Frame → ℕ → Link Wire
-  link_at frame number =
-      (board_cycles events (lines frame) (32 * number + 18) (288 + start)
-      (at_meeting events (lines frame) start look)).side.port.link
+  link_at frame number = (board_cycles events (lines frame) (4 + number) (256 + start) look).side.port.link
 
   -- a frame that is cut, by the PC's side
   abbrev pub Since : Frame → Type 0
   Since NoFrame = Unit {0}
   Since (SentFrame byte) = Unit {0}
-  Since (CutFrame byte cell) =
-      (since : ℕ) × (pulled (link_at (CutFrame byte cell) cell) ≡ Some since) × (start + look_before cell ≤ since)
+  Since (CutFrame byte cut) =
+      (since : ℕ) × (pulled (link_at (CutFrame byte cut) cut) ≡ Some since) × (start + 256 ≤ since)
+      × ((earlier : ℕ) → IsLook earlier → earlier < cut → start + (260 + earlier) ≤ since)
   Since ReceivedFrame = Unit {0}
 
-  module _ (byte : ℕ) (free : look.side.port.link ≡ Free) where
-    abbrev whole : ℕ → Lines
-    whole = lines (SentFrame byte)
+  abbrev lets : ℕ → ℕ → Bool
+  lets byte number = lets_at events (lines (SentFrame byte)) start look number
 
-    abbrev cell : ℕ → ℕ → Lines
-    cell number = lines (CutFrame byte number)
-
-    -- behind the look before
-    behind : (number since : ℕ) → 32 * number + (288 + start) ≤ since + 14 → start + look_before number ≤ since
-    behind zero since within = omega (arith, within)
-    behind (suc number) since within = omega (arith, within)
-
-    -- broken off within the frame
-    broken : (at_meeting events whole start look).side.port.link ≡ Free
-        → (first : FailsFirst (leaves_clock events whole start look)) → Since (CutFrame byte first.j)
-    broken there first =
-        let cell_cut : ℕ = first.j in
-        let same : (edge : ℕ) → edge ≤ cell_cut
-        → leaves_clock events (cell cell_cut) start look edge ≡ leaves_clock events whole start look edge =
-        λ edge within. cut_leaves latch start byte released events cell_cut edge look first.below within in
-        let here : (at_meeting events (cell cell_cut) start look).side.port.link ≡ Free =
-        ap (λ (pc : Pc). pc.side.port.link) (cut_meets latch start byte released events cell_cut look first.below) ∙ there in
-        let at = free_at events (cell cell_cut) (256 + start) look
-        (λ offset above under. cut_up latch start byte released cell_cut first.below offset above (omega (arith, under))) free here in
-        let off = in_cell events (cell cell_cut) whole start cell_cut (frame_bit byte) look (sent_lines latch start released byte 0).1 at
-        first.below (λ offset above under. cut_is_sent latch start byte released cell_cut offset first.below (omega (arith, under)))
-        (λ edge within. same edge (omega (arith, within)) ∙ first.before edge within) (same cell_cut (omega arith) ∙ first.fails) in (
-          off.since,
-          ap (λ (pc : Pc). pulled pc.side.port.link)
-              (cut_sides latch start byte released events cell_cut (32 * cell_cut + 18) (288 + start)
-              (at_meeting events (cell cell_cut) start look) first.below (omega arith))
-              ∙ off.pulls,
-          behind cell_cut off.since off.late,
-        )
-
-    -- pulled before the first edge
-    pulled_first : ((at_meeting events whole start look).side.port.link ≡ Free → ⊥) → Since (CutFrame byte 0)
-    pulled_first gone =
-        let first : 0 < 10 = omega arith in
-        let off : (at_meeting events (cell 0) start look).side.port.link ≡ Free → ⊥ = λ is.
-        gone (ap (λ (pc : Pc). pc.side.port.link) (sym
-        (cut_meets latch start byte released events 0 look first)) ∙ is) in
-        elim (free_or_pulls events (cell 0) 32 (256 + start) look (omega arith)
-        (λ offset above under. cut_up latch start byte released 0 first offset above (omega (arith, under))) free) as (λ way.
-        Since (CutFrame byte 0)) [
-          | inl still ↦ absurd (off still)
-          | inr pull ↦
-              let from : 256 + start ≤ pull.since = pull.from in (
-                pull.since,
-                (pulled_span events (cell 0) 18 (288 + start) (at_meeting events (cell 0) start look) pull.since pull.is
-                    (omega (arith, from))).1,
-                omega (arith, from),
-              )
-        ]
-
-    offered : Since (frame_offered byte (free_or_not (at_meeting events whole start look).side.port.link)
-        (first_fails (leaves_clock events whole start look) 10 ten))
-    offered =
-        by (free_or_not (at_meeting events whole start look).side.port.link)
-        (first_fails (leaves_clock events whole start look) 10 ten)
-      where
-        by : (there : ((at_meeting events whole start look).side.port.link ≡ Free)
-            ⊎ ((at_meeting events whole start look).side.port.link ≡ Free → ⊥))
-            (looks : ((number : ℕ) → number < 10 → leaves_clock events whole start look number ≡ true)
-            ⊎ (FailsFirst (leaves_clock events whole start look))) → Since (frame_offered byte there looks)
-        by (inl there) (inl leaves) = tt
-        by (inl there) (inr first) = broken there first
-        by (inr gone) looks = pulled_first gone
+  offered : (byte : ℕ) → look.side.port.link ≡ Free → Since (frame_offered byte (first_low (lets byte)))
+  offered byte free = by (first_low (lets byte))
+    where
+      by : (looks : ((number : ℕ) → IsLook number → lets byte number ≡ true) ⊎ (FirstLow (lets byte)))
+          → Since (frame_offered byte looks)
+      by (inl leaves) = tt
+      by (inr first) =
+          let known = since events latch start released look byte free first in (
+            known.since,
+            ap (λ (pc : Pc). pulled pc.side.port.link)
+                (cut_sides latch start byte released events first.look (4 + first.look) (256 + start) look first.is
+                (omega arith))
+                ∙ known.pulls,
+            known.from,
+            known.behind,
+          )
 
   abbrev each : ℕ → Frame
-  each byte =
-      frame_offered byte (free_or_not (at_meeting events (lines (SentFrame byte)) start look).side.port.link)
-      (first_fails (leaves_clock events (lines (SentFrame byte)) start look) 10 ten)
+  each byte = frame_offered byte (first_low (lets byte))
 
   by_offer : (offer : Option ℕ) → look.side.port.link ≡ Free → Since (frame_free each offer)
   by_offer None free = tt
@@ -149,12 +92,13 @@ module _ (edges : List Edge) (events : List HostEvent) (world : World Beside)
       → IsCutBy (λ offset. (beside_in edges events (tick_latch world.cpu.p2 latch frame) world offset).pc.side.port.link) world.cycle frame
   is_cut_by NoFrame since = tt
   is_cut_by (SentFrame byte) since = tt
-  is_cut_by (CutFrame byte cell) since = (
+  is_cut_by (CutFrame byte cut) since = (
     since.0,
     ap (λ (pc : Pc). pulled pc.side.port.link)
-        (at_cell edges events (joint_board edges events) (λ board. board) (itself edges events) world lit released
-        (CutFrame byte cell) cell)
+        (at_clock_look edges events (joint_board edges events) (λ board. board) (itself edges events) world lit released
+        (CutFrame byte cut) cut)
         ∙ since.1,
     since.2,
+    since.3,
   )
   is_cut_by ReceivedFrame since = tt

@@ -1,8 +1,9 @@
 -- Which way a tick goes: by whether the power-on test runs, the link at the look at the clock, what is offered, the link
 -- at the first edge, and the looks of the frame.
-use Rattle.std.proofs.Common.{◌≡◌, ◌≤◌, ◌<◌, ◌⊎◌, inl, inr, ℕ, ◌+◌, ◌==◌, List, All, Bool, true, false, Some}
+use Rattle.std.proofs.Common.{◌≡◌, ◌≤◌, ◌<◌, ◌⊎◌, inl, inr, ℕ, suc, ◌+◌, ◌-◌, ◌*◌, ◌==◌, nat_lt, List, All, Bool, true, false, Some}
 use Rattle.std.proofs.Common.{None, length, refl, ap, sym, ◌∙◌, subst, arith}
 use Rattle.std.specs.declared.option.Option.{Option}
+use Rattle.std.proofs.lemmas.Bool.Decides.{nat_tests}
 use Rattle.board_lines.specs.Flips.{AreFlips}
 use Rattle.board_lines.specs.declared.event.Edge.{Edge}
 use Rattle.board_lines.specs.declared.event.HostEvent.{HostEvent}
@@ -22,13 +23,14 @@ use Rattle.fw_keys.proofs.Carried.{SameKeys}
 use Rattle.fw_keys.proofs.Kept.{NoPrefix}
 use Rattle.fw_keys.specs.Edges.{image_keys, IsSilentAlike}
 use Rattle.fw_keys.specs.Frameless.{shown_by, edges_now, latch_now}
-use Rattle.fw_link.proofs.Lets.{pulled_look}
+use Rattle.fw_link.proofs.Lets.{lets_at, as_cycle, pulled_look}
+use Rattle.fw_link.proofs.Outside.{sent_lines}
 use Rattle.fw_link.proofs.Over.{IsOver, under}
 use Rattle.fw_link.proofs.TickLatch.{lines_by}
-use Rattle.fw_link.proofs.Ticked.{cut_up, cut_meets, cut_leaves}
+use Rattle.fw_link.proofs.Ticked.{cut_up, cut_sides, cut_lets}
 use Rattle.fw_link.proofs.Ticked.{sent_ticked, got_ticked, cut_ticked, broken_ticked, still_ticked}
 use Rattle.fw_link.proofs.Wired.{IsReleased}
-use Rattle.fw_link.specs.Latch.{Frame, NoFrame, SentFrame, CutFrame, ReceivedFrame}
+use Rattle.fw_link.specs.Latch.{Frame, NoFrame, SentFrame, CutFrame, ReceivedFrame, IsLook}
 use Rattle.mcs48_ranges.specs.Sizes.{IsByte}
 use Rattle.host_turn.specs.Run.{Side}
 use Rattle.joint_run.specs.Joint.{Beside, latch_of, lights_of}
@@ -43,12 +45,12 @@ use Rattle.link_model.specs.Machine.{LayeredKeyboard, met_as}
 use Rattle.link_model.specs.TickEdges.{shown}
 use Rattle.pc_wires.specs.Wires.{Pc}
 use Rattle.wires_agree.proofs.Pending.{flips_stay}
-use Rattle.wires_agree.specs.Cells.{IsUp}
 use Rattle.wires_agree.specs.Flips.{IsFlip}
-use Rattle.wires_agree.specs.Ticks.{Ticked, IsNone, at_meeting, leaves_clock}
+use Rattle.wires_agree.specs.Ticks.{Ticked, IsNone, at_meeting, leaves_cycle}
+use Rattle.agreement.proofs.CutLooks.{since, is_early, free_stays_high}
 use Rattle.wires_agree.specs.Without.{without_bits, link_by, seen_in_bytes}
 use Rattle.agreement.specs.Wires.{IsFrameOf}
-use Rattle.agreement.proofs.Frames.{FailsFirst, free_or_not, first_fails, ten, frame_offered, frame_free, frame_ended}
+use Rattle.agreement.proofs.Frames.{FirstLow, free_or_not, first_low, frame_offered, frame_free, frame_ended}
 use Rattle.agreement.proofs.Frames.{frame_tested, frame_in}
 use Rattle.agreement.proofs.Compiled.{silent_keys}
 use Rattle.agreement.proofs.Placed.{IsOfLayout}
@@ -133,83 +135,123 @@ module _ (edges : List Edge) (events : List HostEvent) (d : Board) (to : d.State
       abbrev whole : ℕ → Lines
       whole = over_lines (SentFrame byte)
 
-      abbrev cell : ℕ → ℕ → Lines
-      cell j = over_lines (CutFrame byte j)
+      abbrev cut_lines : ℕ → ℕ → Lines
+      cut_lines number = over_lines (CutFrame byte number)
 
-      -- the controller leaves the clock alone at all ten looks: it is sent
-      sent : (at_meeting events whole w.cycle look).side.port.link ≡ Free
-          → ((k : ℕ) → k < 10 → leaves_clock events whole w.cycle look k ≡ true) → Goes (SentFrame byte)
-      sent there leaves =
+      abbrev lets : ℕ → Bool
+      lets number = lets_at events whole w.cycle look number
+
+      abbrev Free_there : Type 0
+      Free_there = (at_meeting events whole w.cycle look).side.port.link ≡ Free
+
+      -- the link is let at the look of the first cell, so it is free at the first edge
+      is_there : lets 46 ≡ true → Free_there
+      is_there high =
+          elim (free_or_not (at_meeting events whole w.cycle look).side.port.link) [
+            | inl still ↦ still
+            | inr gone ↦
+                let low : lets 46 ≡ false = as_cycle events whole w.cycle look 46 18 refl
+                ∙ pulled_look events whole w.cycle look (sent_lines v w.cycle released byte 0).0 free gone in
+                absurd (cc (high, low))
+          ]
+
+      -- the controller leaves the clock alone at all looks: it is sent
+      sent : ((number : ℕ) → IsLook number → lets number ≡ true) → Goes (SentFrame byte)
+      sent leaves =
           let codes_whole : IsWhole (shown_by w.cpu.ram).queue =
           subst (λ (k : Keyboard). IsWhole k.queue) (sym tie.keyboard) tie.sound.codes in
           let flip : IsFlip (at_meeting events whole w.cycle look).side.port.flip =
           flips_stay events whole 32 (256 + w.cycle) look noise
           (flip_at_look edges events d to over bytes layout same codes n w m time tie columns of_layout released lamps noise) in
+          let there : Free_there = is_there (leaves 46 (inr (inr (0, omega arith, inl refl)))) in
           goes edges events d to over bytes layout same codes n w m time tie columns of_layout released lamps noise kbd.Sent
           (met.Sent byte) (SentFrame byte) refl refl (λ b e. absurd cc)
           (λ rest more k all long.
           at_model whole rest k (Some byte) (met.Sent byte) ended some
           (sent_ticked events v w.cycle released rest k look all byte more (offered byte some) long free there flip
-          leaves))
+          (λ i l. sym (as_cycle events whole w.cycle look (46 + 32 * i) (32 * i + 18) (omega arith))
+          ∙ leaves (46 + 32 * i) (inr (inr (i, l, inl refl))))))
           (sends edges events d to over bytes hk alike small low w tie.started tie.repeating few tie.lit byte (shown_tests ∙ ended)
           (shown_offers ∙ some) codes_whole free leaves)
 
-      -- it pulls the clock at the look of a cell, the first such: the frame is cut there, as it was broken off
-      broken : (at_meeting events whole w.cycle look).side.port.link ≡ Free
-          → (first : FailsFirst (leaves_clock events whole w.cycle look)) → Goes (CutFrame byte first.j)
-      broken there first =
-          let j : ℕ = first.j in
-          let same_look : (i : ℕ) → i ≤ j
-          → leaves_clock events (cell j) w.cycle look i ≡ leaves_clock events whole w.cycle look i = λ i l.
-          cut_leaves v w.cycle byte released events j i look first.below l in
-          let leaves : (i : ℕ) → i < j → leaves_clock events (cell j) w.cycle look i ≡ true = λ i l.
-          same_look i (omega (arith, l)) ∙ first.before i l in
-          let pulls : leaves_clock events (cell j) w.cycle look j ≡ false = same_look j (omega arith) ∙ first.fails in
-          let at : (at_meeting events (cell j) w.cycle look).side.port.link ≡ Free =
-          ap (λ (c : Pc). c.side.port.link) (cut_meets v w.cycle byte released events j look first.below) ∙ there in
-          goes edges events d to over bytes layout same codes n w m time tie columns of_layout released lamps noise kbd.Cut met.Cut
-          (CutFrame byte j) (some, first.below) refl (λ b e. absurd cc)
-          (λ rest more k all long.
-          at_model (cell j) rest k (Some byte) met.Cut ended some
-          (broken_ticked events v w.cycle released rest k look all byte j first.below free at leaves pulls))
-          (is_cut edges events d to over bytes hk alike small low w tie.started tie.repeating few tie.lit byte j first.below
-          (shown_tests ∙ ended) (shown_offers ∙ some) free leaves pulls)
+      -- what is said of the whole frame's lines holds of those of the frame that is cut
+      module _ (first : FirstLow lets) where
+        abbrev here : ℕ → Lines
+        here = cut_lines first.look
 
-      -- it pulls the clock before the first edge: the frame is cut in its first cell
-      cut : ((at_meeting events whole w.cycle look).side.port.link ≡ Free → ⊥) → Goes (CutFrame byte 0)
-      cut gone =
-          let first : 0 < 10 = omega arith in
-          let up : IsUp (cell 0) (256 + w.cycle) (288 + w.cycle) = cut_up v w.cycle byte released 0 first in
-          let off : (at_meeting events (cell 0) w.cycle look).side.port.link ≡ Free → ⊥ = λ e.
-          gone (ap (λ (c : Pc). c.side.port.link) (sym (cut_meets v w.cycle byte released events 0 look first)) ∙ e) in
-          goes edges events d to over bytes layout same codes n w m time tie columns of_layout released lamps noise kbd.Cut met.Cut
-          (CutFrame byte 0) (some, first) refl (λ b e. absurd cc)
-          (λ rest more k all long.
-          at_model (cell 0) rest k (Some byte) met.Cut ended some
-          (cut_ticked events v w.cycle released rest k look all byte free off))
-          (is_cut edges events d to over bytes hk alike small low w tie.started tie.repeating few tie.lit byte 0 first (shown_tests ∙ ended)
-          (shown_offers ∙ some) free (λ k l. absurd (omega (arith, l)))
-          (pulled_look events (cell 0) w.cycle look up free off))
+        by_cycle : (number n : ℕ) → number ≡ 28 + n → number ≤ first.look
+            → leaves_cycle events here w.cycle look n ≡ lets number
+        by_cycle number n e l =
+            sym (as_cycle events here w.cycle look number n e)
+            ∙ cut_lets v w.cycle byte released events first.look number look first.is l
 
-      offers : Goes (frame_offered byte (free_or_not (at_meeting events whole w.cycle look).side.port.link)
-          (first_fails (leaves_clock events whole w.cycle look) 10 ten))
-      offers =
-          by (free_or_not (at_meeting events whole w.cycle look).side.port.link)
-          (first_fails (leaves_clock events whole w.cycle look) 10 ten)
+        ticked : (rest k : ℕ) → k ≡ 353 + rest → Ticked events here w.cycle rest look true (Some byte) met.Cut k
+        ticked rest k all =
+            elim (free_or_not (at_meeting events here w.cycle look).side.port.link) [
+              | inl there ↦ by_look there first.is
+              | inr gone ↦
+                  cut_ticked events v w.cycle released rest k look all byte first.look first.is (early gone) free gone
+            ]
+          where
+            -- up to the meeting the lines are those of the whole frame, where the look is behind it
+            at_edge : 28 ≤ first.look + 2 → at_meeting events here w.cycle look ≡ at_meeting events whole w.cycle look
+            at_edge l = cut_sides v w.cycle byte released events first.look 32 (256 + w.cycle) look first.is (omega (arith, l))
+
+            early : ((at_meeting events here w.cycle look).side.port.link ≡ Free → ⊥) → first.look ≤ 46
+            early gone = by (nat_lt 46 first.look) refl
+              where
+                by : (c : Bool) → nat_lt 46 first.look ≡ c → first.look ≤ 46
+                by true e =
+                    let l : 46 < first.look = grind (arith, nat_tests, e) in
+                    is_early events v w.cycle released look byte free first
+                    (λ there. gone (ap (λ (c : Pc). c.side.port.link) (at_edge (omega (arith, l))) ∙ there))
+                by false e = grind (arith, nat_tests, e)
+
+            late : (at_meeting events here w.cycle look).side.port.link ≡ Free → first.look ≤ 26 → ⊥
+            late there l =
+                free_stays_high events here (256 + w.cycle) look (4 + first.look) (28 - first.look) (omega (arith, l))
+                (λ o a u. cut_up v w.cycle byte released first.look first.is o a (omega (arith, u))) free there
+                (cut_lets v w.cycle byte released events first.look first.look look first.is (omega arith) ∙ first.low)
+
+            by_look : (at_meeting events here w.cycle look).side.port.link ≡ Free → IsLook first.look
+                → Ticked events here w.cycle rest look true (Some byte) met.Cut k
+            by_look there (inl e) = absurd (late there (omega (arith, e)))
+            by_look there (inr (inl e)) = absurd (late there (omega (arith, e)))
+            by_look there (inr (inr (j, below, inl e))) =
+                broken_ticked events v w.cycle released rest k look all byte j 17 first.look first.is (omega (arith, e)) below
+                (omega arith) (omega arith) free there
+                (λ i l. let less : i < 10 = omega (arith, l, below) in
+                by_cycle (46 + 32 * i) (32 * i + 18) (omega arith) (omega (arith, e, l))
+                ∙ first.before (46 + 32 * i) (inr (inr (i, less, inl refl))) (omega (arith, e, l)))
+                (by_cycle first.look (32 * j + suc 17) (omega (arith, e)) (omega arith) ∙ first.low)
+            by_look there (inr (inr (j, below, inr e))) =
+                broken_ticked events v w.cycle released rest k look all byte j 27 first.look first.is (omega (arith, e)) below
+                (omega arith) (omega arith) free there
+                (λ i l. let less : i < 10 = omega (arith, l, below) in
+                by_cycle (46 + 32 * i) (32 * i + 18) (omega arith) (omega (arith, e, l))
+                ∙ first.before (46 + 32 * i) (inr (inr (i, less, inl refl))) (omega (arith, e, l)))
+                (by_cycle first.look (32 * j + suc 27) (omega (arith, e)) (omega arith) ∙ first.low)
+
+        -- it pulls the clock at a look, the first such: the frame is cut there
+        cut : Goes (CutFrame byte first.look)
+        cut =
+            goes edges events d to over bytes layout same codes n w m time tie columns of_layout released lamps noise kbd.Cut met.Cut
+            (CutFrame byte first.look)
+            (some, first.is, (since events v w.cycle released look byte free first).not_last) refl (λ b e. absurd cc)
+            (λ rest more k all long. at_model here rest k (Some byte) met.Cut ended some (ticked rest k all))
+            (is_cut edges events d to over bytes hk alike small low w tie.started tie.repeating few tie.lit byte first.look first.is
+            (shown_tests ∙ ended) (shown_offers ∙ some) free first.before first.low)
+
+      offers : Goes (frame_offered byte (first_low lets))
+      offers = by (first_low lets)
         where
-          by : (free : ((at_meeting events whole w.cycle look).side.port.link ≡ Free)
-              ⊎ ((at_meeting events whole w.cycle look).side.port.link ≡ Free → ⊥))
-              (looks : ((k : ℕ) → k < 10 → leaves_clock events whole w.cycle look k ≡ true)
-              ⊎ (FailsFirst (leaves_clock events whole w.cycle look))) → Goes (frame_offered byte free looks)
-          by (inl there) (inl leaves) = sent there leaves
-          by (inl there) (inr first) = broken there first
-          by (inr gone) looks = cut gone
+          by : (looks : ((number : ℕ) → IsLook number → lets number ≡ true) ⊎ (FirstLow lets)) → Goes (frame_offered byte looks)
+          by (inl leaves) = sent leaves
+          by (inr first) = cut first
 
   -- the frame of each byte that may be offered
   abbrev each : ℕ → Frame
-  each byte =
-      frame_offered byte (free_or_not (at_meeting events (over_lines (SentFrame byte)) w.cycle look).side.port.link)
-      (first_fails (leaves_clock events (over_lines (SentFrame byte)) w.cycle look) 10 ten)
+  each byte = frame_offered byte (first_low (lets_at events (over_lines (SentFrame byte)) w.cycle look))
 
   -- the link is free at the look
   when_free : (o : Option ℕ) → tests ≡ true → offer m.keys.keyboard ≡ o → look.side.port.link ≡ Free → Goes (frame_free each o)

@@ -1,6 +1,6 @@
 -- The frame of a tick on any board, as any tick wants it, by what the looks find: sent whole, cut in a cell, or
 -- received.
-use Rattle.std.proofs.Common.{◌≡◌, ◌≤◌, ◌<◌, ℕ, suc, ◌+◌, ◌-◌, ◌*◌, List, All, Bool, true, false, not, ◌==◌, Some}
+use Rattle.std.proofs.Common.{◌≡◌, ◌≤◌, ◌<◌, ℕ, ◌+◌, ◌-◌, ◌*◌, List, All, Bool, true, false, not, ◌==◌, Some}
 use Rattle.std.proofs.Common.{refl, ap, sym, ◌∙◌, subst, arith}
 use Rattle.mcs48_core.specs.Cpu.{Cpu}
 use Rattle.mcs48_core.specs.Status.{digit}
@@ -14,9 +14,9 @@ use Rattle.fw_keys.proofs.Head.{offered_in}
 use Rattle.fw_keys.proofs.Tick.{shining, headed_by}
 use Rattle.fw_keys.specs.Edges.{IsSilentAlike}
 use Rattle.fw_keys.specs.State.{kbd_of}
-use Rattle.fw_link.specs.Latch.{wired, frame_bit, sent_latch, cut_latch, cut_after, received_latch}
+use Rattle.fw_link.specs.Latch.{IsLook, sent_latch, cut_latch, cut_after, received_latch}
 use Rattle.fw_link.specs.Reading.{byte_in, right_in}
-use Rattle.fw_link.proofs.Cut.{cut_frame}
+use Rattle.fw_link.proofs.Cut.{cut_frame, left_at_cut}
 use Rattle.fw_link.proofs.Frame.{sent_frame}
 use Rattle.fw_link.proofs.Latches.{driven}
 use Rattle.fw_link.proofs.Received.{got_cells, received_frame}
@@ -33,7 +33,7 @@ use Rattle.fw_logic.proofs.Sound.{weaken}
 use Rattle.mcs48_ranges.specs.Sizes.{IsByte, IsFine}
 use Rattle.joint_run.specs.Run.{Board, after_cycles}
 use Rattle.kbd_model.specs.Keyboard.{offer}
-use Rattle.agreement.proofs.Leaves.{Leaves, sent_leaves, got_leaves, is_offered}
+use Rattle.agreement.proofs.Leaves.{Leaves, sent_leaves, cut_leaves, got_leaves, is_offered}
 use Rattle.agreement.proofs.Looking.{looked_in, Looked, with_frame, to_send, to_got}
 
 -- R5 says whether the parity was right
@@ -93,9 +93,7 @@ module _ (d : Board) (bytes : List ℕ) (hk : HasKernel bytes) (alike : IsSilent
   data_second = (d.pins 44 v (y + 231 + 52) (after_cycles 52 (y + 231) (d.cycle v) shine)).t1
 
   abbrev pub clock_look : ℕ → ℕ → Bool
-  clock_look byte k =
-      (d.pins 44 (wired v true (frame_bit byte k)) (260 + start + (28 + 32 * k + 18))
-      (passed (sent_latch v byte) (28 + 32 * k + 18))).t0
+  clock_look byte look = (d.pins 44 (sent_latch v byte look) (260 + start + look) (passed (sent_latch v byte) look)).t0
 
   abbrev pub data_look : ℕ → Bool
   data_look k = (d.pins 44 v (260 + start + (28 + 32 * k + 18)) (passed (received_latch v) (28 + 32 * k + 18))).t1
@@ -182,8 +180,8 @@ module _ (d : Board) (bytes : List ℕ) (hk : HasKernel bytes) (alike : IsSilent
 
   module _ (no_test : (f 69 == 0) ≡ true) (high : clock ≡ true) where
     module _ (byte : ℕ) (is : offer (kbd_of held f ring) ≡ Some byte) (free : data_wire ≡ true) where
-      -- what is offered is sent whole where the clock is high at all ten looks
-      pub sends_frame : ((k : ℕ) → k < 10 → clock_look byte k ≡ true)
+      -- what is offered is sent whole where the clock is high at all looks
+      pub sends_frame : ((look : ℕ) → IsLook look → clock_look byte look ≡ true)
           → Law SENT 394 (sent_latch v byte) 368 (IsSent d bytes hk alike small low held y m board f ring)
       sends_frame looks =
           by_frame SEND SENT 368 394 (sent_latch v byte) (λ h. sending h v byte 10 0 0)
@@ -192,23 +190,23 @@ module _ (d : Board) (bytes : List ℕ) (hk : HasKernel bytes) (alike : IsSilent
           (λ r4 r5 c offers less ok acc.
           let o = is_offered r4 r5 byte (offers ∙ is) in
           sent_frame d bytes hk (260 + start) (entry SEND r4 r5 c) entered (looked_in (cells r4 r5)) ring v byte released
-          (subst (λ n. n < 256) o.0 less) ok refl refl o.0 o.1 looks)
+          (subst (λ n. n < 256) o.0 less) ok refl refl o.0 o.0 o.1 looks)
           (λ r4 r5 offers. (refl, (is_offered r4 r5 byte (offers ∙ is)).1))
 
-      -- and is cut in the cell whose look is the first that finds it low
-      pub cuts_frame : (j : ℕ) → j < 10 → ((k : ℕ) → k < j → clock_look byte k ≡ true) → clock_look byte j ≡ false
-          → Law SCAN (26 + cut_after j) (cut_latch v byte j) (cut_after j)
+      -- and is cut at the look that is the first to find it low
+      pub cuts_frame : (look : ℕ) → IsLook look
+          → ((earlier : ℕ) → IsLook earlier → earlier < look → clock_look byte earlier ≡ true) → clock_look byte look ≡ false
+          → Law SCAN (26 + cut_after look) (cut_latch v byte look) (cut_after look)
           (IsCut d bytes hk alike small low held y m board f ring)
-      cuts_frame j few looks last =
-          let left : ℕ = 9 - j in
-          let count : j + suc left ≡ 10 = omega (arith, few) in
-          by_frame SEND SCAN (cut_after j) (26 + cut_after j) (cut_latch v byte j)
-          (λ h. sending h v byte (suc j) (suc left) 0) (IsCut d bytes hk alike small low held y m board f ring)
-          (omega arith) (sent_leaves v byte (suc j) (suc left) 0) (free_looks no_test high free)
+      cuts_frame look at looks last =
+          by_frame SEND SCAN (cut_after look) (26 + cut_after look) (cut_latch v byte look)
+          (λ h. sending h v byte (left_at_cut h byte look at).0 (left_at_cut h byte look at).1 (left_at_cut h byte look at).2)
+          (IsCut d bytes hk alike small low held y m board f ring)
+          (omega arith) (cut_leaves v byte look at) (free_looks no_test high free)
           (λ r4 r5 c offers less ok acc.
           let o = is_offered r4 r5 byte (offers ∙ is) in
           cut_frame d bytes hk (260 + start) (entry SEND r4 r5 c) entered (looked_in (cells r4 r5)) ring v byte released
-          (subst (λ n. n < 256) o.0 less) ok refl refl o.0 o.1 j left count looks last)
+          (subst (λ n. n < 256) o.0 less) ok refl refl o.0 o.0 o.1 look at looks last)
           (λ r4 r5 offers. (is_offered r4 r5 byte (offers ∙ is)).1)
 
     -- a byte is received: that of the first eight looks at data, right where the ninth is its parity

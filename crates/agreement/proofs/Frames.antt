@@ -1,7 +1,7 @@
--- The frame of a tick, by the PC's side: what is offered is sent, or cut in a cell; or the controller's byte is
+-- The frame of a tick, by the PC's side: what is offered is sent, or cut at a look; or the controller's byte is
 -- received.
 use Rattle.std.proofs.Common.{◌≡◌, ◌≤◌, ◌<◌, ◌⊎◌, inl, inr, ℕ, suc, zero, ◌==◌, List, Bool, true, false, Some}
-use Rattle.std.proofs.Common.{None, refl, ap, ◌∙◌, arith}
+use Rattle.std.proofs.Common.{None, ◌+◌, ◌*◌, ◌&&◌, nat_lt, refl, ap, sym, ◌∙◌, arith}
 use Rattle.std.specs.declared.option.Option.{Option}
 use Rattle.std.proofs.lemmas.Bool.Decides.{nat_tests}
 use Rattle.board_lines.specs.declared.event.HostEvent.{HostEvent}
@@ -9,9 +9,10 @@ use Rattle.board_lines.specs.declared.lines.Lines.{Lines}
 use Rattle.ctl_link.specs.declared.link.Link.{Link}
 use Rattle.ctl_link.specs.declared.link.Link.TheVariants.{Free, Hold, Ask, Request, Busy}
 use Rattle.ctl_wire.specs.declared.wire.Wire.{Wire}
-use Rattle.fw_link.specs.Latch.{Frame, NoFrame, SentFrame, CutFrame, ReceivedFrame}
+use Rattle.bits.proofs.Every.{both}
+use Rattle.fw_link.proofs.Lets.{lets_at}
+use Rattle.fw_link.specs.Latch.{Frame, NoFrame, SentFrame, CutFrame, ReceivedFrame, IsLook}
 use Rattle.pc_wires.specs.Wires.{Pc}
-use Rattle.wires_agree.specs.Ticks.{at_meeting, leaves_clock}
 
 -- free, or not
 pub free_or_not : (l : Link Wire) → (l ≡ Free) ⊎ (l ≡ Free → ⊥)
@@ -42,15 +43,100 @@ first_fails f (suc n) l = more (first_fails f n (omega (arith, l))) (f n) refl
         at k u true e before is = let same : k ≡ n = grind (arith, nat_tests, e) in ap f same ∙ is
         at k u false e before is = before k (grind (arith, nat_tests, e, u))
 
-pub ten : 10 ≤ 10
+ten : 10 ≤ 10
 ten = omega arith
 
--- the frame of a byte that is offered: cut in its first cell where the link isn't free at the first edge, else sent, or
--- cut in the first cell at whose look the controller pulls the clock
-abbrev pub frame_offered : {A B C : Type 0} {f : ℕ → Bool} → ℕ → A ⊎ B → C ⊎ (FailsFirst f) → Frame
-frame_offered byte (inl there) (inl leaves) = SentFrame byte
-frame_offered byte (inl there) (inr first) = CutFrame byte first.j
-frame_offered byte (inr gone) looks = CutFrame byte 0
+-- the first look at which a test fails
+pub record FirstLow (lets : ℕ → Bool) : Type 0 where
+  pub look : ℕ
+  pub is : IsLook look
+  pub before : (earlier : ℕ) → IsLook earlier → earlier < look → lets earlier ≡ true
+  pub low : lets look ≡ false
+
+module _ (lets : ℕ → Bool) where
+  abbrev in_cell : ℕ → Bool
+  in_cell k = lets (46 + 32 * k) && lets (56 + 32 * k)
+
+  both_let : (k : ℕ) → in_cell k ≡ true → (lets (46 + 32 * k) ≡ true) × (lets (56 + 32 * k) ≡ true)
+  both_let k h = both (lets (46 + 32 * k)) (lets (56 + 32 * k)) h
+
+  -- the looks before those of a cell
+  before_cell : (j : ℕ) → lets 8 ≡ true → lets 26 ≡ true → ((k : ℕ) → k < j → in_cell k ≡ true)
+      → (earlier : ℕ) → IsLook earlier → earlier < 46 + 32 * j → lets earlier ≡ true
+  before_cell j first second cells earlier (inl e) l = ap lets e ∙ first
+  before_cell j first second cells earlier (inr (inl e)) l = ap lets e ∙ second
+  before_cell j first second cells earlier (inr (inr (k, few, inl e))) l =
+      ap lets e ∙ (both_let k (cells k (omega (arith, e, l)))).0
+  before_cell j first second cells earlier (inr (inr (k, few, inr e))) l =
+      ap lets e ∙ (both_let k (cells k (omega (arith, e, l)))).1
+
+  before_second : (j : ℕ) → ((earlier : ℕ) → IsLook earlier → earlier < 46 + 32 * j → lets earlier ≡ true)
+      → lets (46 + 32 * j) ≡ true → (earlier : ℕ) → IsLook earlier → earlier < 56 + 32 * j → lets earlier ≡ true
+  before_second j before high earlier is l = by (nat_lt earlier (46 + 32 * j)) refl is
+    where
+      by : (c : Bool) → nat_lt earlier (46 + 32 * j) ≡ c → IsLook earlier → lets earlier ≡ true
+      by true e is = before earlier is (grind (arith, nat_tests, e))
+      by false e (inl q) =
+          let late : 46 + 32 * j ≤ earlier = grind (arith, nat_tests, e) in absurd (omega (arith, late, q))
+      by false e (inr (inl q)) =
+          let late : 46 + 32 * j ≤ earlier = grind (arith, nat_tests, e) in absurd (omega (arith, late, q))
+      by false e (inr (inr (k, few, inl q))) =
+          let late : 46 + 32 * j ≤ earlier = grind (arith, nat_tests, e) in
+          let same : earlier ≡ 46 + 32 * j = omega (arith, late, l, q) in
+          ap lets same ∙ high
+      by false e (inr (inr (k, few, inr q))) =
+          let late : 46 + 32 * j ≤ earlier = grind (arith, nat_tests, e) in absurd (omega (arith, late, l, q))
+
+  none_before : (earlier : ℕ) → IsLook earlier → earlier < 8 → lets earlier ≡ true
+  none_before earlier (inl q) l = absurd (omega (arith, q, l))
+  none_before earlier (inr (inl q)) l = absurd (omega (arith, q, l))
+  none_before earlier (inr (inr (k, few, inl q))) l = absurd (omega (arith, q, l))
+  none_before earlier (inr (inr (k, few, inr q))) l = absurd (omega (arith, q, l))
+
+  one_before : lets 8 ≡ true → (earlier : ℕ) → IsLook earlier → earlier < 26 → lets earlier ≡ true
+  one_before first earlier (inl q) l = ap lets q ∙ first
+  one_before first earlier (inr (inl q)) l = absurd (omega (arith, q, l))
+  one_before first earlier (inr (inr (k, few, inl q))) l = absurd (omega (arith, q, l))
+  one_before first earlier (inr (inr (k, few, inr q))) l = absurd (omega (arith, q, l))
+
+  -- all looks, by the ten cells
+  all_let : lets 8 ≡ true → lets 26 ≡ true → ((k : ℕ) → k < 10 → in_cell k ≡ true) → (look : ℕ) → IsLook look → lets look ≡ true
+  all_let first second cells look (inl e) = ap lets e ∙ first
+  all_let first second cells look (inr (inl e)) = ap lets e ∙ second
+  all_let first second cells look (inr (inr (k, few, inl e))) = ap lets e ∙ (both_let k (cells k few)).0
+  all_let first second cells look (inr (inr (k, few, inr e))) = ap lets e ∙ (both_let k (cells k few)).1
+
+  in_frame : lets 8 ≡ true → lets 26 ≡ true → (first : FailsFirst in_cell) → FirstLow lets
+  in_frame first second fails = by (lets (46 + 32 * fails.j)) refl
+    where
+      before : (earlier : ℕ) → IsLook earlier → earlier < 46 + 32 * fails.j → lets earlier ≡ true
+      before = before_cell fails.j first second fails.before
+
+      by : (c : Bool) → lets (46 + 32 * fails.j) ≡ c → FirstLow lets
+      by false e = record { look = 46 + 32 * fails.j; is = inr (inr (fails.j, fails.below, inl refl)); before = before; low = e }
+      by true e = record {
+        look = 56 + 32 * fails.j;
+        is = inr (inr (fails.j, fails.below, inr refl));
+        before = before_second fails.j before e;
+        low = ap (λ c. c && lets (56 + 32 * fails.j)) (sym e) ∙ fails.fails;
+      }
+
+  -- the clock is let at all looks, or there is a first that finds it low
+  pub first_low : ((look : ℕ) → IsLook look → lets look ≡ true) ⊎ (FirstLow lets)
+  first_low = by (lets 8) refl (lets 26) refl (first_fails in_cell 10 ten)
+    where
+      by : (a : Bool) → lets 8 ≡ a → (b : Bool) → lets 26 ≡ b
+          → ((k : ℕ) → k < 10 → in_cell k ≡ true) ⊎ (FailsFirst in_cell)
+          → ((look : ℕ) → IsLook look → lets look ≡ true) ⊎ (FirstLow lets)
+      by false e b f cells = inr (record { look = 8; is = inl refl; before = none_before; low = e })
+      by true e false f cells = inr (record { look = 26; is = inr (inl refl); before = one_before e; low = f })
+      by true e true f (inl all) = inl (all_let e f all)
+      by true e true f (inr fails) = inr (in_frame e f fails)
+
+-- the frame of a byte that is offered: sent, or cut at the first look at which the controller pulls the clock
+abbrev pub frame_offered : {C : Type 0} {f : ℕ → Bool} → ℕ → C ⊎ (FirstLow f) → Frame
+frame_offered byte (inl leaves) = SentFrame byte
+frame_offered byte (inr first) = CutFrame byte first.look
 
 -- that of a free link
 abbrev pub frame_free : (ℕ → Frame) → Option ℕ → Frame
@@ -74,5 +160,4 @@ frame_tested ended true = ended
 abbrev pub frame_in : List HostEvent → (Frame → ℕ → Lines) → ℕ → Pc → Bool → Option ℕ → Frame
 frame_in events lines start look tests offered =
     frame_tested (frame_ended (frame_free (λ byte. frame_offered byte
-    (free_or_not (at_meeting events (lines (SentFrame byte)) start look).side.port.link)
-    (first_fails (leaves_clock events (lines (SentFrame byte)) start look) 10 ten)) offered) look.side.port.link) tests
+    (first_low (lets_at events (lines (SentFrame byte)) start look))) offered) look.side.port.link) tests

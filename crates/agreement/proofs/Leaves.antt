@@ -1,5 +1,5 @@
 -- What a frame leaves of data memory, from the looks on: the cells above the registers, and the way back.
-use Rattle.std.proofs.Common.{◌≡◌, ◌≤◌, ◌<◌, ℕ, ◌*◌, Bool, true, false, ◌==◌, bit_and}
+use Rattle.std.proofs.Common.{◌≡◌, ◌≤◌, ◌<◌, ℕ, ◌-◌, ◌*◌, Bool, true, false, ◌==◌, bit_and}
 use Rattle.std.proofs.Common.{refl, sym, ◌∙◌, arith, Some, None}
 use Rattle.std.proofs.lemmas.Bool.Decides.{nat_tests}
 use Rattle.mcs48_core.specs.Status.{digit}
@@ -7,7 +7,9 @@ use Rattle.fw_keys.proofs.Head.{offered_in}
 use Rattle.fw_link.proofs.Ends.{in_quarters}
 use Rattle.fw_link.proofs.Received.{got_cells}
 use Rattle.fw_link.proofs.Sending.{sending, left_at}
-use Rattle.fw_link.specs.Latch.{wired, frame_bit}
+use Rattle.fw_link.specs.Latch.{IsLook, wired, frame_bit}
+use Rattle.fw_kernel.specs.declared.cells.TheConstants.{LIGHTS}
+use Rattle.fw_link.proofs.Cut.{left_at_cut}
 use Rattle.fw_logic.proofs.Block.{put}
 use Rattle.fw_logic.proofs.Cells.{put_other}
 use Rattle.agreement.proofs.Looking.{looked_in}
@@ -21,9 +23,15 @@ pub record Leaves (leaves : (ℕ → ℕ) → ℕ → ℕ) : Type 0 where
 above : (f : ℕ → ℕ) (k v i : ℕ) → k < 32 → 32 ≤ i → put f k v i ≡ f i
 above f k v i l u = put_other f k v i (grind (arith, nat_tests, l, u))
 
--- also where the looks write R1 and R0
+-- also where the looks write R1, R2, R6 and R0
 above_looked : (g : ℕ → ℕ) (i : ℕ) → 32 ≤ i → looked_in g i ≡ g i
-above_looked g i l = above (put g 25 69) 24 0 i (omega arith) l ∙ above g 25 69 i (omega arith) l
+above_looked g i l =
+    let low : ℕ = bit_and (255 - g LIGHTS) 253 in
+    let g1 : ℕ → ℕ = put g 25 LIGHTS in
+    let g2 : ℕ → ℕ = put g1 26 low in
+    let g3 : ℕ → ℕ = put g2 30 (g 28) in
+    above g3 24 0 i (omega arith) l ∙ above g2 30 (g 28) i (omega arith) l ∙ above g1 26 low i (omega arith) l
+    ∙ above g 25 LIGHTS i (omega arith) l
 
 -- a sent frame writes R0 to R3 and R6
 sent_kept : (h : ℕ → ℕ) (v byte k n r0 i : ℕ) → 32 ≤ i → sending h v byte k n r0 i ≡ h i
@@ -39,6 +47,16 @@ sent_kept h v byte k n r0 i l =
 pub sent_leaves : (v byte k n r0 : ℕ) → Leaves (λ h. sending h v byte k n r0)
 sent_leaves v byte k n r0 = record {
   kept = λ g i l. sent_kept (looked_in g) v byte k n r0 i l ∙ above_looked g i l;
+  stack = λ g. (refl, refl);
+}
+
+-- also where it is cut
+pub cut_leaves : (v byte look : ℕ) (is : IsLook look)
+    → Leaves (λ h. sending h v byte (left_at_cut h byte look is).0 (left_at_cut h byte look is).1 (left_at_cut h byte look is).2)
+cut_leaves v byte look is = record {
+  kept = λ g i l.
+      let left = left_at_cut (looked_in g) byte look is in
+      sent_kept (looked_in g) v byte left.0 left.1 left.2 i l ∙ above_looked g i l;
   stack = λ g. (refl, refl);
 }
 

@@ -19,6 +19,7 @@ pub mod Compiled
 pub mod Placed
 pub mod Going
 pub mod Frames
+pub mod CutLooks
 pub mod Cutting
 pub mod Together
 pub mod Deciding

@@ -6,19 +6,20 @@ use Rattle.fw_kernel.specs.Places.{HasKernel}
 use Rattle.fw_kernel.specs.declared.labels.TheConstants.{TESTED, SEND, GOT}
 use Rattle.fw_keys.proofs.Blocks.{fine_end}
 use Rattle.mcs48_ranges.specs.Sizes.{IsByte, IsFine}
-use Rattle.fw_logic.proofs.Block.{memory, put, scratched, begin_at, At}
+use Rattle.fw_logic.proofs.Block.{memory, scratched, begin_at, At}
 use Rattle.fw_logic.proofs.Blocks.{straight, absolute, from_stage}
 use Rattle.fw_logic.proofs.Clock.{IsFree}
 use Rattle.fw_logic.proofs.Kernel.{kernel_in}
 use Rattle.fw_logic.proofs.Leads.{Leads}
+use Rattle.fw_logic.proofs.Looks.{readied}
 use Rattle.fw_logic.proofs.Path.{Stage, Code, Until, Go}
 use Rattle.fw_logic.proofs.Short.{has_rows}
 use Rattle.fw_logic.proofs.Sound.{chain}
 use Rattle.joint_run.specs.Run.{Board, after_cycles}
 
--- the registers behind the looks: R1 is the test's cell, R0 is counted down
+-- the registers behind the looks
 abbrev pub looked_in : (ℕ → ℕ) → ℕ → ℕ
-looked_in g = put (put g 25 69) 24 0
+looked_in g = readied g
 
 module _ (d : Board) (bytes : List ℕ) (has : HasKernel bytes) (z : ℕ) (m : Cpu) (board : d.State) (g : ℕ → ℕ)
     (ring : List ℕ) where
@@ -50,7 +51,7 @@ module _ (d : Board) (bytes : List ℕ) (has : HasKernel bytes) (z : ℕ) (m : C
   pub to_send : IsFree m → (g 69 == 0) ≡ true → clock ≡ true → data_wire ≡ true
       → Leads d code z (begin_at d TESTED g ring m board) (Looked SEND)
   to_send free no_test high high' =
-      straight d code (has_rows true bytes has) (Until 65 ∷ Go false ∷ Until 71 ∷ Go false ∷ Go false ∷ []) z m
+      straight d code (has_rows true bytes has) (Until 65 ∷ Go false ∷ Until 81 ∷ Go false ∷ Go false ∷ []) z m
       TESTED SEND 26 g (looked_in g) ring (record m { f1 = false }) board (board_at 26) free (
         ap not no_test,
         (
@@ -66,7 +67,7 @@ module _ (d : Board) (bytes : List ℕ) (has : HasKernel bytes) (z : ℕ) (m : C
   pub to_got : IsFree m → (g 69 == 0) ≡ true → clock ≡ true → data_wire ≡ false
       → Leads d code z (begin_at d TESTED g ring m board) (Looked GOT)
   to_got free no_test high low =
-      straight d code (has_rows true bytes has) (Until 65 ∷ Go false ∷ Until 71 ∷ Go false ∷ Go true ∷ []) z m
+      straight d code (has_rows true bytes has) (Until 65 ∷ Go false ∷ Until 81 ∷ Go false ∷ Go true ∷ []) z m
       TESTED GOT 26 g (looked_in g) ring (record m { f1 = false }) board (board_at 26) free (
         ap not no_test,
         (

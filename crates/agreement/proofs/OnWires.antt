@@ -83,6 +83,13 @@ module _ (edges : List Edge) (events : List HostEvent) (d : Board) (to : d.State
       (λ o l m. lines_are frame w.cpu.p2 v x released o (omega (arith, l)))
       ∙ ap (λ c. record { pc = board_cycles events lines k c (at_look edges events u); shown = lights_of v }) a
 
+  -- at a look at the clock, by the state at the tick's
+  pub at_clock_look : (look : ℕ) → (to (driven d x latch (260 + look) 0 w.board)).pc
+      ≡ board_cycles events lines (4 + look) (256 + x) (at_look edges events u)
+  at_clock_look look =
+      let o : 260 + look ≡ 256 + (4 + look) = omega arith in
+      ap (λ n. (to (driven d x latch n 0 w.board)).pc) o ∙ ap (λ (t : Beside). t.pc) (behind_clock (4 + look))
+
   -- at the look of a cell, by the state at the first edge
   pub at_cell : (k : ℕ) → (to (driven d x latch (306 + 32 * k) 0 w.board)).pc
       ≡ board_cycles events lines (32 * k + 18) (288 + x) (at_meeting events lines x (at_look edges events u))

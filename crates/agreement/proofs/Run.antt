@@ -3,11 +3,11 @@ use Rattle.std.proofs.Common.{◌≡◌, ℕ, true, false, Some, List, refl, ap,
 use Rattle.std.proofs.lemmas.List.Elements.{All-replicate}
 use Rattle.fw_compile.specs.Image.{image_of}
 use Rattle.fw_kernel.specs.declared.labels.TheConstants.{TICK}
-use Rattle.fw_logic.proofs.Executing.{begins_dark, every_fit, every_late}
+use Rattle.fw_logic.proofs.Executing.{begins_dark, every_fit, every_late, every_soon}
 use Rattle.fw_logic.proofs.Laws.{comes_as}
 use Rattle.fw_logic.proofs.Passing.{Passes}
 use Rattle.fw_logic.proofs.Waking.{Wakes, wakes}
-use Rattle.fw_logic.specs.Executed.{IsFit, LooksLate}
+use Rattle.fw_logic.specs.Executed.{IsFit, LooksLate, LooksSoon, looks}
 use Rattle.board_lines.specs.declared.event.Edge.{Edge}
 use Rattle.board_lines.specs.declared.event.HostEvent.{HostEvent}
 use Rattle.joint_run.specs.Joint.{Beside, beside_at_start, joint_board}
@@ -22,7 +22,7 @@ use Rattle.mcs48_core.specs.Reset.{reset_cpu}
 use Rattle.mcs48_ranges.specs.Sizes.{IsByte, IsFine}
 use Rattle.agreement.specs.AnyStart.{AreFor}
 use Rattle.agreement.specs.Agreement.{AgreementLaw, AnyMemoryLaw, PromptLaw, switched_on}
-use Rattle.agreement.specs.Executed.{ExecutedLaw, LateLaw}
+use Rattle.agreement.specs.Executed.{ExecutedLaw, LateLaw, SoonLaw}
 use Rattle.agreement.specs.Memory.{Holds, MemoryLaw}
 use Rattle.agreement.specs.Wires.{WiresLaw}
 use Rattle.agreement.proofs.Beginning.{is_tick, begins_let_go}
@@ -81,6 +81,13 @@ module _ (layout : KeyLayout) (history : KeyHistory) (fine : IsKeyLayout layout)
         → (k : ℕ) (w next : World Beside) → run_at (joint_board edges events) bytes from k ≡ Some w
         → joint_step (joint_board edges events) bytes w ≡ Some next → LooksLate bytes w.cpu next.cpu
     looks_late = every_late (joint_board edges events) bytes (has_kernel layout) from wake comes_first
+
+    -- and again soon
+    looks_soon : ((k : ℕ) (w : World Beside) → run_at (joint_board edges events) bytes from k ≡ Some w
+        → at_tick (joint_board edges events) TICK w ≡ true → Passes (joint_board edges events) bytes w)
+        → (k : ℕ) (w : World Beside) → run_at (joint_board edges events) bytes from k ≡ Some w
+        → looks bytes w.cpu ≡ true → LooksSoon (joint_board edges events) bytes w
+    looks_soon = every_soon (joint_board edges events) bytes (has_kernel layout) from wake comes_first
 
 pub every_memory : AnyMemoryLaw
 every_memory layout history fine ok m small = (
@@ -177,3 +184,8 @@ every_execution layout history fine ok m small =
 pub every_look : LateLaw
 every_look layout history fine ok m small =
     looks_late layout history fine ok m small (each_passes layout history fine ok m small)
+
+-- and again soon
+pub every_next_look : SoonLaw
+every_next_look layout history fine ok m small =
+    looks_soon layout history fine ok m small (each_passes layout history fine ok m small)

@@ -13,61 +13,70 @@ use Rattle.ctl_link.specs.declared.link.Link.TheVariants.{Free, Hold, Ask, Reque
 use Rattle.ctl_wire.specs.Wire.{drive}
 use Rattle.ctl_wire.specs.declared.wire.Wire.{Wire}
 use Rattle.fw_keys.specs.Frameless.{latch_now}
+use Rattle.fw_link.proofs.Lets.{lets_at, as_cycle, pulled_look}
 use Rattle.fw_link.proofs.Outside.{sent_lines, received_lines}
 use Rattle.fw_link.proofs.Over.{itself}
 use Rattle.fw_link.proofs.TickLatch.{lines_by}
 use Rattle.fw_link.proofs.Wired.{IsReleased}
-use Rattle.fw_link.specs.Latch.{Frame, NoFrame, SentFrame, CutFrame, ReceivedFrame, tick_latch}
+use Rattle.fw_link.specs.Latch.{Frame, NoFrame, SentFrame, CutFrame, ReceivedFrame, IsLook, tick_latch}
 use Rattle.joint_run.specs.Joint.{Beside, joint_board, lights_of}
 use Rattle.joint_run.specs.Run.{World}
 use Rattle.pc_wires.specs.Wires.{Pc}
 use Rattle.wires_agree.proofs.Meetings.{free_at, request_at}
 use Rattle.wires_agree.proofs.Spans.{IsAt}
-use Rattle.wires_agree.specs.Ticks.{at_meeting, leaves_clock}
-use Rattle.agreement.proofs.Frames.{FailsFirst, free_or_not, first_fails, ten, frame_offered, frame_free, frame_ended}
-use Rattle.agreement.proofs.Frames.{frame_in}
+use Rattle.wires_agree.specs.Ticks.{at_meeting}
+use Rattle.agreement.proofs.Frames.{FirstLow, free_or_not, first_low, frame_offered, frame_free, frame_ended, frame_in}
 use Rattle.agreement.proofs.Happened.{at_look}
-use Rattle.agreement.proofs.OnWires.{at_cell, behind_clock}
+use Rattle.agreement.proofs.OnWires.{at_clock_look, behind_clock}
 use Rattle.agreement.specs.Wires.{GoesWith, IsAskedFor, IsFrameOf, beside_in}
 
 module _ (events : List HostEvent) (v start : ℕ) (released : IsReleased v) (look : Pc) where
   abbrev lines : Frame → ℕ → Lines
   lines frame = lines_by frame v start released
 
+  -- whether the controller leaves the clock alone at a look of a byte's whole frame
+  abbrev lets : ℕ → ℕ → Bool
+  lets byte number = lets_at events (lines (SentFrame byte)) start look number
+
   -- a frame that isn't cut, by the PC's side at its first edge
   abbrev pub With : Frame → Type 0
   With NoFrame = Unit {0}
   With (SentFrame byte) =
       (byte < 256) × IsAt (at_meeting events (lines (SentFrame byte)) start look) Free true
-      × ((k : ℕ) → k < 10 → leaves_clock events (lines (SentFrame byte)) start look k ≡ true)
-  With (CutFrame byte cell) = Unit {0}
+      × ((number : ℕ) → IsLook number → lets byte number ≡ true)
+  With (CutFrame byte cut) = Unit {0}
   With ReceivedFrame =
       (byte : ℕ) × (byte < 256) × IsAt (at_meeting events (lines ReceivedFrame) start look) (Request byte) true
 
-  offered : (byte : ℕ) → byte < 256 → look.side.port.link ≡ Free
-      → With (frame_offered byte (free_or_not (at_meeting events (lines (SentFrame byte)) start look).side.port.link)
-      (first_fails (leaves_clock events (lines (SentFrame byte)) start look) 10 ten))
-  offered byte small free =
-      by (free_or_not (at_meeting events (lines (SentFrame byte)) start look).side.port.link)
-      (first_fails (leaves_clock events (lines (SentFrame byte)) start look) 10 ten)
+  -- a link that is let at the look of the first cell is free at the first edge
+  there : (byte : ℕ) → look.side.port.link ≡ Free → lets byte 46 ≡ true
+      → (at_meeting events (lines (SentFrame byte)) start look).side.port.link ≡ Free
+  there byte free high =
+      elim (free_or_not (at_meeting events (lines (SentFrame byte)) start look).side.port.link) [
+        | inl still ↦ still
+        | inr gone ↦
+            let low : lets byte 46 ≡ false =
+            as_cycle events (lines (SentFrame byte)) start look 46 18 refl
+            ∙ pulled_look events (lines (SentFrame byte)) start look (sent_lines v start released byte 0).0 free gone in
+            absurd (cc (high, low))
+      ]
+
+  offered : (byte : ℕ) → byte < 256 → look.side.port.link ≡ Free → With (frame_offered byte (first_low (lets byte)))
+  offered byte small free = by (first_low (lets byte))
     where
-      by : (there : ((at_meeting events (lines (SentFrame byte)) start look).side.port.link ≡ Free)
-          ⊎ ((at_meeting events (lines (SentFrame byte)) start look).side.port.link ≡ Free → ⊥))
-          (looks : ((k : ℕ) → k < 10 → leaves_clock events (lines (SentFrame byte)) start look k ≡ true)
-          ⊎ (FailsFirst (leaves_clock events (lines (SentFrame byte)) start look))) → With (frame_offered byte there looks)
-      by (inl there) (inl leaves) = (
+      by : (looks : ((number : ℕ) → IsLook number → lets byte number ≡ true) ⊎ (FirstLow (lets byte)))
+          → With (frame_offered byte looks)
+      by (inl leaves) = (
         small,
         free_at events (lines (SentFrame byte)) (256 + start) look
-            (λ o a u. (sent_lines v start released byte 0).0 o a (omega (arith, u))) free there,
+            (λ o a u. (sent_lines v start released byte 0).0 o a (omega (arith, u))) free
+            (there byte free (leaves 46 (inr (inr (0, omega arith, inl refl))))),
         leaves,
       )
-      by (inl there) (inr first) = tt
-      by (inr gone) looks = tt
+      by (inr first) = tt
 
   abbrev each : ℕ → Frame
-  each byte =
-      frame_offered byte (free_or_not (at_meeting events (lines (SentFrame byte)) start look).side.port.link)
-      (first_fails (leaves_clock events (lines (SentFrame byte)) start look) 10 ten)
+  each byte = frame_offered byte (first_low (lets byte))
 
   by_offer : (o : Option ℕ) → ((byte : ℕ) → o ≡ Some byte → byte < 256) → look.side.port.link ≡ Free
       → With (frame_free each o)
@@ -116,11 +125,12 @@ module _ (edges : List Edge) (events : List HostEvent) (w : World Beside)
     h.0,
     ap (λ (c : Pc). c.side.port.link) (at_first (SentFrame byte)) ∙ h.1.link_is,
     ap (λ (c : Pc). c.clock) (at_first (SentFrame byte)) ∙ h.1.clock_is,
-    λ k l. ap (λ (c : Pc). (drive c.side.port.link).clk)
-        (at_cell edges events (joint_board edges events) (λ b. b) (itself edges events) w lit released (SentFrame byte) k)
-        ∙ h.2 k l,
+    λ number is. ap (λ (c : Pc). (drive c.side.port.link).clk)
+        (at_clock_look edges events (joint_board edges events) (λ b. b) (itself edges events) w lit released (SentFrame byte)
+        number)
+        ∙ h.2 number is,
   )
-  goes_with (CutFrame byte cell) h = tt
+  goes_with (CutFrame byte cut) h = tt
   goes_with ReceivedFrame h = (
     h.0,
     h.1,

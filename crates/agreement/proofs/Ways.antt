@@ -1,7 +1,7 @@
 -- The ways that a tick goes on any board above the joint board, by the PC's side at the look at the clock: what it
 -- drives is what the looks find.
 use Rattle.std.proofs.Common.{◌≡◌, ◌≤◌, ◌<◌, ℕ, ◌+◌, ◌*◌, ◌&&◌, ◌==◌, List, All, true, false, length}
-use Rattle.std.proofs.Common.{Some, None, refl, ap, sym, ◌∙◌, inl, inr, arith}
+use Rattle.std.proofs.Common.{Some, None, refl, ap, ◌∙◌, inl, inr, arith}
 use Rattle.board_lines.specs.declared.event.Edge.{Edge}
 use Rattle.board_lines.specs.declared.event.HostEvent.{HostEvent}
 use Rattle.board_lines.specs.declared.lines.Lines.{Lines}
@@ -17,11 +17,11 @@ use Rattle.fw_link.proofs.Outside.{received_lines}
 use Rattle.fw_link.proofs.Over.{IsOver, under}
 use Rattle.fw_link.proofs.Receive.{is_parity}
 use Rattle.fw_link.proofs.TickLatch.{lines_by}
-use Rattle.fw_link.proofs.Ticked.{cut_leaves}
 use Rattle.fw_link.proofs.Wired.{IsReleased}
-use Rattle.fw_link.proofs.Wires.{clock_of_latch}
+use Rattle.fw_link.proofs.Wires.{look_up}
+use Rattle.fw_link.proofs.Lets.{lets_at}
 use Rattle.fw_link.proofs.WiresGot.{received_bit}
-use Rattle.fw_link.specs.Latch.{Frame, NoFrame, SentFrame, CutFrame, ReceivedFrame, frame_bit, tick_latch}
+use Rattle.fw_link.specs.Latch.{Frame, NoFrame, SentFrame, CutFrame, ReceivedFrame, IsLook, frame_bit, sent_latch, tick_latch}
 use Rattle.fw_logic.specs.Scan.{in_tick}
 use Rattle.mcs48_ranges.specs.Sizes.{IsByte}
 use Rattle.joint_run.specs.Joint.{Beside, latch_of, lights_of}
@@ -36,12 +36,12 @@ use Rattle.wires_agree.proofs.Got.{frame_shown}
 use Rattle.wires_agree.proofs.Meetings.{request_at, requests}
 use Rattle.wires_agree.proofs.Spans.{IsAt}
 use Rattle.wires_agree.specs.Cycles.{board_cycles}
-use Rattle.wires_agree.specs.Ticks.{at_meeting, leaves_clock}
+use Rattle.wires_agree.specs.Ticks.{at_meeting}
 use Rattle.agreement.proofs.AnyTick.{released, quiet, sent, cut, got}
 use Rattle.agreement.proofs.AtLook.{one_byte, sent_at, received_at}
 use Rattle.agreement.proofs.Happened.{at_look, Happened}
 use Rattle.agreement.proofs.Lit.{at_clock, behind_look}
-use Rattle.agreement.proofs.OnWires.{at_cell}
+use Rattle.agreement.proofs.OnWires.{at_cell, at_clock_look}
 use Rattle.agreement.proofs.Seen.{at_data, free_shows, request_shows}
 use Rattle.agreement.specs.Firmware.{Offers, clock_in, data_in, board_at}
 
@@ -128,18 +128,18 @@ module _ (edges : List Edge) (events : List HostEvent) (d : Board) (to : d.State
   cell_is frame k = at_cell edges events d to over w lit free_latch frame k
 
   -- the looks at the clock in a sent frame see whether the controller leaves it alone
-  sees_cell : (byte k : ℕ) → k < 10
-      → clock_in d w byte k ≡ leaves_clock events (lines (SentFrame byte)) start b k
-  sees_cell byte k room =
+  sees_look : (byte look : ℕ) → IsLook look → clock_in d w byte look ≡ lets_at events (lines (SentFrame byte)) start b look
+  sees_look byte look is =
       let frame : Frame = SentFrame byte in
-      let put : ℕ = tick_latch w.cpu.p2 v frame (306 + 32 * k) in
-      let q : d.State = board_at d w frame (306 + 32 * k) in
+      let put : ℕ = tick_latch w.cpu.p2 v frame (260 + look) in
+      let q : d.State = board_at d w frame (260 + look) in
+      let z : look ≡ look + 0 = omega arith in
       let high : (latch_of put).clk ≡ true =
-      ap (λ l. (latch_of l).clk) (sent_at w.cpu.p2 v byte k room)
-      ∙ clock_of_latch true (frame_bit byte k) v free_latch in
-      clock_is edges events d to over 44 put (start + (306 + 32 * k)) q
+      ap (λ l. (latch_of l).clk) (sent_at w.cpu.p2 v byte look is ∙ ap (sent_latch v byte) z)
+      ∙ look_up v byte free_latch look is 0 (omega arith) in
+      clock_is edges events d to over 44 put (start + (260 + look)) q
       ∙ ap (λ c. c && (drive (to q).pc.side.port.link).clk) high
-      ∙ ap (λ (p : Pc). (drive p.side.port.link).clk) (cell_is frame k)
+      ∙ ap (λ (p : Pc). (drive p.side.port.link).clk) (at_clock_look edges events d to over w lit free_latch frame look)
 
   module _ (byte : ℕ) (no_test : (kbd.test == 0) ≡ true) (is : offer kbd ≡ Some byte) (free : b.side.port.link ≡ Free)
     where
@@ -151,38 +151,34 @@ module _ (edges : List Edge) (events : List HostEvent) (d : Board) (to : d.State
       )
 
       -- what is offered is sent whole: the link is free at the look, and the controller leaves the clock alone at all
-      -- ten looks of the frame
+      -- looks of the frame
       sends_so : IsWhole kbd.queue
-          → ((k : ℕ) → k < 10 → leaves_clock events (lines (SentFrame byte)) start b k ≡ true)
+          → ((look : ℕ) → IsLook look → lets_at events (lines (SentFrame byte)) start b look ≡ true)
           → Tick d TICK bytes w (So Sent (SentFrame byte))
       sends_so codes high =
-          sent d bytes hk alike small low w s repeats few byte codes offers (λ k u. sees_cell byte k u ∙ high k u)
+          sent d bytes hk alike small low w s repeats few byte codes offers (λ look is. sees_look byte look is ∙ high look is)
 
-      -- the controller pulls the clock at the look of a cell, and at none before: the frame is cut there
-      cut_so : (j : ℕ) → j < 10
-          → ((k : ℕ) → k < j → leaves_clock events (lines (CutFrame byte j)) start b k ≡ true)
-          → leaves_clock events (lines (CutFrame byte j)) start b j ≡ false
-          → Tick d TICK bytes w (So Cut (CutFrame byte j))
-      cut_so j below high pulls =
-          let as_sent : (k : ℕ) → k ≤ j
-          → leaves_clock events (lines (SentFrame byte)) start b k
-          ≡ leaves_clock events (lines (CutFrame byte j)) start b k =
-          λ k l. sym (cut_leaves v start byte free_latch events j k b below l) in
-          cut d bytes hk alike small low w s repeats few byte j offers below
-          (λ k u. sees_cell byte k (omega (arith, u, below)) ∙ as_sent k (omega (arith, u)) ∙ high k u)
-          (sees_cell byte j below ∙ as_sent j (omega arith) ∙ pulls)
+      -- the controller pulls the clock at a look, and at none before: the frame is cut there
+      cut_so : (look : ℕ) → IsLook look
+          → ((earlier : ℕ) → IsLook earlier → earlier < look → lets_at events (lines (SentFrame byte)) start b earlier ≡ true)
+          → lets_at events (lines (SentFrame byte)) start b look ≡ false
+          → Tick d TICK bytes w (So Cut (CutFrame byte look))
+      cut_so look is high pulls =
+          cut d bytes hk alike small low w s repeats few byte look offers is
+          (λ earlier at l. sees_look byte earlier at ∙ high earlier at l) (sees_look byte look is ∙ pulls)
 
   pub sends : (byte : ℕ) → (kbd.test == 0) ≡ true → offer kbd ≡ Some byte → IsWhole kbd.queue → b.side.port.link ≡ Free
-      → ((k : ℕ) → k < 10 → leaves_clock events (lines_by (SentFrame byte) v start free_latch) start b k ≡ true)
+      → ((look : ℕ) → IsLook look → lets_at events (lines_by (SentFrame byte) v start free_latch) start b look ≡ true)
       → Tick d TICK bytes w (So Sent (SentFrame byte))
   sends byte no_test is codes free high = sends_so byte no_test is free codes high
 
-  pub is_cut : (byte j : ℕ) (below : j < 10) → (kbd.test == 0) ≡ true → offer kbd ≡ Some byte
+  pub is_cut : (byte look : ℕ) → IsLook look → (kbd.test == 0) ≡ true → offer kbd ≡ Some byte
       → b.side.port.link ≡ Free
-      → ((k : ℕ) → k < j → leaves_clock events (lines_by (CutFrame byte j) v start free_latch) start b k ≡ true)
-      → leaves_clock events (lines_by (CutFrame byte j) v start free_latch) start b j ≡ false
-      → Tick d TICK bytes w (So Cut (CutFrame byte j))
-  is_cut byte j below no_test is free high pulls = cut_so byte no_test is free j below high pulls
+      → ((earlier : ℕ) → IsLook earlier → earlier < look
+      → lets_at events (lines_by (SentFrame byte) v start free_latch) start b earlier ≡ true)
+      → lets_at events (lines_by (SentFrame byte) v start free_latch) start b look ≡ false
+      → Tick d TICK bytes w (So Cut (CutFrame byte look))
+  is_cut byte look at no_test is free high pulls = cut_so byte no_test is free look at high pulls
 
   -- the controller's byte is received
   module _ (byte : ℕ) (less : byte < 256) (asks : b.side.port.link ≡ Request byte) where

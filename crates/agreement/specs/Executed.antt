@@ -1,7 +1,7 @@
 -- What the joint run of a layout's image executes, and when it looks at the clock on a chip.
-use Rattle.std.specs.Prelude.{◌≡◌, ℕ, Some}
+use Rattle.std.specs.Prelude.{◌≡◌, ℕ, true, Some}
 use Rattle.fw_compile.specs.Image.{image_of}
-use Rattle.fw_logic.specs.Executed.{IsFit, LooksLate}
+use Rattle.fw_logic.specs.Executed.{IsFit, LooksLate, LooksSoon, looks}
 use Rattle.joint_run.specs.Joint.{Beside, joint_board}
 use Rattle.joint_run.specs.Run.{World, joint_step, run_at}
 use Rattle.key_file.specs.Accepted.{IsLawfulFor}
@@ -33,3 +33,14 @@ LateLaw =
     ≡ Some w
     → joint_step (joint_board history.edges history.host) (image_of layout) w ≡ Some next
     → LooksLate (image_of layout) w.cpu next.cpu
+
+-- and after a look at the clock wire the next comes within 24 cycles, 60 microseconds, while a byte is being sent
+abbrev pub SoonLaw : Type 0
+SoonLaw =
+    (layout : KeyLayout) (history : KeyHistory) → IsKeyLayout layout → IsLawfulFor layout history
+    → (m : Cpu) → IsFine m
+    → (k : ℕ) (w : World Beside)
+    → run_at (joint_board history.edges history.host) (image_of layout) (switched_on history.edges history.host m) k
+    ≡ Some w
+    → looks (image_of layout) w.cpu ≡ true
+    → LooksSoon (joint_board history.edges history.host) (image_of layout) w

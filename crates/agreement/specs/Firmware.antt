@@ -7,7 +7,7 @@ use Rattle.fw_kernel.specs.Places.{HasKernel}
 use Rattle.fw_keys.specs.Edges.{image_code, IsSilentAlike}
 use Rattle.fw_keys.specs.Frameless.{IsStarted, IsRepeating, IsFrameless, GoesOn, shown_by, tests_in, edges_now}
 use Rattle.fw_keys.specs.Frameless.{latch_now, clock_now, data_now, data_again}
-use Rattle.fw_link.specs.Latch.{Frame, NoFrame, SentFrame, CutFrame, ReceivedFrame, tick_latch}
+use Rattle.fw_link.specs.Latch.{Frame, NoFrame, SentFrame, CutFrame, ReceivedFrame, IsLook, tick_latch}
 use Rattle.fw_link.specs.Reading.{byte_in, right_in}
 use Rattle.fw_logic.specs.Boards.{numbered}
 use Rattle.fw_logic.specs.Selecting.{column_latch, Selects}
@@ -30,9 +30,9 @@ board_at d w frame n = after_cycles n 0 (λ o. d.cycle (latch_at d w frame o) (w
 abbrev pub levels_at : (d : Board) → World d.State → Frame → ℕ → Pins
 levels_at d w frame o = d.pins 44 (latch_at d w frame o) (w.cycle + o) (board_at d w frame o)
 
--- the look of cell k, at offset 306 + 32 k: at the clock where this byte is sent, at data where one is received
+-- a look at the clock where this byte is sent; and the look of cell k at data, at offset 306 + 32 k, where one is received
 abbrev pub clock_in : (d : Board) → World d.State → ℕ → ℕ → Bool
-clock_in d w byte k = (levels_at d w (SentFrame byte) (306 + 32 * k)).t0
+clock_in d w byte look = (levels_at d w (SentFrame byte) (260 + look)).t0
 
 abbrev pub data_in : (d : Board) → World d.State → ℕ → Bool
 data_in d w k = (levels_at d w ReceivedFrame (306 + 32 * k)).t1
@@ -46,15 +46,15 @@ abbrev pub Offers : (d : Board) → World d.State → ℕ → Type 0
 Offers d w byte = IsOpen d w × (data_now d w ≡ true) × (offer (shown_by w.cpu.ram) ≡ Some byte)
 
 -- the frame of a tick, and its meeting, by what the looks find. The byte offered is sent where the clock is high at the
--- looks of all ten cells; it is cut in the cell whose look is the first that finds the clock low. A byte is received
+-- looks of its frame; it is cut at the first that finds the clock low. A byte is received
 -- where the clock is high, and data low at both looks at it: that of the first eight looks at data, right where the ninth is its parity
 abbrev pub Finds : (d : Board) → World d.State → Frame → Meeting → Type 0
 Finds d w NoFrame meeting = IsFrameless d w meeting
 Finds d w (SentFrame byte) meeting =
-    (meeting ≡ Sent) × Offers d w byte × ((k : ℕ) → k < 10 → clock_in d w byte k ≡ true)
-Finds d w (CutFrame byte cell) meeting =
-    (meeting ≡ Cut) × Offers d w byte × (cell < 10) × ((k : ℕ) → k < cell → clock_in d w byte k ≡ true)
-    × (clock_in d w byte cell ≡ false)
+    (meeting ≡ Sent) × Offers d w byte × ((look : ℕ) → IsLook look → clock_in d w byte look ≡ true)
+Finds d w (CutFrame byte look) meeting =
+    (meeting ≡ Cut) × Offers d w byte × IsLook look
+    × ((earlier : ℕ) → IsLook earlier → earlier < look → clock_in d w byte earlier ≡ true) × (clock_in d w byte look ≡ false)
 Finds d w ReceivedFrame meeting =
     (meeting ≡ Got (byte_in (data_in d w)) (right_in (data_in d w))) × IsOpen d w × (data_now d w ≡ false)
     × (data_again d w ≡ false)

@@ -1,5 +1,5 @@
 -- What the keyboard drives on the two wires in each tick of the joint run.
-use Rattle.std.specs.Prelude.{◌≡◌, ◌≤◌, ◌<◌, ℕ, zero, suc, ◌+◌, ◌-◌, ◌*◌, true, false, nat_le, if◌then◌else◌, List}
+use Rattle.std.specs.Prelude.{◌≡◌, ◌≤◌, ◌<◌, ℕ, ◌+◌, ◌-◌, ◌*◌, true, false, nat_le, if◌then◌else◌, List}
 use Rattle.std.specs.Prelude.{Some}
 use Rattle.std.specs.declared.option.Option.{Option}
 use Rattle.bits.specs.Bits.{bit}
@@ -17,7 +17,7 @@ use Rattle.fw_compile.specs.Image.{image_of}
 use Rattle.fw_kernel.specs.declared.labels.TheConstants.{TICK}
 use Rattle.fw_link.specs.Drives.{Drives, DrivesTick}
 use Rattle.fw_logic.specs.Selecting.{column_latch, Selects}
-use Rattle.fw_link.specs.Latch.{Frame, NoFrame, SentFrame, CutFrame, ReceivedFrame, tick_latch}
+use Rattle.fw_link.specs.Latch.{Frame, NoFrame, SentFrame, CutFrame, ReceivedFrame, IsLook, tick_latch}
 use Rattle.joint_run.specs.Joint.{Beside, joint_board}
 use Rattle.joint_run.specs.Run.{World, joint_step, after_cycles}
 use Rattle.joint_run.specs.Starts.{at_tick, calm, IsStart}
@@ -32,10 +32,10 @@ use Rattle.pc_wires.specs.Wires.{Pc}
 use Rattle.agreement.specs.Agreement.{switched_on}
 
 -- the frame of a tick with this meeting, where the keyboard offers this byte: the byte that is sent; the byte offered,
--- cut in a cell; the frame in which the controller's byte is received; or none
+-- cut at a look, which isn't the last; the frame in which the controller's byte is received; or none
 abbrev pub IsFrameOf : Option ℕ → Meeting → Frame → Type 0
 IsFrameOf offered (Sent byte) frame = frame ≡ SentFrame byte
-IsFrameOf offered Cut (CutFrame byte cell) = (offered ≡ Some byte) × (cell < 10)
+IsFrameOf offered Cut (CutFrame byte look) = (offered ≡ Some byte) × IsLook look × (look < 344)
 IsFrameOf offered Cut NoFrame = ⊥
 IsFrameOf offered Cut (SentFrame byte) = ⊥
 IsFrameOf offered Cut ReceivedFrame = ⊥
@@ -48,29 +48,25 @@ abbrev pub beside_in : List Edge → List HostEvent → (ℕ → ℕ) → World 
 beside_in edges events latch w n =
     after_cycles n 0 (λ o. (joint_board edges events).cycle (latch o) (w.cycle + o)) w.board
 
--- the offset of the look at the clock in front of that of a cell: the tick's own, or that of the cell before
-abbrev pub look_before : ℕ → ℕ
-look_before zero = 256
-look_before (suc k) = 306 + 32 * k
-
--- a frame is cut in the cell whose look is the first behind the cycle in which the controller began to pull the clock:
--- by the controller's link at each offset, it pulls there, since a cycle that isn't earlier than the look in front
+-- a frame is cut at the first look behind the cycle in which the controller began to pull the clock: by the controller's
+-- link at each offset, it pulls there, since a cycle that isn't earlier than the tick's own look, nor than the looks before
 abbrev pub IsCutBy : (ℕ → Link Wire) → ℕ → Frame → Type 0
 IsCutBy link start NoFrame = Unit {0}
 IsCutBy link start (SentFrame byte) = Unit {0}
-IsCutBy link start (CutFrame byte cell) =
-    (since : ℕ) × (pulled (link (306 + 32 * cell)) ≡ Some since) × (start + look_before cell ≤ since)
+IsCutBy link start (CutFrame byte look) =
+    (since : ℕ) × (pulled (link (260 + look)) ≡ Some since) × (start + 256 ≤ since)
+    × ((earlier : ℕ) → IsLook earlier → earlier < look → start + (260 + earlier) ≤ since)
 IsCutBy link start ReceivedFrame = Unit {0}
 
 -- what the controller does in a tick with this frame, by the PC's side at each offset. At the first edge it has seen
--- the clock high. Where a byte is sent its link is free there, and at the look of each cell it leaves the clock alone;
--- where one is received it requests to send it
+-- the clock high. Where a byte is sent its link is free there, and at each look it leaves the clock alone; where one is
+-- received it requests to send it
 abbrev pub GoesWith : (ℕ → Pc) → Frame → Type 0
 GoesWith pc NoFrame = Unit {0}
 GoesWith pc (SentFrame byte) =
     (byte < 256) × ((pc 288).side.port.link ≡ Free) × ((pc 288).clock ≡ true)
-    × ((k : ℕ) → k < 10 → (drive (pc (306 + 32 * k)).side.port.link).clk ≡ true)
-GoesWith pc (CutFrame byte cell) = Unit {0}
+    × ((look : ℕ) → IsLook look → (drive (pc (260 + look)).side.port.link).clk ≡ true)
+GoesWith pc (CutFrame byte look) = Unit {0}
 GoesWith pc ReceivedFrame =
     (byte : ℕ) × (byte < 256) × ((pc 288).side.port.link ≡ Request byte) × ((pc 288).clock ≡ true)
 
@@ -88,9 +84,8 @@ IsLetGo v = (v < 256) × (bit 0 v ≡ true) × (bit 1 v ≡ true)
 
 -- a tick of the joint run from its start: the run comes to the next start, and in each cycle on the way the latch of
 -- port 2 is that of a tick with the meeting's frame; outside the frame it pulls neither wire, and bits 4 to 6 alone, the
--- lights, can be 0. A frame that is cut is
--- cut in the cell whose look is the first that can see it; the controller goes with one that isn't. No byte is under
--- way at its start. Port 1 selects each column in its cycles, and none in between: up to the first tick, which starts
+-- lights, can be 0. A frame that is cut is cut at the first look that can see it; the controller goes with one that isn't.
+-- No byte is under way at its start. Port 1 selects each column in its cycles, and none in between: up to the first tick, which starts
 -- in cycle 4,096 or in the next, it is as reset leaves it
 pub record DrivesFrame (edges : List Edge) (events : List HostEvent) (bytes : List ℕ) (offered : Option ℕ)
     (meeting : Meeting) (w : World Beside) : Type 0 where

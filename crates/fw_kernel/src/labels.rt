@@ -19,34 +19,34 @@ pub const TESTED: u16 = 0x03d;
 pub const LOOKS: u16 = 0x043;
 
 /// Both wires were high: a byte may be sent.
-pub const SEND: u16 = 0x04b;
+pub const SEND: u16 = 0x055;
 
 /// One cell of a sent frame.
-pub const S_CELL: u16 = 0x066;
+pub const S_CELL: u16 = 0x070;
 
 /// The last cell of a sent frame.
-pub const S_STOP: u16 = 0x082;
+pub const S_STOP: u16 = 0x08e;
 
 /// The controller pulled the clock in a sent frame: both wires are released.
-pub const CUT: u16 = 0x08c;
+pub const CUT: u16 = 0x098;
 
 /// The tick has no frame, and the controller is why.
-pub const INHIBITED: u16 = 0x090;
+pub const INHIBITED: u16 = 0x09c;
 
 /// The tick has no frame.
-pub const IDLE: u16 = 0x091;
+pub const IDLE: u16 = 0x09d;
 
 /// The clock was high and data low: the controller asks to send.
-pub const GOT: u16 = 0x093;
+pub const GOT: u16 = 0x09f;
 
 /// The offer where a reply or AA is due.
-pub const O_DUE: u16 = 0x09c;
+pub const O_DUE: u16 = 0x0a8;
 
 /// The clock was low: the controller holds it.
-pub const PULLED: u16 = 0x0b8;
+pub const PULLED: u16 = 0x0c4;
 
 /// The power-on test runs: both looks, and one of its ticks.
-pub const TESTING: u16 = 0x0bc;
+pub const TESTING: u16 = 0x0c8;
 
 /// Power-on.
 pub const START: u16 = 0x0f2;

@@ -137,46 +137,58 @@ tested: CLR F1              ; 234
         MOV A,@R1           ; 237
         JNZ testing         ; 238
 
-; -- looks: at the clock, at data. Both are looked at in every tick; where the test runs, by block testing.
-; needs: nothing. leaves: nothing. Goes to pulled, got or send.
+; -- looks: at the clock, at data. Both are looked at in every tick; where the test runs, by block testing. What a frame
+; needs is made ready before.
+; needs: LIGHTS, R4 of offer. leaves: R2 the latch with data low; R6 the byte. Goes to pulled, got or send.
 ; cycles: 18 to pulled, 20 to got and send.
-looks:  MOV R0,#7           ; 240
-l_on:   DJNZ R0,l_on        ; 242 to 255
+looks:  MOV R1,#LIGHTS      ; 240
+        MOV A,@R1           ; 242
+        CPL A               ; 243
+        ANL A,#0FDH         ; 244
+        MOV R2,A            ; 246
+        MOV A,R4            ; 247
+        MOV R6,A            ; 248
+        MOV R0,#2           ; 249
+l_on:   DJNZ R0,l_on        ; 251 to 254
+        NOP                 ; 255
         JNT0 pulled         ; 256
         JNT1 got            ; 258
 
-; -- send: the byte and its parity are made ready; data falls for the start bit.
-; needs: R4, R5 of offer, LIGHTS. leaves: R4; R6 the byte; C its parity bit; R1, R2 the latch with data low; R3 = 10.
-; cycles: 3 to 28.
+; -- send: data falls for the start bit, and the parity is made. From the look at 256 on the clock is looked at every 24
+; cycles at least, so a pull of 24 cycles is seen; where it is seen before the first fall no frame begins.
+; needs: R4, R5 of offer; R2, R6 of looks. leaves: R2, R4, R6; C the parity bit; R1 = R2; R3 = 10. Goes to cut where the
+; clock is low.
+; cycles: 3 to idle, 10 or 28 to cut, else 28.
 send:   MOV A,R5            ; 260
         JZ idle             ; 261
-        MOV R1,#LIGHTS      ; 263
-        MOV A,@R1           ; 265
-        CPL A               ; 266
-        ANL A,#0FDH         ; 267
-        MOV R2,A            ; 269
+        MOV A,R2            ; 263
+        MOV R1,A            ; 264
+        MOV R3,#10          ; 265
+        NOP                 ; 267
+        JNT0 cut            ; 268
         OUTL P2,A           ; 270: data falls
-        MOV R1,A            ; 272
-        MOV A,R4            ; 273
-        MOV R6,A            ; 274
-        SWAP A              ; 275
-        XRL A,R4            ; 276
-        MOV R0,A            ; 277
-        RR A                ; 278
-        RR A                ; 279
-        XRL A,R0            ; 280
-        MOV R0,A            ; 281
-        RR A                ; 282
-        XRL A,R0            ; 283: FF where the number of ones is odd, else 00
-        CPL A               ; 284
-        RRC A               ; 285: the parity bit in C
-        MOV R3,#10          ; 286
+        MOV A,R4            ; 272
+        SWAP A              ; 273
+        XRL A,R4            ; 274
+        MOV R0,A            ; 275
+        RR A                ; 276
+        RR A                ; 277
+        XRL A,R0            ; 278
+        MOV R0,A            ; 279
+        RR A                ; 280
+        XRL A,R0            ; 281: FF where the number of ones is odd, else 00
+        CPL A               ; 282
+        RRC A               ; 283: the parity bit in C
+        NOP                 ; 284
+        NOP
+        JNT0 cut            ; 286
 
-; -- s_cell: cell k of a sent frame: the clock falls upon bit k, rises and is looked at, and bit k+1 is put. OUTL lets
-; the clock rise: on a part it writes a cycle before ANL and ORL do, so the wire has longer to rise until the look.
+; -- s_cell: cell k of a sent frame: the clock falls upon bit k, rises and is looked at, bit k+1 is put, and the clock is
+; looked at again. OUTL lets the clock rise: on a part it writes a cycle before ANL and ORL do, so the wire has longer to
+; rise until the look. From look to look there is no loop, so how far they are apart is seen from the rows alone.
 ; needs: R1 the latch with bit k, R2, R3, R6, C. leaves: the same for cell k+1; R4 is kept. Goes to cut where the clock
 ; is low.
-; cycles: 20 to 32.
+; cycles: 20 or 30 to cut, else 32.
 s_cell: ANL P2,#0FEH        ; 288+32k
         MOV A,R6            ; 290
         RRC A               ; 291
@@ -187,16 +199,21 @@ s_cell: ANL P2,#0FEH        ; 288+32k
         ORL A,R2            ; 296
         CPL C               ; 297: C was 0; ones follow the parity bit, the first is the stop bit
         XCH A,R1            ; 298: R1 the latch with bit k+1, A that with bit k
-        MOV R0,#1           ; 299
-s_low:  DJNZ R0,s_low       ; 301
-        NOP                 ; 303
+        NOP                 ; 299
+        NOP
+        NOP
+        NOP
+        NOP
         OUTL P2,A           ; 304
         JNT0 cut            ; 306
         MOV A,R1            ; 308
         OUTL P2,A           ; 309
-        MOV R0,#2           ; 311
-s_high: DJNZ R0,s_high      ; 313 to 316
-        NOP                 ; 317
+        NOP                 ; 311
+        NOP
+        NOP
+        NOP
+        NOP
+        JNT0 cut            ; 316
         DJNZ R3,s_cell      ; 318
 
 ; -- s_stop: the eleventh fall; the frame ends.
@@ -228,7 +245,7 @@ got:    JMP receive         ; 260
 ; -- o_due, o_reply, o_mark: the other ways of offer; each comes to lamps at 228.
 ; needs: for o_due A, not 0. leaves: R4, R5 as offer.
 ; cycles: o_due 6 to 13, o_reply 7, o_mark 7.
-        ORG 9CH
+        ORG 0A8H
 o_due:  MOV R5,A            ; 215
         MOV R1,#REPLYDUE    ; 216
         MOV A,@R1           ; 218
@@ -252,7 +269,7 @@ o_mark: MOV R4,#0           ; 221
 ; -- pulled: the controller holds the clock; data is looked at without an effect.
 ; needs: nothing. leaves: nothing.
 ; cycles: 4.
-        ORG 0B8H
+        ORG 0C4H
 pulled: JT1 p_seen          ; 258
 p_seen: JMP inhibited       ; 260
 

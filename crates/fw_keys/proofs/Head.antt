@@ -118,13 +118,13 @@ module _ (d : Board) (bytes : List ℕ) (hk : HasKernel bytes) (small : All IsBy
     head_by false b65 b66 e64 e65 e66 l64 l65 l66 l67 n en free =
         let some : (bit_or (f 64) (f 65) == 0) ≡ false =
         or_none (f 64) (f 65) l64 l65 ∙ ap (λ b. b && (f 65 == 0)) e64 in
-        by_plan (Until 41 ∷ Go true ∷ Until 160 ∷ Go true ∷ Until TESTED ∷ []) (f 75) (bit_or (f 64) (f 65)) free
+        by_plan (Until 41 ∷ Go true ∷ Until 172 ∷ Go true ∷ Until TESTED ∷ []) (f 75) (bit_or (f 64) (f 65)) free
         (rw (some, e64) refl)
         (ap not some, (ap not e64, (refl, refl, refl)))
     head_by true false b66 e64 e65 e66 l64 l65 l66 l67 n en free =
         let some : (bit_or (f 64) (f 65) == 0) ≡ false = or_none (f 64) (f 65) l64 l65 ∙ ap (λ b. b && (f 65 == 0)) e64
         ∙ e65 in
-        by_plan (Until 41 ∷ Go true ∷ Until 160 ∷ Go false ∷ Until TESTED ∷ []) 170 (bit_or (f 64) (f 65)) free
+        by_plan (Until 41 ∷ Go true ∷ Until 172 ∷ Go false ∷ Until TESTED ∷ []) 170 (bit_or (f 64) (f 65)) free
         (rw (some, e64, e65) refl)
         (ap not some, (ap not e64, (refl, refl, refl)))
     head_by true true true e64 e65 e66 l64 l65 l66 l67 n en free =

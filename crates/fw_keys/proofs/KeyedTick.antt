@@ -6,6 +6,7 @@ use Rattle.std.proofs.Common.{◌≡◌, ◌≤◌, ℕ, Bool, not, ◌==◌, ar
 use Rattle.std.proofs.lemmas.Bool.Decides.{nat_tests}
 use Rattle.mcs48_core.specs.Cpu.{Cpu}
 use Rattle.fw_logic.proofs.Block.{put}
+use Rattle.fw_logic.proofs.Looks.{readied}
 use Rattle.kbd_model.specs.Keyboard.{Keyboard}
 use Rattle.kbd_model.specs.Layers.{Layers}
 use Rattle.kbd_model.specs.Tick.{tested_if}
@@ -20,8 +21,8 @@ abbrev pub keyed_tick : Keys → Meeting → (ℕ → ℕ) → (ℕ → ℕ) →
 keyed_tick keys meeting changed down l k =
     keyed keys (is_inhibited meeting) changed down l (tested_if (not (k.test == 0)) (met meeting keys k))
 
-pub below_cells : (f : ℕ → ℕ) (u v i : ℕ) → 32 ≤ i → put (put f 25 u) 24 v i ≡ f i
-below_cells f u v i l = grind (arith, nat_tests, l)
+pub below_cells : (f : ℕ → ℕ) (i : ℕ) → 32 ≤ i → readied f i ≡ f i
+below_cells f i l = grind (arith, nat_tests, l)
 
-pub counted_cells : (f : ℕ → ℕ) (u v n i : ℕ) → 32 ≤ i → put (put (put f 25 u) 24 v) 27 n i ≡ f i
-counted_cells f u v n i l = grind (arith, nat_tests, l)
+pub counted_cells : (f : ℕ → ℕ) (n i : ℕ) → 32 ≤ i → put (readied f) 27 n i ≡ f i
+counted_cells f n i l = grind (arith, nat_tests, l)

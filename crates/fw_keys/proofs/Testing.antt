@@ -38,7 +38,7 @@ module _ (d : Board) (bytes : List ℕ) (hk : HasKernel bytes) (small : All IsBy
       let some : not ((f 69 + 255) % 256 == 0) ≡ true =
       (let p : 0 < (f 69 + 255) % 256 = omega (arith, less, more) in grind (arith, nat_tests, p)) in
       leaf d (kernel_in true bytes) (has_rows true bytes hk) small low (Keeps held (tested_if true) f ring)
-      (Until 65 ∷ Go true ∷ Until 192 ∷ Fork 194 (passed 194) ∷ Fork 196 (passed 196) ∷ Until 198 ∷ Go true ∷ Until
+      (Until 65 ∷ Go true ∷ Until 204 ∷ Fork 206 (passed 206) ∷ Fork 208 (passed 208) ∷ Until 210 ∷ Go true ∷ Until
       SCAN ∷ []) TESTED SCAN 36 (put (put (put f 25 69) 24 0) 69 ((f 69 + 255) % 256)) ring x m
       (record m { f1 = false }) board f ring safe.0
       (λ a. record {
@@ -56,7 +56,7 @@ module _ (d : Board) (bytes : List ℕ) (hk : HasKernel bytes) (small : All IsBy
       let one : f 69 ≡ 1 = grind (arith, nat_tests, last) in
       let none : not ((f 69 + 255) % 256 == 0) ≡ false = ap (λ n. not ((n + 255) % 256 == 0)) one in
       leaf d (kernel_in true bytes) (has_rows true bytes hk) small low (Keeps held (tested_if true) f ring)
-      (Until 65 ∷ Go true ∷ Until 192 ∷ Fork 194 (passed 194) ∷ Fork 196 (passed 196) ∷ Until 198 ∷ Go false ∷ Until
+      (Until 65 ∷ Go true ∷ Until 204 ∷ Fork 206 (passed 206) ∷ Fork 208 (passed 208) ∷ Until 210 ∷ Go false ∷ Until
       SCAN ∷ []) TESTED SCAN 36 (put (put (put (put f 24 0) 69 ((f 69 + 255) % 256)) 65 1) 25 65) ring x m
       (record m { f1 = false }) board f ring safe.0
       (λ a. record {

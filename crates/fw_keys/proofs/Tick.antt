@@ -24,6 +24,7 @@ use Rattle.fw_keys.specs.State.{Inv, kbd_of, layers_of}
 use Rattle.fw_logic.proofs.Block.{begin_at, memory, put, scratched}
 use Rattle.fw_logic.proofs.Kernel.{kernel_in}
 use Rattle.fw_logic.proofs.Leads.{Leads}
+use Rattle.fw_logic.proofs.Looks.{readied}
 use Rattle.fw_logic.proofs.Short.{has_rows}
 use Rattle.mcs48_ranges.specs.Sizes.{IsByte, IsFine}
 use Rattle.joint_run.specs.Run.{Board, after_cycles}
@@ -211,14 +212,14 @@ module _ (d : Board) (bytes : List ℕ) (hk : HasKernel bytes) (alike : IsSilent
         → Way false 31 same_kbd
     idle_way inv no_test nothing clock high m' board' r4 r5 is where_board offers safe =
         leaf d (kernel_in true bytes) (has_rows true bytes hk) small low (Keeps held same_kbd (headed_by r4 r5) ring)
-        (Until 65 ∷ Go false ∷ Until 71 ∷ Go false ∷ Go false ∷ Until 76 ∷ Go true ∷ Until SCAN ∷ []) TESTED SCAN 31
-        (put (put (headed_by r4 r5) 25 69) 24 0) ring (y + 231) m' (record m' { f1 = false }) board' (headed_by r4 r5)
+        (Until 65 ∷ Go false ∷ Until 81 ∷ Go false ∷ Go false ∷ Until 86 ∷ Go true ∷ Until SCAN ∷ []) TESTED SCAN 31
+        (readied (headed_by r4 r5)) ring (y + 231) m' (record m' { f1 = false }) board' (headed_by r4 r5)
         ring safe.0
         (λ a. record {
           kbd = refl;
           inv = still (refl, refl, refl, refl, refl) inv;
-          cells = λ i l u. below_cells (headed_by r4 r5) 69 0 i l;
-          layers = λ i l u. below_cells (headed_by r4 r5) 69 0 i (omega (arith, l));
+          cells = λ i l u. below_cells (headed_by r4 r5) i l;
+          layers = λ i l u. below_cells (headed_by r4 r5) i (omega (arith, l));
           stack = (refl, refl);
         }) (
           ap not no_test,
@@ -244,14 +245,14 @@ module _ (d : Board) (bytes : List ℕ) (hk : HasKernel bytes) (alike : IsSilent
     glitch_way : Inv f → (f 69 == 0) ≡ true → IsGlitchAt → Way false 56 same_kbd
     glitch_way inv no_test levels m' board' r4 r5 is where_board offers safe =
         leaf d (kernel_in true bytes) (has_rows true bytes hk) small low (Keeps held same_kbd (headed_by r4 r5) ring)
-        (Until 65 ∷ Go false ∷ Until 71 ∷ Go false ∷ Go true ∷ Until 260 ∷ Go true ∷ Until SCAN ∷ []) TESTED SCAN 56
-        (put (put (put (headed_by r4 r5) 25 69) 24 0) 27 8) ring (y + 231) m' (record m' { f1 = false }) board'
+        (Until 65 ∷ Go false ∷ Until 81 ∷ Go false ∷ Go true ∷ Until 260 ∷ Go true ∷ Until SCAN ∷ []) TESTED SCAN 56
+        (put (readied (headed_by r4 r5)) 27 8) ring (y + 231) m' (record m' { f1 = false }) board'
         (headed_by r4 r5) ring safe.0
         (λ a. record {
           kbd = refl;
           inv = still (refl, refl, refl, refl, refl) inv;
-          cells = λ i l u. counted_cells (headed_by r4 r5) 69 0 8 i l;
-          layers = λ i l u. counted_cells (headed_by r4 r5) 69 0 8 i (omega (arith, l));
+          cells = λ i l u. counted_cells (headed_by r4 r5) 8 i l;
+          layers = λ i l u. counted_cells (headed_by r4 r5) 8 i (omega (arith, l));
           stack = (refl, refl);
         }) (
           ap not no_test,
@@ -270,14 +271,14 @@ module _ (d : Board) (bytes : List ℕ) (hk : HasKernel bytes) (alike : IsSilent
         → Way true 31 same_kbd
     inhibited_way inv no_test clock m' board' r4 r5 is where_board offers safe =
         leaf d (kernel_in true bytes) (has_rows true bytes hk) small low (Keeps held same_kbd (headed_by r4 r5) ring)
-        (Until 65 ∷ Go false ∷ Until 71 ∷ Go true ∷ Fork 186 (passed 186) ∷ Until SCAN ∷ []) TESTED SCAN 31
-        (put (put (headed_by r4 r5) 25 69) 24 0) ring (y + 231) m' (record m' { f1 = true }) board' (headed_by r4 r5)
+        (Until 65 ∷ Go false ∷ Until 81 ∷ Go true ∷ Fork 198 (passed 198) ∷ Until SCAN ∷ []) TESTED SCAN 31
+        (readied (headed_by r4 r5)) ring (y + 231) m' (record m' { f1 = true }) board' (headed_by r4 r5)
         ring safe.0
         (λ a. record {
           kbd = refl;
           inv = still (refl, refl, refl, refl, refl) inv;
-          cells = λ i l u. below_cells (headed_by r4 r5) 69 0 i l;
-          layers = λ i l u. below_cells (headed_by r4 r5) 69 0 i (omega (arith, l));
+          cells = λ i l u. below_cells (headed_by r4 r5) i l;
+          layers = λ i l u. below_cells (headed_by r4 r5) i (omega (arith, l));
           stack = (refl, refl);
         }) (
           ap not no_test,

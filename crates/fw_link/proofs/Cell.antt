@@ -1,4 +1,4 @@
--- One cell of a sent frame, 32 cycles, with the number of cells left as a number; and the same cut.
+-- One cell of a sent frame, 32 cycles, with the number of cells left as a number; and the same cut at either look.
 use Rattle.std.proofs.Common.{◌≡◌, ◌<◌, ℕ, suc, ◌+◌, ◌*◌, ◌/◌, ◌%◌, List, [], ◌∷◌, Bool, true, false, not, ◌==◌}
 use Rattle.std.proofs.Common.{if◌then◌else◌}
 use Rattle.std.proofs.Common.{bit_and, bit_or, refl, ap, ◌∙◌, arith}
@@ -17,9 +17,9 @@ use Rattle.fw_logic.proofs.Short.{has_rows}
 use Rattle.fw_logic.proofs.Sound.{sound}
 use Rattle.joint_run.specs.Run.{Board, after_cycles}
 
--- R0, R1, R3 and R6 behind a cell: R1 is the latch that was put, R6 is turned through the carry
+-- R1, R3 and R6 behind a cell: R1 is the latch that was put, R6 is turned through the carry
 abbrev pub turned : (ℕ → ℕ) → Bool → ℕ → ℕ → ℕ → ℕ
-turned f c v n = put (put (put (put f 30 (128 * digit c + f 30 / 2)) 25 v) 24 0) 27 n
+turned f c v n = put (put (put f 30 (128 * digit c + f 30 / 2)) 25 v) 27 n
 
 -- the next bit at the data wire's place
 next_bit : (b c : Bool) (r2 v : ℕ) → c ≡ b → bit_or (2 * digit b) r2 ≡ v
@@ -57,36 +57,54 @@ module _ (d : Board) (bytes : List ℕ) (has : HasKernel bytes) (y : ℕ) (m : C
   abbrev pub board_behind : ℕ → d.State
   board_behind v = after_cycles 11 21 (λ o. d.cycle v (y + o)) (board_risen 5)
 
-  -- the clock wire at the cell's look
+  -- the clock wire at the cell's looks, 18 and 28 cycles into it; at the second the latch is that with the next bit
   abbrev pub clock_seen : Bool
   clock_seen = (d.pins m.p1 (f 25) (y + 18) (board_at_look d y (f 25) m board)).t0
+
+  abbrev pub clock_again : ℕ → Bool
+  clock_again v = (d.pins m.p1 v (y + 28) (after_cycles 7 21 (λ o. d.cycle v (y + o)) (board_risen 5))).t0
 
   abbrev pub Celled : ℕ → ℕ → ℕ → Stage d.State → Type 0
   Celled v n place e =
       (e.cpu ≡ scratched (record m { p2 = v }) place (memory (turned f m.c v n) ring) e.cpu) × (e.cpu.c ≡ true)
       × (e.off ≡ 32) × (e.board ≡ board_behind v)
 
-  -- where the clock is low at the look both wires are released: 24 cycles in all
+  -- where the clock is low at a look both wires are released: 24 or 34 cycles in all
   abbrev pub board_cut : d.State
   board_cut = after_cycles 4 20 (λ o. d.cycle (bit_or (f 25) 3) (y + o)) (board_risen 4)
 
+  abbrev pub board_cut_again : ℕ → d.State
+  board_cut_again v =
+      after_cycles 4 30 (λ o. d.cycle (bit_or v 3) (y + o)) (after_cycles 9 21 (λ o. d.cycle v (y + o)) (board_risen 5))
+
   abbrev pub half_turned : ℕ → ℕ → ℕ
-  half_turned v = put (put (put f 30 (128 * digit m.c + f 30 / 2)) 25 v) 24 0
+  half_turned v = put (put f 30 (128 * digit m.c + f 30 / 2)) 25 v
 
   pub cut : (b : Bool) (v : ℕ) → IsFree m → bit 0 (f 30) ≡ b → bit_or (2 * digit b) (f 26) ≡ v → clock_seen ≡ false
       → Leads d (kernel_in true bytes) y (begin_at d S_CELL f ring m board)
       (At d (record m { p2 = bit_or (f 25) 3 }) SCAN (half_turned v) ring 24 board_cut)
   cut b v free low value clock_low =
       straight d (kernel_in true bytes) (has_rows true bytes has)
-      (Until 111 ∷ Acc v ∷ Until 119 ∷ Go true ∷ Until SCAN ∷ []) y m S_CELL SCAN 24 f (half_turned v)
+      (Until 121 ∷ Acc v ∷ Until 129 ∷ Go true ∷ Until SCAN ∷ []) y m S_CELL SCAN 24 f (half_turned v)
       ring (record m { p2 = bit_or (f 25) 3 }) board board_cut free
       (next_bit b (bit 0 (f 30)) (f 26) v low value, (ap not clock_low, (refl, refl, refl)))
 
+  pub cut_again : (b : Bool) (v : ℕ) → IsFree m → bit 0 (f 30) ≡ b → bit_or (2 * digit b) (f 26) ≡ v
+      → clock_seen ≡ true → clock_again v ≡ false
+      → Leads d (kernel_in true bytes) y (begin_at d S_CELL f ring m board)
+      (At d (record m { p2 = bit_or v 3 }) SCAN (half_turned v) ring 34 (board_cut_again v))
+  cut_again b v free low value high clock_low =
+      straight d (kernel_in true bytes) (has_rows true bytes has)
+      (Until 121 ∷ Acc v ∷ Until 129 ∷ Go false ∷ Until 138 ∷ Go true ∷ Until SCAN ∷ []) y m S_CELL SCAN 34 f
+      (half_turned v)
+      ring (record m { p2 = bit_or v 3 }) board (board_cut_again v) free
+      (next_bit b (bit 0 (f 30)) (f 26) v low value, (ap not high, (ap not clock_low, (refl, refl, refl))))
+
   pub cell : (b : Bool) (v n : ℕ) → IsFree m → f 27 ≡ suc n → n < 255 → bit 0 (f 30) ≡ b
-      → bit_or (2 * digit b) (f 26) ≡ v → clock_seen ≡ true → (more : Bool) → not (n == 0) ≡ more
+      → bit_or (2 * digit b) (f 26) ≡ v → clock_seen ≡ true → clock_again v ≡ true → (more : Bool) → not (n == 0) ≡ more
       → Leads d (kernel_in true bytes) y (begin_at d S_CELL f ring m board)
       (Celled v n (if more then S_CELL else S_STOP))
-  cell b v n free count few low value high more left = go more left
+  cell b v n free count few low value high high' more left = go more left
     where
       less : (f 27 + 255) % 256 ≡ n
       less = one_less (f 27) n count few
@@ -99,15 +117,15 @@ module _ (d : Board) (bytes : List ℕ) (has : HasKernel bytes) (y : ℕ) (m : C
           (Celled v n (if more then S_CELL else S_STOP))
       go true left =
           sound d (kernel_in true bytes) (has_rows true bytes has) y
-          (Until 111 ∷ Acc v ∷ Until 119 ∷ Go false ∷ Until 128 ∷ Go true ∷ Ram (memory (turned f m.c v n) ring) ∷ [])
+          (Until 121 ∷ Acc v ∷ Until 129 ∷ Go false ∷ Until 138 ∷ Go false ∷ Until 140 ∷ Go true ∷ Ram (memory (turned f m.c v n) ring) ∷ [])
           (Celled v n S_CELL) (begin_at d S_CELL f ring m board) (
             next_bit b (bit 0 (f 30)) (f 26) v low value,
-            (ap not high, (asks (f 27) n less true left, (cells, (refl, refl, refl, refl)))),
+            (ap not high, (ap not high', (asks (f 27) n less true left, (cells, (refl, refl, refl, refl))))),
           ) free
       go false left =
           sound d (kernel_in true bytes) (has_rows true bytes has) y
-          (Until 111 ∷ Acc v ∷ Until 119 ∷ Go false ∷ Until 128 ∷ Go false ∷ Ram (memory (turned f m.c v n) ring) ∷ [])
+          (Until 121 ∷ Acc v ∷ Until 129 ∷ Go false ∷ Until 138 ∷ Go false ∷ Until 140 ∷ Go false ∷ Ram (memory (turned f m.c v n) ring) ∷ [])
           (Celled v n S_STOP) (begin_at d S_CELL f ring m board) (
             next_bit b (bit 0 (f 30)) (f 26) v low value,
-            (ap not high, (asks (f 27) n less false left, (cells, (refl, refl, refl, refl)))),
+            (ap not high, (ap not high', (asks (f 27) n less false left, (cells, (refl, refl, refl, refl))))),
           ) free

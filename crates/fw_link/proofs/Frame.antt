@@ -1,10 +1,9 @@
 -- A sent frame as a whole: 368 cycles from the look at data to its end, or up to the cell in which it is cut.
-use Rattle.std.proofs.Common.{◌≡◌, ◌≤◌, ◌<◌, ℕ, suc, ◌+◌, ◌-◌, ◌*◌, List, Bool, true, false, ◌==◌, nat_lt}
-use Rattle.std.proofs.Common.{bit_and, bit_or, refl, ap, sym, ◌∙◌, subst, arith}
+use Rattle.std.proofs.Common.{◌≡◌, ◌≤◌, ◌<◌, ℕ, suc, ◌+◌, ◌*◌, List, Bool, true, false, ◌==◌, nat_lt}
+use Rattle.std.proofs.Common.{bit_and, bit_or, refl, ap, sym, ◌∙◌, subst, inl, inr, arith}
 use Rattle.std.proofs.lemmas.Bool.Decides.{nat_tests}
 use Rattle.mcs48_core.specs.Cpu.{Cpu}
 use Rattle.board_lines.specs.Frame.{parity_of}
-use Rattle.fw_kernel.specs.declared.cells.TheConstants.{LIGHTS}
 use Rattle.fw_kernel.specs.Places.{HasKernel}
 use Rattle.fw_kernel.specs.declared.labels.TheConstants.{SEND, S_CELL, S_STOP, SENT}
 use Rattle.fw_logic.proofs.Block.{memory, put, scratched, begin_at, At}
@@ -16,9 +15,9 @@ use Rattle.fw_logic.proofs.Leads.{Leads}
 use Rattle.fw_logic.proofs.Path.{Stage}
 use Rattle.fw_logic.proofs.Short.{has_rows}
 use Rattle.fw_logic.proofs.Sound.{chain, weaken}
-use Rattle.fw_link.specs.Latch.{wired, frame_bit, sent_latch}
+use Rattle.fw_link.specs.Latch.{IsLook, wired, frame_bit, sent_latch}
 use Rattle.fw_link.proofs.Latches.{driven}
-use Rattle.fw_link.proofs.Ends.{in_quarters, readied, readies, Readied, stops, board_stopped}
+use Rattle.fw_link.proofs.Ends.{in_quarters, readied, readies, Readied, clock_first, clock_second, stops, board_stopped}
 use Rattle.fw_link.proofs.Sending.{InFrame, one_cell, sending, look, risen_is, high_span}
 use Rattle.fw_link.proofs.Wired.{IsReleased, both_high, spans}
 use Rattle.joint_run.specs.Run.{Board, after_cycles}
@@ -34,17 +33,15 @@ start_put v byte i l =
     rw (a, b) refl
 
 -- the registers at the first cell, in the frame's words
-abbrev first : ℕ → ℕ → (ℕ → ℕ) → ℕ → ℕ
-first lights b f =
-    put (put (put (put (put f 24 (in_quarters b)) 25 (bit_and (255 - lights) 253)) 26 (bit_and (255 - lights) 253)) 27
-    10) 30 b
+abbrev first : ℕ → ℕ → ℕ → (ℕ → ℕ) → ℕ → ℕ
+first r2 r6 b f = put (put (put (put (put f 26 r2) 30 r6) 24 (in_quarters b)) 25 r2) 27 10
 
-first_cells : (f : ℕ → ℕ) (ring : List ℕ) (v byte : ℕ) → 255 - f LIGHTS ≡ v → f 28 ≡ byte
-    → memory (first (f LIGHTS) (f 28) f) ring ≡ memory (sending f v byte 0 10 (in_quarters byte)) ring
-first_cells f ring v byte lit is =
-    ap (λ b. memory (first (f LIGHTS) b f) ring) is
-    ∙ ap (λ w. memory (put (put (put (put (put f 24 (in_quarters byte)) 25 (bit_and w 253)) 26 (bit_and w 253)) 27 10) 30
-    byte) ring) lit
+pub first_cells : (f : ℕ → ℕ) (ring : List ℕ) (v byte : ℕ) → f 26 ≡ bit_and v 253 → f 30 ≡ byte → f 28 ≡ byte
+    → memory (first (f 26) (f 30) (f 28) f) ring ≡ memory (sending f v byte 0 10 (in_quarters byte)) ring
+first_cells f ring v byte low whole is =
+    ap (λ b. memory (first (f 26) (f 30) b f) ring) is
+    ∙ ap (λ b. memory (first (f 26) b byte f) ring) whole
+    ∙ ap (λ r. memory (first r byte byte f) ring) low
 
 module _ (d : Board) (bytes : List ℕ) (has : HasKernel bytes) (x : ℕ) (m : Cpu) (board : d.State) (f : ℕ → ℕ)
     (ring : List ℕ) (v byte : ℕ) (released : IsReleased v) (small : byte < 256) where
@@ -57,38 +54,59 @@ module _ (d : Board) (bytes : List ℕ) (has : HasKernel bytes) (x : ℕ) (m : C
   abbrev is_high : ℕ → Bool
   is_high k = look d bytes has x m board f ring v byte released small k
 
-  -- from the look at data to the first cell
-  pub begins : IsFree m → m.p2 ≡ v → 255 - f LIGHTS ≡ v → f 28 ≡ byte → (f 29 == 0) ≡ false
-      → Leads d (kernel_in true bytes) x (begin_at d SEND f ring m board) (In 10)
-  begins free out lit is some =
-      let low : f 28 < 256 = subst (λ b. b < 256) (sym is) small in
-      let data_low : bit_and (255 - f LIGHTS) 253 ≡ wired v true false = ap (λ w. bit_and w 253) lit in
-      let here : after_cycles 10 0 (λ o. d.cycle m.p2 (x + o)) board ≡ at_offset 10 =
-      spans d x (sent_latch v byte) 10 0 x 0 m.p2 board board refl (λ i l. before_start v byte i l ∙ sym out) refl in
-      let there : after_cycles 18 10 (λ o. d.cycle (bit_and (255 - f LIGHTS) 253) (x + o))
-      (after_cycles 10 0 (λ o. d.cycle m.p2 (x + o)) board) ≡ at_offset 28 =
-      spans d x (sent_latch v byte) 18 10 x 10 (bit_and (255 - f LIGHTS) 253)
+  -- the board where the latch is put for the start bit, and from there on
+  pub to_start : m.p2 ≡ v → after_cycles 10 0 (λ o. d.cycle m.p2 (x + o)) board ≡ at_offset 10
+  to_start out = spans d x (sent_latch v byte) 10 0 x 0 m.p2 board board refl (λ i l. before_start v byte i l ∙ sym out) refl
+
+  pub from_start : m.p2 ≡ v → f 26 ≡ bit_and v 253 → (n : ℕ) → n ≤ 18
+      → after_cycles n 10 (λ o. d.cycle (f 26) (x + o)) (after_cycles 10 0 (λ o. d.cycle m.p2 (x + o)) board)
+      ≡ at_offset (10 + n)
+  from_start out low n few =
+      spans d x (sent_latch v byte) n 10 x 10 (f 26)
       (after_cycles 10 0 (λ o. d.cycle m.p2 (x + o)) board) board refl
-      (λ i l. start_put v byte i l ∙ sym data_low) here in
+      (λ i l. start_put v byte i (omega (arith, l, few)) ∙ sym low) (to_start out)
+
+  -- the looks before the first fall
+  pub first_is : m.p2 ≡ v → clock_first d bytes has x m board f ring ≡ is_high 8
+  first_is out =
+      let at : after_cycles 8 0 (λ o. d.cycle m.p2 (x + o)) board ≡ at_offset 8 =
+      spans d x (sent_latch v byte) 8 0 x 0 m.p2 board board refl
+      (λ i l. before_start v byte i (omega (arith, l)) ∙ sym out) refl in
+      let put : m.p2 ≡ sent_latch v byte 8 = out ∙ sym (before_start v byte 8 (omega arith)) in
+      ap (λ t. (d.pins m.p1 m.p2 (x + 8) t).t0) at ∙ ap (λ q. (d.pins m.p1 q (x + 8) (at_offset 8)).t0) put
+
+  pub second_is : m.p2 ≡ v → f 26 ≡ bit_and v 253 → clock_second d bytes has x m board f ring ≡ is_high 26
+  second_is out low =
+      let put : f 26 ≡ sent_latch v byte 26 = low ∙ sym (start_put v byte 16 (omega arith)) in
+      ap (λ t. (d.pins m.p1 (f 26) (x + 26) t).t0) (from_start out low 16 (omega arith))
+      ∙ ap (λ q. (d.pins m.p1 q (x + 26) (at_offset 26)).t0) put
+
+  -- from the look at data to the first cell, where the clock is high at both looks
+  pub begins : IsFree m → m.p2 ≡ v → f 26 ≡ bit_and v 253 → f 30 ≡ byte → f 28 ≡ byte → (f 29 == 0) ≡ false
+      → is_high 8 ≡ true → is_high 26 ≡ true
+      → Leads d (kernel_in true bytes) x (begin_at d SEND f ring m board) (In 10)
+  begins free out data_low whole is some high high' =
+      let low : f 28 < 256 = subst (λ b. b < 256) (sym is) small in
       weaken d (kernel_in true bytes) (has_rows true bytes has) x (Readied d bytes has x m board f ring) (In 10)
       (begin_at d SEND f ring m board)
       (λ e h. record {
         k = 0;
         count = refl;
-        r0 = in_quarters byte;
         cpu =
             h.0 ∙ ap (λ w. scratched (record m { p2 = w }) S_CELL (memory (readied d bytes has x m board f ring) ring)
             e.cpu) data_low
             ∙ ap (λ r. scratched (record m { p2 = wired v true false }) S_CELL r e.cpu)
-            (first_cells f ring v byte lit is);
+            (first_cells f ring v byte data_low whole is);
         carry = h.1 ∙ ap parity_of is;
         off = h.2;
-        board_now = h.3 ∙ there;
+        board_now = h.3 ∙ from_start out data_low 18 (omega arith);
       })
-      (readies d bytes has x m board f ring free low some)
+      (readies d bytes has x m board f ring free low some (first_is out ∙ high) (second_is out data_low ∙ high'))
 
   -- cells whose looks show the clock high, up to where `rest` are left
-  pub cells_pass : (rest : ℕ) → ((k : ℕ) → k + rest < 10 → is_high k ≡ true) → (n : ℕ) (s : Stage d.State)
+  pub cells_pass : (rest : ℕ)
+      → ((k : ℕ) → k + rest < 10 → (is_high (46 + 32 * k) ≡ true) × (is_high (56 + 32 * k) ≡ true))
+      → (n : ℕ) (s : Stage d.State)
       → In (n + rest) s
       → IsFree s.cpu → Leads d (kernel_in true bytes) x s (In (0 + rest))
   cells_pass rest high n s h free =
@@ -97,27 +115,31 @@ module _ (d : Board) (bytes : List ℕ) (has : HasKernel bytes) (x : ℕ) (m : C
       let e : suc i + rest ≡ suc (i + rest) = omega arith in
       let p : In (suc (i + rest)) t = subst (λ c. In c t) e q in
       let c : p.k + suc (i + rest) ≡ 10 = p.count in
-      one_cell d bytes has x m board f ring v byte released small (i + rest) t p
-      (high p.k (omega (arith, c))) free) n s h free
+      let highs = high p.k (omega (arith, c)) in
+      one_cell d bytes has x m board f ring v byte released small (i + rest) t p highs.0 highs.1 free) n s h free
 
   -- a frame that isn't cut
-  pub sent_frame : IsFree m → m.p2 ≡ v → 255 - f LIGHTS ≡ v → f 28 ≡ byte → (f 29 == 0) ≡ false
-      → ((k : ℕ) → k < 10 → is_high k ≡ true)
+  pub sent_frame : IsFree m → m.p2 ≡ v → f 26 ≡ bit_and v 253 → f 30 ≡ byte → f 28 ≡ byte → (f 29 == 0) ≡ false
+      → ((look : ℕ) → IsLook look → is_high look ≡ true)
       → Leads d (kernel_in true bytes) x (begin_at d SEND f ring m board)
       (At d m SENT (sending f v byte 10 0 0) ring 368 (at_offset 368))
-  sent_frame free out lit is some high =
+  sent_frame free out low whole is some high =
       chain d (kernel_in true bytes) (has_rows true bytes has) x (In 10)
       (At d m SENT (sending f v byte 10 0 0) ring 368 (at_offset 368))
-      (begin_at d SEND f ring m board) (begins free out lit is some)
+      (begin_at d SEND f ring m board)
+      (begins free out low whole is some (high 8 (inl refl)) (high 26 (inr (inl refl))))
       (λ s h free.
       chain d (kernel_in true bytes) (has_rows true bytes has) x (In 0)
       (At d m SENT (sending f v byte 10 0 0) ring 368 (at_offset 368)) s
-      (cells_pass 0 (λ k l. high k (omega (arith, l))) 10 s h free)
+      (cells_pass 0 (λ k l. let few : k < 10 = omega (arith, l) in (
+        high (46 + 32 * k) (inr (inr (k, few, inl refl))),
+        high (56 + 32 * k) (inr (inr (k, few, inr refl))),
+      )) 10 s h free)
       (λ t q free.
       let k : q.k ≡ 10 = (let c : q.k + 0 ≡ 10 = q.count in omega (arith, c)) in
       let o : t.off ≡ 28 + 32 * q.k = q.off in
       let w : t.cpu.p2 ≡ wired v true (frame_bit byte q.k) = ap (λ (z : Cpu). z.p2) q.cpu in
-      let g = sending f v byte q.k 0 q.r0 in
+      let g = sending f v byte q.k 0 (in_quarters byte) in
       let y : x + t.off ≡ x + (28 + 32 * q.k) = ap (λ i. x + i) o in
       let few : 4 ≤ 5 = omega arith in
       let last : 28 + 32 * q.k + 16 + 4 ≡ 368 = omega (arith, k) in

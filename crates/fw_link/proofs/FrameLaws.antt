@@ -1,5 +1,5 @@
 -- The laws of frames at any working processor, in the words of the joint run.
-use Rattle.std.proofs.Common.{◌≡◌, ◌<◌, ℕ, suc, ◌+◌, ◌-◌, ◌*◌, ◌==◌, ◌||◌, List, Bool, true, false, drop, length}
+use Rattle.std.proofs.Common.{◌≡◌, ◌<◌, ℕ, ◌+◌, ◌-◌, ◌*◌, ◌==◌, ◌||◌, List, Bool, true, false, drop, length}
 use Rattle.std.proofs.Common.{slice_index}
 use Rattle.std.proofs.Common.{refl, ap, sym, ◌∙◌, subst, arith}
 use Rattle.mcs48_core.specs.Cpu.{Cpu}
@@ -19,7 +19,8 @@ use Rattle.fw_logic.proofs.Memory.{memory_is}
 use Rattle.fw_link.specs.Frames.{is_sending, is_receiving, Passed, Offers, Awaits, Received, SentLaw, CutLaw, GotLaw}
 use Rattle.fw_link.specs.Frames.{PulledLaw, at_again, at_edge, is_let}
 use Rattle.fw_link.specs.Drives.{Drives}
-use Rattle.fw_link.specs.Latch.{sent_latch, cut_latch, cut_after, received_latch}
+use Rattle.fw_link.specs.Latch.{IsLook, sent_latch, cut_latch, cut_after, received_latch}
+use Rattle.fw_link.proofs.Cut.{left_at_cut}
 use Rattle.fw_link.proofs.Got.{got_frame}
 use Rattle.fw_link.proofs.Got.{at_offset as got_offset}
 use Rattle.fw_link.proofs.Latches.{driven}
@@ -117,14 +118,14 @@ module _ (bytes : List ℕ) (has : HasKernel bytes) (edges : List Edge) (events 
 
   -- the looks are told from the state's cycle
   abbrev lets : ℕ → ℕ → Bool
-  lets c k = (drive (board_cycles events lines (28 + 32 * k + 18) c (to w.board).pc).side.port.link).clk
+  lets c o = (drive (board_cycles events lines o c (to w.board).pc).side.port.link).clk
 
   module _ (h : Offers start byte u) where
     abbrev released : IsReleased m.p2
     released = released_of start byte u h
 
     pub sent_over : ((o : ℕ) → o < 368 → lines (260 + start + o) ≡ latch_of (sent_latch m.p2 byte o))
-        → ((k : ℕ) → k < 10 → is_let events lines u k ≡ true)
+        → ((look : ℕ) → IsLook look → is_let events lines u look ≡ true)
         → Comes d TICK bytes w (Goes is_sending SENT 368 (sent_latch m.p2 byte))
     sent_over drives high =
         let latch : ℕ → ℕ = sent_latch m.p2 byte in
@@ -134,40 +135,40 @@ module _ (bytes : List ℕ) (has : HasKernel bytes) (edges : List Edge) (events 
         (subst (λ c. Leads d (kernel_in true bytes) c (begin_at d SEND f ring m w.board)
         (At d m SENT g ring 368 (driven d c latch 368 0 w.board))) (sym h.cycle)
         (sent_whole edges events d to over bytes has start m w.board f ring m.p2 byte released h.small lines h.shown
-        refl h.lights h.offered h.some drives
-        (subst (λ c. (k : ℕ) → k < 10 → lets c k ≡ true) h.cycle high) h.at.free))
+        refl h.data_low h.ready h.offered h.some drives
+        (subst (λ c. (o : ℕ) → IsLook o → lets c o ≡ true) h.cycle high) h.at.free))
         (λ e cpu free cycle board. (
           passed_by is_sending SENT 368 g h.at.memory e (λ i l out. sent_others f m.p2 byte 10 0 0 i out) cpu free cycle
               (ap to board ∙ at_start latch 368 h.cycle
               (sent_offset edges events d to over bytes has start m w.board f ring m.p2 byte released h.small lines
-              h.shown refl h.lights h.offered h.some drives 368 (omega arith))),
+              h.shown refl h.data_low h.ready h.offered h.some drives 368 (omega arith))),
           board,
         ))
 
-    pub cut_over : (j : ℕ) → j < 10
-        → ((o : ℕ) → o < cut_after j → lines (260 + start + o) ≡ latch_of (cut_latch m.p2 byte j o))
-        → ((k : ℕ) → k < j → is_let events lines u k ≡ true) → is_let events lines u j ≡ false
-        → Comes d TICK bytes w (Goes is_sending SCAN (cut_after j) (cut_latch m.p2 byte j))
-    cut_over j few drives high low =
-        let latch : ℕ → ℕ = cut_latch m.p2 byte j in
-        let left : ℕ = 9 - j in
-        let count : j + suc left ≡ 10 = omega (arith, few) in
-        let g : ℕ → ℕ = sending f m.p2 byte (suc j) (suc left) 0 in
-        let n : ℕ = cut_after j in
+    pub cut_over : (look : ℕ) → IsLook look
+        → ((o : ℕ) → o < cut_after look → lines (260 + start + o) ≡ latch_of (cut_latch m.p2 byte look o))
+        → ((earlier : ℕ) → IsLook earlier → earlier < look → is_let events lines u earlier ≡ true)
+        → is_let events lines u look ≡ false
+        → Comes d TICK bytes w (Goes is_sending SCAN (cut_after look) (cut_latch m.p2 byte look))
+    cut_over look is drives high low =
+        let latch : ℕ → ℕ = cut_latch m.p2 byte look in
+        let left : ℕ × ℕ × ℕ = left_at_cut f byte look is in
+        let g : ℕ → ℕ = sending f m.p2 byte left.0 left.1 left.2 in
+        let n : ℕ = cut_after look in
         from_world d bytes has w SEND h.at f (memory_is m.ram h.at.memory) m SCAN n g (out latch n)
         (Goes is_sending SCAN n latch)
         (subst (λ c. Leads d (kernel_in true bytes) c (begin_at d SEND f ring m w.board)
         (At d m SCAN g ring n (driven d c latch n 0 w.board))) (sym h.cycle)
         (sent_cut edges events d to over bytes has start m w.board f ring m.p2 byte released h.small lines h.shown refl
-        h.lights h.offered h.some j few drives
-        (subst (λ c. (k : ℕ) → k < j → lets c k ≡ true) h.cycle high)
-        (ap (λ c. lets c j) (sym h.cycle) ∙ low) left count h.at.free))
+        h.data_low h.ready h.offered h.some look is drives
+        (subst (λ c. (o : ℕ) → IsLook o → o < look → lets c o ≡ true) h.cycle high)
+        (ap (λ c. lets c look) (sym h.cycle) ∙ low) h.at.free))
         (λ e cpu free cycle board. (
-          passed_by is_sending SCAN n g h.at.memory e (λ i l out. sent_others f m.p2 byte (suc j) (suc left) 0 i out)
+          passed_by is_sending SCAN n g h.at.memory e (λ i l out. sent_others f m.p2 byte left.0 left.1 left.2 i out)
               cpu free cycle
               (ap to board ∙ at_start latch n h.cycle
               (at_cut edges events d to over bytes has start m w.board f ring m.p2 byte released h.small lines h.shown
-              refl h.lights h.offered h.some j few drives n (omega arith))),
+              refl h.data_low h.ready h.offered h.some look is drives n (omega arith))),
           board,
         ))
 
@@ -242,11 +243,11 @@ sent_law bytes has edges events start byte w h lines drives high =
     (watch_over edges events w latch) start byte (watched w) lines h drives high)
 
 pub cut_law : CutLaw
-cut_law bytes has edges events start byte j w h few lines drives high low =
-    let latch : ℕ → ℕ = cut_latch w.cpu.p2 byte j in
-    watched_by edges events w latch bytes (cut_after j) (Passed events lines is_sending SCAN (cut_after j) w)
+cut_law bytes has edges events start byte look w h is lines drives high low =
+    let latch : ℕ → ℕ = cut_latch w.cpu.p2 byte look in
+    watched_by edges events w latch bytes (cut_after look) (Passed events lines is_sending SCAN (cut_after look) w)
     (cut_over bytes has edges events (watch edges events w latch) (beneath edges events w latch)
-    (watch_over edges events w latch) start byte (watched w) lines h j few drives high low)
+    (watch_over edges events w latch) start byte (watched w) lines h look is drives high low)
 
 pub got_law : GotLaw
 got_law bytes has edges events start byte w h small lines drives asks link clock =
@@ -255,14 +256,14 @@ got_law bytes has edges events start byte w h small lines drives asks link clock
     (got_over bytes has edges events (watch edges events w latch) (beneath edges events w latch)
     (watch_over edges events w latch) start byte (watched w) lines h small drives asks link clock)
 
--- a look, by what stands at the first edge
+-- the look in the first cell, by what stands at the first edge
 look_from_edge : (events : List HostEvent) (lines : ℕ → Lines) (start : ℕ) (w : World Beside) → w.cycle ≡ 260 + start
-    → (k : ℕ) → is_let events lines w k ≡ lets_from events lines start (at_edge events lines w) k
-look_from_edge events lines start w at k =
-    ap (λ c. (drive (board_cycles events lines (28 + 32 * k + 18) c w.board.pc).side.port.link).clk) at
-    ∙ from_edge events lines start w.board.pc k
-    ∙ ap (λ c. lets_from events lines start (board_cycles events lines 28 c w.board.pc) k) (sym at)
+    → is_let events lines w 46 ≡ lets_from events lines start (at_edge events lines w) 0
+look_from_edge events lines start w at =
+    ap (λ c. (drive (board_cycles events lines (28 + 32 * 0 + 18) c w.board.pc).side.port.link).clk) at
+    ∙ from_edge events lines start w.board.pc 0
+    ∙ ap (λ c. lets_from events lines start (board_cycles events lines 28 c w.board.pc) 0) (sym at)
 
 pub pulled_law : PulledLaw
 pulled_law events start w at lines since from pulls =
-    look_from_edge events lines start w at 0 ∙ pulled_lets events lines start (at_edge events lines w) since from pulls
+    look_from_edge events lines start w at ∙ pulled_lets events lines start (at_edge events lines w) since from pulls

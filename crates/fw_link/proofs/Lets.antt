@@ -16,7 +16,7 @@ use Rattle.wires_agree.proofs.Spans.{IsAt}
 use Rattle.wires_agree.proofs.CellByCell.{cycles_more}
 use Rattle.wires_agree.specs.Cells.{IsUp}
 use Rattle.wires_agree.specs.Cycles.{board_cycles}
-use Rattle.wires_agree.specs.Ticks.{at_meeting, leaves_clock}
+use Rattle.wires_agree.specs.Ticks.{at_meeting, leaves_clock, leaves_cycle}
 
 -- a controller that pulls holds the clock low
 pulls_low : (l : Link Wire) (h : ℕ) → pulled l ≡ Some h → (drive l).clk ≡ false
@@ -34,6 +34,20 @@ from_data events lines start b =
     let p : 4 + (256 + start) ≡ 260 + start = omega arith in
     cycles_more events lines 4 28 32 (256 + start) b refl ∙ ap
     (λ c. board_cycles events lines 28 c (board_cycles events lines 4 (256 + start) b)) p
+
+-- whether the controller leaves the clock alone at a look, by the PC's side at the tick's look at the clock
+abbrev pub lets_at : List HostEvent → (ℕ → Lines) → ℕ → Pc → ℕ → Bool
+lets_at events lines start b look = (drive (board_cycles events lines (4 + look) (256 + start) b).side.port.link).clk
+
+-- the same by the cycles behind the first edge
+pub as_cycle : (events : List HostEvent) (lines : ℕ → Lines) (start : ℕ) (b : Pc) (look n : ℕ) → look ≡ 28 + n
+    → lets_at events lines start b look ≡ leaves_cycle events lines start b n
+as_cycle events lines start b look n e =
+    let p : 32 + (256 + start) ≡ 288 + start = omega arith in
+    let q : 32 + n ≡ 4 + look = omega (arith, e) in
+    ap (λ (c : Pc). (drive c.side.port.link).clk)
+    (cycles_more events lines 32 n (4 + look) (256 + start) b q
+    ∙ ap (λ c. board_cycles events lines n c (at_meeting events lines start b)) p)
 
 module _ (events : List HostEvent) (lines : ℕ → Lines) (start : ℕ) where
   -- whether the controller leaves the clock alone at the look of cell k, by the PC's side at the first edge

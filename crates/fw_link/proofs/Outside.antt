@@ -1,16 +1,16 @@
 -- Outside frames the latch of port 2 leaves both wires alone; and the lines of a whole tick.
-use Rattle.std.proofs.Common.{◌≡◌, ◌≤◌, ◌<◌, ℕ, suc, zero, ◌+◌, ◌-◌, ◌*◌, List, Bool, true, false, nat_lt, refl, ap}
+use Rattle.std.proofs.Common.{◌≡◌, ◌≤◌, ◌<◌, ℕ, suc, zero, ◌+◌, ◌-◌, List, Bool, true, false, nat_lt, refl, ap}
 use Rattle.std.proofs.Common.{sym, ◌∙◌, arith}
 use Rattle.std.proofs.lemmas.Bool.Decides.{nat_tests}
 use Rattle.board_lines.specs.declared.event.Edge.{Edge}
 use Rattle.board_lines.specs.declared.event.HostEvent.{HostEvent}
 use Rattle.board_lines.specs.declared.lines.Lines.{Lines}
-use Rattle.fw_link.specs.Latch.{frame_bit, sent_latch, cut_latch, cut_after, received_latch}
+use Rattle.fw_link.specs.Latch.{IsLook, frame_bit, sent_latch, cut_latch, cut_after, received_latch}
 use Rattle.fw_link.proofs.Latches.{in_tick}
 use Rattle.fw_link.proofs.Board.{one_cycle}
 use Rattle.fw_link.proofs.Cut.{as_sent, as_cut}
-use Rattle.fw_link.proofs.Wired.{IsReleased, cell_high}
-use Rattle.fw_link.proofs.Wires.{Drives, clock_of_latch, sent_is_frame, sent_before, sent_ends}
+use Rattle.fw_link.proofs.Wired.{IsReleased}
+use Rattle.fw_link.proofs.Wires.{Drives, look_up, sent_is_frame, sent_before, sent_ends}
 use Rattle.fw_link.proofs.WiresGot.{received_is_frame, received_before, received_ends, received_bit}
 use Rattle.host_turn.specs.Run.{says_lights}
 use Rattle.joint_run.specs.Joint.{Beside, latch_of, lights_of, joint_cycle, joint_board}
@@ -89,23 +89,23 @@ module _ (latch : ℕ → ℕ) (v start length : ℕ) where
       let b : nat_lt o (260 + start + length) ≡ false = grind (arith, nat_tests, l) in
       rw (a, b) refl
 
--- where a frame is cut both wires are released from there on
-pub cut_behind : (v start byte j o : ℕ) → 308 + 32 * j + start ≤ o
-    → in_tick (cut_latch v byte j) v start (cut_after j) o ≡ v
-cut_behind v start byte j o a = by_case (nat_lt o (312 + 32 * j + start)) refl
+-- where a frame is cut both wires are released from two cycles behind the look on
+pub cut_behind : (v start byte look o : ℕ) → 262 + look + start ≤ o
+    → in_tick (cut_latch v byte look) v start (cut_after look) o ≡ v
+cut_behind v start byte look o a = by_case (nat_lt o (266 + look + start)) refl
   where
-    by_case : (c : Bool) → nat_lt o (312 + 32 * j + start) ≡ c
-        → in_tick (cut_latch v byte j) v start (cut_after j) o ≡ v
+    by_case : (c : Bool) → nat_lt o (266 + look + start) ≡ c
+        → in_tick (cut_latch v byte look) v start (cut_after look) o ≡ v
     by_case true e =
-        let i : ℕ = o - (308 + 32 * j + start) in
-        let l : o < 312 + 32 * j + start = grind (arith, nat_tests, e) in
-        let p : o ≡ 260 + start + (28 + 32 * j + 20 + i) = omega (arith, a) in
-        let short : 28 + 32 * j + 20 + i < cut_after j = omega (arith, l, a) in
-        ap (λ c. in_tick (cut_latch v byte j) v start (cut_after j) c) p
-        ∙ in_frame (cut_latch v byte j) v start (cut_after j) (28 + 32 * j + 20 + i) short ∙ as_cut v byte j i
+        let i : ℕ = o - (262 + look + start) in
+        let l : o < 266 + look + start = grind (arith, nat_tests, e) in
+        let p : o ≡ 260 + start + (look + 2 + i) = omega (arith, a) in
+        let short : look + 2 + i < cut_after look = omega (arith, l, a) in
+        ap (λ c. in_tick (cut_latch v byte look) v start (cut_after look) c) p
+        ∙ in_frame (cut_latch v byte look) v start (cut_after look) (look + 2 + i) short ∙ as_cut v byte look i
     by_case false e =
-        let l : 312 + 32 * j + start ≤ o = grind (arith, nat_tests, e) in
-        behind_frame (cut_latch v byte j) v start (cut_after j) o (omega (arith, l))
+        let l : 266 + look + start ≤ o = grind (arith, nat_tests, e) in
+        behind_frame (cut_latch v byte look) v start (cut_after look) o (omega (arith, l))
 
 module _ (v start : ℕ) (released : IsReleased v) where
   -- the lines of a tick with a frame
@@ -157,24 +157,21 @@ module _ (v start : ℕ) (released : IsReleased v) where
             (λ o a b. up_behind (received_latch v) 366 (609 + rest + start) o (omega (arith, a)) b),
       )
 
-  -- and one that is cut in cell j, from the rise of its clock on
-  pub cut_lines : (byte j rest : ℕ)
-      → IsUp (lines_of (cut_latch v byte j) (cut_after j)) (304 + 32 * j + start) (609 + rest + start)
-  cut_lines byte j rest o a b = by_case (nat_lt o (308 + 32 * j + start)) refl
+  -- and one that is cut, from the look on
+  pub cut_lines : (byte look rest : ℕ) → IsLook look
+      → IsUp (lines_of (cut_latch v byte look) (cut_after look)) (260 + look + start) (609 + rest + start)
+  cut_lines byte look rest at o a b = by_case (nat_lt o (262 + look + start)) refl
     where
-      by_case : (c : Bool) → nat_lt o (308 + 32 * j + start) ≡ c
-          → (lines_of (cut_latch v byte j) (cut_after j) o).clk ≡ true
+      by_case : (c : Bool) → nat_lt o (262 + look + start) ≡ c
+          → (lines_of (cut_latch v byte look) (cut_after look) o).clk ≡ true
       by_case true e =
-          let i : ℕ = o - (304 + 32 * j + start) in
-          let l : i < 4 = grind (arith, nat_tests, e, a) in
-          let p : o ≡ 260 + start + (28 + 32 * j + 16 + i) = omega (arith, a) in
-          let short : 28 + 32 * j + 16 + i < cut_after j = omega (arith, l) in
-          let early : 28 + 32 * j + 16 + i < 28 + 32 * j + 20 = omega (arith, l) in
-          let soon : i < 5 = omega (arith, l) in
-          ap (λ c. (lines_of (cut_latch v byte j) (cut_after j) c).clk) p
-          ∙ ap (λ q. (latch_of q).clk) (in_frame (cut_latch v byte j) v start (cut_after j) (28 + 32 * j + 16 + i) short
-          ∙ as_sent v byte j (28 + 32 * j + 16 + i) early ∙ cell_high v byte j i soon)
-          ∙ clock_of_latch true (frame_bit byte j) v released
+          let i : ℕ = o - (260 + look + start) in
+          let l : i < 2 = grind (arith, nat_tests, e, a) in
+          let p : o ≡ 260 + start + (look + i) = omega (arith, a) in
+          ap (λ c. (lines_of (cut_latch v byte look) (cut_after look) c).clk) p
+          ∙ ap (λ q. (latch_of q).clk) (in_frame (cut_latch v byte look) v start (cut_after look) (look + i) (omega (arith, l))
+          ∙ as_sent v byte look (look + i) (omega (arith, l)))
+          ∙ look_up v byte released look at i l
       by_case false e =
-          let l : 308 + 32 * j + start ≤ o = grind (arith, nat_tests, e) in
-          ap (λ q. (latch_of q).clk) (cut_behind v start byte j o l) ∙ released.clock
+          let l : 262 + look + start ≤ o = grind (arith, nat_tests, e) in
+          ap (λ q. (latch_of q).clk) (cut_behind v start byte look o l) ∙ released.clock

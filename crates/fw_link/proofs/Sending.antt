@@ -19,6 +19,7 @@ use Rattle.fw_logic.proofs.Short.{has_rows}
 use Rattle.fw_link.specs.Latch.{wired, frame_bit, sent_latch}
 use Rattle.fw_link.proofs.Latches.{driven}
 use Rattle.fw_link.proofs.Cell.{turned, cell, Celled}
+use Rattle.fw_link.proofs.Ends.{in_quarters}
 use Rattle.fw_link.proofs.Wired.{IsReleased, falls, rises, puts, spans, cell_low, cell_high, cell_next}
 use Rattle.joint_run.specs.Run.{Board, after_cycles}
 
@@ -49,17 +50,16 @@ module _ (d : Board) (bytes : List ℕ) (has : HasKernel bytes) (x : ℕ) (m : C
   abbrev pub board_in : ℕ → d.State
   board_in o = driven d x latch o 0 board
 
-  -- the clock wire at the look of cell k
+  -- the clock wire at an offset of the frame
   abbrev pub look : ℕ → Bool
-  look k = (d.pins m.p1 (wired v true (frame_bit byte k)) (x + (28 + 32 * k + 18)) (board_in (28 + 32 * k + 18))).t0
+  look o = (d.pins m.p1 (latch o) (x + o) (board_in o)).t0
 
   -- the frame with n cells left
   pub record InFrame (n : ℕ) (s : Stage d.State) : Type 0 where
     pub k : ℕ
     pub count : k + n ≡ 10
-    pub r0 : ℕ
     pub cpu : s.cpu ≡ scratched (record m { p2 = wired v true (frame_bit byte k) })
-        (if not (n == 0) then S_CELL else S_STOP) (memory (sending f v byte k n r0) ring) s.cpu
+        (if not (n == 0) then S_CELL else S_STOP) (memory (sending f v byte k n (in_quarters byte)) ring) s.cpu
     pub carry : s.cpu.c ≡ carry_at byte k
     pub off : s.off ≡ 28 + 32 * k
     pub board_now : s.board ≡ board_in (28 + 32 * k)
@@ -91,50 +91,80 @@ module _ (d : Board) (bytes : List ℕ) (has : HasKernel bytes) (x : ℕ) (m : C
       (λ i l. let q : i < 5 = omega (arith, l, few) in cell_high v byte k i q ∙ sym up)
       (low_span k y w s e is b)
 
+  -- and the next bit is put
+  pub put_span : (n k y w r u : ℕ) (s : d.State) → n ≤ 11 → y ≡ x + (28 + 32 * k) → w ≡ wired v true (frame_bit byte k)
+      → r ≡ wired v true (frame_bit byte k) → u ≡ wired v true (frame_bit byte (suc k)) → s ≡ board_in (28 + 32 * k)
+      → after_cycles n 21 (λ o. d.cycle u (y + o))
+      (after_cycles 5 16 (λ o. d.cycle r (y + o)) (after_cycles 16 0 (λ o. d.cycle (bit_and w 254) (y + o)) s))
+      ≡ board_in (28 + 32 * k + 21 + n)
+  put_span n k y w r u s short e is up next b =
+      let few : 5 ≤ 5 = omega arith in
+      let p : 28 + 32 * k + 16 + 5 ≡ 28 + 32 * k + 21 = omega arith in
+      spans d x latch n (28 + 32 * k + 21) y 21 u
+      (after_cycles 5 16 (λ o. d.cycle r (y + o)) (after_cycles 16 0 (λ o. d.cycle (bit_and w 254) (y + o)) s))
+      board (omega (arith, e))
+      (λ i l. cell_next v byte k i (omega (arith, l, short)) ∙ sym next) (high_span 5 k y w r s few e is up b ∙ ap board_in p)
+
   behind_span : (k y w r u : ℕ) (s : d.State) → y ≡ x + (28 + 32 * k) → w ≡ wired v true (frame_bit byte k)
       → r ≡ wired v true (frame_bit byte k) → u ≡ wired v true (frame_bit byte (suc k)) → s ≡ board_in (28 + 32 * k)
       → after_cycles 11 21 (λ o. d.cycle u (y + o))
       (after_cycles 5 16 (λ o. d.cycle r (y + o)) (after_cycles 16 0 (λ o. d.cycle (bit_and w 254) (y + o)) s))
       ≡ board_in (28 + 32 * suc k)
   behind_span k y w r u s e is up next b =
-      let few : 5 ≤ 5 = omega arith in
-      let p : 28 + 32 * k + 16 + 5 ≡ 28 + 32 * k + 21 = omega arith in
       let q : 28 + 32 * k + 21 + 11 ≡ 28 + 32 * suc k = omega arith in
-      spans d x latch 11 (28 + 32 * k + 21) y 21 u
-      (after_cycles 5 16 (λ o. d.cycle r (y + o)) (after_cycles 16 0 (λ o. d.cycle (bit_and w 254) (y + o)) s))
-      board (omega (arith, e))
-      (λ i l. cell_next v byte k i l ∙ sym next) (high_span 5 k y w r s few e is up b ∙ ap board_in p)
-      ∙ ap board_in q
+      put_span 11 k y w r u s (omega arith) e is up next b ∙ ap board_in q
 
-  -- the look in a cell of the law is that of the frame
+  -- the looks in a cell of the law are those of the frame
   pub look_is : (k y w r p1 : ℕ) (s : d.State) → p1 ≡ m.p1 → y ≡ x + (28 + 32 * k)
       → w ≡ wired v true (frame_bit byte k) → r ≡ wired v true (frame_bit byte k) → s ≡ board_in (28 + 32 * k)
       → (d.pins p1 r (y + 18)
       (after_cycles 2 16 (λ o. d.cycle r (y + o))
-      (after_cycles 16 0 (λ o. d.cycle (bit_and w 254) (y + o)) s))).t0 ≡ look k
+      (after_cycles 16 0 (λ o. d.cycle (bit_and w 254) (y + o)) s))).t0 ≡ look (46 + 32 * k)
   look_is k y w r p1 s one e is up b =
       let few : 2 ≤ 5 = omega arith in
-      let p : 28 + 32 * k + 16 + 2 ≡ 28 + 32 * k + 18 = omega arith in
-      let c : y + 18 ≡ x + (28 + 32 * k + 18) = omega (arith, e) in
+      let p : 28 + 32 * k + 16 + 2 ≡ 46 + 32 * k = omega arith in
+      let c : y + 18 ≡ x + (46 + 32 * k) = omega (arith, e) in
       let at : after_cycles 2 16 (λ o. d.cycle r (y + o))
-      (after_cycles 16 0 (λ o. d.cycle (bit_and w 254) (y + o)) s) ≡ board_in (28 + 32 * k + 18) =
+      (after_cycles 16 0 (λ o. d.cycle (bit_and w 254) (y + o)) s) ≡ board_in (46 + 32 * k) =
       high_span 2 k y w r s few e is up b ∙ ap board_in p in
+      let put : r ≡ latch (46 + 32 * k) = up ∙ sym (cell_high v byte k 2 (omega arith)) ∙ ap latch p in
       ap (λ t. (d.pins p1 r (y + 18) t).t0) at
-      ∙ ap (λ q. (d.pins q r (y + 18) (board_in (28 + 32 * k + 18))).t0) one
-      ∙ ap (λ q. (d.pins m.p1 q (y + 18) (board_in (28 + 32 * k + 18))).t0) up
-      ∙ ap (λ q. (d.pins m.p1 (wired v true (frame_bit byte k)) q (board_in (28 + 32 * k + 18))).t0) c
+      ∙ ap (λ q. (d.pins q r (y + 18) (board_in (46 + 32 * k))).t0) one
+      ∙ ap (λ q. (d.pins m.p1 q (y + 18) (board_in (46 + 32 * k))).t0) put
+      ∙ ap (λ q. (d.pins m.p1 (latch (46 + 32 * k)) q (board_in (46 + 32 * k))).t0) c
 
-  -- one cell, if its look shows the clock high
-  pub one_cell : (n : ℕ) (s : Stage d.State) (h : InFrame (suc n) s) → look h.k ≡ true → IsFree s.cpu
+  pub again_is : (k y w r u p1 : ℕ) (s : d.State) → p1 ≡ m.p1 → y ≡ x + (28 + 32 * k)
+      → w ≡ wired v true (frame_bit byte k) → r ≡ wired v true (frame_bit byte k) → u ≡ wired v true (frame_bit byte (suc k))
+      → s ≡ board_in (28 + 32 * k)
+      → (d.pins p1 u (y + 28)
+      (after_cycles 7 21 (λ o. d.cycle u (y + o))
+      (after_cycles 5 16 (λ o. d.cycle r (y + o)) (after_cycles 16 0 (λ o. d.cycle (bit_and w 254) (y + o)) s)))).t0
+      ≡ look (56 + 32 * k)
+  again_is k y w r u p1 s one e is up next b =
+      let p : 28 + 32 * k + 21 + 7 ≡ 56 + 32 * k = omega arith in
+      let c : y + 28 ≡ x + (56 + 32 * k) = omega (arith, e) in
+      let at : after_cycles 7 21 (λ o. d.cycle u (y + o))
+      (after_cycles 5 16 (λ o. d.cycle r (y + o)) (after_cycles 16 0 (λ o. d.cycle (bit_and w 254) (y + o)) s))
+      ≡ board_in (56 + 32 * k) =
+      put_span 7 k y w r u s (omega arith) e is up next b ∙ ap board_in p in
+      let put : u ≡ latch (56 + 32 * k) = next ∙ sym (cell_next v byte k 7 (omega arith)) ∙ ap latch p in
+      ap (λ t. (d.pins p1 u (y + 28) t).t0) at
+      ∙ ap (λ q. (d.pins q u (y + 28) (board_in (56 + 32 * k))).t0) one
+      ∙ ap (λ q. (d.pins m.p1 q (y + 28) (board_in (56 + 32 * k))).t0) put
+      ∙ ap (λ q. (d.pins m.p1 (latch (56 + 32 * k)) q (board_in (56 + 32 * k))).t0) c
+
+  -- one cell, if its looks show the clock high
+  pub one_cell : (n : ℕ) (s : Stage d.State) (h : InFrame (suc n) s) → look (46 + 32 * h.k) ≡ true
+      → look (56 + 32 * h.k) ≡ true → IsFree s.cpu
       → Leads d (kernel_in true bytes) x s (InFrame n)
-  one_cell n s h high free =
+  one_cell n s h high high' free =
       let k = h.k in
       let c : k + suc n ≡ 10 = h.count in
       let few : k < 10 = omega (arith, c) in
       let o : s.off ≡ 28 + 32 * k = h.off in
       let y : x + s.off ≡ x + (28 + 32 * k) = ap (λ i. x + i) o in
       let more : not (suc n == 0) ≡ true = grind (arith, nat_tests) in
-      let g = sending f v byte k (suc n) h.r0 in
+      let g = sending f v byte k (suc n) (in_quarters byte) in
       let is : s.cpu ≡ scratched (record m { p2 = wired v true (frame_bit byte k) }) S_CELL (memory g ring) s.cpu =
       h.cpu
       ∙ ap (λ b. scratched (record m { p2 = wired v true (frame_bit byte k) }) (if b then S_CELL else S_STOP)
@@ -150,7 +180,6 @@ module _ (d : Board) (bytes : List ℕ) (has : HasKernel bytes) (x : ℕ) (m : C
       (λ e q. record {
         k = suc k;
         count = omega (arith, c);
-        r0 = 0;
         cpu =
             q.0 ∙ ap (λ (z : Cpu). scratched (record z { p2 = u }) (if not (n == 0) then S_CELL else S_STOP)
             (memory (turned g s.cpu.c u n) ring) e.cpu) h.cpu
@@ -163,4 +192,5 @@ module _ (d : Board) (bytes : List ℕ) (has : HasKernel bytes) (x : ℕ) (m : C
       (cell d bytes has (x + s.off) s.cpu s.board g ring (frame_bit byte (suc k)) u n free refl (omega (arith, c))
       bit_now
       (puts (frame_bit byte (suc k)) v released)
-      (look_is k (x + s.off) s.cpu.p2 r s.cpu.p1 s.board one y w refl h.board_now ∙ high) (not (n == 0)) refl)
+      (look_is k (x + s.off) s.cpu.p2 r s.cpu.p1 s.board one y w refl h.board_now ∙ high)
+      (again_is k (x + s.off) s.cpu.p2 r u s.cpu.p1 s.board one y w refl refl h.board_now ∙ high') (not (n == 0)) refl)

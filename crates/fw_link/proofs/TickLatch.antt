@@ -29,7 +29,7 @@ shifted a b c = by_case (nat_lt a b) refl
 lights_left : (frame : Frame) (v o : ℕ) → v < 256 → lights_of (frame_latch frame v o) ≡ lights_of v
 lights_left NoFrame v o l = refl
 lights_left (SentFrame byte) v o l = sent_lights v byte o l
-lights_left (CutFrame byte cell) v o l = cut_lights v byte cell o l
+lights_left (CutFrame byte look) v o l = cut_lights v byte look o l
 lights_left ReceivedFrame v o l = received_lights v o l
 
 module _ (old v : ℕ) (frame : Frame) where
@@ -114,13 +114,13 @@ without_frame old v o l =
 abbrev pub lines_by : Frame → (v start : ℕ) → IsReleased v → ℕ → Lines
 lines_by NoFrame v start released o = latch_of v
 lines_by (SentFrame byte) v start released o = lines_of v start released (frame_latch (SentFrame byte) v) 368 o
-lines_by (CutFrame byte cell) v start released o =
-    lines_of v start released (frame_latch (CutFrame byte cell) v) (cut_after cell) o
+lines_by (CutFrame byte look) v start released o =
+    lines_of v start released (frame_latch (CutFrame byte look) v) (cut_after look) o
 lines_by ReceivedFrame v start released o = lines_of v start released (frame_latch ReceivedFrame v) 366 o
 
 pub lines_are : (frame : Frame) (old v start : ℕ) (released : IsReleased v) (o : ℕ) → 232 ≤ o
     → lines_by frame v start released (start + o) ≡ latch_of (tick_latch old v frame o)
 lines_are NoFrame old v start released o l = ap latch_of (sym (without_frame old v o l))
 lines_are (SentFrame byte) old v start released o l = ap latch_of (on_lines old v (SentFrame byte) start o l)
-lines_are (CutFrame byte cell) old v start released o l = ap latch_of (on_lines old v (CutFrame byte cell) start o l)
+lines_are (CutFrame byte look) old v start released o l = ap latch_of (on_lines old v (CutFrame byte look) start o l)
 lines_are ReceivedFrame old v start released o l = ap latch_of (on_lines old v ReceivedFrame start o l)

@@ -1,5 +1,5 @@
 -- Over the lines of a tick with a frame, board and byte time do the same; and what the first edge meets.
-use Rattle.std.proofs.Common.{◌≡◌, ◌≤◌, ◌<◌, ℕ, ◌+◌, ◌-◌, ◌*◌, List, Bool, true, false, nat_lt, Some, refl}
+use Rattle.std.proofs.Common.{◌≡◌, ◌≤◌, ◌<◌, ℕ, suc, ◌+◌, ◌-◌, ◌*◌, List, Bool, true, false, nat_lt, Some, refl}
 use Rattle.std.proofs.Common.{ap, sym, ◌∙◌, arith}
 use Rattle.std.specs.declared.option.Option.{Option}
 use Rattle.std.proofs.lemmas.Bool.Decides.{nat_tests}
@@ -11,10 +11,12 @@ use Rattle.byte_time.specs.declared.meeting.Meeting.TheVariants.{Got, Sent, Cut}
 use Rattle.ctl_link.specs.Link.{is_busy}
 use Rattle.ctl_wire.specs.Wire.{drive}
 use Rattle.ctl_link.specs.declared.link.Link.TheVariants.{Free, Request}
-use Rattle.fw_link.specs.Latch.{frame_bit, sent_latch, cut_latch, cut_after, received_latch}
+use Rattle.fw_link.specs.Latch.{IsLook, frame_bit, sent_latch, cut_latch, cut_after, received_latch}
 use Rattle.fw_link.proofs.Cut.{as_sent}
-use Rattle.fw_link.proofs.Outside.{before_frame, in_frame, lines_of, sent_lines, received_lines, cut_lines}
+use Rattle.fw_link.proofs.Outside.{before_frame, in_frame, lines_of, sent_lines, received_lines, cut_lines, cut_behind}
 use Rattle.fw_link.proofs.Wired.{IsReleased}
+use Rattle.fw_link.proofs.Wires.{look_within}
+use Rattle.fw_link.proofs.Lets.{lets_at}
 use Rattle.fw_link.proofs.WiresGot.{received_bit}
 use Rattle.joint_run.specs.Joint.{latch_of}
 use Rattle.pc_wires.specs.Wires.{Pc}
@@ -23,7 +25,7 @@ use Rattle.wires_agree.proofs.Start.{byte_of_bits}
 use Rattle.wires_agree.specs.Cells.{IsUp}
 use Rattle.wires_agree.specs.Cycles.{board_cycles}
 use Rattle.wires_agree.specs.Flips.{IsFlip}
-use Rattle.wires_agree.specs.Ticks.{Ticked, IsNone, at_meeting, leaves_clock}
+use Rattle.wires_agree.specs.Ticks.{Ticked, IsNone, at_meeting, leaves_clock, leaves_cycle}
 use Rattle.wires_agree.proofs.Lines.{same_lines}
 use Rattle.wires_agree.proofs.Off.{all_broken}
 use Rattle.wires_agree.specs.Without.{seen_in_bytes}
@@ -33,50 +35,54 @@ module _ (v start byte : ℕ) (released : IsReleased v) where
   sent = lines_of v start released (sent_latch v byte) 368
 
   abbrev cut : ℕ → ℕ → Lines
-  cut j = lines_of v start released (cut_latch v byte j) (cut_after j)
+  cut look = lines_of v start released (cut_latch v byte look) (cut_after look)
 
   -- up to where it is cut a frame drives what one that is sent does
-  pub cut_is_sent : (j o : ℕ) → j < 10 → o < 308 + 32 * j + start → cut j o ≡ sent o
-  cut_is_sent j o few u = by_case (nat_lt o (260 + start)) refl
+  pub cut_is_sent : (look o : ℕ) → IsLook look → o < 262 + look + start → cut look o ≡ sent o
+  cut_is_sent look o is u = by_case (nat_lt o (260 + start)) refl
     where
-      by_case : (c : Bool) → nat_lt o (260 + start) ≡ c → cut j o ≡ sent o
+      by_case : (c : Bool) → nat_lt o (260 + start) ≡ c → cut look o ≡ sent o
       by_case true e =
           let l : o < 260 + start = grind (arith, nat_tests, e) in
-          ap latch_of (before_frame (cut_latch v byte j) v start (cut_after j) o l)
+          ap latch_of (before_frame (cut_latch v byte look) v start (cut_after look) o l)
           ∙ ap latch_of (sym (before_frame (sent_latch v byte) v start 368 o l))
       by_case false e =
           let m : 260 + start ≤ o = grind (arith, nat_tests, e) in
+          let far : look ≤ 344 = look_within look is in
           let i = o - (260 + start) in
           let p : o ≡ 260 + start + i = omega (arith, m) in
-          let k : i < cut_after j = omega (arith, m, u) in
-          let n : i < 368 = omega (arith, k, few) in
-          let q : i < 28 + 32 * j + 20 = omega (arith, m, u) in
-          ap (cut j) p ∙ ap latch_of (in_frame (cut_latch v byte j) v start (cut_after j) i k ∙ as_sent v byte j i q)
+          let k : i < cut_after look = omega (arith, m, u) in
+          let n : i < 368 = omega (arith, k, far) in
+          let q : i < look + 2 = omega (arith, m, u) in
+          ap (cut look) p
+          ∙ ap latch_of (in_frame (cut_latch v byte look) v start (cut_after look) i k ∙ as_sent v byte look i q)
           ∙ ap latch_of (sym (in_frame (sent_latch v byte) v start 368 i n)) ∙ ap sent (sym p)
 
   -- so the PC's side is one up to there
-  pub cut_sides : (events : List HostEvent) (j n now : ℕ) (b : Pc) → j < 10 → now + n ≤ 308 + 32 * j + start
-      → board_cycles events (cut j) n now b ≡ board_cycles events sent n now b
-  cut_sides events j n now b few l =
-      same_lines events (cut j) sent n now b (λ o a u. cut_is_sent j o few (omega (arith, u, l)))
+  pub cut_sides : (events : List HostEvent) (look n now : ℕ) (b : Pc) → IsLook look → now + n ≤ 262 + look + start
+      → board_cycles events (cut look) n now b ≡ board_cycles events sent n now b
+  cut_sides events look n now b is l =
+      same_lines events (cut look) sent n now b (λ o a u. cut_is_sent look o is (omega (arith, u, l)))
 
-  -- also at the first edge, and at the looks up to that of the cut
-  pub cut_meets : (events : List HostEvent) (j : ℕ) (b : Pc) → j < 10
-      → at_meeting events (cut j) start b ≡ at_meeting events sent start b
-  cut_meets events j b few = cut_sides events j 32 (256 + start) b few (omega arith)
-
-  pub cut_leaves : (events : List HostEvent) (j i : ℕ) (b : Pc) → j < 10 → i ≤ j
-      → leaves_clock events (cut j) start b i ≡ leaves_clock events sent start b i
-  cut_leaves events j i b few l =
+  -- also at the looks up to that of the cut
+  pub cut_lets : (events : List HostEvent) (look earlier : ℕ) (b : Pc) → IsLook look → earlier ≤ look
+      → lets_at events (cut look) start b earlier ≡ lets_at events sent start b earlier
+  cut_lets events look earlier b is l =
       ap (λ (c : Pc). (drive c.side.port.link).clk)
-      (cut_sides events j (32 * i + 18) (288 + start) (at_meeting events (cut j) start b) few (omega (arith, l))
-      ∙ ap (λ c. board_cycles events sent (32 * i + 18) (288 + start) c) (cut_meets events j b few))
+      (cut_sides events look (4 + earlier) (256 + start) b is (omega (arith, l)))
 
   -- it leaves the clock alone up to the first edge
-  pub cut_up : (j : ℕ) → j < 10 → IsUp (cut j) (256 + start) (288 + start)
-  cut_up j few o a u =
-      ap (λ (z : Lines). z.clk) (cut_is_sent j o few (omega (arith, u)))
-      ∙ (sent_lines v start released byte 0).0 o a u
+  pub cut_up : (look : ℕ) → IsLook look → IsUp (cut look) (256 + start) (288 + start)
+  cut_up look is o a u = by_case (nat_lt o (262 + look + start)) refl
+    where
+      by_case : (c : Bool) → nat_lt o (262 + look + start) ≡ c → (cut look o).clk ≡ true
+      by_case true e =
+          let l : o < 262 + look + start = grind (arith, nat_tests, e) in
+          ap (λ (z : Lines). z.clk) (cut_is_sent look o is l)
+          ∙ (sent_lines v start released byte 0).0 o a u
+      by_case false e =
+          let l : 262 + look + start ≤ o = grind (arith, nat_tests, e) in
+          ap (λ q. (latch_of q).clk) (cut_behind v start byte look o l) ∙ released.clock
 
 module _ (events : List HostEvent) (v start : ℕ) (released : IsReleased v) (rest k : ℕ) (b : Pc)
     (all : k ≡ 353 + rest) where
@@ -101,29 +107,31 @@ module _ (events : List HostEvent) (v start : ℕ) (released : IsReleased v) (re
       all_got events (lines_of v start released (received_latch v) 366) start rest more byte k offer received_bit b h.0
       here h.1 h.2 long all
 
-  -- one that is cut in its first cell, as the controller pulls the clock before the first edge
-  pub cut_ticked : (byte : ℕ) → b.side.port.link ≡ Free
-      → ((at_meeting events (lines_of v start released (cut_latch v byte 0) 52) start b).side.port.link ≡ Free → ⊥)
-      → Ticked events (lines_of v start released (cut_latch v byte 0) 52) start rest b true (Some byte) Cut k
-  cut_ticked byte here there =
-      all_cut events (lines_of v start released (cut_latch v byte 0) 52) start rest byte k b
-      (cut_up v start byte released 0 (omega arith)) here there
-      (λ o a u. cut_lines v start released byte 0 rest o (omega (arith, a)) u) all
+  -- one that is cut as the controller pulls the clock before the first edge
+  pub cut_ticked : (byte look : ℕ) (is : IsLook look) → look ≤ 46 → b.side.port.link ≡ Free
+      → ((at_meeting events (lines_of v start released (cut_latch v byte look) (cut_after look)) start b).side.port.link ≡ Free → ⊥)
+      → Ticked events (lines_of v start released (cut_latch v byte look) (cut_after look)) start rest b true (Some byte) Cut k
+  cut_ticked byte look is early here there =
+      all_cut events (lines_of v start released (cut_latch v byte look) (cut_after look)) start rest byte k b
+      (cut_up v start byte released look is) here there
+      (λ o a u. cut_lines v start released byte look rest is o (omega (arith, a, early)) u) all
 
   -- and one that is cut in cell j, as the controller breaks off the byte
-  pub broken_ticked : (byte j : ℕ) → j < 10 → b.side.port.link ≡ Free
-      → (at_meeting events (lines_of v start released (cut_latch v byte j) (cut_after j)) start b).side.port.link
+  pub broken_ticked : (byte j n look : ℕ) (is : IsLook look) → look ≡ 32 * j + (29 + n) → j < 10 → 17 ≤ n → n ≤ 31
+      → b.side.port.link ≡ Free
+      → (at_meeting events (lines_of v start released (cut_latch v byte look) (cut_after look)) start b).side.port.link
       ≡ Free
       → ((i : ℕ) → i < j
-      → leaves_clock events (lines_of v start released (cut_latch v byte j) (cut_after j)) start b i ≡ true)
-      → leaves_clock events (lines_of v start released (cut_latch v byte j) (cut_after j)) start b j ≡ false
-      → Ticked events (lines_of v start released (cut_latch v byte j) (cut_after j)) start rest b true (Some byte) Cut k
-  broken_ticked byte j few here there leaves pulls =
-      all_broken events (lines_of v start released (cut_latch v byte j) (cut_after j))
-      (lines_of v start released (sent_latch v byte) 368) start rest byte j k (frame_bit byte) b
-      (cut_up v start byte released j few) here there (sent_lines v start released byte rest).1 few
-      (λ o a u. cut_is_sent v start byte released j o few (omega (arith, u))) leaves pulls
-      (λ o a u. cut_lines v start released byte j rest o (omega (arith, a)) u) all
+      → leaves_clock events (lines_of v start released (cut_latch v byte look) (cut_after look)) start b i ≡ true)
+      → leaves_cycle events (lines_of v start released (cut_latch v byte look) (cut_after look)) start b (32 * j + suc n)
+      ≡ false
+      → Ticked events (lines_of v start released (cut_latch v byte look) (cut_after look)) start rest b true (Some byte) Cut k
+  broken_ticked byte j n look is at few late short here there leaves pulls =
+      all_broken events (lines_of v start released (cut_latch v byte look) (cut_after look))
+      (lines_of v start released (sent_latch v byte) 368) start rest byte j n k (frame_bit byte) b
+      (cut_up v start byte released look is) here there (sent_lines v start released byte rest).1 few late short
+      (λ o a u. cut_is_sent v start byte released look o is (omega (arith, u, at))) leaves pulls
+      (λ o a u. cut_lines v start released byte look rest is o (omega (arith, a, at)) u) all
 
   -- and one without a frame
   pub still_ticked : (tested : Bool) (offer : Option ℕ) (meeting : Meeting) → is_busy b.side.port.link ≡ false

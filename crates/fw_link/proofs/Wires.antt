@@ -1,13 +1,13 @@
 -- The latches of a frame as cells and frames of the wires.
 use Rattle.std.proofs.Common.{◌≡◌, ◌≤◌, ◌<◌, ℕ, suc, ◌+◌, ◌-◌, ◌*◌, ◌/◌, ◌%◌, Bool, true, false, not, ◌&&◌}
 use Rattle.std.proofs.Common.{nat_le, nat_lt, if◌then◌else◌}
-use Rattle.std.proofs.Common.{bit_and, refl, ap, ◌∙◌, arith}
+use Rattle.std.proofs.Common.{bit_and, refl, ap, ◌∙◌, inl, inr, arith}
 use Rattle.std.proofs.lemmas.Bool.Decides.{nat_tests}
 use Rattle.bits.specs.Bits.{bit}
 use Rattle.board_lines.specs.declared.lines.Lines.{Lines}
 use Rattle.bits.proofs.Every.{by_byte, tests_by}
-use Rattle.fw_link.specs.Latch.{wired, frame_bit, sent_cell, sent_latch}
-use Rattle.fw_link.proofs.Wired.{IsReleased, in_cell}
+use Rattle.fw_link.specs.Latch.{IsLook, wired, frame_bit, sent_cell, sent_latch}
+use Rattle.fw_link.proofs.Wired.{IsReleased, in_cell, cell_high, cell_next}
 use Rattle.joint_run.specs.Joint.{latch_of, lights_of}
 use Rattle.wires_agree.specs.Cells.{IsUp, IsFrame}
 use Rattle.wires_agree.specs.Ticks.{EndsFrame}
@@ -30,6 +30,39 @@ lights_of_latch true true v l = by_byte (λ v. lights_of (bit_and v 255)) lights
 lights_of_latch true false v l = by_byte (λ v. lights_of (bit_and v 253)) lights_of refl v l
 lights_of_latch false true v l = by_byte (λ v. lights_of (bit_and v 254)) lights_of refl v l
 lights_of_latch false false v l = by_byte (λ v. lights_of (bit_and v 252)) lights_of refl v l
+
+-- at a look, and in the cycle behind it, the latch leaves the clock alone
+pub look_up : (v byte : ℕ) → IsReleased v → (look : ℕ) → IsLook look → (i : ℕ) → i < 2
+    → (latch_of (sent_latch v byte (look + i))).clk ≡ true
+look_up v byte released look (inl e) i l =
+    let a : nat_lt (look + i) 10 ≡ true = grind (arith, nat_tests, e, l) in
+    ap (λ c. (latch_of (if c then v else if nat_lt (look + i) 28 then wired v true false else sent_cell v byte
+    ((look + i - 28) / 32) ((look + i - 28) % 32))).clk) a ∙ released.clock
+look_up v byte released look (inr (inl e)) i l =
+    let a : nat_lt (look + i) 10 ≡ false = grind (arith, nat_tests, e) in
+    let b : nat_lt (look + i) 28 ≡ true = grind (arith, nat_tests, e, l) in
+    ap (λ c. (latch_of (if c then v else if nat_lt (look + i) 28 then wired v true false else sent_cell v byte
+    ((look + i - 28) / 32) ((look + i - 28) % 32))).clk) a
+    ∙ ap (λ c. (latch_of (if c then wired v true false else sent_cell v byte ((look + i - 28) / 32)
+    ((look + i - 28) % 32))).clk) b
+    ∙ clock_of_latch true false v released
+look_up v byte released look (inr (inr (k, few, inl e))) i l =
+    let p : look + i ≡ 28 + 32 * k + 16 + (2 + i) = omega (arith, e) in
+    ap (λ i. (latch_of (sent_latch v byte i)).clk) p
+    ∙ ap (λ q. (latch_of q).clk) (cell_high v byte k (2 + i) (omega (arith, l)))
+    ∙ clock_of_latch true (frame_bit byte k) v released
+look_up v byte released look (inr (inr (k, few, inr e))) i l =
+    let p : look + i ≡ 28 + 32 * k + 21 + (7 + i) = omega (arith, e) in
+    ap (λ i. (latch_of (sent_latch v byte i)).clk) p
+    ∙ ap (λ q. (latch_of q).clk) (cell_next v byte k (7 + i) (omega (arith, l)))
+    ∙ clock_of_latch true (frame_bit byte (suc k)) v released
+
+-- a look is within the frame
+pub look_within : (look : ℕ) → IsLook look → look ≤ 344
+look_within look (inl e) = omega (arith, e)
+look_within look (inr (inl e)) = omega (arith, e)
+look_within look (inr (inr (k, few, inl e))) = omega (arith, e, few)
+look_within look (inr (inr (k, few, inr e))) = omega (arith, e, few)
 
 -- the clock of a cell is low for 16 cycles: it doesn't fall again
 rises_once : (i : ℕ) → (nat_le 16 i && not (nat_le 16 (suc i))) ≡ false

@@ -32,8 +32,8 @@ sent_lights v byte o l =
     by_case false true a b = lights_of_latch true false v l
     by_case false false a b = lights_of_latch a b v l
 
-pub cut_lights : (v byte j o : ℕ) → v < 256 → lights_of (cut_latch v byte j o) ≡ lights_of v
-cut_lights v byte j o l = by_case (nat_lt o (28 + 32 * j + 20))
+pub cut_lights : (v byte look o : ℕ) → v < 256 → lights_of (cut_latch v byte look o) ≡ lights_of v
+cut_lights v byte look o l = by_case (nat_lt o (look + 2))
   where
     by_case : (c : Bool) → lights_of (if c then sent_latch v byte o else v) ≡ lights_of v
     by_case true = sent_lights v byte o l

@@ -1,5 +1,5 @@
 -- Frames told of the joint run: place, time, what is kept, and the PC's side by the cycles at its wires.
-use Rattle.std.specs.Prelude.{◌≡◌, ◌≤◌, ◌<◌, ℕ, ◌+◌, ◌-◌, ◌*◌, Bool, true, false, ◌||◌, ◌==◌, List, slice_index, Some}
+use Rattle.std.specs.Prelude.{◌≡◌, ◌≤◌, ◌<◌, ℕ, ◌+◌, ◌-◌, Bool, true, false, ◌||◌, ◌==◌, List, slice_index, bit_and, Some}
 use Rattle.board_lines.specs.declared.event.Edge.{Edge}
 use Rattle.board_lines.specs.declared.event.HostEvent.{HostEvent}
 use Rattle.board_lines.specs.declared.lines.Lines.{Lines}
@@ -7,7 +7,6 @@ use Rattle.ctl_link.specs.Pulls.{pulled}
 use Rattle.ctl_link.specs.declared.link.Link.TheVariants.{Request}
 use Rattle.ctl_wire.specs.Wire.{drive}
 use Rattle.fw_kernel.specs.Places.{HasKernel}
-use Rattle.fw_kernel.specs.declared.cells.TheConstants.{LIGHTS}
 use Rattle.fw_kernel.specs.declared.labels.TheConstants.{TICK, SEND, SENT, SCAN, GOT, COMMAND}
 use Rattle.fw_logic.specs.Blocks.{IsAt}
 use Rattle.joint_run.specs.Joint.{Beside, latch_of, lights_of, joint_board}
@@ -16,7 +15,7 @@ use Rattle.fw_link.specs.Drives.{Drives}
 use Rattle.bits.specs.Bits.{bit}
 use Rattle.pc_wires.specs.Wires.{Pc}
 use Rattle.wires_agree.specs.Cycles.{board_cycles}
-use Rattle.fw_link.specs.Latch.{sent_latch, cut_latch, cut_after, received_latch}
+use Rattle.fw_link.specs.Latch.{IsLook, sent_latch, cut_latch, cut_after, received_latch}
 
 -- R0 to R3 and R6 are written where a byte is sent
 abbrev pub is_sending : ℕ → Bool
@@ -40,17 +39,18 @@ pub record Passed
   pub others : (i : ℕ) → written i ≡ false → slice_index e.cpu.ram i ≡ slice_index w.cpu.ram i
 
 -- a byte is ready to be sent, behind the look at data of the tick that starts at `start`; the latch leaves both wires
--- alone and shows its lights
+-- alone and shows its lights. R4 and R6 are the byte, R2 is the latch with data low
 pub record Offers (start byte : ℕ) (w : World Beside) : Type 0 where
   pub at : IsAt SEND w.cpu
   pub cycle : w.cycle ≡ 260 + start
   pub latch : w.cpu.p2 < 256
   pub clock : bit 0 w.cpu.p2 ≡ true
   pub data_wire : bit 1 w.cpu.p2 ≡ true
-  pub lights : 255 - slice_index w.cpu.ram LIGHTS ≡ w.cpu.p2
   pub shown : lights_of w.cpu.p2 ≡ w.board.shown
   pub small : byte < 256
   pub offered : slice_index w.cpu.ram 28 ≡ byte
+  pub ready : slice_index w.cpu.ram 30 ≡ byte
+  pub data_low : slice_index w.cpu.ram 26 ≡ bit_and w.cpu.p2 253
   pub some : (slice_index w.cpu.ram 29 == 0) ≡ false
 
 -- what stands on the PC's side at the first edge, 28 cycles behind
@@ -61,38 +61,39 @@ at_edge events lines w = board_cycles events lines 28 w.cycle w.board.pc
 abbrev pub at_again : List HostEvent → (ℕ → Lines) → World Beside → Pc
 at_again events lines w = board_cycles events lines 26 w.cycle w.board.pc
 
--- whether the controller leaves the clock alone at the look at it in cell k, 18 cycles into the cell
+-- whether the controller leaves the clock alone at a look at it
 abbrev pub is_let : List HostEvent → (ℕ → Lines) → World Beside → ℕ → Bool
-is_let events lines w k = (drive (board_cycles events lines (28 + 32 * k + 18) w.cycle w.board.pc).side.port.link).clk
+is_let events lines w look = (drive (board_cycles events lines look w.cycle w.board.pc).side.port.link).clk
 
--- where the controller leaves the clock alone at each of the ten looks, the frame is sent whole, in 368 cycles
+-- where the controller leaves the clock alone at each look, the frame is sent whole, in 368 cycles
 abbrev pub SendsFrames : List ℕ → Type 0
 SendsFrames bytes =
     (edges : List Edge) (events : List HostEvent)
     → (start byte : ℕ) (w : World Beside)
     → Offers start byte w → (lines : ℕ → Lines)
     → ((o : ℕ) → o < 368 → lines (260 + start + o) ≡ latch_of (sent_latch w.cpu.p2 byte o))
-    → ((k : ℕ) → k < 10 → is_let events lines w k ≡ true)
+    → ((look : ℕ) → IsLook look → is_let events lines w look ≡ true)
     → Drives (joint_board edges events) TICK bytes w (λ c. sent_latch w.cpu.p2 byte (c - w.cycle))
     (Passed events lines is_sending SENT 368 w)
 
--- where it pulls the clock at the look of a cell, and at none before it, the frame is cut in that cell
+-- where it pulls the clock at a look, and at none before it, the frame is cut there
 abbrev pub IsCut : List ℕ → Type 0
 IsCut bytes =
     (edges : List Edge) (events : List HostEvent)
-    → (start byte cell : ℕ) (w : World Beside)
-    → Offers start byte w → cell < 10 → (lines : ℕ → Lines)
-    → ((o : ℕ) → o < cut_after cell → lines (260 + start + o) ≡ latch_of (cut_latch w.cpu.p2 byte cell o))
-    → ((k : ℕ) → k < cell → is_let events lines w k ≡ true) → is_let events lines w cell ≡ false
-    → Drives (joint_board edges events) TICK bytes w (λ c. cut_latch w.cpu.p2 byte cell (c - w.cycle))
-    (Passed events lines is_sending SCAN (cut_after cell) w)
+    → (start byte look : ℕ) (w : World Beside)
+    → Offers start byte w → IsLook look → (lines : ℕ → Lines)
+    → ((o : ℕ) → o < cut_after look → lines (260 + start + o) ≡ latch_of (cut_latch w.cpu.p2 byte look o))
+    → ((earlier : ℕ) → IsLook earlier → earlier < look → is_let events lines w earlier ≡ true)
+    → is_let events lines w look ≡ false
+    → Drives (joint_board edges events) TICK bytes w (λ c. cut_latch w.cpu.p2 byte look (c - w.cycle))
+    (Passed events lines is_sending SCAN (cut_after look) w)
 
--- a link that is pulled at the first edge, but wasn't before offset 256, is so at the first look
+-- a link that is pulled at the first edge, but wasn't before offset 256, is so at the look in the first cell
 abbrev pub PulledLaw : Type 0
 PulledLaw =
     (events : List HostEvent) (start : ℕ) (w : World Beside) → w.cycle ≡ 260 + start → (lines : ℕ → Lines)
     → (since : ℕ) → 256 + start ≤ since → pulled (at_edge events lines w).side.port.link ≡ Some since
-    → is_let events lines w 0 ≡ false
+    → is_let events lines w 46 ≡ false
 
 -- a byte was received: R4 is the byte, R5 says that its parity was right
 pub record Received (events : List HostEvent) (lines : ℕ → Lines) (byte : ℕ) (w e : World Beside) : Type 0 where

@@ -1,5 +1,5 @@
 -- The latch of port 2 in a frame, as a function of the offset.
-use Rattle.std.specs.Prelude.{ℕ, suc, ◌+◌, ◌-◌, ◌*◌, ◌/◌, ◌%◌}
+use Rattle.std.specs.Prelude.{◌≡◌, ◌<◌, ◌⊎◌, ℕ, suc, ◌+◌, ◌-◌, ◌*◌, ◌/◌, ◌%◌}
 use Rattle.std.specs.Prelude.{Bool, true, false, ◌||◌, nat_le, nat_lt, if◌then◌else◌, bit_and, slice_index_or}
 use Rattle.mcs48_core.specs.Status.{digit}
 use Rattle.board_lines.specs.Frame.{frame_bits}
@@ -24,13 +24,18 @@ sent_latch v byte o =
     else if nat_lt o 28 then wired v true false
     else sent_cell v byte ((o - 28) / 32) ((o - 28) % 32)
 
--- a frame that is cut in cell j: both wires are released 20 cycles into it
-abbrev pub cut_latch : ℕ → ℕ → ℕ → ℕ → ℕ
-cut_latch v byte j o = if nat_lt o (28 + 32 * j + 20) then sent_latch v byte o else v
+-- the looks at the clock in a sent frame, by the offset from the look at data: two before the first fall, at 8 and 26; and
+-- two a cell, 2 cycles behind the rise of its clock and 7 behind the next bit
+abbrev pub IsLook : ℕ → Type 0
+IsLook look = (look ≡ 8) ⊎ (look ≡ 26) ⊎ ((k : ℕ) × (k < 10) × ((look ≡ 46 + 32 * k) ⊎ (look ≡ 56 + 32 * k)))
 
--- it takes 24 cycles of that cell
+-- a frame that is cut at a look: both wires are released 2 cycles behind it
+abbrev pub cut_latch : ℕ → ℕ → ℕ → ℕ → ℕ
+cut_latch v byte look o = if nat_lt o (look + 2) then sent_latch v byte o else v
+
+-- it ends 6 cycles behind it
 abbrev pub cut_after : ℕ → ℕ
-cut_after j = 28 + 32 * j + 24
+cut_after look = look + 6
 
 -- a received frame, by the offset from the look at data: eleven cells with the clock low for 16 cycles; data is low from
 -- 20 cycles into the tenth on, 12 cycles before the eleventh fall, until the clock rises for the last time
@@ -40,7 +45,7 @@ received_cell v k o = wired v (nat_le 16 o) (if nat_lt k 10 then nat_lt o 20 || 
 abbrev pub received_latch : ℕ → ℕ → ℕ
 received_latch v o = if nat_lt o 28 then v else received_cell v ((o - 28) / 32) ((o - 28) % 32)
 
--- the frame of a tick: none, one that is sent, one that is cut in a cell, or one that is received
+-- the frame of a tick: none, one that is sent, one that is cut at a look, or one that is received
 pub data Frame : Type 0 where
   NoFrame : Frame
   SentFrame : ℕ → Frame
@@ -51,14 +56,14 @@ pub data Frame : Type 0 where
 abbrev pub frame_latch : Frame → ℕ → ℕ → ℕ
 frame_latch NoFrame v o = v
 frame_latch (SentFrame byte) v o = sent_latch v byte o
-frame_latch (CutFrame byte cell) v o = cut_latch v byte cell o
+frame_latch (CutFrame byte look) v o = cut_latch v byte look o
 frame_latch ReceivedFrame v o = received_latch v o
 
 -- the cycles from the look at data to its end
 abbrev pub frame_cycles : Frame → ℕ
 frame_cycles NoFrame = 0
 frame_cycles (SentFrame byte) = 368
-frame_cycles (CutFrame byte cell) = cut_after cell
+frame_cycles (CutFrame byte look) = cut_after look
 frame_cycles ReceivedFrame = 366
 
 -- the latch in each cycle of a tick, by the offset from its start: as it was up to the lights at offset 232, and from

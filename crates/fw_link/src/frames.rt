@@ -6,7 +6,7 @@ ghost use Rattle.fw_link.specs.Reading.{DropsLaw, ReadsLaw};
 use fw_kernel::KERNEL;
 use mcs48_isa::Image;
 
-/// A sent frame: where the controller leaves the clock alone at the looks of all ten cells, the run comes from `SEND`
+/// A sent frame: if the controller leaves the clock alone at all 22 looks, the run comes from `SEND`
 /// to `SENT` in 368 cycles. In each of them the latch of port 2 is that of the byte's frame, and the PC's side has gone
 /// on by the cycles at its wires. Both latches, F1 and memory but for R0 to R3 and R6 stay. Nothing is done when it is
 /// called; the law is its contract.
@@ -14,10 +14,11 @@ pub fn frame_sent()
     ensures sent { SentLaw }
 {}
 
-/// A cut frame: where the controller pulls the clock at the look of a cell, and at none before, as it does at the first
-/// where it began to pull between the looks of the tick and the first edge, the run comes from `SEND` to `SCAN` within
-/// 24 cycles of that cell. In each cycle the latch of port 2 is that of the byte's frame up to two cycles behind the
-/// look, and then both wires are released; the same stays. Nothing is done when it is called; the law is its contract.
+/// A cut frame: if the controller pulls the clock at a look, and at none before, the run comes from `SEND` to `SCAN` within
+/// 6 cycles of the look. In each cycle the latch of port 2 is that of the byte's frame up to two cycles behind the look, and
+/// then both wires are released; so at the two looks before the first fall the clock hasn't fallen. The same stays as after a
+/// sent frame. If the controller began to pull between the looks of the tick and the first edge, it pulls at the look of the
+/// first cell. Nothing is done when it is called; the law is its contract.
 pub fn frame_cut()
     ensures cut { CutLaw }
     ensures pulled { PulledLaw }

@@ -10,7 +10,7 @@ use Rattle.fw_kernel.specs.Places.{HasKernel}
 use Rattle.joint_run.specs.Run.{Board, World, after_cycles}
 use Rattle.joint_run.specs.Starts.{Comes}
 use Rattle.fw_logic.specs.Scan.{in_tick}
-use Rattle.fw_logic.specs.Blocks.{IsAt, is_read, ReadsColumns, PutsLights, Looks, clock_seen, data_seen, way}
+use Rattle.fw_logic.specs.Blocks.{IsAt, is_read, ReadsColumns, PutsLights, Looks, is_looking, clock_seen, data_seen, way}
 use Rattle.fw_logic.specs.Blocks.{way_time}
 use Rattle.fw_logic.proofs.Clock.{IsFree}
 use Rattle.fw_logic.proofs.Path.{world_at}
@@ -20,8 +20,21 @@ use Rattle.fw_logic.proofs.Block.{put, memory, scratched, begin_at, At}
 use Rattle.fw_logic.proofs.Memory.{memory_is}
 use Rattle.fw_logic.proofs.Cells.{cell, put_other, behind_cells, cells_long}
 use Rattle.fw_logic.proofs.Columns.{ready, scanned, shows, shows_is, columns}
-use Rattle.fw_logic.proofs.Looks.{lamps, looks_pulled, looks_got, looks_free}
+use Rattle.fw_logic.proofs.Looks.{readied, lamps, looks_pulled, looks_got, looks_free}
 use Rattle.fw_logic.proofs.Scanned.{held_cell, changed_cell}
+
+-- where none of four tests holds, each fails
+none_of_four : (a b c p : Bool) → (a || b || c || p) ≡ false → (a ≡ false) × (b ≡ false) × (c ≡ false) × (p ≡ false)
+none_of_four false false false false h = (refl, refl, refl, refl)
+none_of_four true b c p h = absurd cc
+none_of_four false true c p h = absurd cc
+none_of_four false false true p h = absurd cc
+none_of_four false false false true h = absurd cc
+
+readied_others : (f : ℕ → ℕ) (i : ℕ) → is_looking i ≡ false → readied f i ≡ f i
+readied_others f i out =
+    let h = none_of_four (i == 24) (i == 25) (i == 26) (i == 30) out in
+    rw (h.0, h.1, h.2, h.3) refl
 
 -- data memory as cells, and what is behind them
 abbrev pub cells_of : List ℕ → ℕ → ℕ
@@ -183,7 +196,7 @@ module _ (d : Board) (bytes : List ℕ) (has : HasKernel bytes) where
   looks_by : (w : World d.State) → IsAt LOOKS w.cpu → (a b : Bool) → clock_seen d w ≡ a → data_seen d w ≡ b
       → Leads d (kernel_in true bytes) w.cycle
       (begin_at d LOOKS (cells_of w.cpu.ram) (drop 112 w.cpu.ram) w.cpu w.board)
-      (At d w.cpu (way a b) (put (cells_of w.cpu.ram) 24 0) (drop 112 w.cpu.ram) (way_time a)
+      (At d w.cpu (way a b) (readied (cells_of w.cpu.ram)) (drop 112 w.cpu.ram) (way_time a)
       (in_tick d w (way_time a)))
   looks_by w is false b clock wire =
       looks_pulled d bytes has w.cycle w.cpu (cells_of w.cpu.ram) (drop 112 w.cpu.ram) w.board is.free clock
@@ -198,16 +211,21 @@ module _ (d : Board) (bytes : List ℕ) (has : HasKernel bytes) where
       let f = cells_of m.ram in
       let a = clock_seen d w in
       let b = data_seen d w in
-      from_world w LOOKS is f (memory_is m.ram is.memory) m (way a b) (way_time a) (put f 24 0)
+      from_world w LOOKS is f (memory_is m.ram is.memory) m (way a b) (way_time a) (readied f)
       (in_tick d w (way_time a))
       (Looks d w)
       (looks_by w is a b refl refl)
       (λ e cpu free cycle board. record {
-        to = at_end w e m (way a b) (put f 24 0) is.memory cpu free;
+        to = at_end w e m (way a b) (readied f) is.memory cpu free;
         cycle = cycle;
         board = board;
         p1 = ap (λ (c : Cpu). c.p1) cpu;
         p2 = ap (λ (c : Cpu). c.p2) cpu;
         f1 = ap (λ (c : Cpu). c.f1) cpu;
-        others = kept_cell w e m (way a b) 24 0 is.memory cpu;
+        r2 = ap (λ (c : Cpu). slice_index c.ram 26) cpu ∙ cell (readied f) (drop 112 m.ram) 26 (omega arith);
+        r6 = ap (λ (c : Cpu). slice_index c.ram 30) cpu ∙ cell (readied f) (drop 112 m.ram) 30 (omega arith);
+        others = λ i other.
+            ap (λ (c : Cpu). slice_index c.ram i) cpu
+            ∙ others_are f (readied f) (drop 112 m.ram) is_looking (λ j l n. readied_others f j n) i other
+            ∙ ap (λ r. slice_index r i) (sym (memory_is m.ram is.memory));
       })

@@ -9,10 +9,11 @@ use Rattle.mcs48_core.specs.Cpu.{Cpu}
 use Rattle.mcs48_core.specs.Step.{stepped}
 use Rattle.joint_run.specs.Run.{Board, World, seen, joint_step, step_on, run_at}
 use Rattle.joint_run.specs.Starts.{at_tick, calm, Comes}
-use Rattle.fw_logic.specs.Executed.{IsFit, LooksLate}
+use Rattle.fw_logic.specs.Executed.{IsFit, LooksLate, LooksSoon, looks}
 use Rattle.fw_logic.proofs.Between.{IsStart, Resting, Working, WorksOn, works_on, rests_on, begins_work, same_next}
 use Rattle.fw_logic.proofs.Between.{start_place, along, no_start, step_of}
 use Rattle.fw_logic.proofs.Late.{main_late, serve_late}
+use Rattle.fw_logic.proofs.Soon.{main_blind, serves_soon}
 use Rattle.fw_logic.proofs.Passing.{Passes}
 use Rattle.fw_logic.proofs.Waking.{Wakes, waking}
 use Rattle.fw_logic.proofs.Turns.{IsMain, IsServing, main_fit, service_fit}
@@ -111,6 +112,16 @@ module _ (d : Board) (bytes : List ℕ) (has : HasKernel bytes) (from : World d.
         by (inr (inl h)) = main_late bytes has false w.cpu next.cpu h.main
         by (inr (inr h)) = serves h.0
 
+    -- and looks again soon, while a byte is sent
+    pub all_soon : (k : ℕ) (w : World d.State) → run_at d bytes from k ≡ Some w → looks bytes w.cpu ≡ true → LooksSoon d bytes w
+    all_soon k w run look = by (each k w run)
+      where
+        by : On w → LooksSoon d bytes w
+        by (inl h) = serves_soon d bytes has w h.serving look
+        by (inr (inl h)) =
+            let none : looks bytes w.cpu ≡ false = main_blind d bytes has w.cpu h.main in absurd (cc (none, look))
+        by (inr (inr h)) = serves_soon d bytes has w h.0 look
+
 -- the same of the run from power-on, whose first steps come before the main program
 module _ (d : Board) (bytes : List ℕ) (has : HasKernel bytes) (from : World d.State) (wake : Wakes d bytes has from)
     (first : Comes d TICK bytes from (IsStart d bytes)) where
@@ -158,3 +169,13 @@ module _ (d : Board) (bytes : List ℕ) (has : HasKernel bytes) (from : World d.
         by : (b : Bool) → nat_lt k (waking d bytes has) ≡ b → LooksLate bytes w.cpu next.cpu
         by true e = ((wake.early k w (grind (arith, nat_tests, e)) run).next next step).0
         by false e = all_late d bytes has wake.to wake.main from_main passes_main (k - 16) w next (later k w run e) step
+
+    pub every_soon : (k : ℕ) (w : World d.State) → run_at d bytes from k ≡ Some w → looks bytes w.cpu ≡ true
+        → LooksSoon d bytes w
+    every_soon k w run look = by (nat_lt k (waking d bytes has)) refl
+      where
+        by : (b : Bool) → nat_lt k (waking d bytes has) ≡ b → LooksSoon d bytes w
+        by true e =
+            let none : looks bytes w.cpu ≡ false = (wake.early k w (grind (arith, nat_tests, e)) run).blind in
+            absurd (cc (none, look))
+        by false e = all_soon d bytes has wake.to wake.main from_main passes_main (k - 16) w (later k w run e) look

@@ -31,7 +31,7 @@ module _ (bytes : List ℕ) (has : HasKernel bytes) (on : Bool) where
       (leaves row.row q row.none)
 
   -- and each row of the service that puts it leads to rows that look late, if they look
-  abbrev left : Decoded → Pins → Cpu → Cpu
+  abbrev pub left : Decoded → Pins → Cpu → Cpu
   left r pins m = after_timer m.run r.cycles pins (effect r.op bytes pins (past m))
 
   late_there : (pins : Pins) (m : Cpu) (h : IsServing on m) (row : ServiceRow m.pc) (q : Decoded)

@@ -38,5 +38,6 @@ pub mod Selecting
 pub mod Sweep
 pub mod Written
 pub mod Late
+pub mod Soon
 pub mod Waking
 pub mod Executing

@@ -1,5 +1,5 @@
 -- The lights, and the looks at both wires. Each law counts cycles from its block's head.
-use Rattle.std.proofs.Common.{◌≡◌, ℕ, ◌+◌, ◌-◌, List, [], ◌∷◌, Bool, true, false, not, refl, ap, sym, ◌∙◌}
+use Rattle.std.proofs.Common.{◌≡◌, ℕ, ◌+◌, ◌-◌, List, [], ◌∷◌, Bool, true, false, not, bit_and, refl, ap, sym, ◌∙◌}
 use Rattle.mcs48_core.specs.Cpu.{Cpu}
 use Rattle.fw_kernel.specs.declared.cells.TheConstants.{LIGHTS}
 use Rattle.fw_kernel.specs.declared.labels.TheConstants.{LAMPS, TESTED, LOOKS, SEND, GOT, PULLED}
@@ -14,6 +14,10 @@ use Rattle.fw_logic.proofs.Block.{put, begin_at, At}
 use Rattle.fw_logic.proofs.Blocks.{straight, absolute}
 use Rattle.fw_logic.proofs.Sound.{ticks_from}
 use Rattle.fw_logic.proofs.Short.{has_rows}
+
+-- what the looks leave in R0, R1, R2 and R6: the latch with data low, and the byte
+abbrev pub readied : (ℕ → ℕ) → ℕ → ℕ
+readied f = put (put (put (put f 25 LIGHTS) 26 (bit_and (255 - f LIGHTS) 253)) 30 (f 28)) 24 0
 
 module _ (d : Board) (bytes : List ℕ) (has : HasKernel bytes) (y : ℕ) (k : Cpu) (f : ℕ → ℕ) (ring : List ℕ)
     (board : d.State) (free : IsFree k) where
@@ -54,28 +58,28 @@ module _ (d : Board) (bytes : List ℕ) (has : HasKernel bytes) (y : ℕ) (k : C
 
   pub looks_pulled : clock ≡ false
       → Leads d (kernel_in true bytes) y (begin_at d LOOKS f ring k board)
-      (At d k PULLED (put f 24 0) ring 18 (after_cycles 18 y step board))
+      (At d k PULLED (readied f) ring 18 (after_cycles 18 y step board))
   looks_pulled low =
-      straight d (kernel_in true bytes) (has_rows true bytes has) (Until 71 ∷ Go true ∷ []) y k LOOKS PULLED 18 f
-      (put f 24 0) ring
+      straight d (kernel_in true bytes) (has_rows true bytes has) (Until 81 ∷ Go true ∷ []) y k LOOKS PULLED 18 f
+      (readied f) ring
       k board (after_cycles 18 y step board) free (ap not (clock_is ∙ low), (refl, refl, absolute 18 y step board))
 
   pub looks_got : clock ≡ true → data_wire ≡ false
       → Leads d (kernel_in true bytes) y (begin_at d LOOKS f ring k board)
-      (At d k GOT (put f 24 0) ring 20 (after_cycles 20 y step board))
+      (At d k GOT (readied f) ring 20 (after_cycles 20 y step board))
   looks_got high low =
-      straight d (kernel_in true bytes) (has_rows true bytes has) (Until 71 ∷ Go false ∷ Go true ∷ []) y k LOOKS GOT 20
+      straight d (kernel_in true bytes) (has_rows true bytes has) (Until 81 ∷ Go false ∷ Go true ∷ []) y k LOOKS GOT 20
       f
-      (put f 24 0) ring
+      (readied f) ring
       k board (after_cycles 20 y step board) free
       (ap not (clock_is ∙ high), (ap not (data_is ∙ low), (refl, refl, absolute 20 y step board)))
 
   pub looks_free : clock ≡ true → data_wire ≡ true
       → Leads d (kernel_in true bytes) y (begin_at d LOOKS f ring k board)
-      (At d k SEND (put f 24 0) ring 20 (after_cycles 20 y step board))
+      (At d k SEND (readied f) ring 20 (after_cycles 20 y step board))
   looks_free high high' =
-      straight d (kernel_in true bytes) (has_rows true bytes has) (Until 71 ∷ Go false ∷ Go false ∷ []) y k LOOKS SEND
+      straight d (kernel_in true bytes) (has_rows true bytes has) (Until 81 ∷ Go false ∷ Go false ∷ []) y k LOOKS SEND
       20 f
-      (put f 24 0) ring
+      (readied f) ring
       k board (after_cycles 20 y step board) free
       (ap not (clock_is ∙ high), (ap not (data_is ∙ high'), (refl, refl, absolute 20 y step board)))

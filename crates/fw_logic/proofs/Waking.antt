@@ -13,7 +13,7 @@ use Rattle.fw_kernel.specs.declared.labels.TheConstants.{TICK}
 use Rattle.joint_run.specs.Run.{Board, World, joint_step, step_on, run_at, seen, after_step}
 use Rattle.joint_run.specs.Starts.{at_tick, calm, Comes}
 use Rattle.fw_logic.specs.Boards.{power_on}
-use Rattle.fw_logic.specs.Executed.{IsFit, LooksLate, is_kernels, puts_at, looks_at, is_late}
+use Rattle.fw_logic.specs.Executed.{IsFit, LooksLate, is_kernels, puts_at, looks_at, is_late, row_looks, looks}
 use Rattle.fw_logic.proofs.Between.{IsStart, calm_on, steps_first, start_place}
 use Rattle.fw_logic.proofs.Block.{before}
 use Rattle.fw_logic.proofs.Chain.{stepped_is, ticks_from}
@@ -94,7 +94,7 @@ module _ (d : Board) (bytes : List ℕ) (has : HasKernel bytes) where
 
   abbrev goes_on : Option Decoded → Cpu → Bool
   goes_on None m = false
-  goes_on (Some r) m = is_kernels r.op && (late_next r (kernel_row m.pc) && (m.p1 == 255))
+  goes_on (Some r) m = is_kernels r.op && (late_next r (kernel_row m.pc) && ((m.p1 == 255) && not (row_looks (Some r))))
 
   abbrev is_ready : Stage d.State → Bool
   is_ready s = is_fitting s.cpu && goes_on (kernel_row s.cpu.pc) (onward s).cpu
@@ -108,9 +108,10 @@ module _ (d : Board) (bytes : List ℕ) (has : HasKernel bytes) where
   stage_after zero s = s
   stage_after (suc n) s = stage_after n (onward s)
 
-  -- what holds of a state there: it is fit, and the next looks late and has port 1 as reset leaves it
+  -- what holds of a state there: it is fit, it doesn't look, and the next looks late and has port 1 as reset leaves it
   pub record Awake (w : World d.State) : Type 0 where
     pub fit : IsFit bytes w.cpu
+    pub blind : looks bytes w.cpu ≡ false
     pub next : (v : World d.State) → joint_step d bytes w ≡ Some v → LooksLate bytes w.cpu v.cpu × (v.cpu.p1 ≡ 255)
 
   record Ready (s t : Stage d.State) : Type 0 where
@@ -145,9 +146,10 @@ module _ (d : Board) (bytes : List ℕ) (has : HasKernel bytes) where
   ready_by s None is f h = absurd cc
   ready_by s (Some r) is f h =
       let t : Stage d.State = onward_by (Some r) s in
-      let one = both (is_kernels r.op) (late_next r (kernel_row t.cpu.pc) && (t.cpu.p1 == 255)) h in
-      let two = both (late_next r (kernel_row t.cpu.pc)) (t.cpu.p1 == 255) one.1 in
-      let dark : (t.cpu.p1 == 255) ≡ true = two.1 in
+      let one = both (is_kernels r.op) (late_next r (kernel_row t.cpu.pc) && ((t.cpu.p1 == 255) && not (row_looks (Some r)))) h in
+      let two = both (late_next r (kernel_row t.cpu.pc)) ((t.cpu.p1 == 255) && not (row_looks (Some r))) one.1 in
+      let three = both (t.cpu.p1 == 255) (not (row_looks (Some r))) two.1 in
+      let dark : (t.cpu.p1 == 255) ≡ true = three.0 in
       let row = row_is bytes has s.cpu.pc r is in
       let low : s.cpu.pc < 2048 = f.low in
       let other : (s.cpu.pc == 7) ≡ false = f.elsewhere in
@@ -164,6 +166,7 @@ module _ (d : Board) (bytes : List ℕ) (has : HasKernel bytes) where
             depth = f.depth;
             silent = f.silent;
           };
+          blind = ap row_looks row ∙ untrue (row_looks (Some r)) three.1;
           next = λ v step.
               let there : Some (world_at 0 t) ≡ Some v = sym (made s r f is) ∙ step in
               let same : world_at 0 t ≡ v = cc in

@@ -1,6 +1,6 @@
 -- The blocks of a tick's work before its frame: the head, the columns, the lights and the looks.
 use Rattle.std.specs.Prelude.{◌≡◌, ◌≤◌, ◌<◌, ◌⊎◌, ℕ, ◌+◌, ◌-◌, Bool, true, false, ◌&&◌, ◌||◌, ◌==◌, nat_le, nat_lt}
-use Rattle.std.specs.Prelude.{List, length, slice_index, bit_xor}
+use Rattle.std.specs.Prelude.{List, length, slice_index, bit_and, bit_xor}
 use Rattle.mcs48_core.specs.declared.levels.Pins.{Pins}
 use Rattle.mcs48_core.specs.Cpu.{Cpu}
 use Rattle.mcs48_core.specs.declared.processor.Count.TheVariants.{Timer}
@@ -72,6 +72,10 @@ clock_seen d w = (levels_in d w.cycle w.cpu.p1 w.cpu.p2 w.board 16).t0
 abbrev pub data_seen : (d : Board) → World d.State → Bool
 data_seen d w = (levels_in d w.cycle w.cpu.p1 w.cpu.p2 w.board 18).t1
 
+-- R0, R1, R2 and R6
+abbrev pub is_looking : ℕ → Bool
+is_looking i = (i == 24) || (i == 25) || (i == 26) || (i == 30)
+
 -- where the looks go, and when they are there
 abbrev pub way : Bool → Bool → ℕ
 way false b = PULLED
@@ -82,6 +86,7 @@ abbrev pub way_time : Bool → ℕ
 way_time true = 20
 way_time false = 18
 
+-- meanwhile R2 becomes the latch with the lights and data low, and R6 what R4 is
 pub record Looks (d : Board) (w e : World d.State) : Type 0 where
   pub to : IsAt (way (clock_seen d w) (data_seen d w)) e.cpu
   pub cycle : e.cycle ≡ w.cycle + way_time (clock_seen d w)
@@ -89,7 +94,9 @@ pub record Looks (d : Board) (w e : World d.State) : Type 0 where
   pub p1 : e.cpu.p1 ≡ w.cpu.p1
   pub p2 : e.cpu.p2 ≡ w.cpu.p2
   pub f1 : e.cpu.f1 ≡ w.cpu.f1
-  pub others : (i : ℕ) → (i == 24) ≡ false → slice_index e.cpu.ram i ≡ slice_index w.cpu.ram i
+  pub r2 : slice_index e.cpu.ram 26 ≡ bit_and (255 - slice_index w.cpu.ram lights_cell) 253
+  pub r6 : slice_index e.cpu.ram 30 ≡ slice_index w.cpu.ram 28
+  pub others : (i : ℕ) → is_looking i ≡ false → slice_index e.cpu.ram i ≡ slice_index w.cpu.ram i
 
 -- the head's law: it begins with the tick's instruction, while the prescaler is 15 at most
 abbrev pub HeadLaw : Type 0

@@ -19,6 +19,8 @@ use Rattle.mcs48_isa.specs.declared.operation.ControlOp.TheVariants.{StrtT, Stop
 use Rattle.mcs48_isa.specs.declared.operation.Decoded.{Decoded}
 use Rattle.mcs48_core.specs.Cpu.{Cpu}
 use Rattle.mcs48_core.specs.Step.{row_at}
+use Rattle.fw_kernel.specs.declared.labels.TheConstants.{GOT, S_STOP, SCAN}
+use Rattle.joint_run.specs.Run.{Board, World, run_at}
 
 -- the kinds of row that the kernel has: none drives the bus, T0 or the port expander's pins, reads the pins of port 1 or
 -- 2, reads the timer or tests its flag, enables the external interrupt, counts T1, leaves the lower half of the program,
@@ -141,3 +143,29 @@ abbrev pub LooksLate : List ℕ → Cpu → Cpu → Type 0
 LooksLate bytes m n =
     (r q : Decoded) → row_at bytes m.pc ≡ Some r → row_at bytes n.pc ≡ Some q
     → is_late r.cycles (puts_at r.op) (looks_at q.op) ≡ true
+
+-- whether the row that comes next looks at the clock wire
+abbrev pub is_look : Option ℕ → Bool
+is_look None = false
+is_look (Some at) = true
+
+abbrev pub row_looks : Option Decoded → Bool
+row_looks None = false
+row_looks (Some row) = is_look (looks_at row.op)
+
+abbrev pub looks : List ℕ → Cpu → Bool
+looks bytes m = row_looks (row_at bytes m.pc)
+
+-- from these places on no byte is being sent: where one is received, at the eleventh fall, whose frame can't be broken off
+-- any more, and in the rest of the tick
+abbrev pub is_over : ℕ → Bool
+is_over place = (place == GOT) || (place == S_STOP) || (place == SCAN)
+
+-- from a look at the clock wire on at most 24 cycles pass, 60 microseconds, until the next one, as long as a byte is being
+-- sent: in the run from it, where none of the states between looks, or is over
+abbrev pub LooksSoon : (d : Board) → List ℕ → World d.State → Type 0
+LooksSoon d bytes w =
+    (n : ℕ) (v : World d.State) → run_at d bytes w (suc n) ≡ Some v
+    → ((i : ℕ) (u : World d.State) → i < n → run_at d bytes w (suc i) ≡ Some u
+    → (looks bytes u.cpu || is_over u.cpu.pc) ≡ false)
+    → v.cycle ≤ w.cycle + 24

@@ -30,7 +30,8 @@ use Rattle.wires_agree.proofs.Between.{between, stays_free}
 use Rattle.wires_agree.proofs.Same.{received_same}
 use Rattle.wires_agree.proofs.Frames.{fall_cycle, event_by}
 use Rattle.wires_agree.proofs.Ways.{sent_way, behind_first}
-use Rattle.wires_agree.proofs.CellByCell.{IsThrough, IsBehind, all_cells, quiet_cells, cycles_more}
+use Rattle.wires_agree.proofs.CellByCell.{IsThrough, IsBehind, cycles_more}
+use Rattle.wires_agree.proofs.QuietCells.{all_cells, quiet_cells}
 
 busy_seen : (l : Link Wire) → is_busy l ≡ false → is_busy (link_by without_bits l) ≡ false
 busy_seen Free h = refl
@@ -91,37 +92,42 @@ module _ (events : List HostEvent) (latch : ℕ → Lines) (now byte : ℕ) (b :
         ap (λ (v : Pc). is_busy v.side.port.link) more ∙ rest.1,
       )
 
-  -- a frame that was broken off by its last look
-  late : (up : (o : ℕ) → 306 + now ≤ o → o < 321 + now → (latch o).clk ≡ true) → is_busy (pc_at 306).side.port.link ≡ false
-      → seen_in_bytes (pc_at 306).side ≡ up_to events true 9 17 now m
+  -- a frame that was broken off by cycle n of its last cell
+  late : (n : ℕ) → n ≤ 31 → (up : (o : ℕ) → 289 + n + now ≤ o → o < 321 + now → (latch o).clk ≡ true)
+      → is_busy (pc_at (288 + suc n)).side.port.link ≡ false
+      → seen_in_bytes (pc_at (288 + suc n)).side ≡ up_to events true 9 n now m
       → (seen_in_bytes (pc_at 320).side ≡ sends events now m) × (is_busy (pc_at 320).side.port.link ≡ false)
-  late up idle is =
-      let r = on 306 14 320 (up_to events true 9 17 now m) refl (λ o l u. up o l (omega (arith, u))) idle is in
-      let z : 306 + now ≡ 17 + (289 + now) = omega arith in (
-        r.0 ∙ ap (λ v. quietly events 14 (306 + now) v) (all_cells events now m 17)
-            ∙ ap (λ j. quietly events 14 j
-            (quietly events 17 (289 + now) (byte_cycle events (288 + now) Closes (quietly events 287 (suc now) y)))) z
-            ∙ sym (quiet_more events 17 14 31 (289 + now) (byte_cycle events (288 + now) Closes (quietly events 287 (suc now) y)) refl),
+  late n short up idle is =
+      let rest : ℕ = 31 - n in
+      let e : 288 + suc n + rest ≡ 320 = omega (arith, short) in
+      let all : n + rest ≡ 31 = omega (arith, short) in
+      let r = on (288 + suc n) rest 320 (up_to events true 9 n now m) e (λ o l u. up o (omega (arith, l)) (omega (arith, u))) idle is in
+      let z : 288 + suc n + now ≡ n + (289 + now) = omega arith in (
+        r.0 ∙ ap (λ v. quietly events rest (288 + suc n + now) v) (all_cells events now m n)
+            ∙ ap (λ j. quietly events rest j
+            (quietly events n (289 + now) (byte_cycle events (288 + now) Closes (quietly events 287 (suc now) y)))) z
+            ∙ sym (quiet_more events n rest 31 (289 + now) (byte_cycle events (288 + now) Closes (quietly events 287 (suc now) y)) all),
         r.1,
       )
 
-  -- or by an earlier one
-  early : (j : ℕ) → j ≤ 8 → (up : (o : ℕ) → 32 * j + 18 + now ≤ o → o < 321 + now → (latch o).clk ≡ true)
-      → is_busy (pc_at (32 * j + 18)).side.port.link ≡ false
-      → seen_in_bytes (pc_at (32 * j + 18)).side ≡ up_to events true j 17 now m
+  -- or by that of an earlier one
+  early : (j n : ℕ) → j ≤ 8 → n ≤ 31 → (up : (o : ℕ) → 32 * j + suc n + now ≤ o → o < 321 + now → (latch o).clk ≡ true)
+      → is_busy (pc_at (32 * j + suc n)).side.port.link ≡ false
+      → seen_in_bytes (pc_at (32 * j + suc n)).side ≡ up_to events true j n now m
       → (seen_in_bytes (pc_at 320).side ≡ sends events now m) × (is_busy (pc_at 320).side.port.link ≡ false)
-  early j l up idle is =
-      let t : ℕ = 32 * j + 18 in
-      let n : ℕ = 270 - 32 * j in
-      let e : t + n ≡ 288 = omega (arith, l) in
-      let z : t + now ≡ 32 * j + 17 + suc now = omega arith in
-      let f : 32 * j + 17 + n ≡ 287 = omega (arith, l) in
-      let to = on t n 288 (up_to events true j 17 now m) e (λ o a u. up o a (omega (arith, u))) idle is in
+  early j p l short up idle is =
+      let t : ℕ = 32 * j + suc p in
+      let n : ℕ = 287 - (32 * j + p) in
+      let e : t + n ≡ 288 = omega (arith, l, short) in
+      let z : t + now ≡ 32 * j + p + suc now = omega arith in
+      let f : 32 * j + p + n ≡ 287 = omega (arith, l, short) in
+      let to = on t n 288 (up_to events true j p now m) e (λ o a u. up o a (omega (arith, u))) idle is in
       let there : seen_in_bytes (pc_at 288).side ≡ quietly events 287 (suc now) y =
-      to.0 ∙ ap (λ v. quietly events n (t + now) v) (quiet_cells events now m j 17 l)
-      ∙ ap (λ j'. quietly events n j' (quietly events (32 * j + 17) (suc now) y)) z
-      ∙ sym (quiet_more events (32 * j + 17) n 287 (suc now) y f) in
-      let far : (o : ℕ) → 288 + now ≤ o → o < 321 + now → (latch o).clk ≡ true = λ o a u. up o (omega (arith, a, l)) u in
+      to.0 ∙ ap (λ v. quietly events n (t + now) v) (quiet_cells events now m j p l)
+      ∙ ap (λ j'. quietly events n j' (quietly events (32 * j + p) (suc now) y)) z
+      ∙ sym (quiet_more events (32 * j + p) n 287 (suc now) y f) in
+      let far : (o : ℕ) → 288 + now ≤ o → o < 321 + now → (latch o).clk ≡ true =
+      λ o a u. up o (omega (arith, a, l, short)) u in
       let one = on 288 1 289 (quietly events 287 (suc now) y) refl (λ o a u. far o a (omega (arith, u))) to.1 there in
       let shut : seen_in_bytes (pc_at 289).side ≡ byte_cycle events (288 + now) Closes (quietly events 287 (suc now) y) =
       one.0 ∙ sym (closes_idle events (288 + now) (quietly events 287 (suc now) y)
@@ -130,15 +136,16 @@ module _ (events : List HostEvent) (latch : ℕ → Lines) (now byte : ℕ) (b :
       (λ o a u. far o (omega (arith, a)) (omega (arith, u))) one.1 shut
 
   -- and so nothing arrives
-  pub broken : (j : ℕ) → j < 10 → (up : (o : ℕ) → 32 * j + 18 + now ≤ o → o < 321 + now → (latch o).clk ≡ true)
-      → is_busy (pc_at (32 * j + 18)).side.port.link ≡ false
-      → seen_in_bytes (pc_at (32 * j + 18)).side ≡ up_to events true j 17 now m
+  pub broken : (j n : ℕ) → j < 10 → n ≤ 31 → (up : (o : ℕ) → 32 * j + suc n + now ≤ o → o < 321 + now → (latch o).clk ≡ true)
+      → is_busy (pc_at (32 * j + suc n)).side.port.link ≡ false
+      → seen_in_bytes (pc_at (32 * j + suc n)).side ≡ up_to events true j n now m
       → (seen_in_bytes (pc_at 321).side ≡ byte_cycle events (320 + now) (Arrives byte) (sends events now m))
       × (is_busy (pc_at 321).side.port.link ≡ false)
       × (is_busy (sends events now m).port.link ≡ false)
-  broken j below up idle is =
+  broken j n below short up idle is =
       let to = at_last (nat_lt j 9) refl in
-      let far : (o : ℕ) → 320 + now ≤ o → o < 321 + now → (latch o).clk ≡ true = λ o a u. up o (omega (arith, a, below)) u in
+      let far : (o : ℕ) → 320 + now ≤ o → o < 321 + now → (latch o).clk ≡ true =
+      λ o a u. up o (omega (arith, a, below, short)) u in
       let one = on 320 1 321 (sends events now m) refl far to.1 to.0 in
       let idle' : is_busy (sends events now m).port.link ≡ false = ap (λ s. is_busy s.port.link) (sym to.0)
       ∙ busy_seen (pc_at 320).side.port.link to.1 in
@@ -146,11 +153,12 @@ module _ (events : List HostEvent) (latch : ℕ → Lines) (now byte : ℕ) (b :
     where
       at_last : (c : Bool) → nat_lt j 9 ≡ c → (seen_in_bytes (pc_at 320).side ≡ sends events now m)
           × (is_busy (pc_at 320).side.port.link ≡ false)
-      at_last true e = early j (grind (arith, nat_tests, e)) up idle is
+      at_last true e = early j n (grind (arith, nat_tests, e)) short up idle is
       at_last false e =
           let same : j ≡ 9 = grind (arith, nat_tests, e, below) in
-          late (λ o a u. up o (omega (arith, a, same)) u) (subst (λ j. is_busy (pc_at (32 * j + 18)).side.port.link ≡ false) same idle)
-          (subst (λ j. seen_in_bytes (pc_at (32 * j + 18)).side ≡ up_to events true j 17 now m) same is)
+          late n short (λ o a u. up o (omega (arith, a, same)) u)
+          (subst (λ j. is_busy (pc_at (32 * j + suc n)).side.port.link ≡ false) same idle)
+          (subst (λ j. seen_in_bytes (pc_at (32 * j + suc n)).side ≡ up_to events true j n now m) same is)
 
 abbrev asked_at : ℕ → Link Wire
 asked_at now = Ask 0xfe now

@@ -1,10 +1,10 @@
 -- A frame, cell by cell, in either direction: the keyboard's may be broken off before its tenth edge.
 use Rattle.std.proofs.Common.{◌≡◌, ℕ, suc, zero, ◌+◌, ◌*◌, ◌≤◌, ◌<◌, List, Bool, true, false, ◌&&◌}
-use Rattle.std.proofs.Common.{Some, refl, ap, sym, ◌∙◌, subst, ◌⊎◌, inl, inr, arith}
-use Rattle.std.specs.Prelude.{if◌then◌else◌, ◌==◌, nat_lt}
+use Rattle.std.proofs.Common.{Some, None, refl, ap, sym, ◌∙◌, subst, ◌⊎◌, inl, inr, arith}
+use Rattle.std.specs.Prelude.{nat_lt}
 use Rattle.std.proofs.lemmas.Bool.Decides.{nat_tests}
 use Rattle.ctl_link.specs.declared.link.Link.{Link}
-use Rattle.ctl_link.specs.declared.link.Link.TheVariants.{Free, Hold, Ask, Request, Busy}
+use Rattle.ctl_link.specs.declared.link.Link.TheVariants.{Busy}
 use Rattle.ctl_link.specs.declared.port.Port.{Port}
 use Rattle.ctl_link.specs.Link.{is_busy}
 use Rattle.ctl_link.specs.Pulls.{pulled}
@@ -15,17 +15,19 @@ use Rattle.ctl_wire.specs.declared.wire.Wire.{Wire}
 use Rattle.ctl_wire.specs.Wire.{edge_at, drive, is_breakable}
 use Rattle.pc_wires.specs.Wires.{Pc, board_cycle}
 use Rattle.byte_time.specs.declared.UnderWay.{UnderWay}
-use Rattle.byte_time.specs.ByteTime.{quietly, byte_cycle, happened_at, closed, Quiet, Begins, Closes, is_open}
+use Rattle.byte_time.specs.ByteTime.{quietly, byte_cycle, happened_at, Begins}
 use Rattle.byte_time.proofs.Quiet.{quiet_more}
 use Rattle.wires_agree.specs.Without.{seen_in_bytes, without_bits, port_by}
 use Rattle.wires_agree.specs.Cycles.{board_cycles}
 use Rattle.wires_agree.specs.Cells.{IsCell, IsFrame}
 use Rattle.wires_agree.specs.InFrame.{at_edge, up_to}
-use Rattle.wires_agree.proofs.Spans.{IsAt}
+use Rattle.wires_agree.proofs.Spans.{IsAt, On}
+use Rattle.ctl_wire.proofs.Pulls.{pulled_is_low}
 use Rattle.wires_agree.proofs.Ways.{IsWay}
 use Rattle.wires_agree.proofs.Pulls.{pulled_span}
 use Rattle.wires_agree.proofs.Under.{busy_span}
-use Rattle.wires_agree.proofs.Frames.{cell, event_by}
+use Rattle.wires_agree.proofs.Frames.{cell}
+use Rattle.wires_agree.proofs.Idle.{idle_edge, idle_seen}
 
 -- cycles after cycles
 pub cycles_more : (events : List HostEvent) (latch : ℕ → Lines) (m n k now : ℕ) (b : Pc) → m + n ≡ k
@@ -40,36 +42,6 @@ cycles_more events latch (suc m) n (suc k) now b e =
     cycles_more events latch m n k (suc now) (board_cycle events now (latch now) b) (omega (arith, e))
     ∙ ap (λ j. board_cycles events latch n j (board_cycles events latch (suc m) now b)) z
 
--- a byte that isn't under way isn't closed
-idle_closed : (from : Bool) (k now : ℕ) (p : Port UnderWay) → is_busy p.link ≡ false
-    → happened_at now (at_edge from (suc k)) p ≡ happened_at now Quiet p
-idle_closed from k now p h = by_case (from && (k == 8))
-  where
-    at_link : (l : Link UnderWay) → is_busy l ≡ false → closed l ≡ l
-    at_link Free h = refl
-    at_link (Hold since) h = refl
-    at_link (Ask byte since) h = refl
-    at_link (Request byte) h = refl
-    at_link (Busy u) h = absurd cc
-
-    by_case : (c : Bool) → happened_at now (if c then Closes else Quiet) p ≡ p
-    by_case true = ap (λ l. record p { link = l }) (at_link p.link h)
-    by_case false = refl
-
-idle_edge : (events : List HostEvent) (from : Bool) (k now : ℕ) (m : Side UnderWay) → is_busy m.port.link ≡ false
-    → byte_cycle events now (at_edge from (suc k)) m ≡ byte_cycle events now Quiet m
-idle_edge events from k now m h =
-    event_by events now (at_edge from (suc k)) m
-    ∙ ap (λ p. Rattle.host_turn.specs.Run.goes_on is_open events now (record m { port = p })) (idle_closed from k now m.port h)
-    ∙ sym (event_by events now Quiet m)
-
-idle_seen : (l : Link Wire) (h : ℕ) → pulled l ≡ Some h → is_busy (Rattle.wires_agree.specs.Without.link_by without_bits l) ≡ false
-idle_seen Free h e = refl
-idle_seen (Hold since) h e = refl
-idle_seen (Ask byte since) h e = refl
-idle_seen (Request byte) h e = refl
-idle_seen (Busy w) h e = absurd cc
-
 module _ (events : List HostEvent) (latch : ℕ → Lines) (now : ℕ) (bits : ℕ → Bool) (is : IsFrame latch now bits)
     (b : Pc) (q : Port Wire) (l : Link Wire) (w : ℕ → Wire)
     (from : Bool) (at : IsAt b l true) (way : IsWay b.side.port q l w from bits) where
@@ -83,6 +55,7 @@ module _ (events : List HostEvent) (latch : ℕ → Lines) (now : ℕ) (bits : �
   pub record IsOn (k : ℕ) : Type 0 where
     pub in_cell : (n : ℕ) → n ≤ 31 → seen_in_bytes (pc_at (32 * k + suc n)).side ≡ model k n
     pub busy : (pc_at (32 * k + 18)).side.port.link ≡ Busy (w k)
+    pub clock : (pc_at (32 * k + 18)).clock ≡ (latch (17 + (32 * k + now))).clk
 
   -- or it was broken off since the look before, and in the cells before it was under way
   pub record IsBroken (k : ℕ) : Type 0 where
@@ -90,6 +63,7 @@ module _ (events : List HostEvent) (latch : ℕ → Lines) (now : ℕ) (bits : �
     pub in_cell : (n : ℕ) → n ≤ 31 → seen_in_bytes (pc_at (32 * k + suc n)).side ≡ model k n
     pub since : ℕ
     pub late : 32 * k + now ≤ since + 14
+    pub from_here : (32 * k + now ≤ since) ⊎ (pulled (pc_at (32 * k)).side.port.link ≡ Some since)
     pub pulls : pulled (pc_at (32 * k + 18)).side.port.link ≡ Some since
     pub opened : (i : ℕ) × (is_breakable (w i) ≡ true)
     pub before : (i : ℕ) → i < k → IsOn i
@@ -119,7 +93,7 @@ module _ (events : List HostEvent) (latch : ℕ → Lines) (now : ℕ) (bits : �
       by_case true e = before i (grind (arith, nat_tests, e))
       by_case false e = let same : k ≡ i = grind (arith, nat_tests, e, l) in subst IsOn same on
 
-  not_last : (k : ℕ) → k < 10 → is_breakable (w k) ≡ true → suc k < 10
+  pub not_last : (k : ℕ) → k < 10 → is_breakable (w k) ≡ true → suc k < 10
   not_last k l opens = by_case (nat_lt k 9) refl
     where
       by_case : (c : Bool) → nat_lt k 9 ≡ c → suc k < 10
@@ -151,29 +125,76 @@ module _ (events : List HostEvent) (latch : ℕ → Lines) (now : ℕ) (bits : �
             ∙ ap (λ m. quietly events n (suc x) m) (sym (idle_edge events from k x (model k 31) idle));
         since = since;
         late = omega (arith, late);
+        from_here = inr pulls;
         pulls = ap (λ (v : Pc). pulled v.side.port.link) more ∙ rest.1;
         opened = (k, opens);
         before = before;
       }
 
-  -- from the state 18 cycles into a cell to its end
-  on_to_end : (k : ℕ) → k < 10 → ((i : ℕ) → i < k → IsOn i) → IsOn k
-      → (pc_at (32 * k + 18)).clock ≡ (latch (17 + (32 * k + now))).clk → Stands k
-  on_to_end k below before on clock =
+  -- from a cycle of a cell in which the byte is under way some cycles on, from its 18th cycle on
+  goes_on_from : (k n t : ℕ) → k < 10 → 17 ≤ n → n + t ≤ 31
+      → IsAt (pc_at (32 * k + suc n)) (Busy (w k)) (latch (n + (32 * k + now))).clk
+      → (seen_in_bytes (pc_at (32 * k + (suc n + t))).side
+      ≡ quietly events t (suc (n + (32 * k + now))) (seen_in_bytes (pc_at (32 * k + suc n)).side))
+      × On (pc_at (32 * k + (suc n + t))) (w k) (latch (t + (n + (32 * k + now)))).clk (suc (n + (32 * k + now)))
+  goes_on_from k n t below late short here =
       let x : ℕ = 32 * k + now in
-      let y : ℕ = 32 * k + 18 in
+      let y : ℕ = 32 * k + suc n in
       let c : IsCell latch x (bits k) = is.cells k below in
-      let here : IsAt (pc_at y) (Busy (w k)) (latch (17 + x)).clk = record { link_is = on.busy; clock_is = clock } in
-      let rest = busy_span events latch 14 (17 + x) (pc_at y) (w k)
-      (omega arith) here (λ o lo hi. c.once o (omega (arith, lo)) (omega (arith, hi))) in
-      let z : suc (17 + x) ≡ y + now = omega arith in
-      let e : y + 14 ≡ 32 * suc k = omega arith in
-      let more : pc_at (32 * suc k)
-      ≡ board_cycles events latch 14 (y + now) (pc_at y) = cycles_more events latch y 14 (32 * suc k) now b e in
-      let same : board_cycles events latch 14 (suc (17 + x)) (pc_at y)
-      ≡ pc_at (32 * suc k) = ap (λ j. board_cycles events latch 14 j (pc_at y)) z ∙ sym more in
+      let rest = busy_span events latch t (n + x) (pc_at y) (w k)
+      (omega (arith, short)) here (λ o lo hi. c.once o (omega (arith, lo)) (omega (arith, hi, short))) in
+      let z : suc (n + x) ≡ y + now = omega arith in
+      let e : y + t ≡ 32 * k + (suc n + t) = omega arith in
+      let same : board_cycles events latch t (suc (n + x)) (pc_at y) ≡ pc_at (32 * k + (suc n + t)) =
+      ap (λ j. board_cycles events latch t j (pc_at y)) z ∙ sym (cycles_more events latch y t (32 * k + (suc n + t)) now b e) in (
+        ap (λ (v : Pc). seen_in_bytes v.side) (sym same) ∙ rest.0,
+        subst (λ v. On v (w k) (latch (t + (n + x))).clk (suc (n + x))) same rest.1,
+      )
+
+  -- in cell k the byte is under way so many cycles behind its 18th, or the controller pulls the clock since then
+  pub later_in_cell : (k t : ℕ) → k < 10 → t ≤ 14 → IsOn k
+      → On (pc_at (32 * k + (18 + t))) (w k) (latch (t + (17 + (32 * k + now)))).clk (suc (17 + (32 * k + now)))
+  later_in_cell k t below short on =
+      (goes_on_from k 17 t below (omega arith) (omega (arith, short)) (record { link_is = on.busy; clock_is = on.clock })).1
+
+  -- where it is still under way 28 cycles into the cell, and the controller pulls at the cell's end, it does so since then
+  pub since_end : (k since : ℕ) → k < 10 → IsOn k → (drive (pc_at (32 * k + 28)).side.port.link).clk ≡ true
+      → pulled (pc_at (32 * suc k)).side.port.link ≡ Some since → 32 * k + now + 28 ≤ since
+  since_end k since below on high pulls =
+      elim (later_in_cell k 10 below (omega arith) on) as (λ way. 32 * k + now + 28 ≤ since) [
+        | inl stays ↦
+            let f : 10 + (17 + (32 * k + now)) ≡ 27 + (32 * k + now) = omega arith in
+            let at : IsAt (pc_at (32 * k + suc 27)) (Busy (w k)) (latch (27 + (32 * k + now))).clk =
+            record { link_is = stays.link_is; clock_is = stays.clock_is ∙ ap (λ j. (latch j).clk) f } in
+            elim (goes_on_from k 27 4 below (omega arith) (omega arith) at).1 as (λ way. 32 * k + now + 28 ≤ since) [
+              | inl busy ↦
+                  let e : 32 * k + (suc 27 + 4) ≡ 32 * suc k = omega arith in
+                  let none : pulled (pc_at (32 * suc k)).side.port.link ≡ None =
+                  ap (λ t. pulled (pc_at t).side.port.link) (sym e) ∙ ap pulled busy.link_is in
+                  absurd (cc (none, pulls))
+              | inr off ↦
+                  let p = off.1 in
+                  let e : 32 * k + (suc 27 + 4) ≡ 32 * suc k = omega arith in
+                  let one : pulled (pc_at (32 * suc k)).side.port.link ≡ Some p.since =
+                  ap (λ t. pulled (pc_at t).side.port.link) (sym e) ∙ p.is in
+                  let same : p.since ≡ since = (let q : Some p.since ≡ Some since = sym one ∙ pulls in cc) in
+                  omega (arith, p.from, same)
+            ]
+        | inr off ↦
+            let low : (drive (pc_at (32 * k + 28)).side.port.link).clk ≡ false =
+            pulled_is_low (pc_at (32 * k + 28)).side.port.link off.1.since off.1.is in
+            absurd (cc (high, low))
+      ]
+
+  -- from the state 18 cycles into a cell to its end
+  on_to_end : (k : ℕ) → k < 10 → ((i : ℕ) → i < k → IsOn i) → IsOn k → Stands k
+  on_to_end k below before on =
+      let x : ℕ = 32 * k + now in
+      let c : IsCell latch x (bits k) = is.cells k below in
+      let rest = goes_on_from k 17 14 below (omega arith) (omega arith) (record { link_is = on.busy; clock_is = on.clock }) in
+      let e : 32 * k + (18 + 14) ≡ 32 * suc k = omega arith in
       let agrees : seen_in_bytes (pc_at (32 * suc k)).side ≡ model k 31 =
-      ap (λ (v : Pc). seen_in_bytes v.side) (sym same) ∙ rest.0
+      ap (λ t. seen_in_bytes (pc_at t).side) (sym e) ∙ rest.0
       ∙ ap (λ m. quietly events 14 (suc (17 + x)) m) (on.in_cell 17 (omega arith)) ∙ longer k in
       elim rest.1 [
         | inl stays ↦
@@ -181,8 +202,8 @@ module _ (events : List HostEvent) (latch : ℕ → Lines) (now : ℕ) (bits : �
             inl (record {
               agrees = agrees;
               there = record {
-                link_is = ap (λ (v : Pc). v.side.port.link) (sym same) ∙ stays.link_is;
-                clock_is = ap (λ (v : Pc). v.clock) (sym same) ∙ stays.clock_is ∙ ap (λ j. (latch j).clk) f ∙ c.rises;
+                link_is = ap (λ t. (pc_at t).side.port.link) (sym e) ∙ stays.link_is;
+                clock_is = ap (λ t. (pc_at t).clock) (sym e) ∙ stays.clock_is ∙ ap (λ j. (latch j).clk) f ∙ c.rises;
               };
               up_to_here = with_this k before on;
             })
@@ -191,7 +212,7 @@ module _ (events : List HostEvent) (latch : ℕ → Lines) (now : ℕ) (bits : �
             inr (
               suc k,
               next_cell k below (with_this k before on) broken.0 agrees p.since (omega (arith, p.from))
-                  (ap (λ (v : Pc). pulled v.side.port.link) (sym same) ∙ p.is),
+                  (ap (λ t. pulled (pc_at t).side.port.link) (sym e) ∙ p.is),
             )
       ]
 
@@ -213,8 +234,11 @@ module _ (events : List HostEvent) (latch : ℕ → Lines) (now : ℕ) (bits : �
       ∙ (cell events latch x (bits k) b' l' (w k) q' (at_edge from k) (is.cells k below) here edge busy same n short).0 ∙ joins n in
       elim c.1 [
         | inl stays ↦
-            on_to_end k below before (record { in_cell = in_cell; busy = ap (λ (v : Pc). v.side.port.link) more ∙ stays.link_is })
-            (ap (λ (v : Pc). v.clock) more ∙ stays.clock_is)
+            on_to_end k below before (record {
+              in_cell = in_cell;
+              busy = ap (λ (v : Pc). v.side.port.link) more ∙ stays.link_is;
+              clock = ap (λ (v : Pc). v.clock) more ∙ stays.clock_is;
+            })
         | inr broken ↦
             let p = broken.1 in
             inr (
@@ -224,6 +248,7 @@ module _ (events : List HostEvent) (latch : ℕ → Lines) (now : ℕ) (bits : �
                 in_cell = in_cell;
                 since = p.since;
                 late = omega (arith, p.from);
+                from_here = inl (omega (arith, p.from));
                 pulls = ap (λ (v : Pc). pulled v.side.port.link) more ∙ p.is;
                 opened = (k, broken.0);
                 before = before;
@@ -253,28 +278,3 @@ module _ (events : List HostEvent) (latch : ℕ → Lines) (now : ℕ) (bits : �
 pub record IsBehind (b : Pc) : Type 0 where
   pub low : b.clock ≡ false
   pub free : is_busy b.side.port.link ≡ false
-
-module _ (events : List HostEvent) (now : ℕ) (m : Side UnderWay) where
-  pub quiet_cells : (k n : ℕ) → k ≤ 8
-      → up_to events true k n now m ≡ quietly events (32 * k + n) (suc now) (byte_cycle events now (Begins true) m)
-  quiet_cells zero n l = let z : n ≡ 32 * 0 + n = omega arith in
-      ap (λ j. quietly events j (suc now) (byte_cycle events now (Begins true) m)) z
-  quiet_cells (suc k) n l =
-      let x : ℕ = 32 * suc k + now in
-      let y : Side UnderWay = byte_cycle events now (Begins true) m in
-      let no : (k == 8) ≡ false = grind (arith, nat_tests, l) in
-      let e : 32 * k + 31 + suc n ≡ 32 * suc k + n = omega arith in
-      let z : 32 * k + 31 + suc now ≡ x = omega arith in
-      ap (λ c. quietly events n (suc x) (byte_cycle events x (if c then Closes else Quiet) (up_to events true k 31 now m))) no
-      ∙ ap (λ v. quietly events (suc n) x v) (quiet_cells k 31 (omega (arith, l)))
-      ∙ sym (quiet_more events (32 * k + 31) (suc n) (32 * suc k + n) (suc now) y e
-      ∙ ap (λ j. quietly events (suc n) j (quietly events (32 * k + 31) (suc now) y)) z)
-
-  pub all_cells : (n : ℕ)
-      → up_to events true 9 n now m
-      ≡ quietly events n (289 + now)
-      (byte_cycle events (288 + now) Closes (quietly events 287 (suc now) (byte_cycle events now (Begins true) m)))
-  all_cells n =
-      let z : suc (288 + now) ≡ 289 + now = omega arith in
-      ap (λ j. quietly events n j (byte_cycle events (288 + now) (at_edge true 9) (up_to events true 8 31 now m))) z
-      ∙ ap (λ v. quietly events n (289 + now) (byte_cycle events (288 + now) Closes v)) (quiet_cells 8 31 (omega arith))

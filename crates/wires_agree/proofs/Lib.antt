@@ -18,4 +18,6 @@ pub mod Start
 pub mod Turned
 pub mod Under
 pub mod Ways
+pub mod Idle
 pub mod CellByCell
+pub mod QuietCells

@@ -55,7 +55,7 @@ module _ (events : List HostEvent) (latch : ℕ → Lines) where
       ∙ stays_request events now b.side byte e)
 
   -- a link that is free and free again within 64 cycles was free all the time
-  free_between : (m r k now : ℕ) (b : Pc) → m + r ≡ k → k ≤ 64
+  pub free_between : (m r k now : ℕ) (b : Pc) → m + r ≡ k → k ≤ 64
       → ((o : ℕ) → now ≤ o → o < now + k → (latch o).clk ≡ true) → b.side.port.link ≡ Free
       → (board_cycles events latch k now b).side.port.link ≡ Free → (board_cycles events latch m now b).side.port.link ≡ Free
   free_between zero r k now b e short up here there = here

@@ -1,5 +1,5 @@
 -- Laws of a tick, by its meeting, from the look at offset 256 on. The tick has 609 + rest cycles and starts at `start`.
-use Rattle.std.specs.Prelude.{◌≡◌, ℕ, ◌+◌, ◌*◌, ◌≤◌, ◌<◌, Bool, true, false, List, Some}
+use Rattle.std.specs.Prelude.{◌≡◌, ℕ, suc, ◌+◌, ◌*◌, ◌≤◌, ◌<◌, Bool, true, false, List, Some}
 use Rattle.std.specs.declared.option.Option.{Option}
 use Rattle.board_lines.specs.declared.event.HostEvent.{HostEvent}
 use Rattle.board_lines.specs.declared.lines.Lines.{Lines}
@@ -34,11 +34,14 @@ meeting_from events tested offer start m =
 abbrev pub at_meeting : List HostEvent → (ℕ → Lines) → ℕ → Pc → Pc
 at_meeting events latch start b = board_cycles events latch 32 (256 + start) b
 
--- whether the controller leaves the clock alone at the look in cell k of a frame, 18 cycles into the cell, by the state
--- at offset 256
+-- whether the controller leaves the clock alone so many cycles behind the first edge, by the state at offset 256; and at
+-- the look in cell k of a frame, 18 cycles into the cell
+abbrev pub leaves_cycle : List HostEvent → (ℕ → Lines) → ℕ → Pc → ℕ → Bool
+leaves_cycle events latch start b n =
+    (drive (board_cycles events latch n (288 + start) (at_meeting events latch start b)).side.port.link).clk
+
 abbrev pub leaves_clock : List HostEvent → (ℕ → Lines) → ℕ → Pc → ℕ → Bool
-leaves_clock events latch start b k =
-    (drive (board_cycles events latch (32 * k + 18) (288 + start) (at_meeting events latch start b)).side.port.link).clk
+leaves_clock events latch start b k = leaves_cycle events latch start b (32 * k + 18)
 
 -- from the look to the tick's end, k cycles, both sides do the same; then no byte is under way; and this was the
 -- meeting
@@ -67,18 +70,19 @@ SentTick =
     → ((i : ℕ) → i < 10 → leaves_clock events latch start b i ≡ true) → EndsFrame latch start rest
     → rest ≡ 15 + more → k ≡ 353 + rest → Ticked events latch start rest b true (Some byte) (Sent byte) k
 
--- the link is free at both looks of the tick and the keyboard begins a frame, but at the look in cell j, and at none
--- before it, the controller pulls the clock: up to there the keyboard drives what it would in a right frame, and then
--- it leaves the clock alone. The byte was broken off
+-- the link is free at both looks of the tick and the keyboard begins a frame, but at a look in cell j, from its 18th cycle
+-- on, the controller pulls the clock, and at that of no cell before it: up to there the keyboard drives what it would in a
+-- right frame, and then it leaves the clock alone. The byte was broken off
 abbrev pub BrokenTick : Type 0
 BrokenTick =
-    (events : List HostEvent) (latch line : ℕ → Lines) (start rest byte j k : ℕ) (bits : ℕ → Bool) (b : Pc)
+    (events : List HostEvent) (latch line : ℕ → Lines) (start rest byte j n k : ℕ) (bits : ℕ → Bool) (b : Pc)
     → IsUp latch (256 + start) (288 + start) → b.side.port.link ≡ Free
     → (at_meeting events latch start b).side.port.link ≡ Free
-    → IsFrame line (288 + start) bits → j < 10
-    → ((o : ℕ) → 288 + start ≤ o → o < 32 * j + 306 + start → latch o ≡ line o)
-    → ((i : ℕ) → i < j → leaves_clock events latch start b i ≡ true) → leaves_clock events latch start b j ≡ false
-    → IsUp latch (32 * j + 306 + start) (609 + rest + start)
+    → IsFrame line (288 + start) bits → j < 10 → 17 ≤ n → n ≤ 31
+    → ((o : ℕ) → 288 + start ≤ o → o < 32 * j + (289 + n) + start → latch o ≡ line o)
+    → ((i : ℕ) → i < j → leaves_clock events latch start b i ≡ true)
+    → leaves_cycle events latch start b (32 * j + suc n) ≡ false
+    → IsUp latch (32 * j + (289 + n) + start) (609 + rest + start)
     → k ≡ 353 + rest → Ticked events latch start rest b true (Some byte) Cut k
 
 -- the link requests at the look, and the keyboard clocks a frame: the byte is handed over

@@ -7,14 +7,14 @@ use Rattle.bits.specs.Bits.{bit}
 use Rattle.fw_link.proofs.TickLatch.{before_lights, before_data, within, behind}
 use Rattle.fw_link.proofs.Wired.{IsReleased}
 use Rattle.fw_link.proofs.Wires.{clock_of_latch}
-use Rattle.fw_link.specs.Latch.{Frame, NoFrame, SentFrame, CutFrame, ReceivedFrame, frame_latch, frame_cycles, tick_latch}
+use Rattle.fw_link.specs.Latch.{Frame, NoFrame, SentFrame, CutFrame, ReceivedFrame, IsLook, frame_latch, frame_cycles, tick_latch}
 use Rattle.fw_link.specs.Latch.{wired, sent_latch, sent_cell, cut_latch, received_latch, received_cell, frame_bit}
 
 -- the cells in which a frame pulls the clock
 abbrev pub cells : Frame → ℕ
 cells NoFrame = 0
 cells (SentFrame byte) = 11
-cells (CutFrame byte cell) = suc cell
+cells (CutFrame byte look) = (look + 4) / 32
 cells ReceivedFrame = 11
 
 -- the clock at an offset, in a frame of n cells
@@ -156,40 +156,69 @@ module _ (old v : ℕ) (was : IsReleased old) (is : IsReleased v) where
           then nat_lt ((i - 28) % 32) 20 || nat_lt ((i - 28) / 32) 9 else nat_le 16 ((i - 28) % 32)) v is
           ∙ eleven i 0 m (omega (arith, l))
 
-  cut_clock : (byte j i : ℕ) → j < 10 → i < 28 + 32 * j + 24 → bit 0 (cut_latch v byte j i) ≡ clock_in (suc j) (260 + i)
-  cut_clock byte j i below l = by (nat_lt i (28 + 32 * j + 20)) refl (nat_lt i 28) refl
+  -- up to two cycles behind a look the frame is in the cells that it counts, or before the first
+  cells_to : (look i : ℕ) → IsLook look → 28 ≤ i → i < look + 2 → (260 + i - 288) / 32 < (look + 4) / 32
+  cells_to look i (inl e) l u = absurd (omega (arith, e, l, u))
+  cells_to look i (inr (inl e)) l u = absurd (omega (arith, e, l, u))
+  cells_to look i (inr (inr (k, few, inl e))) l u = omega (arith, e, l, u)
+  cells_to look i (inr (inr (k, few, inr e))) l u = omega (arith, e, l, u)
+
+  -- and from there on the clock of the last of them is high
+  late_of : (look i : ℕ) → IsLook look → 28 ≤ i → look + 2 ≤ i → (260 + i - 288) / 32 < (look + 4) / 32
+      → 16 ≤ (260 + i - 288) % 32
+  late_of look i (inl e) l u m = absurd (omega (arith, e, m))
+  late_of look i (inr (inl e)) l u m = absurd (omega (arith, e, m))
+  late_of look i (inr (inr (k, few, inl e))) l u m = omega (arith, e, l, u, m)
+  late_of look i (inr (inr (k, few, inr e))) l u m = omega (arith, e, l, u, m)
+
+  up_behind : (look i : ℕ) → IsLook look → look + 2 ≤ i → clock_in ((look + 4) / 32) (260 + i) ≡ true
+  up_behind look i at u = by (nat_lt i 28) refl (nat_le ((look + 4) / 32) ((260 + i - 288) / 32)) refl
     where
-      by : (a : Bool) → nat_lt i (28 + 32 * j + 20) ≡ a → (b : Bool) → nat_lt i 28 ≡ b
-          → bit 0 (cut_latch v byte j i) ≡ clock_in (suc j) (260 + i)
+      by : (a : Bool) → nat_lt i 28 ≡ a → (b : Bool) → nat_le ((look + 4) / 32) ((260 + i - 288) / 32) ≡ b
+          → clock_in ((look + 4) / 32) (260 + i) ≡ true
+      by true e b f =
+          let m : i < 28 = grind (arith, nat_tests, e) in before_cells ((look + 4) / 32) (260 + i) (omega (arith, m))
+      by false e true f =
+          let l : 28 ≤ i = grind (arith, nat_tests, e) in
+          past_cells ((look + 4) / 32) (260 + i) (omega (arith, l)) (grind (arith, nat_tests, f))
+      by false e false f =
+          let l : 28 ≤ i = grind (arith, nat_tests, e) in
+          let m : (260 + i - 288) / 32 < (look + 4) / 32 = grind (arith, nat_tests, f) in
+          late_in_cell ((look + 4) / 32) (260 + i) (omega (arith, l)) (late_of look i at l u m)
+
+  cut_clock : (byte look i : ℕ) → IsLook look → look < 344 → i < look + 6
+      → bit 0 (cut_latch v byte look i) ≡ clock_in ((look + 4) / 32) (260 + i)
+  cut_clock byte look i at below l = by (nat_lt i (look + 2)) refl (nat_lt i 28) refl
+    where
+      by : (a : Bool) → nat_lt i (look + 2) ≡ a → (b : Bool) → nat_lt i 28 ≡ b
+          → bit 0 (cut_latch v byte look i) ≡ clock_in ((look + 4) / 32) (260 + i)
       by true e true f =
           let n : i < 28 = grind (arith, nat_tests, f) in
           ap (λ c. bit 0 (if c then sent_latch v byte i else v)) e ∙ sent_clock byte i (omega (arith, n))
-          ∙ before_cells 11 (260 + i) (omega (arith, n)) ∙ sym (before_cells (suc j) (260 + i) (omega (arith, n)))
+          ∙ before_cells 11 (260 + i) (omega (arith, n)) ∙ sym (before_cells ((look + 4) / 32) (260 + i) (omega (arith, n)))
       by true e false f =
-          let m : i < 28 + 32 * j + 20 = grind (arith, nat_tests, e) in
+          let m : i < look + 2 = grind (arith, nat_tests, e) in
           let n : 28 ≤ i = grind (arith, nat_tests, f) in
-          let q : (260 + i - 288) / 32 < suc j = omega (arith, m, n) in
+          let q : (260 + i - 288) / 32 < (look + 4) / 32 = cells_to look i at n m in
           ap (λ c. bit 0 (if c then sent_latch v byte i else v)) e ∙ sent_clock byte i (omega (arith, m, below))
-          ∙ in_cells 11 (260 + i) (omega (arith, n)) (omega (arith, q, below))
-          ∙ sym (in_cells (suc j) (260 + i) (omega (arith, n)) q)
+          ∙ in_cells 11 (260 + i) (omega (arith, n)) (omega (arith, m, below))
+          ∙ sym (in_cells ((look + 4) / 32) (260 + i) (omega (arith, n)) q)
       by false e b f =
-          let m : 28 + 32 * j + 20 ≤ i = grind (arith, nat_tests, e) in
-          let r : 16 ≤ (260 + i - 288) % 32 = omega (arith, m, l) in
-          ap (λ c. bit 0 (if c then sent_latch v byte i else v)) e ∙ is.clock
-          ∙ sym (late_in_cell (suc j) (260 + i) (omega (arith, m)) r)
+          let m : look + 2 ≤ i = grind (arith, nat_tests, e) in
+          ap (λ c. bit 0 (if c then sent_latch v byte i else v)) e ∙ is.clock ∙ sym (up_behind look i at m)
 
   -- a frame is one with fewer than eleven cells, or of eleven
   abbrev pub Fits : Frame → Type 0
   Fits NoFrame = Unit {0}
   Fits (SentFrame byte) = Unit {0}
-  Fits (CutFrame byte cell) = cell < 10
+  Fits (CutFrame byte look) = IsLook look × (look < 344)
   Fits ReceivedFrame = Unit {0}
 
   frame_clock : (frame : Frame)
       → Fits frame → (i : ℕ) → i < frame_cycles frame → bit 0 (frame_latch frame v i) ≡ clock_in (cells frame) (260 + i)
   frame_clock NoFrame fits i l = absurd (omega (arith, l))
   frame_clock (SentFrame byte) fits i l = sent_clock byte i l
-  frame_clock (CutFrame byte cell) fits i l = cut_clock byte cell i fits l
+  frame_clock (CutFrame byte look) fits i l = cut_clock byte look i fits.0 fits.1 l
   frame_clock ReceivedFrame fits i l = received_clock i l
 
   behind_by : (n c i : ℕ)
@@ -214,8 +243,9 @@ module _ (old v : ℕ) (was : IsReleased old) (is : IsReleased v) where
       behind_frame : (f : Frame) → Fits f → (i : ℕ) → 288 ≤ 260 + frame_cycles f + i → clock_in (cells f) (260 + frame_cycles f + i) ≡ true
       behind_frame NoFrame h i l = past_cells 0 (260 + 0 + i) l (omega arith)
       behind_frame (SentFrame byte) h i l = behind_by 11 368 i (omega arith) (inr (refl, omega arith))
-      behind_frame (CutFrame byte cell) h i l =
-          behind_by (suc cell) (28 + 32 * cell + 24) i (omega arith) (inr (omega arith, omega arith))
+      behind_frame (CutFrame byte look) h i l =
+          let z : 260 + (look + 6) + i ≡ 260 + (look + 6 + i) = omega arith in
+          ap (clock_in ((look + 4) / 32)) z ∙ up_behind look (look + 6 + i) h.0 (omega arith)
       behind_frame ReceivedFrame h i l = behind_by 11 366 i (omega arith) (inr (refl, omega arith))
 
       by : (a : Bool) → nat_lt o 232 ≡ a → (b : Bool) → nat_lt o 260 ≡ b → (c : Bool)

@@ -1,16 +1,23 @@
 -- A frame that is cut in its last cell but one: the controller pulls the clock where its next edge would be.
-use Rattle.std.proofs.Common.{◌≡◌, ◌≤◌, ℕ, ◌+◌, ◌-◌, ◌*◌, List, false, Some, ap, sym, ◌∙◌, subst, arith}
+use Rattle.std.proofs.Common.{◌≡◌, ◌≤◌, ◌<◌, ℕ, ◌+◌, ◌-◌, ◌/◌, List, false, Some, refl, inl, inr, ap, sym, ◌∙◌, subst, arith}
 use Rattle.board_lines.specs.declared.event.HostEvent.{HostEvent}
 use Rattle.ctl_link.specs.Link.{is_busy}
 use Rattle.ctl_link.specs.Pulls.{pulled}
 use Rattle.fw_link.proofs.Wired.{IsReleased}
-use Rattle.fw_link.specs.Latch.{Frame, NoFrame, SentFrame, CutFrame, ReceivedFrame}
+use Rattle.fw_link.specs.Latch.{Frame, NoFrame, SentFrame, CutFrame, ReceivedFrame, IsLook}
 use Rattle.joint_run.specs.Joint.{Beside}
 use Rattle.wires_heard.proofs.Clock.{cells, Fits}
 use Rattle.wires_heard.proofs.Pulls.{link_of, lets}
 use Rattle.wires_heard.proofs.Spans.{low_stays}
 use Rattle.wires_heard.proofs.Ticks.{beside}
-use Rattle.agreement.specs.Wires.{IsCutBy, look_before}
+use Rattle.agreement.specs.Wires.{IsCutBy}
+
+-- the look that cuts a frame of ten cells
+is_last : (look : ℕ) → IsLook look → look < 344 → (look + 4) / 32 ≡ 10 → look ≡ 334
+is_last look (inl e) below ten = absurd (omega (arith, e, ten))
+is_last look (inr (inl e)) below ten = absurd (omega (arith, e, ten))
+is_last look (inr (inr (k, few, inl e))) below ten = omega (arith, e, ten)
+is_last look (inr (inr (k, few, inr e))) below ten = absurd (omega (arith, e, below, ten))
 
 module _ (events : List HostEvent) (x : ℕ) (start : Beside) (old v : ℕ) (was : IsReleased old) (is : IsReleased v) where
   pub is_broken : (frame : Frame) (fits : Fits old v was is frame) (idle : is_busy (link_of start) ≡ false)
@@ -18,14 +25,14 @@ module _ (events : List HostEvent) (x : ℕ) (start : Beside) (old v : ℕ) (was
       → (o : ℕ) → 594 ≤ o → o ≤ 620 → lets (beside events x start old v was is frame fits idle o) ≡ false
   is_broken NoFrame fits idle cut ten o l u = absurd (omega (arith, ten))
   is_broken (SentFrame byte) fits idle cut ten o l u = absurd (omega (arith, ten))
-  is_broken (CutFrame byte cell) fits idle cut ten o l u =
-      let nine : cell ≡ 9 = omega (arith, ten) in
-      let from : x + look_before cell ≤ cut.0 = cut.2 in
-      let since : x + 562 ≤ cut.0 = subst (λ c. x + look_before c ≤ cut.0) nine from in
-      let at : 306 + 32 * cell ≡ 594 = omega (arith, nine) in
-      let there : pulled (link_of (beside events x start old v was is (CutFrame byte cell) fits idle 594)) ≡ Some cut.0 =
-      subst (λ k. pulled (link_of (beside events x start old v was is (CutFrame byte cell) fits idle k)) ≡ Some cut.0) at cut.1 in
+  is_broken (CutFrame byte look) fits idle cut ten o l u =
+      let last : look ≡ 334 = is_last look fits.0 fits.1 ten in
+      let few : 8 < 10 = omega arith in
+      let since : x + (260 + 312) ≤ cut.0 = cut.3 312 (inr (inr (8, few, inr refl))) (omega (arith, last)) in
+      let at : 260 + look ≡ 594 = omega (arith, last) in
+      let there : pulled (link_of (beside events x start old v was is (CutFrame byte look) fits idle 594)) ≡ Some cut.0 =
+      subst (λ k. pulled (link_of (beside events x start old v was is (CutFrame byte look) fits idle k)) ≡ Some cut.0) at cut.1 in
       let z : 594 + (o - 594) ≡ o = omega (arith, l) in
-      ap (λ k. lets (beside events x start old v was is (CutFrame byte cell) fits idle k)) (sym z)
-      ∙ low_stays events x start old v was is (CutFrame byte cell) fits idle 594 (o - 594) cut.0 there (omega (arith, l, u, since))
+      ap (λ k. lets (beside events x start old v was is (CutFrame byte look) fits idle k)) (sym z)
+      ∙ low_stays events x start old v was is (CutFrame byte look) fits idle 594 (o - 594) cut.0 there (omega (arith, l, u, since))
   is_broken ReceivedFrame fits idle cut ten o l u = absurd (omega (arith, ten))

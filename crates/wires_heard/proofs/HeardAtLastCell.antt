@@ -1,10 +1,10 @@
 -- A tick with a frame of eleven cells: what is heard at the last is what ends there.
-use Rattle.std.proofs.Common.{◌≡◌, ◌≤◌, ℕ, ◌+◌, ◌*◌, List, Bool, true, false, arith}
+use Rattle.std.proofs.Common.{◌≡◌, ◌≤◌, ◌<◌, ℕ, ◌+◌, ◌*◌, List, Bool, true, false, refl, ap, ◌∙◌, inl, inr, arith}
 use Rattle.board_lines.specs.declared.event.HostEvent.{HostEvent}
 use Rattle.ctl_link.specs.Link.{is_busy}
 use Rattle.board_probes.specs.Transfers.{transfer_in}
 use Rattle.fw_link.proofs.Wired.{IsReleased}
-use Rattle.fw_link.specs.Latch.{Frame, NoFrame, SentFrame, CutFrame, ReceivedFrame}
+use Rattle.fw_link.specs.Latch.{Frame, NoFrame, SentFrame, CutFrame, ReceivedFrame, IsLook}
 use Rattle.joint_run.specs.Joint.{Beside, latch_of}
 use Rattle.pc_wires.specs.Wires.{wires}
 use Rattle.agreement.specs.Wires.{GoesWith}
@@ -30,15 +30,24 @@ module _ (events : List HostEvent) (x : ℕ) (start : Beside) (old v : ℕ) (was
         ≡ ended_in (latch_of (latch events x start old v was is frame fits idle 608))
         (beside events x start old v was is frame fits idle 608).pc
 
+  -- the looks of the cells are among those at which the controller leaves the clock alone
+  looks : (byte : ℕ) (fits : Fits old v was is (SentFrame byte))
+      → ((look : ℕ) → IsLook look → lets (beside events x start old v was is (SentFrame byte) fits idle (260 + look)) ≡ true)
+      → (k : ℕ) → k < 10 → lets (beside events x start old v was is (SentFrame byte) fits idle (306 + 32 * k)) ≡ true
+  looks byte fits h k l =
+      let z : 306 + 32 * k ≡ 260 + (46 + 32 * k) = omega arith in
+      ap (λ o. lets (beside events x start old v was is (SentFrame byte) fits idle o)) z
+      ∙ h (46 + 32 * k) (inr (inr (k, l, inl refl)))
+
   pub whole : (frame : Frame) (fits : Fits old v was is frame)
       → GoesWith (λ o. (beside events x start old v was is frame fits idle o).pc) frame → cells frame ≡ 11 → IsWhole frame fits
   whole NoFrame fits h all = absurd (omega (arith, all))
   whole (SentFrame byte) fits h all = record {
-    opens = sent.opens events x start old v was is byte idle h.0 h.1 h.2 h.3;
-    steady = (false, sent.steady events x start old v was is byte idle h.0 h.1 h.2 h.3);
-    so = sent.heard_so events x start old v was is byte idle h.0 h.1 h.2 h.3;
+    opens = sent.opens events x start old v was is byte idle h.0 h.1 h.2 (looks byte fits h.3);
+    steady = (false, sent.steady events x start old v was is byte idle h.0 h.1 h.2 (looks byte fits h.3));
+    so = sent.heard_so events x start old v was is byte idle h.0 h.1 h.2 (looks byte fits h.3);
   }
-  whole (CutFrame byte cell) fits h all = absurd (omega (arith, all, fits))
+  whole (CutFrame byte look) fits h all = absurd (let below : look < 344 = fits.1 in omega (arith, all, below))
   whole ReceivedFrame fits h all = record {
     opens = received.opens events x start old v was is idle h.0 h.1 h.2 h.3;
     steady = (true, received.steady events x start old v was is idle h.0 h.1 h.2 h.3);

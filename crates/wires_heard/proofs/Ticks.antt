@@ -45,7 +45,7 @@ module _ (events : List HostEvent) (x : ℕ) (start : Beside) (old v : ℕ) (was
   few_cells : (f : Frame) → Fits old v was is f → cells f ≤ 11
   few_cells NoFrame h = omega arith
   few_cells (SentFrame byte) h = omega arith
-  few_cells (CutFrame byte cell) h = omega (arith, h)
+  few_cells (CutFrame byte look) h = let below : look < 344 = h.1 in omega (arith, below)
   few_cells ReceivedFrame h = omega arith
 
   pub eleven_at_most : n ≤ 11
