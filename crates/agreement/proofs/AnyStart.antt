@@ -20,7 +20,7 @@ use Rattle.key_file.specs.Histories.{KeyHistory}
 use Rattle.layout_reader.specs.Layouts.{KeyLayout, IsKeyLayout}
 use Rattle.link_model.proofs.Edges.{same_by_place}
 use Rattle.link_model.specs.Expected.{Whole, whole_at}
-use Rattle.link_model.specs.Machine.{LayeredKeyboard, Machine, keyboard}
+use Rattle.link_model.specs.Machine.{LayeredKeyboard, KeyboardMachine, keyboard}
 use Rattle.link_model.specs.TickEdges.{change_at, shown, shown_at}
 use Rattle.agreement.specs.Agreement.{IsPrompt, switched_on}
 use Rattle.agreement.specs.AnyStart.{AreFor, AsShown, FromAnyStart, GoesOnAs, ShowsFew, ShowsKeyboard}
@@ -45,7 +45,7 @@ module _ (layout : KeyLayout) (edges : List Edge) (events : List HostEvent) (fin
   abbrev history : KeyHistory
   history = record { edges = edges; host = events; end = 0 }
 
-  abbrev kb : Machine LayeredKeyboard
+  abbrev kb : KeyboardMachine LayeredKeyboard
   kb = keyboard layout
 
   abbrev R : World Beside → Whole LayeredKeyboard → Type 0
@@ -153,7 +153,7 @@ from_any_start layout edges events n w fine ok s few later =
 pub as_shown : AsShown
 as_shown layout edges events fine ok few m small =
     let history : KeyHistory = record { edges = edges; host = events; end = 0 } in
-    let kb : Machine LayeredKeyboard = keyboard layout in
+    let kb : KeyboardMachine LayeredKeyboard = keyboard layout in
     let c = tied_first layout history fine ok m small in
     let begin : World Beside = c.end in
     let run : Comes (joint_board edges events) TICK (image_of layout) (switched_on edges events m) (λ e. e ≡ begin) =

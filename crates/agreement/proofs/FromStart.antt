@@ -14,7 +14,7 @@ use Rattle.joint_run.specs.Run.{Board, World, run_at}
 use Rattle.joint_run.specs.Starts.{at_tick, Comes, Tick, IsNth, IsStart}
 use Rattle.link_model.proofs.Edges.{same_by_place}
 use Rattle.link_model.specs.Expected.{Whole, meeting_from, whole_tick}
-use Rattle.link_model.specs.Machine.{Machine}
+use Rattle.link_model.specs.Machine.{KeyboardMachine}
 use Rattle.link_model.specs.TickEdges.{change_at, shown, shown_at, downs_in}
 use Rattle.agreement.specs.Agreement.{IsPrompt}
 use Rattle.agreement.specs.AnyStart.{ShowsFew, model_from}
@@ -29,7 +29,7 @@ as_prompt n w t =
     record { least = omega (arith, cycle); most = omega (arith, cycle, most) }
 
 -- A tick's law, with what it leaves open, as for the run from power-on; and the start from which it is used
-module _ (S : Type 0) (bytes : List ℕ) (edges : List Edge) (events : List HostEvent) (kb : Machine S)
+module _ (S : Type 0) (bytes : List ℕ) (edges : List Edge) (events : List HostEvent) (kb : KeyboardMachine S)
     (R : World Beside → Whole S → Type 0) (Fit : S → Type 0)
     (fits : (w : World Beside) (m : Whole S) → R w m → Fit m.keys)
     (so : (meeting : Meeting) (k : S) (now : ℕ → Bool) (p : ℕ) → Fit k → p < 96

@@ -19,7 +19,7 @@ use Rattle.byte_time.specs.ByteTime.{is_open, byte_cycle, quietly, carried}
 use Rattle.key_file.specs.Accepted.{AreWritten}
 use Rattle.ctl_wire.specs.declared.wire.Wire.{Wire}
 use Rattle.wires_agree.specs.Without.{link_by, without_bits, seen_in_bytes}
-use Rattle.link_model.specs.Machine.{Machine}
+use Rattle.link_model.specs.Machine.{KeyboardMachine}
 use Rattle.link_model.specs.Expected.{Whole, to_look, to_meeting, from_meeting, begins_from, whole_tick}
 use Rattle.agreement.proofs.Model.{at_first}
 use Rattle.agreement.specs.Bytes.{AsksByte, IsInBytes}
@@ -103,7 +103,7 @@ module _ (events : List HostEvent) (written : AreWritten events) where
       let met : Side UnderWay = carried events meeting (288 + start) m in
       quiet_in_bytes rest (609 + start) met (carried_in_bytes meeting (288 + start) m b)
 
-  module _ (S : Type 0) (kb : Machine S) where
+  module _ (S : Type 0) (kb : KeyboardMachine S) where
     -- the model's tick
     pub tick_in_bytes : (changes : List (ℕ × Bool)) (start rest : ℕ) (m : Whole S) → IsInBytes m.side
         → IsInBytes (whole_tick kb events changes start rest m).side

@@ -6,7 +6,7 @@ use Rattle.byte_time.specs.ByteTime.{quietly}
 use Rattle.byte_time.specs.declared.UnderWay.{UnderWay}
 use Rattle.host_turn.specs.Run.{side_at_start}
 use Rattle.link_model.specs.Expected.{Whole, whole_tick}
-use Rattle.link_model.specs.Machine.{Machine}
+use Rattle.link_model.specs.Machine.{KeyboardMachine}
 use Rattle.link_model.specs.TickEdges.{is_down, shown}
 
 -- which keys the columns show as down in a tick that starts at a cycle
@@ -14,11 +14,11 @@ abbrev pub columns_in : List Edge → ℕ → ℕ → Bool
 columns_in edges cycle p = is_down edges p (cycle - 4096 + 16 + 16 * (p / 8))
 
 -- the model at a first start
-abbrev pub at_first : {S : Type 0} → Machine S → List HostEvent → ℕ → Whole S
+abbrev pub at_first : {S : Type 0} → KeyboardMachine S → List HostEvent → ℕ → Whole S
 at_first kb events cycle =
     record { keys = kb.start; side = quietly events (cycle - 4096) 4096 (side_at_start UnderWay); shown = 0 }
 
 -- and what the tick from a start to another makes of it
-abbrev pub by_columns : {S : Type 0} → Machine S → List Edge → List HostEvent → ℕ → ℕ → Whole S → Whole S
+abbrev pub by_columns : {S : Type 0} → KeyboardMachine S → List Edge → List HostEvent → ℕ → ℕ → Whole S → Whole S
 by_columns kb edges events from to m =
     whole_tick kb events (shown (kb.held m.keys) (columns_in edges from)) from (to - from - 609) m

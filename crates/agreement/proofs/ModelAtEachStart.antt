@@ -14,7 +14,7 @@ use Rattle.fw_link.specs.Drives.{Drives}
 use Rattle.key_file.specs.Accepted.{IsLawful}
 use Rattle.key_file.specs.Histories.{KeyHistory}
 use Rattle.link_model.specs.Expected.{Whole, meeting_from, whole_tick, whole_at}
-use Rattle.link_model.specs.Machine.{Machine}
+use Rattle.link_model.specs.Machine.{KeyboardMachine}
 use Rattle.link_model.specs.TickEdges.{shown, tick_edges}
 use Rattle.agreement.specs.Agreement.{AgreesFrom, IsPrompt}
 use Rattle.agreement.specs.Wires.{DrivesFrame, DrivesWires}
@@ -26,7 +26,7 @@ use Rattle.agreement.proofs.FewEdges.{WasNear, HeldBefore, edges_seen, at_most_f
 -- A tick's law, with what it leaves open: what ties the run to the model, and of which keyboards it holds that a tick's
 -- edges become the keys held.
 module _ (S : Type 0) (from : World Beside) (bytes : List ℕ) (history : KeyHistory) (ok : IsLawful history)
-    (kb : Machine S) (R : World Beside → Whole S → Type 0) (Fit : S → Type 0)
+    (kb : KeyboardMachine S) (R : World Beside → Whole S → Type 0) (Fit : S → Type 0)
     (fits : (w : World Beside) (m : Whole S) → R w m → Fit m.keys)
     (none : (p : ℕ) → p < 96 → kb.held kb.start p ≡ false)
     (so : (meeting : Meeting) (k : S) (now : ℕ → Bool) (p : ℕ) → Fit k → p < 96

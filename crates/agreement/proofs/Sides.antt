@@ -12,7 +12,7 @@ use Rattle.host_turn.specs.Run.{Side, says_lights}
 use Rattle.joint_run.specs.Joint.{Beside, latch_of, lights_of}
 use Rattle.joint_run.specs.Run.{World}
 use Rattle.link_model.specs.Expected.{Whole, to_look, to_meeting, from_meeting, begins_from, meeting_from}
-use Rattle.link_model.specs.Machine.{Machine}
+use Rattle.link_model.specs.Machine.{KeyboardMachine}
 use Rattle.pc_wires.specs.Wires.{Pc}
 use Rattle.wires_agree.proofs.Between.{between}
 use Rattle.wires_agree.specs.Cycles.{board_cycles}
@@ -45,7 +45,7 @@ module _ (edges : List Edge) (events : List HostEvent) (w : World Beside) (was :
         second.1,
       )
 
-  module _ (S : Type 0) (kb : Machine S) (m : Whole S) (side : seen_in_bytes w.board.pc.side ≡ m.side)
+  module _ (S : Type 0) (kb : KeyboardMachine S) (m : Whole S) (side : seen_in_bytes w.board.pc.side ≡ m.side)
       (shown : w.board.shown ≡ m.shown) (lit : kb.lights m.keys ≡ lights) where
     abbrev model_look : Side UnderWay
     model_look = to_look events m.shown (kb.lights m.keys) w.cycle m.side

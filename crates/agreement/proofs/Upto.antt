@@ -12,7 +12,7 @@ use Rattle.host_turn.specs.Run.{side_at_start}
 use Rattle.host_turn.specs.declared.stamped.Stamped.{Stamped}
 use Rattle.link_model.proofs.Edges.{same_by_place}
 use Rattle.link_model.specs.Expected.{Whole, whole_tick, whole_at, lines, expected}
-use Rattle.link_model.specs.Machine.{Machine}
+use Rattle.link_model.specs.Machine.{KeyboardMachine}
 use Rattle.link_model.specs.TickEdges.{none_before, is_seen, read_at, change_of, tick_edges, downs_before, is_down}
 
 module _ (s t : ℕ → ℕ) where
@@ -65,7 +65,7 @@ module _ (s t : ℕ → ℕ) where
       ap (λ k. record { tick = k; item = x.item } ∷ lines s n log) (tick_up_to n x.cycle h)
       ∙ ap (λ v. record { tick = tick_of t n x.cycle; item = x.item } ∷ v) (lines_up_to n log h)
 
-module _ {S : Type 0} (kb : Machine S) (edges : List Edge) (events : List HostEvent) where
+module _ {S : Type 0} (kb : KeyboardMachine S) (edges : List Edge) (events : List HostEvent) where
   -- a tick by its edges, its start and the next
   alike : (es fs : List (ℕ × Bool)) (a b c d : ℕ) (m k : Whole S) → es ≡ fs → a ≡ b → c ≡ d → m ≡ k
       → whole_tick kb events es (4096 + a) (c - a - 609) m ≡ whole_tick kb events fs (4096 + b) (d - b - 609) k

@@ -13,13 +13,13 @@ use Rattle.key_file.specs.Accepted.{IsLawfulFor}
 use Rattle.key_file.specs.Histories.{KeyHistory}
 use Rattle.layout_reader.specs.Layouts.{KeyLayout, IsKeyLayout}
 use Rattle.link_model.specs.Expected.{whole_at}
-use Rattle.link_model.specs.Machine.{Machine, keyboard}
+use Rattle.link_model.specs.Machine.{KeyboardMachine, keyboard}
 use Rattle.mcs48_core.specs.Cpu.{Cpu}
 use Rattle.mcs48_ranges.specs.Sizes.{IsFine}
 
--- at each tick start of a joint run what was said so far is what the model says up to there, where its ticks start when
+-- at each tick start of a joint run what was said so far is what the model says up to there, if its ticks start when
 -- the run's do
-pub record AgreesFrom {S : Type 0} (from : World Beside) (bytes : List ℕ) (kb : Machine S) (edges : List Edge)
+pub record AgreesFrom {S : Type 0} (from : World Beside) (bytes : List ℕ) (kb : KeyboardMachine S) (edges : List Edge)
     (events : List HostEvent) : Type 0 where
   pub starts : ℕ → ℕ
   pub each : (n : ℕ) → IsStart (joint_board edges events) TICK bytes from n (starts n)
@@ -27,7 +27,7 @@ pub record AgreesFrom {S : Type 0} (from : World Beside) (bytes : List ℕ) (kb 
       → log_of s.state.board ≡ (whole_at kb edges events starts n).side.log
 
 -- so it is of the run that begins with cleared memory
-abbrev pub Agrees : {S : Type 0} → List ℕ → Machine S → List Edge → List HostEvent → Type 0
+abbrev pub Agrees : {S : Type 0} → List ℕ → KeyboardMachine S → List Edge → List HostEvent → Type 0
 Agrees bytes kb edges events = AgreesFrom joint_start bytes kb edges events
 
 -- for every layout and every history that is lawful for it; and the run keeps its time

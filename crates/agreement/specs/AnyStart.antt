@@ -19,7 +19,7 @@ use Rattle.kbd_model.specs.Keyboard.{is_held}
 use Rattle.key_file.specs.Accepted.{AreWritten, IsPlaceOf, IsThin}
 use Rattle.layout_reader.specs.Layouts.{KeyLayout, IsKeyLayout}
 use Rattle.link_model.specs.Expected.{Whole, whole_at, whole_tick}
-use Rattle.link_model.specs.Machine.{Machine, LayeredKeyboard, keyboard}
+use Rattle.link_model.specs.Machine.{KeyboardMachine, LayeredKeyboard, keyboard}
 use Rattle.link_model.specs.TickEdges.{is_down, shown, downs_in}
 use Rattle.mcs48_core.specs.Cpu.{Cpu}
 use Rattle.mcs48_ranges.specs.Sizes.{IsFine}
@@ -52,7 +52,7 @@ ShowsFew edges (suc n) =
     → length (shown (columns_at edges before) (columns_at edges now)) ≤ 4
 
 -- the model from a start on, by the stamps of the starts: each tick gets the keys whose columns differ from those held
-abbrev pub model_from : {S : Type 0} → Machine S → List Edge → List HostEvent → (ℕ → ℕ) → Whole S → ℕ → Whole S
+abbrev pub model_from : {S : Type 0} → KeyboardMachine S → List Edge → List HostEvent → (ℕ → ℕ) → Whole S → ℕ → Whole S
 model_from kb edges events starts m zero = m
 model_from kb edges events starts m (suc k) =
     whole_tick kb events (shown (kb.held (model_from kb edges events starts m k).keys) (downs_in starts edges k))

@@ -30,7 +30,7 @@ board_at d w frame n = after_cycles n 0 (λ o. d.cycle (latch_at d w frame o) (w
 abbrev pub levels_at : (d : Board) → World d.State → Frame → ℕ → Pins
 levels_at d w frame o = d.pins 44 (latch_at d w frame o) (w.cycle + o) (board_at d w frame o)
 
--- a look at the clock where this byte is sent; and the look of cell k at data, at offset 306 + 32 k, where one is received
+-- a look at the clock if this byte is sent; and the look of cell k at data, at offset 306 + 32 k, if one is received
 abbrev pub clock_in : (d : Board) → World d.State → ℕ → ℕ → Bool
 clock_in d w byte look = (levels_at d w (SentFrame byte) (260 + look)).t0
 
@@ -45,9 +45,9 @@ IsOpen d w = (tests_in d w ≡ true) × (clock_now d w ≡ true)
 abbrev pub Offers : (d : Board) → World d.State → ℕ → Type 0
 Offers d w byte = IsOpen d w × (data_now d w ≡ true) × (offer (shown_by w.cpu.ram) ≡ Some byte)
 
--- the frame of a tick, and its meeting, by what the looks find. The byte offered is sent where the clock is high at the
+-- the frame of a tick, and its meeting, by what the looks find. The byte offered is sent if the clock is high at the
 -- looks of its frame; it is cut at the first that finds the clock low. A byte is received
--- where the clock is high, and data low at both looks at it: that of the first eight looks at data, right where the ninth is its parity
+-- if the clock is high, and data low at both looks at it: that of the first eight looks at data, right if the ninth is its parity
 abbrev pub Finds : (d : Board) → World d.State → Frame → Meeting → Type 0
 Finds d w NoFrame meeting = IsFrameless d w meeting
 Finds d w (SentFrame byte) meeting =
@@ -59,7 +59,7 @@ Finds d w ReceivedFrame meeting =
     (meeting ≡ Got (byte_in (data_in d w)) (right_in (data_in d w))) × IsOpen d w × (data_now d w ≡ false)
     × (data_again d w ≡ false)
 
--- in the queue that data memory shows no code is broken: behind F0 stands its code
+-- in the queue that data memory shows no code is broken: after F0 is its code
 abbrev pub HasWholeCodes : List ℕ → Type 0
 HasWholeCodes ram = whole (shown_by ram).queue.break_started (shown_by ram).queue.bytes ≡ true
 
@@ -71,7 +71,7 @@ pub record Does (d : Board) (bytes : List ℕ) (frame : Frame) (meeting : Meetin
   pub board : (n : ℕ) → v.cycle ≡ w.cycle + n → v.board ≡ board_at d w frame n
   pub column : v.cpu.p1 ≡ 44
 
--- a program whose every tick does so, whatever the pins show, where four edges are seen at most; and in each cycle of
+-- a program whose every tick does so, whatever the pins show, if four edges are seen at most; and in each cycle of
 -- the tick port 1 selects its column
 abbrev pub KeepsTicks : List ℕ → Type 0
 KeepsTicks bytes = (pins : ℕ → ℕ → ℕ → ℕ → Pins) (tick : ℕ → ℕ → ℕ → ℕ)

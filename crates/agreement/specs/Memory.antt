@@ -12,7 +12,7 @@ use Rattle.key_file.specs.Accepted.{IsLawfulFor}
 use Rattle.key_file.specs.Histories.{KeyHistory}
 use Rattle.layout_reader.specs.Layouts.{KeyLayout, IsKeyLayout}
 use Rattle.link_model.specs.Expected.{whole_at}
-use Rattle.link_model.specs.Machine.{Machine, LayeredKeyboard, keyboard}
+use Rattle.link_model.specs.Machine.{KeyboardMachine, LayeredKeyboard, keyboard}
 use Rattle.mcs48_core.specs.Cpu.{Cpu}
 use Rattle.mcs48_ranges.specs.Sizes.{IsFine}
 use Rattle.agreement.specs.Agreement.{switched_on}
@@ -21,9 +21,9 @@ use Rattle.agreement.specs.Agreement.{switched_on}
 abbrev pub Holds : World Beside → LayeredKeyboard → Type 0
 Holds w k = (shown_by w.cpu.ram ≡ k.keyboard) × (layers_by w.cpu.ram ≡ k.layers)
 
--- at each tick start of a run it shows the model's, which goes on by the meeting and the edges of each tick, where the
+-- at each tick start of a run it shows the model's, which goes on by the meeting and the edges of each tick, if the
 -- model's ticks start when the run's do
-pub record HoldsKeyboard (from : World Beside) (bytes : List ℕ) (kb : Machine LayeredKeyboard) (edges : List Edge)
+pub record HoldsKeyboard (from : World Beside) (bytes : List ℕ) (kb : KeyboardMachine LayeredKeyboard) (edges : List Edge)
     (events : List HostEvent) : Type 0 where
   pub starts : ℕ → ℕ
   pub each : (n : ℕ) → IsStart (joint_board edges events) TICK bytes from n (starts n)

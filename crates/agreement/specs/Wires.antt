@@ -25,13 +25,13 @@ use Rattle.key_file.specs.Accepted.{IsLawfulFor}
 use Rattle.key_file.specs.Histories.{KeyHistory}
 use Rattle.layout_reader.specs.Layouts.{KeyLayout, IsKeyLayout}
 use Rattle.link_model.specs.Expected.{meeting_from, whole_at}
-use Rattle.link_model.specs.Machine.{Machine, keyboard}
+use Rattle.link_model.specs.Machine.{KeyboardMachine, keyboard}
 use Rattle.mcs48_core.specs.Cpu.{Cpu}
 use Rattle.mcs48_ranges.specs.Sizes.{IsFine}
 use Rattle.pc_wires.specs.Wires.{Pc}
 use Rattle.agreement.specs.Agreement.{switched_on}
 
--- the frame of a tick with this meeting, where the keyboard offers this byte: the byte that is sent; the byte offered,
+-- the frame of a tick with this meeting, if the keyboard offers this byte: the byte that is sent; the byte offered,
 -- cut at a look, which isn't the last; the frame in which the controller's byte is received; or none
 abbrev pub IsFrameOf : Option ℕ → Meeting → Frame → Type 0
 IsFrameOf offered (Sent byte) frame = frame ≡ SentFrame byte
@@ -43,12 +43,12 @@ IsFrameOf offered (Got byte) frame = frame ≡ ReceivedFrame
 IsFrameOf offered Inhibited frame = frame ≡ NoFrame
 IsFrameOf offered Idle frame = frame ≡ NoFrame
 
--- what stands beside the processor so many cycles past a tick's start, where the latch of port 2 is this, by the offset
+-- what is beside the processor so many cycles past a tick's start, if the latch of port 2 is this, by the offset
 abbrev pub beside_in : List Edge → List HostEvent → (ℕ → ℕ) → World Beside → ℕ → Beside
 beside_in edges events latch w n =
     after_cycles n 0 (λ o. (joint_board edges events).cycle (latch o) (w.cycle + o)) w.board
 
--- a frame is cut at the first look behind the cycle in which the controller began to pull the clock: by the controller's
+-- a frame is cut at the first look after the cycle in which the controller began to pull the clock: by the controller's
 -- link at each offset, it pulls there, since a cycle that isn't earlier than the tick's own look, nor than the looks before
 abbrev pub IsCutBy : (ℕ → Link Wire) → ℕ → Frame → Type 0
 IsCutBy link start NoFrame = Unit {0}
@@ -59,7 +59,7 @@ IsCutBy link start (CutFrame byte look) =
 IsCutBy link start ReceivedFrame = Unit {0}
 
 -- what the controller does in a tick with this frame, by the PC's side at each offset. At the first edge it has seen
--- the clock high. Where a byte is sent its link is free there, and at each look it leaves the clock alone; where one is
+-- the clock high. If a byte is sent its link is free there, and at each look it leaves the clock alone; if one is
 -- received it requests to send it
 abbrev pub GoesWith : (ℕ → Pc) → Frame → Type 0
 GoesWith pc NoFrame = Unit {0}
@@ -105,10 +105,10 @@ pub record DrivesFrame (edges : List Edge) (events : List HostEvent) (bytes : Li
   pub none : w.cpu.p1 ≡ (if nat_le w.cycle 4097 then 255 else 44)
   pub columns : Selects (joint_board edges events) TICK bytes w (λ c. column_latch w.cpu.p1 (c - w.cycle))
 
--- so it is in each tick of a run, with the meeting that the model has in the tick of that number, where its ticks start
+-- so it is in each tick of a run, with the meeting that the model has in the tick of that number, if its ticks start
 -- when the run's do; and from power-on to the first start the latches stay as reset leaves them: port 2 pulls no wire
 -- and lights no light, port 1 selects no column
-pub record DrivesWires {S : Type 0} (from : World Beside) (bytes : List ℕ) (kb : Machine S) (edges : List Edge)
+pub record DrivesWires {S : Type 0} (from : World Beside) (bytes : List ℕ) (kb : KeyboardMachine S) (edges : List Edge)
     (events : List HostEvent) : Type 0 where
   pub first : Drives (joint_board edges events) TICK bytes from (λ c. 255)
       (λ e. at_tick (joint_board edges events) TICK e ≡ true)

@@ -28,8 +28,8 @@ pub fn run_and_model_agree()
 /// For every layout and every history that is lawful for it, however long: in each tick of the joint run, in each of
 /// its cycles, what the keyboard drives on the two wires. Outside a frame it pulls neither wire. The frame is that of
 /// the model's meeting: the byte that is sent, whole or cut at one of its looks; the one in which the controller's byte
-/// is received; or none. It is cut at the first look behind the cycle in which the controller began
-/// to pull the clock; where it isn't cut, the controller's link is free at its first edge and leaves the clock alone at
+/// is received; or none. It is cut at the first look after the cycle in which the controller began
+/// to pull the clock; if it isn't cut, the controller's link is free at its first edge and leaves the clock alone at
 /// each look, or it requests to send the byte that is received, which is the meeting's. Port 1 selects each column in
 /// the cycles of its offset, and else none. Nothing is done when it is called; the law is its contract.
 pub fn wires_are_driven()
@@ -49,7 +49,7 @@ pub fn memory_holds_keyboard()
 /// cycle the latch of port 2 was that of a tick with the meeting's frame. Without a frame it is written once, with the
 /// lights, and pulls no wire. In each cycle port 1 selects the column of its offset. All is counted from the tick's
 /// start: column c is read at offset 16 + 16 c, the lights are put at 232, the clock is looked at at 256 and data at 258,
-/// and again at 286 where it is low; and where a byte is sent
+/// and again at 286 if it is low; and if a byte is sent
 /// the clock is looked at again at 268, 286, 306 + 32 k and 316 + 32 k. Nothing is done when it is called; the law is its contract.
 pub fn every_tick()
     ensures ticks { TickLaw }
@@ -60,7 +60,7 @@ pub fn every_tick()
 /// HEX text has, and of the kernel's kinds. So the run never enables the clock's output on T0, drives the bus or accesses
 /// memory outside, uses the port expander, reads the pins of ports 1 and 2, reads the timer, enables the external
 /// interrupt, or calls: of the stack's eight entries the service takes one, and power-on, whose RETR ends a service that
-/// is marked. And where a look at the clock wire comes
+/// is marked. And if a look at the clock wire comes
 /// next after a row that puts port 2, a chip samples the wire at least 7 fifths of a cycle, 3.5 microseconds, after it
 /// has put the port. While a byte is being sent, the next look at the clock comes at most 24 cycles after each: no pull of
 /// 60 microseconds is missed. Nothing is done when it is called; the laws are its contract.

@@ -11,11 +11,11 @@ use Rattle.app_answers.specs.CertTexts.{cert_said, IsCertText}
 use Rattle.app_answers.specs.FileAnswers.{Answer}
 use Rattle.app_answers.specs.TextPlans.{IsPlanText}
 
--- memory may be wanting where something is said
+-- memory may run out if something is said
 abbrev pub MayAnswerOf : Answer → Answer → Type 0
 MayAnswerOf said answer = (answer ≡ Err Memory) ⊎ (answer ≡ said)
 
--- what may be answered of a certificate for an image; where it is found right, its places keep their bounds
+-- what may be answered of a certificate for an image; if it is found right, its places keep their bounds
 abbrev pub MayAnswerCert : List ℕ → List ℕ → Answer → Type 0
 MayAnswerCert image text answer = MayAnswerOf (cert_said image text) answer × IfOk answer (IsCertText image text)
 

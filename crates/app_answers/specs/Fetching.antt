@@ -21,7 +21,7 @@ abbrev pub MayFetch : Option Told → List ℕ → ℕ → Fetched → Type 0
 MayFetch (Some shelf) name limit outcome = outcome ≡ fetched shelf name limit
 MayFetch None name limit outcome = IsWithin limit outcome
 
--- the refusal that a fetch comes to, or the file's bytes, for which memory may be wanting
+-- the refusal that a fetch comes to, or the file's bytes, for which memory may run out
 abbrev pub IsGiven : Kind → Fetched → Result (Vec ℕ Global) Refusal → Type 0
 IsGiven kind Fails result = MatchResult result (λ file. ⊥) (λ refusal. refusal ≡ Read)
 IsGiven kind Long result = MatchResult result (λ file. ⊥) (λ refusal. refusal ≡ TooLong kind)

@@ -22,7 +22,7 @@ use Rattle.app_answers.specs.Stepping.{Progress, Stands, Stopped, after_steps}
 abbrev pub Answer : Type 0
 Answer = Result (List ℕ) Refusal
 
--- `step` of a run that stands or has stopped after its steps
+-- `step` of a run that is or has stopped after its steps
 abbrev pub run_said : ℕ → Progress → Answer
 run_said count (Stands cpu cycles) = Ok (state_text_of cpu count cycles)
 run_said count (Stopped stuck) = Err (Stuck stuck)

@@ -20,7 +20,7 @@ abbrev pub still_to_say : Result (Vec ℕ Global) Refusal → Result Spoken Refu
 still_to_say (Ok text) = Ok (Text text)
 still_to_say (Err refusal) = Err refusal
 
--- which answers may be given, by how much is taken, behind which log
+-- which answers may be given, by how much is taken, after which log
 abbrev pub May : Type 1
 May = Answer → Taking → List ℕ → Type 0
 
@@ -28,14 +28,14 @@ May = Answer → Taking → List ℕ → Type 0
 abbrev pub IsUnsaid : May → Answer → Shown → Shown → Type 0
 IsUnsaid may answer before after = ((taking : Taking) → may answer taking []) × (after ≡ before)
 
--- of a run that is stuck the log was said: the answer may be given where its line is taken, or is broken off
+-- of a run that is stuck the log was said: the answer may be given if its line is taken, or is broken off
 abbrev pub IsStuckBehind : May → Answer → Shown → Shown → Type 0
 IsStuckBehind may answer before after =
     (log : List ℕ) × may answer Whole log
     × ((later : Shown) → IsBrokenOff after later (text_said answer) → may answer (CutOff before later) log)
     × IsSaid before after log
 
--- a refusal and a text are still to be said; any other text was said behind its log, whole or up to a put that failed;
+-- a refusal and a text are still to be said; any other text was said after its log, whole or up to a put that failed;
 -- of a run that is stuck the log was said
 abbrev pub IsSpoken : May → Result Spoken Refusal → Shown → Shown → Type 0
 IsSpoken may (Err refusal) before after = IsUnsaid may (Err refusal) before after

@@ -11,7 +11,7 @@ use Rattle.mcs48_core.specs.declared.stepping.Stuck.{Stuck}
 abbrev pub high : Pins
 high = record { p1 = 255; p2 = 255; bus = 255; t0 = true; t1 = true; int_pin = true }
 
--- a run stands at a state, with the machine cycles done, or it has stopped at a byte without an instruction
+-- a run is at a state, with the machine cycles done, or it has stopped at a byte without an instruction
 pub data Progress : Type 0 where
   Stands : Cpu → ℕ → Progress
   Stopped : Stuck → Progress

@@ -3,12 +3,12 @@ use Rattle.io_edge.specs.Said.{Shown}
 use Rattle.app_words.specs.declared.exit.Exit.{Exit}
 use Rattle.app_words.specs.declared.exit.Exit.TheVariants.{Done, Words, Input, Timing, Read, Write, Memory, Stuck}
 
--- all of it; or a put failed, and then the sink had this before the call, and this behind that put
+-- all of it; or a put failed, and then the sink had this before the call, and this after that put
 pub data Taking : Type 0 where
   Whole : Taking
   CutOff : Shown → Shown → Taking
 
--- a put failed where the call ends with Write
+-- a put failed if the call ends with Write
 abbrev pub taking_of : Exit → Shown → Shown → Taking
 taking_of Done before after = Whole
 taking_of Words before after = Whole

@@ -30,7 +30,7 @@ fn push_lines(text: &mut Vec<u8>, items: &[Item]) -> Result<(), AllocError>
     Ok(())
 }
 
-/// The controller receives a byte of the keyboard; where it puts one out, INT 09h reads it, and what is said is
+/// The controller receives a byte of the keyboard; if it puts one out, INT 09h reads it, and what is said is
 /// appended.
 fn hear(
     text: &mut Vec<u8>,

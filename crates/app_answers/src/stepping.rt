@@ -46,7 +46,7 @@ fn run(image: &Image, count: u32) -> Result<Ran, Stuck>
     Ok(Ran { mcu, cycles })
 }
 
-/// The text of the state at which a run stands after so many steps.
+/// The text of the state at which a run is after so many steps.
 fn shown(alloc: Global, ran: &Ran, steps: u64) -> Result<Vec<u8>, Refusal>
     ensures says { MayAnswerOf (Ok (state_text_of ran.now.mcu steps ran.now.cycles)) (answer_of result) }
 {

@@ -17,7 +17,7 @@ IsBoardTold wanted s answer probes left =
     (run : board.Outcome) × board.IsOutcome s run × (left.log ≡ board_log wanted s run)
     × (answer ≡ board_said wanted run run.end) × AreLeftOnBoard wanted s run left.taking probes left.probes
 
--- what may be answered of such a run under a history; no memory is wanting once it has begun
+-- what may be answered of such a run under a history; no memory runs out once it has begun
 abbrev pub MayAnswerBoard : BoardRun → List ℕ → KeyHistory → Answer → List Watch → Left → Type 0
 MayAnswerBoard wanted image history answer probes left =
     ((answer ≡ Err Memory) × (left.log ≡ []) × (left.probes ≡ probes))

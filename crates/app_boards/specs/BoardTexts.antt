@@ -32,12 +32,12 @@ abbrev pub board_log : BoardCommand → Story → Outcome → List ℕ
 board_log (Log steps) s run = log_text run.log
 board_log Trace s run = trace_to s run.steps
 
--- what is said behind that, where the run is over: with `--steps`, the state at its end
+-- what is said after that, if the run is over: with `--steps`, the state at its end
 abbrev pub board_end : BoardCommand → Outcome → List ℕ
 board_end (Log steps) run = if steps then state_text_of run.mcu run.steps run.cycles else []
 board_end Trace run = []
 
--- the answer behind it: of a run that is stuck, where it is
+-- the answer after it: of a run that is stuck, if it is
 abbrev pub board_said : BoardCommand → Outcome → End → Answer
 board_said wanted run Over = Ok (board_end wanted run)
 board_said wanted run (Stuck place) = Err (refusals.Stuck place)
@@ -48,7 +48,7 @@ abbrev pub HaveLookedToLine : BoardCommand → Story → Shown → Shown → Lis
 HaveLookedToLine (Log steps) s before after probes left = HaveLookedToBreak s before after probes left
 HaveLookedToLine Trace s before after probes left = HaveTracedToBreak s before after probes left
 
--- each has looked at the state after each step; where a put failed, at those up to the broken line, or, behind the log,
+-- each has looked at the state after each step; if a put failed, at those up to the broken line, or, after the log,
 -- at all of them
 abbrev pub AreLeftOnBoard : BoardCommand → Story → Outcome → Taking → List Watch → List Watch → Type 0
 AreLeftOnBoard wanted s run Whole probes left = HaveLookedAtAll s run.steps probes left

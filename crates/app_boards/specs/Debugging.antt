@@ -14,7 +14,7 @@ abbrev pub fault_in : {Rule : Type 0} → (Rule → ℕ) → Result ℕ (Fault R
 fault_in number (Ok left) = None
 fault_in number (Err fault) = Some (fault.item, number fault.rule)
 
--- a script's first fault, where there are so many probes
+-- a script's first fault, if there are so many probes
 abbrev pub script_fault : ℕ → List ℕ → Option (ℕ × ℕ)
 script_fault probes script = fault_in number_of (script_of probes script)
 

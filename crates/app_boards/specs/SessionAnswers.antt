@@ -10,7 +10,7 @@ use Rattle.app_answers.specs.Leaving.{Left}
 use Rattle.app_boards.specs.Debugging.{script_fault}
 
 -- what may be answered of a script over the run of what is debugged, by its first fault: one with a fault is refused
--- before a line of it is obeyed; of any other the lines are obeyed, or, where memory was wanting, the first ones,
+-- before a line of it is obeyed; of any other the lines are obeyed, or, if memory ran out, the first ones,
 -- however many
 abbrev pub MayAnswerSession : Option (ℕ × ℕ) → Debuggee → List ℕ → Answer → List Watch → Left → Type 0
 MayAnswerSession (Some fault) s script answer probes left =

@@ -20,7 +20,7 @@ use layout_reader::Layout;
 use mcs48_isa::Image;
 use std::alloc::Global;
 
-/// Makes a run on the board and puts its log as it arises, and then, where the run is over, the state at its end where
+/// Makes a run on the board and puts its log as it arises, and then, if the run is over, the state at its end if
 /// that is wanted. It takes no memory.
 fn put_log<F: Feed, K: Sink>(
     board: Board<F>,

@@ -25,16 +25,16 @@ EndsLine [] = Unit {0}
 EndsLine (x ∷ []) = x ≡ 10
 EndsLine (x ∷ y ∷ ys) = EndsLine (y ∷ ys)
 
--- a line stands in a text, whole and with its LF: what is before it is empty or ends in LF
+-- a line is in a text, whole and with its LF: what is before it is empty or ends in LF
 pub record HasLine (text : List ℕ) (line : LogLine) : Type 0 where
   pub before : List ℕ
   pub begins : EndsLine before
   pub behind : List ℕ
   pub is : text ≡ before ++ (line_text line ++ behind)
 
--- tick n of a run sees an edge, whose code waits at the next tick's start behind so many bytes. What the controller puts
+-- tick n of a run sees an edge, whose code waits at the next tick's start after so many bytes. What the controller puts
 -- out for byte i of it has its line, as a `port` with the tick in which INT 09h reads it; and it is read at most two ticks
--- and 660 cycles behind the edge, and a tick for each byte before it, less 16 cycles for each column before the key's
+-- and 660 cycles after the edge, and a tick for each byte before it, less 16 cycles for each column before the key's
 pub record IsPrintedInTime (layout : KeyLayout) (history : KeyHistory) (run : Outcome) (text : List ℕ) (n : ℕ)
     (edge : Edge) (code : List ℕ) : Type 0 where
   pub place : ℕ

@@ -18,7 +18,7 @@ MayAnswerRun command layout history answer probes left =
     ⊎ ((text : List ℕ) × (run : Outcome) × IsRunText command layout history text run × (answer ≡ Ok text)
     × AreLeft command layout history run left.taking probes left.probes)
 
--- what may be answered of the run of so many strokes; no memory is wanting once it has begun
+-- what may be answered of the run of so many strokes; no memory runs out once it has begun
 abbrev pub MayAnswerSample : ℕ → Answer → List Watch → List Watch → Type 0
 MayAnswerSample count answer probes left =
     ((answer ≡ Err Memory) × (left ≡ probes))

@@ -67,21 +67,21 @@ IsRunText command layout history text run =
 abbrev pub HaveLooked : KeyLayout → KeyHistory → List Watch → List Watch → Type 0
 HaveLooked layout history probes left = HaveLookedAtSome (story (image_of layout) history) probes left
 
--- what `run` says behind the log
+-- what `run` says after the log
 abbrev pub behind_log : Bool → Bool → Outcome → List ℕ
 behind_log ticks steps run =
     (if ticks then start_lines 0 run.starts else [])
     ++ (if steps then state_text_of run.end run.steps run.cycles else [])
 
 -- the text of `run` is broken off in a line of its log, and each probe has looked at the states up to the one that the
--- step which said this line led to; or behind its log, and each has looked at all states
+-- step which said this line led to; or after its log, and each has looked at all states
 abbrev pub HaveLookedToCut : Bool → Bool → Story → Outcome → Shown → Shown → List Watch → List Watch → Type 0
 HaveLookedToCut ticks steps s run before after probes left =
     HaveLookedToBreak s before after probes left
     ⊎ (IsBrokenBehind before after (log_text run.log) (behind_log ticks steps run)
     × HaveLookedAtAll s run.steps probes left)
 
--- how the probes are left where the text is said, whole or up to a put that failed: `run` says its lines as they arise,
+-- how the probes are left if the text is said, whole or up to a put that failed: `run` says its lines as they arise,
 -- and ends at such a put; `expect` has made the run before it says anything; and at the run of `trace` none looks
 abbrev pub AreLeft : RunCommand → KeyLayout → KeyHistory → Outcome → Taking → List Watch → List Watch → Type 0
 AreLeft (Log ticks steps) layout history run Whole probes left =
@@ -92,7 +92,7 @@ AreLeft Expect layout history run taking probes left =
     HaveLookedAtAll (story (image_of layout) history) run.steps probes left
 AreLeft Trace layout history run taking probes left = left ≡ probes
 
--- how they are left where memory is wanting: `run` and `trace` take all of it before the first step
+-- how they are left if memory runs out: `run` and `trace` take all of it before the first step
 abbrev pub AreLeftWanting : RunCommand → KeyLayout → KeyHistory → List Watch → List Watch → Type 0
 AreLeftWanting (Log ticks steps) layout history probes left = left ≡ probes
 AreLeftWanting Expect layout history probes left = HaveLooked layout history probes left

@@ -28,7 +28,7 @@ stroke_edges k =
 abbrev pub stroke_take : ℕ → HostEvent
 stroke_take k = take_of (stroke_start k)
 
--- so many strokes; the end stands where the next one would begin
+-- so many strokes; the end is if the next one would begin
 abbrev pub sample_history : ℕ → KeyHistory
 sample_history count = record {
   edges = flat_map stroke_edges (range_with_len 0 count);

@@ -140,7 +140,7 @@ fn sample_line<F: Feed>(
     counts_line(count, ended.counts, ended.starts().len().saturating_sub(1))
 }
 
-/// What was made, or the refusal where memory was wanting for it.
+/// What was made, or the refusal if memory ran out for it.
 fn made<T>(answer: Result<T, AllocError>) -> Result<T, Refusal>
     ensures { MatchResult result (λ value. answer ≡ Ok value) (λ refusal. refusal ≡ Refusal.Memory) }
 {

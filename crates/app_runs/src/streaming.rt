@@ -62,7 +62,7 @@ fn put_ticks<K: Sink>(out: &mut K, starts: &[u64], wanted: bool) -> Result<(), S
 }
 
 /// Makes a run and puts its log as it arises, then its tick starts where they are wanted, and then the state at its end
-/// where that is. It takes no memory.
+/// if that is. It takes no memory.
 fn put_run<F: Feed, K: Sink>(
     engine: Engine<F>,
     ticks: bool,

@@ -25,7 +25,7 @@ exit_of (Timing line number first second) = exits.Timing
 exit_of (Stuck stuck) = exits.Stuck
 exit_of Memory = exits.Memory
 
--- the line of a file's first fault, with the word for where it stands
+-- the line of a file's first fault, with the word for where it is
 abbrev pub fault_line : Kind → List ℕ → ℕ → ℕ → List ℕ
 fault_line kind unit place number =
     codes "input: " ++ name_of kind ++ unit ++ decimal place ++ codes " fault " ++ decimal number ++ codes "\n"

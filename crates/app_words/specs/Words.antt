@@ -67,7 +67,7 @@ debug_of words = None
 abbrev pub fill_by : List ℕ → List ℕ → Option ℕ
 fill_by option byte = if bytes_eq option (codes "--fill") then byte_of byte else None
 
--- the option of `probe`: 00 where it isn't there
+-- the option of `probe`: 00 if it isn't there
 unfoldable pub fill_of : List (List ℕ) → Option ℕ
 fill_of [] = Some 0
 fill_of (option ∷ byte ∷ []) = fill_by option byte
@@ -132,7 +132,7 @@ board_of (image ∷ layout ∷ keys ∷ options) =
     if is_name image && is_name layout && is_name keys then option_map Board (board_options_of options) else None
 board_of words = None
 
--- the bytes that words give, where each is a BYTE
+-- the bytes that words give, if each is a BYTE
 abbrev pub bytes_of : List (List ℕ) → Option (List ℕ)
 bytes_of [] = Some []
 bytes_of (word ∷ words) = option_and_then (λ byte. option_map (λ bytes. byte ∷ bytes) (bytes_of words)) (byte_of word)
@@ -216,7 +216,7 @@ abbrev pub fourth_in : List (List ℕ) → List ℕ
 fourth_in (command ∷ name ∷ second ∷ third ∷ fourth ∷ others) = fourth
 fourth_in words = []
 
--- how many files a command names; they are the words behind its own
+-- how many files a command names; they are the words after its own
 abbrev pub files_in : Command → ℕ
 files_in (OverFile command) = 1
 files_in (OverPair command) = 2

@@ -78,7 +78,7 @@ fn read_fill(option: &str, byte: &str) -> Option<u8>
     }
 }
 
-/// The option of `probe`: 00 where it isn't there.
+/// The option of `probe`: 00 if it isn't there.
 #[tactic(auto, unfolding(crate::specs::Words::fill_of))]
 pub(crate) fn read_probe_option(words: &[String]) -> Option<u8>
     ensures { result ≡ fill_of (map string_bytes words.now) }
@@ -103,7 +103,7 @@ fn read_told(option: &str) -> Option<BoardCommand>
     None
 }
 
-/// A run on the board, where both parts of it were read.
+/// A run on the board, if both parts of it were read.
 fn both(told: Option<BoardCommand>, fill: Option<u8>) -> Option<BoardRun>
     ensures { result ≡ both_by told fill }
 {

@@ -86,7 +86,7 @@ fn long_line(kind: Kind) -> Line
     line
 }
 
-/// The line of a file's first fault, with the word for where it stands.
+/// The line of a file's first fault, with the word for where it is.
 fn fault_line(kind: Kind, unit: &str, at: u32, number: u8) -> Line
     requires { length unit.now ≤ 7 }
     ensures { result.items ≡ fault_line kind unit.now at number }

@@ -14,7 +14,7 @@ use crate::strokes::Strokes;
 /// The greatest COUNT of steps.
 const MOST_STEPS: u32 = 1_000_000;
 
-/// A command over one file, with its numbers. The file's name is the word behind the command.
+/// A command over one file, with its numbers. The file's name is the word after the command.
 #[derive(Clone, Copy, Debug, PartialEq, Eq, Drop)]
 pub enum FileCommand {
     /// `step` NAME COUNT
@@ -38,7 +38,7 @@ pub enum RunCommand {
     Trace,
 }
 
-/// A command over two files. Their names are the two words behind the command.
+/// A command over two files. Their names are the two words after the command.
 #[derive(Clone, Copy, Debug, PartialEq, Eq, Drop)]
 pub enum PairCommand {
     /// `cert` NAME NAME: a HEX image, and a certificate for it.
@@ -68,16 +68,16 @@ pub struct BoardRun {
 /// A command, as the words give it.
 #[derive(Debug, Drop)]
 pub enum Command {
-    /// A command over the file that the word behind it names.
+    /// A command over the file that the word after it names.
     OverFile(FileCommand),
-    /// A command over the files that the two words behind it name.
+    /// A command over the files that the two words after it name.
     OverPair(PairCommand),
-    /// `debug` NAME NAME NAME: a layout, a key file for it, and a script. They are the three words behind the command.
+    /// `debug` NAME NAME NAME: a layout, a key file for it, and a script. They are the three words after the command.
     Debug,
     /// `probe` NAME NAME NAME NAME and its option: a HEX image, a layout, a key file for it, and a script. They are the four
-    /// words behind the command. With `--fill`, the byte that data memory, A and T hold at power-on, and else 00.
+    /// words after the command. With `--fill`, the byte that data memory, A and T hold at power-on, and else 00.
     Probe { fill: u8 },
-    /// `board` NAME NAME NAME and its options: a HEX image, a layout, and a key file for it. They are the three words behind
+    /// `board` NAME NAME NAME and its options: a HEX image, a layout, and a key file for it. They are the three words after
     /// the command.
     Board(BoardRun),
     /// `words` BYTE ..

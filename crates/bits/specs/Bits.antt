@@ -22,6 +22,6 @@ without_bit bit byte = bit_and byte (0xff - bit)
 abbrev pub flipped_bit : ℕ → ℕ → ℕ
 flipped_bit bit byte = bit_xor byte bit
 
--- the bit's value where it is set, else 0
+-- the bit's value if it is set, else 0
 abbrev pub bit_value : ℕ → Bool → ℕ
 bit_value bit on = if on then bit else 0

@@ -16,7 +16,7 @@ use Rattle.story_run.specs.Telling.{IsBrokenBehind}
 abbrev pub IsLogBrokenOff : Story → Shown → Shown → Type 0
 IsLogBrokenOff s before after = IsTextBrokenOff Outcome (IsOutcome s) (λ run. log_text run.log) before after
 
--- it is broken off in what the step behind the first k says
+-- it is broken off in what the step after the first k says
 abbrev pub IsLogBrokenAt : Story → Shown → Shown → ℕ → Type 0
 IsLogBrokenAt s before after k = IsBrokenBehind before after (log_text (log_at s k)) (log_text (step_says s k))
 

@@ -18,7 +18,7 @@ pub record Outcome : Type 0 where
   pub steps : ℕ
   pub cycles : ℕ
 
--- the run goes on at each state before its last, and ends there: at the end stamp, or where it is stuck
+-- the run goes on at each state before its last, and ends there: at the end stamp, or if it is stuck
 pub record IsOutcome (s : Story) (run : Outcome) : Type 0 where
   pub world : World Beside
   pub goes_on : GoesOnTo Stamp s run.steps

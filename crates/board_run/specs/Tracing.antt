@@ -15,7 +15,7 @@ use Rattle.wire_trace.specs.Trace.{trace_to}
 abbrev pub IsTraceBrokenOff : Story → Shown → Shown → Type 0
 IsTraceBrokenOff s before after = IsTextBrokenOff Outcome (IsOutcome s) (λ run. trace_to s run.steps) before after
 
--- it is broken off behind the header, in what a step adds, and the probes have looked at the states up to the one that
+-- it is broken off after the header, in what a step adds, and the probes have looked at the states up to the one that
 -- this step led to
 pub record BrokeOffBehindHeader (s : Story) (before after : Shown) (first probes : List Watch) : Type 0 where
   pub behind : Shown

@@ -50,7 +50,7 @@ impl<F: Feed> Model for Board<F> {
 impl<F: Feed> Board<F> {
     /// The run of a program on the board, as it is, in a part whose data memory, A and T hold this byte at power-on, under
     /// the history of a feed of which nothing was taken and which is accepted. Takes all memory that the run takes, the
-    /// buffer of INT 09h. Where memory is wanting the feed is given up.
+    /// buffer of INT 09h. If memory runs out the feed is given up.
     pub fn new(alloc: Global, image: &Image, fill: u8, feed: F) -> Result<Board<F>, AllocError>
         requires no_edge { (F.told feed).edges ≡ 0 }
         requires no_host { (F.told feed).host ≡ 0 }
@@ -109,11 +109,11 @@ impl<F: Feed> Board<F> {
     }
 
     /// Makes the same run, and in place of its log puts the two wires as a value change dump, each line whole. The
-    /// wires are sampled after each step, behind the probes' look; each change has its time, and a byte whose frame is
-    /// whole, so that the decoder hears it, is a comment behind the change that completes it.
+    /// wires are sampled after each step, after the probes' look; each change has its time, and a byte whose frame is
+    /// whole, so that the decoder hears it, is a comment after the change that completes it.
     ///
     /// On Ok the sink has taken the whole text, its count of faults is as it was, and the probes have looked at each
-    /// state. A failure comes only where a put failed: then the sink has a prefix of the text, and the probes have
+    /// state. A failure comes only if a put failed: then the sink has a prefix of the text, and the probes have
     /// looked at the states up to the one whose sample adds the line.
     pub fn trace_to<K: Sink>(
         self,

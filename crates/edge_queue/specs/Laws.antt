@@ -20,7 +20,7 @@ AreLawful =
 abbrev pub key_of : Edge → ℕ × Bool
 key_of e = (e.place, e.down)
 
--- what was handed over, and behind it what still waits, is what was let in, in that order
+-- what was handed over, and after it what still waits, is what was let in, in that order
 abbrev pub AreInCallersOrder : Type 0
 AreInCallersOrder =
     (calls : List Call)

@@ -44,7 +44,7 @@ abbrev pub answer_of : Pushed → Queue → Result (Unit {0}) NotQueued
 answer_of e q =
     if is_repeated e q then Err Repeated else if is_full e.down q then Err Full else Ok tt
 
--- one that isn't refused waits behind the others
+-- one that isn't refused waits after the others
 abbrev pub entered : Pushed → Queue → Queue
 entered e q = record { waiting = q.waiting ++ e ∷ []; down = turned e.place e.down q.down; ready = q.ready }
 

@@ -6,7 +6,7 @@ use Rattle.fw_kernel.specs.declared.bytes.TheConstants.{KERNEL}
 use Rattle.fw_kernel.specs.Tables.{codes_at, rate_at, fn_codes_at, make_only_at, fn_place_at}
 use Rattle.layout_reader.specs.Layouts.{KeyLayout, code_at, fn_code_at, is_make_only, fn_place}
 
--- the bytes for a place: its codes in the two layers, or 00 where it has none
+-- the bytes for a place: its codes in the two layers, or 00 if it has none
 abbrev pub code_byte : KeyLayout → ℕ → ℕ
 code_byte layout place = unwrap_or (code_at place layout) 0
 
@@ -25,7 +25,7 @@ abbrev pub with_bits : (ℕ → Bool) → ℕ → ℕ
 with_bits set zero = 0
 with_bits set (suc r) = with_bits set r + (if set r then 2 ^ r else 0)
 
--- the byte for a column: bit r is set exactly where the key at row r sends no break
+-- the byte for a column: bit r is set exactly if the key at row r sends no break
 abbrev pub make_only_byte : KeyLayout → ℕ → ℕ
 make_only_byte layout column = with_bits (λ row. is_make_only (8 * column + row) layout) 8
 
@@ -33,7 +33,7 @@ make_only_byte layout column = with_bits (λ row. is_make_only (8 * column + row
 abbrev pub make_only_of : KeyLayout → List ℕ
 make_only_of layout = map (make_only_byte layout) (range_with_len 0 12)
 
--- the place of the Fn key, or FF where there is none
+-- the place of the Fn key, or FF if there is none
 abbrev pub fn_byte : KeyLayout → ℕ
 fn_byte layout = unwrap_or (fn_place layout) 0xff
 

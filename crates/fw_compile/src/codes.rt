@@ -8,7 +8,7 @@ ghost use Rattle.layout_reader.specs.Layouts.{is_make_only};
 use board_lines::Place;
 use layout_reader::Layout;
 
-/// The code of the place with this number, 00 where it has none.
+/// The code of the place with this number, 00 if it has none.
 fn code_of(layout: &Layout, number: u8) -> u8
     requires { number < 96 }
     ensures { result ≡ code_byte layout.now number }
@@ -30,7 +30,7 @@ pub(crate) fn codes_of(layout: &Layout) -> [u8; 96]
     codes
 }
 
-/// The code under Fn of the place with this number, 00 where it has none.
+/// The code under Fn of the place with this number, 00 if it has none.
 fn fn_code_of(layout: &Layout, number: u8) -> u8
     requires { number < 96 }
     ensures { result ≡ fn_code_byte layout.now number }
@@ -64,7 +64,7 @@ fn sends_no_break(layout: &Layout, column: u8, row: u8) -> bool
     }
 }
 
-/// The byte of a column: bit r is set exactly where the key at row r sends no break.
+/// The byte of a column: bit r is set exactly if the key at row r sends no break.
 fn make_only_byte(layout: &Layout, column: u8) -> u8
     requires { column < 12 }
     ensures { result ≡ make_only_byte layout.now column }
@@ -89,7 +89,7 @@ pub(crate) fn make_only_of(layout: &Layout) -> [u8; 12]
     bytes
 }
 
-/// The place of the Fn key, FF where there is none.
+/// The place of the Fn key, FF if there is none.
 pub(crate) fn fn_byte(layout: &Layout) -> u8
     ensures { result ≡ fn_byte layout.now }
 {

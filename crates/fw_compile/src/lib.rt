@@ -1,8 +1,8 @@
 //! The compiler from a key layout to a firmware image: the kernel with the layout's tables in it.
 //!
 //! This layer knows where the kernel keeps the layout's tables (hexadecimal): the code of place p at 300 + p and under Fn
-//! at 361 + p, 00 where it has none; the rate at 360; at 3C1 + c a byte for column c, whose bit r is set where the key at
-//! row r sends no break; and the place of the Fn key at 3CD, FF where there is none. It must not know what the kernel
+//! at 361 + p, 00 if it has none; the rate at 360; at 3C1 + c a byte for column c, whose bit r is set if the key at
+//! row r sends no break; and the place of the Fn key at 3CD, FF if there is none. It must not know what the kernel
 //! does, nor a key. Our own.
 #![tactic(auto)]
 
@@ -20,7 +20,7 @@ use mcs48_isa::Image;
 /// The place of the first code.
 const CODES: usize = 0x300;
 
-/// The place of the rate, behind the codes.
+/// The place of the rate, after the codes.
 const RATE: usize = 0x360;
 
 /// The place of the first code under Fn.
@@ -29,10 +29,10 @@ const FN_CODES: usize = 0x361;
 /// The place of the first column's byte of the keys that send no break.
 const MAKE_ONLY: usize = 0x3c1;
 
-/// The place where the Fn key's place stands.
+/// The place where the Fn key's place is.
 const FN_PLACE: usize = 0x3cd;
 
-/// The image of a layout: the kernel with the layout's tables, which stand at 300 to 3CD (hexadecimal). Outside of them
+/// The image of a layout: the kernel with the layout's tables, which are at 300 to 3CD (hexadecimal). Outside of them
 /// it has the kernel's bytes. It never refuses.
 pub fn compile(layout: &Layout) -> Image
     ensures image { result.bytes ≡ image_of layout.now }

@@ -52,12 +52,12 @@ word_named name =
     else (if bytes_eq name (codes "drop") then Some word.Drop
     else None))))))
 
--- nothing stands behind `show`
+-- nothing is after `show`
 abbrev pub show_from : List (List ℕ) → Option Command
 show_from [] = Some Show
 show_from others = None
 
--- what a word asks for with the fields behind it
+-- what a word asks for with the fields after it
 abbrev pub command_of : Word → List (List ℕ) → Option Command
 command_of word.Step others = option_map Step (number_from others)
 command_of word.Go others = option_map Go (number_from others)
@@ -67,7 +67,7 @@ command_of word.Arm others = arm_from others
 command_of word.Tell others = option_map Tell (number_from others)
 command_of word.Drop others = option_map Drop (number_from others)
 
--- what the fields of a line ask for; none where they haven't the form
+-- what the fields of a line ask for; none if they haven't the form
 abbrev pub command_from : List (List ℕ) → Option Command
 command_from [] = None
 command_from (name ∷ others) = option_and_then (λ word. command_of word others) (word_named name)

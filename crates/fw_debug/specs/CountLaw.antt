@@ -28,19 +28,19 @@ WalkCounts = (s : Debuggee) (count : ℕ) (d : Debug) → IsCounted s.story d (w
 abbrev pub HuntCounts : Type 0
 HuntCounts = (s : Debuggee) (count : ℕ) (d : Debug) → IsCounted s.story d (hunt s count d).debug
 
--- the number that a probe has behind a line; none where the line arms it or drops it
+-- the number that a probe has after a line; none if the line arms it or drops it
 abbrev pub number_behind : Command → ℕ → Option ℕ
 number_behind (Arm armed a b) probe = if armed == probe then None else Some probe
 number_behind (Drop dropped) probe =
     if dropped == probe then None else Some (if nat_lt dropped probe then probe - 1 else probe)
 number_behind command probe = Some probe
 
--- the number that it has behind several lines
+-- the number that it has after several lines
 abbrev pub number_after : List Command → ℕ → Option ℕ
 number_after [] probe = Some probe
 number_after (command ∷ others) probe = option_and_then (number_after others) (number_behind command probe)
 
--- a session behind several lines
+-- a session after several lines
 abbrev pub obeyed_all : Debuggee → List Command → Debug → Debug
 obeyed_all s [] d = d
 obeyed_all s (command ∷ others) d = obeyed_all s others (obeyed s command d).debug

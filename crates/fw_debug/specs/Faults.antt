@@ -1,4 +1,4 @@
--- What is answered where a line has a fault.
+-- What is answered if a line has a fault.
 use Rattle.std.specs.Prelude.{◌≡◌, ℕ, List, Result, Ok, Err}
 use Rattle.first_fault.specs.FirstFault.{Fault}
 use Rattle.fw_debug.specs.declared.rule.Rule.{Rule}
@@ -25,6 +25,6 @@ IsVerdict (Ok left) (Err fault) = ⊥
 IsVerdict (Err first) (Ok done) = ⊥
 IsVerdict (Err first) (Err fault) = fault ≡ at_line first.item first.rule
 
--- a script is right where there are so many probes
+-- a script is right if there are so many probes
 abbrev pub IsRight : ℕ → List ℕ → Type 0
 IsRight probes text = IsVerdict (script_of probes text) (Ok tt)

@@ -8,7 +8,7 @@ use Rattle.fw_debug.specs.Faults.{line_fault}
 use Rattle.fw_debug.specs.Sessions.{Debug}
 use Rattle.fw_debug.specs.Told.{Told}
 
--- a line that breaks no rule is obeyed, and its text is put behind what was printed, or memory was wanting for the
+-- a line that breaks no rule is obeyed, and its text is put after what was printed, or memory ran out for the
 -- text, and nothing was printed; of any other line the rule is answered, and all is as it was
 abbrev pub IsLine : Result Told Rule → Debug → List ℕ → Result (Unit {0}) LineFault → Debug → List ℕ → Type 0
 IsLine (Ok t) old before (Ok done) new after = (t.debug ≡ new) × (after ≡ before ++ t.text)

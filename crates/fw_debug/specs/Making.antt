@@ -9,7 +9,7 @@ use Rattle.board_probes.specs.Resting.{all_rest}
 use Rattle.fw_debug.specs.declared.stepping.Made.{Made}
 use Rattle.fw_debug.specs.Sessions.{Debug, Debuggee, Hunted, Sitting, debug, hunt, next_state, walk}
 
--- a hunt behind steps of which the last hit this probe first; if it hit none, the hunt goes on
+-- a hunt after steps of which the last hit this probe first; if it hit none, the hunt goes on
 abbrev pub hunt_behind : Debuggee → ℕ → Debug → Option ℕ → Hunted
 hunt_behind s more d None = hunt s more d
 hunt_behind s more d (Some probe) = record { debug = d; hit = Some probe }
@@ -20,11 +20,11 @@ pub record LeadsTo (s : Debuggee) (count : ℕ) (old new : Debug) (hit : Option 
   pub walked : (more : ℕ) → walk s (count + more) old ≡ walk s more new
   pub hunted : (more : ℕ) → hunt s (count + more) old ≡ hunt_behind s more new hit
 
--- probes rest at the state behind so many steps
+-- probes rest at the state after so many steps
 abbrev pub RestAt : Debuggee → ℕ → List Watch → Type 0
 RestAt s k probes = (w : World Beside) → state_at s.story k ≡ Some w → all_rest (sight_in w).lines.clk probes ≡ true
 
--- at most so many steps were made, and none only where the run has ended; one look at the state that the last of them
+-- at most so many steps were made, and none only if the run has ended; one look at the state that the last of them
 -- led to leaves these probes as a look at each
 pub record IsAdvanced (left : ℕ) (old : Sitting) (before : List Watch) (new : Sitting) : Type 0 where
   pub debuggee : new.debuggee ≡ old.debuggee
@@ -35,7 +35,7 @@ pub record IsAdvanced (left : ℕ) (old : Sitting) (before : List Watch) (new : 
       → LeadsTo old.debuggee (new.steps - old.steps) (debug old before)
       (debug new (map (looked new.steps (sight_in w)) before)) (first_met 0 (sight_in w) before)
 
--- at most so many steps were made, and none only where the run has ended; and where they lead to
+-- at most so many steps were made, and none only if the run has ended; and where they lead to
 pub record IsMade (left : ℕ) (old : Sitting) (before : List Watch) (made : Made) (new : Sitting) (after : List Watch)
     : Type 0 where
   pub debuggee : new.debuggee ≡ old.debuggee

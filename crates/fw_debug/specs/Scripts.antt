@@ -29,11 +29,11 @@ abbrev pub missing_by : ℕ → Option ℕ → Option Rule
 missing_by probes None = None
 missing_by probes (Some p) = if nat_lt p probes then None else Some Probe
 
--- the rule that a line breaks by its probe, where there are so many
+-- the rule that a line breaks by its probe, if there are so many
 abbrev pub missing : ℕ → Command → Option Rule
 missing probes command = missing_by probes (probe_of command)
 
--- what a line asks for that isn't blank, where there are so many probes, or the first rule that it breaks
+-- what a line asks for that isn't blank, if there are so many probes, or the first rule that it breaks
 abbrev pub judged : ℕ → List ℕ → Result Command Rule
 judged probes line = and_then (some_or Form (command_in line)) (λ command. unless (missing probes command) command)
 

@@ -73,12 +73,12 @@ abbrev pub walk : Debuggee → ℕ → Debug → Debug
 walk s zero d = d
 walk s (suc n) d = elim (next_state s d.steps) [ None ↦ d | Some w ↦ walk s n (stepped_to w d) ]
 
--- where a hunt comes to, and the first of the probes that its last step hit
+-- where a hunt ends, and the first of the probes that its last step hit
 pub record Hunted : Type 0 where
   pub debug : Debug
   pub hit : Option ℕ
 
--- so many steps, or as many as the run still has, but none behind the first one whose state meets a probe
+-- so many steps, or as many as the run still has, but none after the first one whose state meets a probe
 abbrev pub hunt : Debuggee → ℕ → Debug → Hunted
 hunt s zero d = record { debug = d; hit = None }
 hunt s (suc n) d =

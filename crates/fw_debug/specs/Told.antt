@@ -19,7 +19,7 @@ use Rattle.board_probes.specs.Probes.{Watch, armed}
 use Rattle.fw_debug.specs.Scripts.{judged}
 use Rattle.fw_debug.specs.Sessions.{Debug, Debuggee, has_ended, walk, hunt}
 
--- `at STEP`, with ` end` where the run has ended
+-- `at STEP`, with ` end` if the run has ended
 abbrev pub at_text : ℕ → Bool → List ℕ
 at_text steps ended = codes "at " ++ decimal steps ++ (if ended then codes " end" else []) ++ 10 ∷ []
 

@@ -14,7 +14,7 @@ use text_lines::{decimal, hexadecimal, single, split_once};
 pub(crate) enum Command {
     /// So many steps.
     Step(u32),
-    /// So many steps, but none behind one at which a probe hits.
+    /// So many steps, but none after one at which a probe hits.
     Go(u32),
     /// The processor's state.
     Show,
@@ -40,7 +40,7 @@ enum Word {
     Drop,
 }
 
-/// The word that is spelled so; None where there is no such word.
+/// The word that is spelled so; None if there is no such word.
 fn word_named(name: &[u8]) -> Option<Word>
     ensures { result ≡ word_named name.now }
 {
@@ -76,7 +76,7 @@ fn last_number(text: &[u8]) -> Option<u32>
     decimal(9, single(b' ', text)?)
 }
 
-/// The arming of a probe, of the fields behind the word. None where they haven't the form.
+/// The arming of a probe, of the fields after the word. None if they haven't the form.
 fn arm(text: &[u8]) -> Option<Command>
     ensures command { result ≡ arm_from (pieces 32 text.now) }
     ensures cell { IfSome result HasCell }
@@ -89,7 +89,7 @@ fn arm(text: &[u8]) -> Option<Command>
     Some(Command::Arm { probe, a, b })
 }
 
-/// What a word asks for with the fields behind it, one at least. None where they haven't the form.
+/// What a word asks for with the fields after it, one at least. None if they haven't the form.
 fn command_of(word: Word, text: &[u8]) -> Option<Command>
     ensures command { result ≡ command_of word (pieces 32 text.now) }
     ensures cell { IfSome result HasCell }
@@ -105,7 +105,7 @@ fn command_of(word: Word, text: &[u8]) -> Option<Command>
     }
 }
 
-/// What a word asks for that has no field behind it.
+/// What a word asks for that has no field after it.
 fn command_alone(word: Word) -> Option<Command>
     ensures command { result ≡ command_of word [] }
     ensures cell { IfSome result HasCell }
@@ -116,7 +116,7 @@ fn command_alone(word: Word) -> Option<Command>
     }
 }
 
-/// What a line asks for that isn't blank. None where it hasn't the form.
+/// What a line asks for that isn't blank. None if it hasn't the form.
 pub(crate) fn command_in(line: &[u8]) -> Option<Command>
     ensures command { result ≡ command_in line.now }
     ensures cell { IfSome result HasCell }

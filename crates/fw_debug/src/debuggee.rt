@@ -19,7 +19,7 @@ const LATEST_OF_LAYOUT: u64 = 6_152;
 /// The same of any program: its run ends at the end stamp itself.
 const LATEST_OF_PROGRAM: u64 = 4_096;
 
-/// A program, the history that it runs under, how many cycles behind the end stamp the run ends at the latest, and the byte
+/// A program, the history that it runs under, how many cycles after the end stamp the run ends at the latest, and the byte
 /// that data memory, A and T hold at power-on.
 #[derive(Drop)]
 pub struct Debuggee {
@@ -80,7 +80,7 @@ impl Debuggee {
         }
     }
 
-    /// The program, its history, how many cycles behind the end stamp the run ends at the latest, and the byte at power-on.
+    /// The program, its history, how many cycles after the end stamp the run ends at the latest, and the byte at power-on.
     pub(crate) fn into_parts(self) -> (Image, History, u64, u8)
         ensures parts { record { story = filled_story result.3 result.0.bytes result.1; latest = result.2 } ≡ self }
         ensures latest { result.2 ≤ latest_start }

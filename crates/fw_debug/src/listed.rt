@@ -39,7 +39,7 @@ pub(crate) fn tally_at(probes: &Vec<Box<dyn Probe>>, probe: usize) -> Tally
     tell_one(&probes[probe])
 }
 
-/// Drops the probe of this number; those behind it move down by one.
+/// Drops the probe of this number; those after it move down by one.
 pub(crate) fn drop_at(probes: &mut Vec<Box<dyn Probe>>, probe: usize)
     requires { probe < length probes.old.items }
     ensures { map (λ b. watch b) probes.new.items ≡ remove (map (λ b. watch b) probes.old.items) probe }

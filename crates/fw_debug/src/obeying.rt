@@ -19,7 +19,7 @@ use mcs48_core::state_text;
 use std::alloc::{AllocError, Global};
 use text_lines::is_blank_line;
 
-/// Puts a text behind what was printed.
+/// Puts a text after what was printed.
 fn append(out: &mut Vec<u8>, text: &[u8]) -> Result<(), LineFault>
     ensures put { OnOk result (out.new.items ≡ out.old.items ++ text.now) }
     ensures fault { IfErr result (λ fault. fault ≡ Memory) }
@@ -59,7 +59,7 @@ impl Session {
         ram_text(alloc, cell, mcu.ram[cell as usize])
     }
 
-    /// Does what a line asks for, of which the probe is there, and gives what it prints. It is done where memory is
+    /// Does what a line asks for, of which the probe is there, and gives what it prints. It is done if memory is
     /// wanting for that text, too.
     fn obey(
         &mut self,
@@ -102,8 +102,8 @@ impl Session {
         }
     }
 
-    /// Obeys a line of a script, and puts what it prints behind `out`. A blank line does nothing. A line that breaks
-    /// a rule changes nothing. Where memory is wanting for what it prints it is obeyed all the same, and `out` is as it
+    /// Obeys a line of a script, and puts what it prints after `out`. A blank line does nothing. A line that breaks
+    /// a rule changes nothing. If memory runs out for what it prints it is obeyed all the same, and `out` is as it
     /// was.
     pub fn line(
         &mut self,

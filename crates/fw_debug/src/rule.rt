@@ -80,7 +80,7 @@ impl Command {
         }
     }
 
-    /// The rule that it breaks where there are so many probes, if it breaks it.
+    /// The rule that it breaks if there are so many probes, if it breaks it.
     fn missing(self, probes: usize) -> Option<Rule>
         ensures { result ≡ missing probes self }
     {
@@ -101,7 +101,7 @@ impl Command {
     }
 }
 
-/// What a line asks for that isn't blank, where there are so many probes, or the first rule that it breaks.
+/// What a line asks for that isn't blank, if there are so many probes, or the first rule that it breaks.
 pub(crate) fn judged(line: &[u8], probes: usize) -> Result<Command, Rule>
     ensures command { result ≡ judged probes line.now }
     ensures cell { IfOk result HasCell }

@@ -23,7 +23,7 @@ fn take_line(line: &[u8], probes: usize) -> Result<usize, Rule>
 /// Each line that isn't blank is `step K`, `go K`, `show`, `ram A`, `arm P A B`, `tell P` or `drop P`, fields parted
 /// by single spaces. K and P have one to nine decimal digits; the A of `ram` has two hexadecimal digits and is below
 /// 80; the A of `arm` has three hexadecimal digits and its B two. A line outside this grammar has fault 1. A line has
-/// fault 2 where its P isn't below the number of probes there, of which each earlier `drop` has taken one away.
+/// fault 2 if its P isn't below the number of probes there, of which each earlier `drop` has taken one away.
 #[tactic(auto, unfolding(crate::specs::Scripts::script_of))]
 pub fn check_script(text: &[u8], probes: usize) -> Result<(), SessionFault>
     requires { length text.now < 2 ^ 32 }

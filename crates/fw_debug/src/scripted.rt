@@ -38,7 +38,7 @@ fn obey_lines(
 }
 
 /// What the lines of a script that is right for these probes print in a session over the run of what is debugged, from
-/// power-on. Only memory may be wanting: then the probes are those that some first lines leave.
+/// power-on. Only memory may run out: then the probes are those that some first lines leave.
 pub fn obey_script(
     alloc: Global,
     debuggee: Debuggee,

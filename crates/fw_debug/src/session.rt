@@ -113,7 +113,7 @@ impl Session {
     }
 
     /// How many cycles quiet steps may take together, so that with one step more they are at most `left`, and each begins
-    /// before the run's end; none where probes don't rest. The run isn't over.
+    /// before the run's end; none if probes don't rest. The run isn't over.
     fn quiet_room(&self, left: u64, rest: bool) -> u64
         requires open { TellsOver self.now false }
         requires some { 0 < left }
@@ -130,7 +130,7 @@ impl Session {
         (last - self.course.joint.cycle()).min(left - 1)
     }
 
-    /// Makes steps, if the run goes on, at most `left`: one; or, where probes rest, quiet ones before it as well.
+    /// Makes steps, if the run goes on, at most `left`: one; or, if probes rest, quiet ones before it as well.
     pub(crate) fn advance(&mut self, left: u64, rest: bool)
         requires some { 0 < left }
         ensures { (before : List Watch) → (rest ≡ true → RestAt self.old.debuggee self.old.steps before)

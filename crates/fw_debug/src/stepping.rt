@@ -7,7 +7,7 @@ ghost use Rattle.fw_debug.specs.Making.{IsMade};
 use crate::session::Session;
 use board_probes::{Probe, all_rest, look_all};
 
-/// What came of some steps more: how many were made, none where the run has ended; and of the probes that the last of them
+/// What came of some steps more: how many were made, none if the run has ended; and of the probes that the last of them
 /// hit the first, counted from 0.
 #[derive(Clone, Copy, Drop)]
 pub(crate) struct Made {
@@ -17,7 +17,7 @@ pub(crate) struct Made {
 
 impl Session {
     /// Makes steps, if the run goes on, at most `left`, of which only the last can hit a probe; then each probe looks. While
-    /// all of them rest that comes to the same as a look behind each step.
+    /// all of them rest that comes to the same as a look after each step.
     pub(crate) fn make(&mut self, left: u64, probes: &mut Vec<Box<dyn Probe>>) -> Made
         requires some { 0 < left }
         ensures { let before = map (λ b. watch b) probes.old.items in

@@ -13,7 +13,7 @@ use key_file::{History, ListFeed};
 use mcs48_core::Stuck;
 
 /// Joint steps of the run of this history: quiet ones, in at most `most` cycles together, none of which leads to a tick
-/// start, and then one of any kind. There may be no quiet one. Where the processor is stuck the steps before stand.
+/// start, and then one of any kind. There may be no quiet one. If the processor is stuck the steps before count.
 pub(crate) fn stride(course: &mut Course, history: &History, most: u64) -> Result<(), Stuck>
     requires on { IsOnCourse (run_of course.old history.now) course.old }
     requires near { course.old.joint.cycle + most < 2 ^ 62 }

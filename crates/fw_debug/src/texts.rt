@@ -15,7 +15,7 @@ fn put_number(line: &mut Vec<u8>, name: &[u8], number: u64) -> Result<(), AllocE
     line.extend_from_slice(itoa::Buffer::new().format(number).as_bytes())
 }
 
-/// `at STEP`, with ` end` where the run has ended.
+/// `at STEP`, with ` end` if the run has ended.
 pub(crate) fn at_text(alloc: Global, steps: u64, ended: bool) -> Result<Vec<u8>, AllocError>
     ensures { IfOk result (λ text. text.items ≡ at_text steps ended) }
 {

@@ -1,7 +1,7 @@
 -- Where the kernel reads the layout's tables, from its place 768 (300 in hexadecimal) on.
 use Rattle.std.specs.Prelude.{ℕ}
 
--- the codes of the 96 places (300), and behind them the rate (360)
+-- the codes of the 96 places (300), and after them the rate (360)
 abbrev pub codes_at : ℕ
 codes_at = 768
 

@@ -6,7 +6,7 @@ pub const HELD: u8 = 0x20;
 /// 0 no reply, 1 a reply is due, 3 the reply to a reset is due.
 pub const REPLYDUE: u8 = 0x40;
 
-/// 1 where AA is due.
+/// 1 if AA is due.
 pub const AADUE: u8 = 0x41;
 
 /// Bits 0 to 4 the queue's length, bit 7 the overrun mark.
@@ -15,7 +15,7 @@ pub const COUNT: u8 = 0x42;
 /// Where the queue's first byte is in the ring.
 pub const HEAD: u8 = 0x43;
 
-/// 1 where the F0 of a break has gone and its code is still in the queue.
+/// 1 if the F0 of a break has gone and its code is still in the queue.
 pub const STARTED: u8 = 0x44;
 
 /// Ticks left of the power-on test.
@@ -24,7 +24,7 @@ pub const TEST: u8 = 0x45;
 /// 0 Ready, 1 WantRate, 2 WantLights.
 pub const MODE: u8 = 0x46;
 
-/// 1 where scanning is disabled.
+/// 1 if scanning is disabled.
 pub const DISABLED: u8 = 0x47;
 
 /// The index of the repeating key's code: its place, or 97 more in the second layer.
@@ -33,7 +33,7 @@ pub const RINDEX: u8 = 0x48;
 /// The rate byte.
 pub const RATE: u8 = 0x49;
 
-/// Ticks until the key repeats, 0 where nothing repeats.
+/// Ticks until the key repeats, 0 if nothing repeats.
 pub const RCOUNT: u8 = 0x4a;
 
 /// The reply that is due.
@@ -45,7 +45,7 @@ pub const LAST: u8 = 0x4c;
 /// Bits 4 to 6: Scroll, Num, Caps are lit.
 pub const LIGHTS: u8 = 0x4d;
 
-/// FF where the Fn key is down, else 00.
+/// FF if the Fn key is down, else 00.
 pub const FN: u8 = 0x4e;
 
 /// The layers of the keys' last presses: a byte a column.

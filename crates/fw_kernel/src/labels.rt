@@ -39,7 +39,7 @@ pub const IDLE: u16 = 0x09d;
 /// The clock was high and data low: the controller asks to send.
 pub const GOT: u16 = 0x09f;
 
-/// The offer where a reply or AA is due.
+/// The offer if a reply or AA is due.
 pub const O_DUE: u16 = 0x0a8;
 
 /// The clock was low: the controller holds it.

@@ -95,7 +95,7 @@ pub record GoesOn (d : Board) (bytes : List ℕ) (meeting : Meeting) (w v : Worl
   pub repeating : IsRepeating bytes v.cpu.ram
   pub latch : v.cpu.p2 ≡ latch_now d w
 
--- a program whose every tick without a frame does so, whatever the pins show, where four edges are seen at most
+-- a program whose every tick without a frame does so, whatever the pins show, if four edges are seen at most
 abbrev pub KeepsFrameless : List ℕ → Type 0
 KeepsFrameless bytes = (pins : ℕ → ℕ → ℕ → ℕ → Pins) (tick : ℕ → ℕ → ℕ → ℕ)
     → ((p1 p2 c s : ℕ) → (pins p1 p2 c s).bus < 256)
@@ -103,7 +103,7 @@ KeepsFrameless bytes = (pins : ℕ → ℕ → ℕ → ℕ → Pins) (tick : ℕ
     → (meeting : Meeting) → IsFrameless (numbered pins tick) w meeting
     → Tick (numbered pins tick) TICK bytes w (GoesOn (numbered pins tick) bytes meeting w)
 
--- every image that has the kernel's bytes outside the layout's tables is one, where a place has codes in both layers or
+-- every image that has the kernel's bytes outside the layout's tables is one, if a place has codes in both layers or
 -- in neither
 abbrev pub FramelessLaw : Type 0
 FramelessLaw = (bytes : List ℕ) → HasKernel bytes → IsSilentAlike bytes → All IsByte bytes → KeepsFrameless bytes
@@ -125,7 +125,7 @@ PowersOn bytes = (pins : ℕ → ℕ → ℕ → ℕ → Pins) (tick : ℕ → �
 abbrev pub PowerOnLaw : Type 0
 PowerOnLaw = (bytes : List ℕ) → HasKernel bytes → All IsByte bytes → PowersOn bytes
 
--- a program that comes there from any state at 000 that enters no interrupt, pulls no wire and lights no light, where the
+-- a program that comes there from any state at 000 that enters no interrupt, pulls no wire and lights no light, if the
 -- pin INT is high: whatever the status with its register bank, the memory bank, the stack, the timer, both interrupts, the
 -- mark of a service and data memory are. The start comes when it does from power-on
 abbrev pub Restarts : List ℕ → Type 0

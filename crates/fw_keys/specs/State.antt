@@ -84,7 +84,7 @@ abbrev pub layers_of : (ℕ → ℕ) → Layers
 layers_of f = record { fn_down = not (f FN == 0); pressed_in = held_by (λ c. f (LAYER + c)) }
 
 -- what holds of the cells between blocks: the queue's length, a started break whose code is still in the queue, the
--- modes that there are, that the lights stand at bits 4 to 6 alone, and that the Fn key's cell is 00 or FF
+-- modes that there are, that the lights are at bits 4 to 6 alone, and that the Fn key's cell is 00 or FF
 pub record Inv (f : ℕ → ℕ) : Type 0 where
   pub most : f COUNT % 128 ≤ 16
   pub started : f STARTED ≤ 1

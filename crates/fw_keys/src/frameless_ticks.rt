@@ -12,7 +12,7 @@ use fw_kernel::KERNEL;
 use mcs48_isa::Image;
 
 /// From power-on, whatever the pins show, the run comes to a tick start at which data memory shows the model's keyboard
-/// at power-on, with the image's rate byte. So it does from any state at 000, where a counter comes that was upset:
+/// at power-on, with the image's rate byte. So it does from any state at 000, if a counter comes that was upset:
 /// whatever the register bank, the stack, the mark of a service, the timer, both interrupts and data memory are, if it
 /// enters no interrupt there and neither wire is pulled. Nothing is done when it is called; the laws are its contract.
 pub fn power_on()

@@ -2,8 +2,8 @@
 //! does a step of the model.
 //!
 //! This layer knows the kernel's cells and places, and the model's keyboard. It must not know the controller, the bits
-//! of a frame, or the wires beyond the levels at the pins. Its laws stand for every image that has the kernel's bytes
-//! outside the layout's tables, and for every board beside the processor: the laws that a contract can name stand on
+//! of a frame, or the wires beyond the levels at the pins. Its laws hold for every image that has the kernel's bytes
+//! outside the layout's tables, and for every board beside the processor: the laws that a contract can name are on
 //! functions here; the others are lemmas, which the layers above cite. Our own.
 #![tactic(auto)]
 

@@ -17,11 +17,11 @@ use Rattle.pc_wires.specs.Wires.{Pc}
 use Rattle.wires_agree.specs.Cycles.{board_cycles}
 use Rattle.fw_link.specs.Latch.{IsLook, sent_latch, cut_latch, cut_after, received_latch}
 
--- R0 to R3 and R6 are written where a byte is sent
+-- R0 to R3 and R6 are written if a byte is sent
 abbrev pub is_sending : ℕ → Bool
 is_sending i = (i == 24) || (i == 25) || (i == 26) || (i == 27) || (i == 30)
 
--- R0, R1, R3, R4 and R5 where one is received
+-- R0, R1, R3, R4 and R5 if one is received
 abbrev pub is_receiving : ℕ → Bool
 is_receiving i = (i == 24) || (i == 25) || (i == 27) || (i == 28) || (i == 29)
 
@@ -38,7 +38,7 @@ pub record Passed
   pub f1 : e.cpu.f1 ≡ w.cpu.f1
   pub others : (i : ℕ) → written i ≡ false → slice_index e.cpu.ram i ≡ slice_index w.cpu.ram i
 
--- a byte is ready to be sent, behind the look at data of the tick that starts at `start`; the latch leaves both wires
+-- a byte is ready to be sent, after the look at data of the tick that starts at `start`; the latch leaves both wires
 -- alone and shows its lights. R4 and R6 are the byte, R2 is the latch with data low
 pub record Offers (start byte : ℕ) (w : World Beside) : Type 0 where
   pub at : IsAt SEND w.cpu
@@ -53,7 +53,7 @@ pub record Offers (start byte : ℕ) (w : World Beside) : Type 0 where
   pub data_low : slice_index w.cpu.ram 26 ≡ bit_and w.cpu.p2 253
   pub some : (slice_index w.cpu.ram 29 == 0) ≡ false
 
--- what stands on the PC's side at the first edge, 28 cycles behind
+-- what is on the PC's side at the first edge, 28 cycles after
 abbrev pub at_edge : List HostEvent → (ℕ → Lines) → World Beside → Pc
 at_edge events lines w = board_cycles events lines 28 w.cycle w.board.pc
 
@@ -65,7 +65,7 @@ at_again events lines w = board_cycles events lines 26 w.cycle w.board.pc
 abbrev pub is_let : List HostEvent → (ℕ → Lines) → World Beside → ℕ → Bool
 is_let events lines w look = (drive (board_cycles events lines look w.cycle w.board.pc).side.port.link).clk
 
--- where the controller leaves the clock alone at each look, the frame is sent whole, in 368 cycles
+-- if the controller leaves the clock alone at each look, the frame is sent whole, in 368 cycles
 abbrev pub SendsFrames : List ℕ → Type 0
 SendsFrames bytes =
     (edges : List Edge) (events : List HostEvent)
@@ -76,7 +76,7 @@ SendsFrames bytes =
     → Drives (joint_board edges events) TICK bytes w (λ c. sent_latch w.cpu.p2 byte (c - w.cycle))
     (Passed events lines is_sending SENT 368 w)
 
--- where it pulls the clock at a look, and at none before it, the frame is cut there
+-- if it pulls the clock at a look, and at none before it, the frame is cut there
 abbrev pub IsCut : List ℕ → Type 0
 IsCut bytes =
     (edges : List Edge) (events : List HostEvent)
@@ -111,7 +111,7 @@ pub record Awaits (start : ℕ) (w : World Beside) : Type 0 where
   pub data_wire : bit 1 w.cpu.p2 ≡ true
   pub shown : lights_of w.cpu.p2 ≡ w.board.shown
 
--- the controller's byte is received in 366 cycles, where it requests at the second look at data and at the first edge
+-- the controller's byte is received in 366 cycles, if it requests at the second look at data and at the first edge
 abbrev pub ReceivesFrames : List ℕ → Type 0
 ReceivesFrames bytes =
     (edges : List Edge) (events : List HostEvent)

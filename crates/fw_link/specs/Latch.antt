@@ -8,7 +8,7 @@ use Rattle.board_lines.specs.Frame.{frame_bits}
 abbrev pub wired : ℕ → Bool → Bool → ℕ
 wired v clock level = bit_and v (252 + digit clock + 2 * digit level)
 
--- bit k of a byte's frame; behind the frame the wire is high
+-- bit k of a byte's frame; after the frame the wire is high
 abbrev pub frame_bit : ℕ → ℕ → Bool
 frame_bit byte k = slice_index_or (frame_bits byte) k true
 
@@ -16,8 +16,8 @@ frame_bit byte k = slice_index_or (frame_bits byte) k true
 abbrev pub sent_cell : ℕ → ℕ → ℕ → ℕ → ℕ
 sent_cell v byte k o = wired v (nat_le 16 o) (frame_bit byte (if nat_lt o 21 then k else suc k))
 
--- a sent frame, by the offset from the look at data: the start bit is put 10 cycles behind, the first cell begins 28
--- cycles behind
+-- a sent frame, by the offset from the look at data: the start bit is put 10 cycles after, the first cell begins 28
+-- cycles after
 abbrev pub sent_latch : ℕ → ℕ → ℕ → ℕ
 sent_latch v byte o =
     if nat_lt o 10 then v
@@ -25,15 +25,15 @@ sent_latch v byte o =
     else sent_cell v byte ((o - 28) / 32) ((o - 28) % 32)
 
 -- the looks at the clock in a sent frame, by the offset from the look at data: two before the first fall, at 8 and 26; and
--- two a cell, 2 cycles behind the rise of its clock and 7 behind the next bit
+-- two a cell, 2 cycles after the rise of its clock and 7 after the next bit
 abbrev pub IsLook : ℕ → Type 0
 IsLook look = (look ≡ 8) ⊎ (look ≡ 26) ⊎ ((k : ℕ) × (k < 10) × ((look ≡ 46 + 32 * k) ⊎ (look ≡ 56 + 32 * k)))
 
--- a frame that is cut at a look: both wires are released 2 cycles behind it
+-- a frame that is cut at a look: both wires are released 2 cycles after it
 abbrev pub cut_latch : ℕ → ℕ → ℕ → ℕ → ℕ
 cut_latch v byte look o = if nat_lt o (look + 2) then sent_latch v byte o else v
 
--- it ends 6 cycles behind it
+-- it ends 6 cycles after it
 abbrev pub cut_after : ℕ → ℕ
 cut_after look = look + 6
 

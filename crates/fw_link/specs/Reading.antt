@@ -1,4 +1,4 @@
--- What a received frame reads, whatever stands beside the processor.
+-- What a received frame reads, whatever is beside the processor.
 use Rattle.std.specs.Prelude.{◌≡◌, ◌<◌, ℕ, ◌+◌, ◌*◌, Bool, true, false, not, List, [], ◌∷◌, slice_index, if◌then◌else◌}
 use Rattle.bits.specs.Bits.{bit}
 use Rattle.board_lines.specs.Bits.{value}
@@ -13,7 +13,7 @@ use Rattle.joint_run.specs.Starts.{Comes}
 use Rattle.mcs48_core.specs.Status.{digit}
 use Rattle.mcs48_core.specs.declared.levels.Pins.{Pins}
 
--- the level of the data wire at the look of cell k, 18 cycles into the cell, where the latch is that of a received
+-- the level of the data wire at the look of cell k, 18 cycles into the cell, if the latch is that of a received
 -- frame
 abbrev pub data_read : (d : Board) → World d.State → ℕ → Bool
 data_read d w k =
@@ -29,7 +29,7 @@ byte_in level =
 abbrev pub right_in : (ℕ → Bool) → Bool
 right_in level = if level 8 then parity_of (byte_in level) else not (parity_of (byte_in level))
 
--- R4 is the byte; R5 is 255 where its parity was right, and else 0; the latch is as it was
+-- R4 is the byte; R5 is 255 if its parity was right, and else 0; the latch is as it was
 pub record Reads (d : Board) (w e : World d.State) : Type 0 where
   pub to : IsAt COMMAND e.cpu
   pub cycle : e.cycle ≡ w.cycle + 366
@@ -42,7 +42,7 @@ abbrev pub data_again : (d : Board) → World d.State → Bool
 data_again d w =
     (d.pins w.cpu.p1 w.cpu.p2 (w.cycle + 26) (after_cycles 26 0 (λ o. d.cycle w.cpu.p2 (w.cycle + o)) w.board)).t1
 
--- where it is high there is no frame: in 30 cycles the keys' turn comes, and no wire was pulled
+-- if it is high there is no frame: in 30 cycles the keys' turn comes, and no wire was pulled
 pub record Drops (d : Board) (w e : World d.State) : Type 0 where
   pub to : IsAt SCAN e.cpu
   pub cycle : e.cycle ≡ w.cycle + 30

@@ -15,7 +15,7 @@ pub fn frame_sent()
 {}
 
 /// A cut frame: if the controller pulls the clock at a look, and at none before, the run comes from `SEND` to `SCAN` within
-/// 6 cycles of the look. In each cycle the latch of port 2 is that of the byte's frame up to two cycles behind the look, and
+/// 6 cycles of the look. In each cycle the latch of port 2 is that of the byte's frame up to two cycles after the look, and
 /// then both wires are released; so at the two looks before the first fall the clock hasn't fallen. The same stays as after a
 /// sent frame. If the controller began to pull between the looks of the tick and the first edge, it pulls at the look of the
 /// first cell. Nothing is done when it is called; the law is its contract.
@@ -24,12 +24,12 @@ pub fn frame_cut()
     ensures pulled { PulledLaw }
 {}
 
-/// A received frame: where the controller requests at the second look at data, two cycles before the first edge, and
+/// A received frame: if the controller requests at the second look at data, two cycles before the first edge, and
 /// there, the run comes from `GOT` to `COMMAND` in 366 cycles; R4 is the controller's byte, R5 is 255, which says that its parity was right. In each cycle the latch of
 /// port 2 is that of a received frame: the clock falls eleven times, and data is low at the eleventh fall alone, from 12
 /// cycles before it on.
-/// Both latches, F1 and memory but for R0, R1, R3, R4 and R5 stay. Whatever stands beside the processor, R4 is the byte
-/// of the first eight looks at data, and R5 is 255 where the ninth is its parity, and else 0; and where data is high at
+/// Both latches, F1 and memory but for R0, R1, R3, R4 and R5 stay. Whatever is beside the processor, R4 is the byte
+/// of the first eight looks at data, and R5 is 255 if the ninth is its parity, and else 0; and if data is high at
 /// the second look, nothing is received and no wire is pulled. Nothing is done when it
 /// is called; the laws are its contract.
 pub fn frame_received()

@@ -156,13 +156,13 @@ row_looks (Some row) = is_look (looks_at row.op)
 abbrev pub looks : List ℕ → Cpu → Bool
 looks bytes m = row_looks (row_at bytes m.pc)
 
--- from these places on no byte is being sent: where one is received, at the eleventh fall, whose frame can't be broken off
+-- from these places on no byte is being sent: if one is received, at the eleventh fall, whose frame can't be broken off
 -- any more, and in the rest of the tick
 abbrev pub is_over : ℕ → Bool
 is_over place = (place == GOT) || (place == S_STOP) || (place == SCAN)
 
 -- from a look at the clock wire on at most 24 cycles pass, 60 microseconds, until the next one, as long as a byte is being
--- sent: in the run from it, where none of the states between looks, or is over
+-- sent: in the run from it, if none of the states between looks, or is over
 abbrev pub LooksSoon : (d : Board) → List ℕ → World d.State → Type 0
 LooksSoon d bytes w =
     (n : ℕ) (v : World d.State) → run_at d bytes w (suc n) ≡ Some v

@@ -12,7 +12,7 @@ use Rattle.joint_run.specs.Run.{World, seen, run_at}
 use Rattle.joint_run.specs.Starts.{at_tick, IsStart, IsEnd}
 use Rattle.joint_run.specs.Joint.{Beside, joint_board, joint_start}
 
--- what is answered of a machine is whether its state is a tick start, under every history and whatever stands beside
+-- what is answered of a machine is whether its state is a tick start, under every history and whatever is beside
 abbrev pub TellsTick : Machine → Bool → Type 0
 TellsTick m answer = (edges : List Edge) (events : List HostEvent) (w : World Beside) → w.cpu ≡ m.mcu
     → answer ≡ at_tick (joint_board edges events) TICK w

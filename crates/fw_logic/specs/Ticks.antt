@@ -1,4 +1,4 @@
--- A tick from its start: its columns, and the next start where its work ends in time.
+-- A tick from its start: its columns, and the next start if its work ends in time.
 use Rattle.std.specs.Prelude.{◌≡◌, ◌≤◌, ◌<◌, ℕ, suc, ◌+◌, ◌-◌, ◌*◌, true, false, List, length, slice_index, bit_xor}
 use Rattle.board_lines.specs.Cadence.{IsNear}
 use Rattle.mcs48_core.specs.declared.levels.Pins.{Pins}
@@ -74,7 +74,7 @@ pub record IsDone {S : Type 0} (w e : World S) : Type 0 where
   pub behind : w.cycle ≤ e.cycle
   pub in_time : e.cycle ≤ w.cycle + 2040
 
--- the next tick start: 2,048 cycles later, but for how late both are, so it keeps the cadence where this one does; data
+-- the next tick start: 2,048 cycles later, but for how late both are, so it keeps the cadence if this one does; data
 -- memory and both latches are as they were at the work's end, and the board has gone on
 pub record IsNext (d : Board) (w e v : World d.State) : Type 0 where
   pub entered : IsEntered v.cpu
@@ -91,7 +91,7 @@ ReadingLaw = (bytes : List ℕ) → HasKernel bytes
     → (pins : ℕ → ℕ → ℕ → ℕ → Pins) (tick : ℕ → ℕ → ℕ → ℕ) (w : World ℕ) → IsEntered w.cpu
     → Tick (numbered pins tick) TICK bytes w (ReadsTick (numbered pins tick) w)
 
--- and where its work ends in time the next start comes
+-- and if its work ends in time the next start comes
 abbrev pub NextLaw : Type 0
 NextLaw = (bytes : List ℕ) → HasKernel bytes
     → (pins : ℕ → ℕ → ℕ → ℕ → Pins) (tick : ℕ → ℕ → ℕ → ℕ) (w e : World ℕ) → IsEntered w.cpu → IsDone w e

@@ -9,7 +9,7 @@ use fw_kernel::TICK;
 use joint_run::Joint;
 use mcs48_core::Mcu;
 
-/// Whether the machine stands at a tick start: the counter, modulo 2,048, is `TICK`, and the next step is no
+/// Whether the machine is at a tick start: the counter, modulo 2,048, is `TICK`, and the next step is no
 /// interrupt's entry. Then the next step executes the instruction at `TICK`.
 pub fn at_tick(joint: &Joint) -> bool
     ensures tells { TellsTick joint.now result }
@@ -25,7 +25,7 @@ fn takes_timer(mcu: &Mcu) -> bool
     !mcu.svc && mcu.tim_on && mcu.rq
 }
 
-/// Whether such a processor stands at a tick start. The counter is looked at first: in most steps it is elsewhere.
+/// Whether such a processor is at a tick start. The counter is looked at first: in most steps it is elsewhere.
 fn stands_at_tick(mcu: &Mcu) -> bool
     ensures { result ≡ (mcu.now.pc % 2048 == TICK && not (takes_timer mcu.now)) }
 {

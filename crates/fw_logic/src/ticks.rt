@@ -9,7 +9,7 @@ pub fn columns_in_a_tick()
     ensures columns { ReadingLaw }
 {}
 
-/// Where the work of a tick comes to RETR at `DONE` by offset 2,040, with the way back on the stack as it was and the
+/// If the work of a tick comes to RETR at `DONE` by offset 2,040, with the way back on the stack as it was and the
 /// timer counting on, the run comes to the next tick start: 2,048 cycles after this one, but for how late both are, so
 /// the starts keep the cadence. Data memory and both latches are as they were at the work's end. Nothing is done when
 /// it is called; the law is its contract.

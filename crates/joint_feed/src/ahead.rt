@@ -19,7 +19,7 @@ pub struct Ahead {
     pub due: Due,
 }
 
-/// These events, and behind them the next ones of a feed, as many as there is room for.
+/// These events, and after them the next ones of a feed, as many as there is room for.
 fn behind<T: Event, F: Feed, const N: usize>(first: &[T], feed: &mut F) -> ArrayVec<T, N>
     requires { length first.now ≤ N }
     ensures events { let fed = F.told feed.old in result.items ≡ take N (first.now ++ drop (T.taken fed) (T.all fed.history)) }
@@ -39,7 +39,7 @@ fn behind<T: Event, F: Feed, const N: usize>(first: &[T], feed: &mut F) -> Array
 }
 
 /// So many of the events that were handed in are over: those that are left move up, and the next ones of a feed come
-/// behind them.
+/// after them.
 fn move_up<T: Event, F: Feed, const N: usize>(
     over: &mut usize,
     due: &mut ArrayVec<T, N>,

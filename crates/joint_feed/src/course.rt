@@ -41,7 +41,7 @@ impl Course {
         Course::begin_filled(image, bios, 0, feed)
     }
 
-    /// The run of a feed's history at power-on, with this program and with INT 09h at its start, where data memory, A and T
+    /// The run of a feed's history at power-on, with this program and with INT 09h at its start, if data memory, A and T
     /// hold this byte. Nothing is done yet.
     pub fn begin_filled<F: Feed>(image: &Image, bios: Bios, fill: u8, feed: &mut F) -> Course
         requires start { bios ≡ start }
@@ -62,7 +62,7 @@ impl Course {
         }
     }
 
-    /// The run of this history at power-on, with this program and with INT 09h at its start, where data memory, A and T hold
+    /// The run of this history at power-on, with this program and with INT 09h at its start, if data memory, A and T hold
     /// this byte. Nothing is done yet.
     pub fn new(image: &Image, bios: Bios, fill: u8, history: &History) -> Course
         requires start { bios ≡ start }

@@ -19,7 +19,7 @@ pub(crate) trait Event: Copy + Default {
     /// How many of the other kind were taken.
     ghost others: { Fed → ℕ };
 
-    /// The next one; None exactly where all were taken.
+    /// The next one; None exactly if all were taken.
     fn next<F: Feed>(feed: &mut F) -> Option<Self>
         ensures next { result ≡ slice_get (all (F.told feed.old).history) (taken (F.told feed.old)) }
         ensures taken { taken (F.told feed.new) ≡ taken (F.told feed.old) + length (option_to_list result) }

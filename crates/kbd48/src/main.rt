@@ -9,7 +9,7 @@ use kbd48_app::kbd48;
 use std::process::ExitCode;
 use std::{env, io};
 
-/// The words after the program's name. An error where there is no memory for them, or where one of them is no UTF-8
+/// The words after the program's name. An error if there is no memory for them, or if one of them is no UTF-8
 /// text.
 fn words_of(rt: &HostRuntime) -> io::Result<Vec<String>> {
     let mut words = Vec::new(rt.alloc());

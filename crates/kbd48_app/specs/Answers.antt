@@ -29,7 +29,7 @@ abbrev pub IsKept : Option Told → Option Told → List Watch → Left → Type
 IsKept on after probes left = (after ≡ on) × (left.probes ≡ probes) × (left.log ≡ [])
 
 -- how a plan may end over a shelf, which tells `after` when it has ended, and with probes, which are `left` then: a
--- fetch that fails, or finds too many bytes, ends it; where one finds a file, memory may be wanting for it, and else
+-- fetch that fails, or finds too many bytes, ends it; if one finds a file, memory may run out for it, and else
 -- the plan goes on. The probes are left as they are, but by a run and a session
 abbrev pub MayEnd : Plan → Option Told → Answer → Option Told → List Watch → Left → Type 0
 MayEnd (Gives said) shelf answer after probes left = MayAnswerOf said answer × IsKept shelf after probes left

@@ -29,7 +29,7 @@ pub record TellsText (s : Story) (ran said : List ℕ) : Type 0 where
   pub text : ran ≡ log_text run.log
   pub log : said ≡ stamped_text board.log
 
--- so do the text of `run` and the log of `board`, which says no more than that, of the same layout and history, where
+-- so do the text of `run` and the log of `board`, which says no more than that, of the same layout and history, if
 -- memory isn't wanting
 abbrev pub BoardTellsRun : Type 0
 BoardTellsRun = (of : KeyLayout) (history : KeyHistory) (text : List ℕ) (answer : Answer) (probes others : List Watch)

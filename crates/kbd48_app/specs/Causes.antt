@@ -65,7 +65,7 @@ abbrev pub IsUntimely : Plan → Told → Type 0
 IsUntimely plan shelf =
     (fault : ℕ × ℕ) × (stamps : ℕ × ℕ) × HasKeyFault (TimingFault fault.0 fault.1 stamps.0 stamps.1) plan shelf
 
--- a script is reached, and this is its first fault, with its line, where there are so many probes
+-- a script is reached, and this is its first fault, with its line, if there are so many probes
 abbrev pub HasScriptFault : ℕ → ℕ × ℕ → Plan → Told → Type 0
 HasScriptFault probes fault plan shelf =
     (script : List ℕ) × Reads Script script plan shelf × (script_fault probes script ≡ Some fault)
@@ -97,7 +97,7 @@ exit_at (InKeys fault) = exit_of (keys_refusal fault)
 exit_at (InScript fault) = exits.Input
 exit_at (InText fault) = exits.Input
 
--- the file is reached, and this is its first fault, where there are so many probes
+-- the file is reached, and this is its first fault, if there are so many probes
 abbrev pub HasFault : ℕ → Fault → Plan → Told → Type 0
 HasFault n (InHex fault) plan shelf = HasHexFault fault plan shelf
 HasFault n (InAsm fault) plan shelf = HasAsmFault fault plan shelf

@@ -22,7 +22,7 @@ IsNoFault (Ok text) = Unit {0}
 IsNoFault (Err (StuckAt place)) = Unit {0}
 IsNoFault (Err refusal) = ⊥
 
--- nothing stands in a plan's way, where there are so many probes: the shelf tells its files, each file that the plan
+-- nothing is in a plan's way, if there are so many probes: the shelf tells its files, each file that the plan
 -- fetches is there within its limit, and none has a fault: what is said of the files is no refusal, a certificate is
 -- found right, a text has a key for each byte, and a script breaks no rule
 abbrev pub IsServed : ℕ → Plan → Option Told → Type 0
@@ -40,7 +40,7 @@ IsServed probes leaf shelf = Unit {0}
 abbrev pub IsFaultless : ℕ → List (List ℕ) → Option Told → Type 0
 IsFaultless probes words shelf = IsServed probes (plan words) shelf
 
--- the exits that are left then: all was done, memory was wanting, or, in `step` and `board` alone, a byte without an
+-- the exits that are left then: all was done, memory ran out, or, in `step` and `board` alone, a byte without an
 -- instruction was met
 abbrev pub IsLeft : Option Command → Exit → Type 0
 IsLeft (Some (OverFile (Step count))) exit = (exit ≡ Done) ⊎ (exit ≡ Memory) ⊎ (exit ≡ Stuck)

@@ -63,7 +63,7 @@ abbrev pub with_history : (KeyHistory → Plan) → Result KeyHistory KeyFault �
 with_history next (Ok history) = next history
 with_history next (Err fault) = Gives (Err (keys_refusal fault))
 
--- behind a layout comes the key file, which is read for the layout
+-- after a layout comes the key file, which is read for the layout
 abbrev pub keys_next : (KeyLayout → KeyHistory → Plan) → List ℕ → KeyLayout → Plan
 keys_next next name layout = Fetches kinds.Keys name (λ text. with_history (next layout) (history_of layout text))
 
@@ -72,7 +72,7 @@ abbrev pub history_plan : (KeyLayout → KeyHistory → Plan) → List ℕ → L
 history_plan next first second =
     Fetches kinds.Layout first (λ bytes. with_layout (keys_next next second) (layout_of_document bytes))
 
--- behind what is debugged comes the script
+-- after what is debugged comes the script
 abbrev pub script_next : List ℕ → Debuggee → Plan
 script_next name s = Fetches kinds.Script name (Debugs s)
 
@@ -83,7 +83,7 @@ debug_next name layout history = script_next name (of_layout (story (image_of la
 abbrev pub debug_plan : List ℕ → List ℕ → List ℕ → Plan
 debug_plan first second third = history_plan (debug_next third) first second
 
--- behind an image come a layout, which has the places of its keys and hands nothing else on, and the key file
+-- after an image come a layout, which has the places of its keys and hands nothing else on, and the key file
 abbrev pub program_next : (List ℕ → KeyHistory → Plan) → List ℕ → List ℕ → List ℕ → Plan
 program_next next second third image = history_plan (λ layout. next image) second third
 

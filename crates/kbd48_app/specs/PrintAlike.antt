@@ -21,7 +21,7 @@ abbrev pub leaving : List Watch → Left
 leaving probes = record { probes = probes; taking = Whole; log = [] }
 
 -- what one of them may answer, over any shelf and with any probes, the other may; an answer with a text leaves the
--- probes alike. Where memory is wanting, `run` leaves them as they were, and `expect` after the first steps of its run.
+-- probes alike. If memory runs out, `run` leaves them as they were, and `expect` after the first steps of its run.
 -- Over a shelf that tells its files both print one text, whether all of it was taken or not
 pub record AnswerAlike (layout keys : List ℕ) : Type 0 where
   pub expected : (shelf : Option Told) (answer : Answer) (after : Option Told) (probes left : List Watch)

@@ -37,12 +37,12 @@ Reads read file (Fetches kind name next) shelf =
     (fetched shelf name (limit_of kind))
 Reads read file leaf shelf = ⊥
 
--- memory may be wanting: no file is named, or the first one is found
+-- memory may run out: no file is named, or the first one is found
 abbrev pub may_lack : Plan → Told → Bool
 may_lack (Fetches kind name next) shelf = on_fetched false false (λ bytes. true) (fetched shelf name (limit_of kind))
 may_lack leaf shelf = true
 
--- the names and the limits of the fetches that a plan comes to, in order, where memory isn't wanting
+-- the names and the limits of the fetches that a plan comes to, in order, if memory isn't wanting
 abbrev pub fetches_of : Plan → Told → List (List ℕ × ℕ)
 fetches_of (Fetches kind name next) shelf =
     (name, limit_of kind)
@@ -54,7 +54,7 @@ abbrev pub after_fetches : ℕ → Told → Told
 after_fetches zero shelf = shelf
 after_fetches (suc n) shelf = after_fetches n (after_fetch shelf)
 
--- so many of these fetches were made, in their order, and no others: all of them, or, where memory was wanting, the
+-- so many of these fetches were made, in their order, and no others: all of them, or, if memory ran out, the
 -- first ones
 abbrev pub Makes : List (List ℕ × ℕ) → Told → Option Told → Exit → Type 0
 Makes fetches shelf after exit =

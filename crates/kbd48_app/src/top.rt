@@ -23,7 +23,7 @@ use board_probes::Probe;
 use io_edge::{Shelf, Sink, say};
 use std::alloc::Global;
 
-/// Prints a text, and ends with this exit, or with `Write` where the sink fails.
+/// Prints a text, and ends with this exit, or with `Write` if the sink fails.
 fn print<K: Sink>(out: &mut K, text: &[u8], exit: Exit) -> Exit
     ensures says { Prints text.now exit (K.shown out.old) (K.shown out.new) result }
 {
@@ -33,7 +33,7 @@ fn print<K: Sink>(out: &mut K, text: &[u8], exit: Exit) -> Exit
     }
 }
 
-/// Prints the line of a refusal, and ends with its exit, or with `Write` where the sink fails.
+/// Prints the line of a refusal, and ends with its exit, or with `Write` if the sink fails.
 fn print_refusal<K: Sink>(out: &mut K, refusal: &Refusal) -> Exit
     ensures says { Prints (line_of refusal.now) (exit_of refusal.now)
         (K.shown out.old) (K.shown out.new) result }
@@ -41,7 +41,7 @@ fn print_refusal<K: Sink>(out: &mut K, refusal: &Refusal) -> Exit
     print(out, &refusal.line(), refusal.exit())
 }
 
-/// Prints what is left of an answer to be said, and ends with its exit, or with `Write` where the sink fails or has
+/// Prints what is left of an answer to be said, and ends with its exit, or with `Write` if the sink fails or has
 /// failed.
 fn conclude<K: Sink>(out: &mut K, answer: &Result<Spoken, Refusal>) -> Exit
     ensures concludes { Concludes answer.now (K.shown out.old) (K.shown out.new) result }
@@ -90,7 +90,7 @@ fn answer_and_print<F: Shelf, K: Sink>(
 /// first step.
 ///
 /// `run`, `expect`, `board` and `sample` leave each probe as one look at each state of their run does, and `run` and
-/// `board`, where a put of a line that a step said failed, as one at each state up to that step's. `debug` and `probe`
+/// `board`, if a put of a line that a step said failed, as one at each state up to that step's. `debug` and `probe`
 /// obey a script with them. Nothing else is done with them.
 pub fn kbd48<F: Shelf, K: Sink>(
     alloc: Global,
@@ -100,8 +100,8 @@ pub fn kbd48<F: Shelf, K: Sink>(
     probes: &mut Vec<Box<dyn Probe>>,
 ) -> Exit
     // What is printed, and how the probes are left: the text of an answer that the words, the shelf and the probes may
-    // give, put line by line, behind a log in `board` alone; where all of it is taken, a run's probes are as after a
-    // look at each of its states; where a put of a line of `run` or `board` failed, as after a look at the states up to
+    // give, put line by line, after a log in `board` alone; if all of it is taken, a run's probes are as after a
+    // look at each of its states; if a put of a line of `run` or `board` failed, as after a look at the states up to
     // the one that the step which said this line led to.
     ensures says { let before = map (λ b. watch b) probes.old.items in
         let after = map (λ b. watch b) probes.new.items in
@@ -114,18 +114,18 @@ pub fn kbd48<F: Shelf, K: Sink>(
     // The probes: words without a run leave them as they are.
     ensures untouched { leaves_probes (asked words.now) ≡ true
         → map (λ b. watch b) probes.new.items ≡ map (λ b. watch b) probes.old.items }
-    // Words: exactly where the words have no form.
+    // Words: exactly if the words have no form.
     ensures words { asked words.now ≡ None → (result ≡ Exit.Words) ⊎ (result ≡ Exit.Write) }
     ensures words_only { result ≡ Exit.Words → asked words.now ≡ None }
-    // Read: only where the shelf's count of faults rose, and where it did, nothing but Read or Write comes.
+    // Read: only if the shelf's count of faults rose, and if it did, nothing but Read or Write comes.
     ensures read { result ≡ Exit.Read → Rose (F.faults shelf.old) (F.faults shelf.new) }
     ensures fetch_failed { F.faults shelf.old < F.faults shelf.new → (result ≡ Exit.Read) ⊎ (result ≡ Exit.Write) }
-    // Read, of a shelf that tells its files: exactly where a fetch that is reached fails.
+    // Read, of a shelf that tells its files: exactly if a fetch that is reached fails.
     ensures unserved { IfSome (F.told shelf.old) (λ told.
         IsUnserved (planned words.now) told → MayExit Exit.Read result) }
     ensures unserved_only { IfSome (F.told shelf.old) (λ told.
         result ≡ Exit.Read → IsUnserved (planned words.now) told) }
-    // Input, of a shelf that tells its files: exactly where a file that is reached is too long, or has a first fault. A fault of
+    // Input, of a shelf that tells its files: exactly if a file that is reached is too long, or has a first fault. A fault of
     // time is Timing.
     ensures too_long { IfSome (F.told shelf.old) (λ told. (kind : Kind) →
         IsTooLong kind (planned words.now) told → MayExit Exit.Input result) }
@@ -133,16 +133,16 @@ pub fn kbd48<F: Shelf, K: Sink>(
         HasFault (length probes.old.items) fault (planned words.now) told → MayExit (exit_at fault) result) }
     ensures input_only { IfSome (F.told shelf.old) (λ told.
         result ≡ Exit.Input → HasFileFault (length probes.old.items) (planned words.now) told) }
-    // Timing, of a shelf that tells its files: only where a key file that is reached has a fault of time first.
+    // Timing, of a shelf that tells its files: only if a key file that is reached has a fault of time first.
     ensures timing_only { IfSome (F.told shelf.old) (λ told.
         result ≡ Exit.Timing → IsUntimely (planned words.now) told) }
-    // Stuck, of a shelf that tells its files: exactly where a step of `step`, or of the run of `board`, would execute a
+    // Stuck, of a shelf that tells its files: exactly if a step of `step`, or of the run of `board`, would execute a
     // byte without an instruction.
     ensures stuck { IfSome (F.told shelf.old) (λ told.
         IsStuck (asked words.now) (planned words.now) told → MayExit Exit.Stuck result) }
     ensures stuck_only { IfSome (F.told shelf.old) (λ told.
         result ≡ Exit.Stuck → IsStuck (asked words.now) (planned words.now) told) }
-    // Memory: never where the first fetch fails, or finds a file that is too long.
+    // Memory: never if the first fetch fails, or finds a file that is too long.
     ensures memory { IfSome (F.told shelf.old) (λ told.
         result ≡ Exit.Memory → may_lack (planned words.now) told ≡ true) }
     // Memory, in `run`, `trace`, `board` and `sample`: only before anything is put. No probe has looked, and one line is
@@ -150,15 +150,15 @@ pub fn kbd48<F: Shelf, K: Sink>(
     ensures memory_first { takes_memory_first (asked words.now) ≡ true → result ≡ Exit.Memory
         → (map (λ b. watch b) probes.new.items ≡ map (λ b. watch b) probes.old.items)
         × TakesAll (K.shown out.old).taken (K.shown out.new).taken (line_of Refusal.Memory) }
-    // Write: only where the sink's count of faults rose, and where it did, nothing else comes.
+    // Write: only if the sink's count of faults rose, and if it did, nothing else comes.
     ensures write { result ≡ Exit.Write → Rose (K.shown out.old).faults (K.shown out.new).faults }
     ensures put_failed { (K.shown out.old).faults < (K.shown out.new).faults → result ≡ Exit.Write }
-    // Where nothing stands in the way, and no put failed, only want of memory is left, or in `step` and `board` a byte
+    // If nothing is in the way, and no put failed, only want of memory is left, or in `step` and `board` a byte
     // without an instruction.
     ensures complete { IsFaultless (length probes.old.items) (texts words.now) (F.told shelf.old)
         → (K.shown out.new).faults ≡ (K.shown out.old).faults → (K.shown out.old).faults < 2 ^ 64 - 1
         → IsLeft (asked words.now) result }
-    // The same, of a sink that tells itself, where no put of what was said failed.
+    // The same, of a sink that tells itself, if no put of what was said failed.
     ensures complete_told { IfSome (K.shown out.old).told (λ sink.
         IsFaultless (length probes.old.items) (texts words.now) (F.told shelf.old)
         → (text : List ℕ) × ((K.shown out.new).told ≡ Some (said text sink).sink)

@@ -6,7 +6,7 @@ use Rattle.live_board.specs.Standing.{Stands}
 use Rattle.live_board.specs.declared.parts.Parts.{Parts as Keyboard}
 use Rattle.kbd48_c.specs.Statuses.{done, no_memory, not_open}
 
--- the same machine, by the same edges that wait; it stands in every past in which the original does
+-- the same machine, by the same edges that wait; it is in every past in which the original does
 pub record IsTwin (k copy : Keyboard) : Type 0 where
   pub same : IsCopied k copy
   pub stands : (p : Past) → Stands p k → Stands p copy

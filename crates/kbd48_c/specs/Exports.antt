@@ -28,7 +28,7 @@ abbrev pub held_status : ℤ → Option Keyboard → ℤ
 held_status of None = not_open
 held_status of (Some k) = of
 
--- what is shown of a keyboard, or what stood there
+-- what is shown of a keyboard, or what was there
 abbrev pub shown_of : {X : Type 0} → (Keyboard → X) → Option Keyboard → X → X
 shown_of f None before = before
 shown_of f (Some k) before = f k
@@ -65,7 +65,7 @@ HasWritten port byte k status after =
     × (port ≡ 100 → HasActed (Write64 byte) k status after)
     × (port ≢ 96 → port ≢ 100 → IsLeft no_such_port k status after)
 
--- a read: the byte is written where it was made, and is what the log says of it; else what stood there stays
+-- a read: the byte is written where it was made, and is what the log says of it; else what was there stays
 abbrev pub IsReadAs : HostAct → (Told → Option ℕ) → ℕ → ℕ → Keyboard → Result ℕ Refused → Keyboard → Type 0
 IsReadAs act f before byte k answer after =
     Acts act k answer after × OnErr answer (byte ≡ before)
@@ -85,7 +85,7 @@ word_after (Ok None) before = before
 word_after (Ok (Some word)) before = word
 word_after (Err refused) before = before
 
--- a program takes a word: what the log says of it is written where there is one
+-- a program takes a word: what the log says of it is written if there is one
 abbrev pub HasTaken : ℕ → ℕ → Keyboard → ℤ → Keyboard → Type 0
 HasTaken before word k status after =
     (answer : Result (Option ℕ) Refused) × (status ≡ taken_status answer) × (word ≡ word_after answer before)

@@ -1,4 +1,4 @@
--- What a handle owns: nothing where its pointer is null, and else the block of a keyboard.
+-- What a handle owns: nothing if its pointer is null, and else the block of a keyboard.
 use Rattle.std.specs.Prelude.{Option, None, Some}
 use base.Fml.{Fml, ftrue, ffalse}
 use denote.RawPtr.{Ptr, block_ptr, null_ptr}

@@ -41,14 +41,14 @@ processor_of m = record {
   bus = m.mcu.bus;
 }
 
--- a cell of data memory, of which there are 128, or what stood there
+-- a cell of data memory, of which there are 128, or what was there
 abbrev pub cell_after : ℕ → Keyboard → ℕ → ℕ
 cell_after number k before = if nat_lt number 128 then slice_index k.joint.mcu.ram number else before
 
 abbrev pub cell_status : ℕ → ℤ
 cell_status number = if nat_lt number 128 then done else no_such_cell
 
--- the rows of a column, of which there are 12, or what stood there
+-- the rows of a column, of which there are 12, or what was there
 abbrev pub column_after : ℕ → Keyboard → ℕ → ℕ
 column_after number k before = if nat_lt number 12 then rows_of k.joint.matrix number else before
 

@@ -19,7 +19,7 @@ place_of_key (Some key) layout = place_of key layout
 abbrev pub place_named : List ℕ → KeyLayout → Option ℕ
 place_named name layout = place_of_key (key_with_name name) layout
 
--- what is written and said of a place: where there is none what stood there stays
+-- what is written and said of a place: if there is none what was there stays
 abbrev pub place_or : Option ℕ → ℕ → ℕ
 place_or None before = before
 place_or (Some place) before = place
@@ -28,7 +28,7 @@ abbrev pub place_status : Option ℕ → ℤ
 place_status None = no_such_key
 place_status (Some place) = done
 
--- the layout of a text has the key at this place, or has none of the name; or the text gives no layout, and what stood
+-- the layout of a text has the key at this place, or has none of the name; or the text gives no layout, and what was
 -- there stays
 abbrev pub IsKeyAt : List ℕ → List ℕ → ℕ → ℤ → ℕ → Type 0
 IsKeyAt text name before status place =

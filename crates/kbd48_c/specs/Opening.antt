@@ -25,7 +25,7 @@ abbrev pub HasOpenedLayout : Bool → List ℕ → Option Keyboard → Type 0
 HasOpenedLayout ready text new =
     (layout : KeyLayout) × (layout_of_document text ≡ Ok layout) × HasOpened ready (image_of layout) new
 
--- where a text is at fault
+-- if a text is at fault
 abbrev pub IsHexFault : List ℕ → Fault → Type 0
 IsHexFault text f = (h : HexFault) × (hex_of text ≡ Err h) × (f.place ≡ h.line) × (f.number ≡ h.number)
 

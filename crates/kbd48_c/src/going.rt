@@ -17,7 +17,7 @@ pub struct Spot {
     pub byte: u8,
 }
 
-/// Where it is stuck, where it is.
+/// Where it is stuck, if it is.
 pub(crate) fn put_spot(end: RunEnd, spot: &mut Spot)
     ensures { spot.new ≡ spot_after end spot.old }
 {
@@ -27,7 +27,7 @@ pub(crate) fn put_spot(end: RunEnd, spot: &mut Spot)
     }
 }
 
-/// Goes on until so many cycles have passed, or, where it is watched, until the interrupt line rises.
+/// Goes on until so many cycles have passed, or, if it is watched, until the interrupt line rises.
 fn go(keyboard: &mut Keyboard, cycles: u64, watched: bool, passed: &mut u64, spot: &mut Spot) -> i32
     ensures gone { HasGone cycles watched passed.new spot.old spot.new keyboard.old result keyboard.new }
 {
@@ -37,7 +37,7 @@ fn go(keyboard: &mut Keyboard, cycles: u64, watched: bool, passed: &mut u64, spo
     run_status(ran.end)
 }
 
-/// Makes steps until so many cycles have passed, or, where it is watched, until the interrupt line rises. Of an empty
+/// Makes steps until so many cycles have passed, or, if it is watched, until the interrupt line rises. Of an empty
 /// handle no cycle passes.
 #[unsafe(no_mangle)]
 pub extern "C" fn kbd48_run(

@@ -45,7 +45,7 @@ impl Handle {
         }
     }
 
-    /// The pointer of the keyboard, where there is one.
+    /// The pointer of the keyboard, if there is one.
     fn into_pointer(self) -> Option<BoxPointer<Keyboard, Global>>
         ensures { held_of result ≡ self.keyboard }
     {
@@ -68,7 +68,7 @@ impl Handle {
         Handle::of(BoxPointer::of(keyboard))
     }
 
-    /// The keyboard, where there is one; the handle is left empty.
+    /// The keyboard, if there is one; the handle is left empty.
     pub(crate) fn take(&mut self, alloc: Global) -> Option<Box<Keyboard>>
         ensures taken { boxed result ≡ self.old.keyboard }
         ensures left { self.new.keyboard ≡ None }

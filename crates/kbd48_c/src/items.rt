@@ -84,7 +84,7 @@ fn as_said(said: Stamped) -> Said
     }
 }
 
-/// What is handed out, where something is, and the status that says so.
+/// What is handed out, if something is, and the status that says so.
 fn put_item(next: Next, item: &mut Said) -> i32
     ensures tells { result ≡ next_status next }
     ensures handed { item.new ≡ item_after next item.old }

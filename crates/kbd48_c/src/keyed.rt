@@ -44,7 +44,7 @@ fn hand_over(keyboard: &mut Keyboard, queue: &mut EdgeQueue)
     }
 }
 
-/// How long it is from one stamp to another; a cycle where that has passed.
+/// How long it is from one stamp to another; a cycle if that has passed.
 fn wait_for(due: u64, now: u64) -> u64
     ensures { result ≡ wait_for due now }
 {

@@ -18,7 +18,7 @@ const COLUMNS: u8 = 12;
 /// How many bytes of data memory the processor has.
 const CELLS: u8 = 128;
 
-/// The processor: where it is, with the byte of the program there; its registers, flags and port latches.
+/// The processor: if it is, with the byte of the program there; its registers, flags and port latches.
 #[repr(C)]
 #[derive(Drop)]
 pub struct Processor {
@@ -87,7 +87,7 @@ fn processor_shown(keyboard: &Keyboard) -> Processor
     }
 }
 
-/// A cell of data memory, where there is one of this number.
+/// A cell of data memory, if there is one of this number.
 fn put_cell(keyboard: &Keyboard, number: u8, byte: &mut u8) -> i32
     ensures byte { byte.new ≡ cell_after number keyboard.now byte.old }
     ensures status { result ≡ cell_status number }
@@ -100,7 +100,7 @@ fn put_cell(keyboard: &Keyboard, number: u8, byte: &mut u8) -> i32
     }
 }
 
-/// The keys of a column, where there is one of this number.
+/// The keys of a column, if there is one of this number.
 fn put_column(keyboard: &Keyboard, number: u8, rows: &mut u8) -> i32
     ensures rows { rows.new ≡ column_after number keyboard.now rows.old }
     ensures status { result ≡ column_status number }

@@ -27,7 +27,7 @@ fn place_named(layout: &Layout, name: &[u8]) -> Option<Place>
     }
 }
 
-/// Writes a place, where there is one.
+/// Writes a place, if there is one.
 fn put_place(found: Option<Place>, place: &mut u8) -> i32
     ensures place { place.new ≡ place_or found place.old }
     ensures status { result ≡ place_status found }

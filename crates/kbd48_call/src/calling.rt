@@ -54,7 +54,7 @@ fn run_with(
     Ok((sink, exit))
 }
 
-/// A probe that is new. Nothing is done: what is known of a probe where it is made is said of its box.
+/// A probe that is new. Nothing is done: what is known of a probe if it is made is said of its box.
 fn is_new(probe: &Box<dyn Probe>, kind: usize)
     requires { watch probe.now ≡ unarmed kind }
     ensures { watch probe.now ≡ unarmed kind }

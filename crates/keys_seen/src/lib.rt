@@ -7,7 +7,7 @@
 ghost use Rattle.keys_seen.specs.Turns.{AreSeenInTurn};
 
 /// Whatever is pushed into a queue, and whenever edges are taken from it: let the starts of the ticks keep their cadence.
-/// Then an edge that is handed over behind another is seen in a later tick, and behind a release, which is two bytes, at
+/// Then an edge that is handed over after another is seen in a later tick, and after a release, which is two bytes, at
 /// least two ticks later. So the keyboard reports them in the caller's order, whatever their places. Nothing is done when
 /// it is called; the law is its contract.
 pub fn seen_in_turn()

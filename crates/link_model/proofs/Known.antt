@@ -10,7 +10,7 @@ use Rattle.board_lines.specs.Cadence.{KeepsCadenceTo, IsLast}
 use Rattle.kbd_model.specs.declared.edge.TickEdge.{TickEdge}
 use Rattle.kbd_model.specs.Layers.{Layers, in_layer, layers_after, layered}
 use Rattle.link_model.specs.TickEdges.{is_seen, by_place, change_of, tick_edges}
-use Rattle.link_model.specs.Machine.{Machine}
+use Rattle.link_model.specs.Machine.{KeyboardMachine}
 use Rattle.link_model.specs.Expected.{Whole, next_tick, whole_at}
 
 module _ (P : Edge → Type 0) where
@@ -27,7 +27,7 @@ tick_edges_known Q starts edges n h =
     (All-filter (λ (e : Edge). e.place == p) (λ (e : Edge). Q e.place) edges h)) 96)
 
 -- one tick more
-pub whole_next : {S : Type 0} (kb : Machine S) (edges : List Edge) (host : List HostEvent) (starts : ℕ → ℕ) (n : ℕ) (before after : Whole S)
+pub whole_next : {S : Type 0} (kb : KeyboardMachine S) (edges : List Edge) (host : List HostEvent) (starts : ℕ → ℕ) (n : ℕ) (before after : Whole S)
     → before ≡ whole_at kb edges host starts n → after ≡ next_tick kb edges host starts n before
     → after ≡ whole_at kb edges host starts (n + 1)
 whole_next kb edges host starts n before after so_far next =

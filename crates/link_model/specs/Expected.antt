@@ -13,7 +13,7 @@ use Rattle.byte_time.specs.declared.meeting.Meeting.{Meeting}
 use Rattle.byte_time.specs.ByteTime.{quietly, carried, ended_as, meeting_in}
 use Rattle.link_model.specs.declared.line.LogLine.{LogLine}
 use Rattle.link_model.specs.TickEdges.{tick_edges}
-use Rattle.link_model.specs.Machine.{Machine, keyboard}
+use Rattle.link_model.specs.Machine.{KeyboardMachine, keyboard}
 
 -- the keyboard's state, the controller's side, and the lights shown
 pub record Whole (S : Type 0) : Type 0 where
@@ -35,19 +35,19 @@ abbrev pub from_meeting : List HostEvent → ℕ → ℕ → Meeting → Side Un
 from_meeting events start rest begins m = quietly events rest (609 + start) (carried events begins (288 + start) m)
 
 -- what begins in a tick that starts in this cycle
-abbrev pub begins_from : {S : Type 0} → Machine S → List HostEvent → ℕ → Whole S → Meeting
+abbrev pub begins_from : {S : Type 0} → KeyboardMachine S → List HostEvent → ℕ → Whole S → Meeting
 begins_from kb events start w =
     let earlier : Side UnderWay = to_look events w.shown (kb.lights w.keys) start w.side in
     meeting_in (kb.tested w.keys) (kb.offer w.keys) earlier (to_meeting events start earlier)
 
 -- its meeting: a byte of the keyboard that begins is sent, or is broken off
-abbrev pub meeting_from : {S : Type 0} → Machine S → List HostEvent → ℕ → Whole S → Meeting
+abbrev pub meeting_from : {S : Type 0} → KeyboardMachine S → List HostEvent → ℕ → Whole S → Meeting
 meeting_from kb events start w =
     ended_as events (begins_from kb events start w) (288 + start)
     (to_meeting events start (to_look events w.shown (kb.lights w.keys) start w.side))
 
 -- a tick of 609 and `rest` cycles
-abbrev pub whole_tick : {S : Type 0} → Machine S → List HostEvent → List (ℕ × Bool) → ℕ → ℕ → Whole S → Whole S
+abbrev pub whole_tick : {S : Type 0} → KeyboardMachine S → List HostEvent → List (ℕ × Bool) → ℕ → ℕ → Whole S → Whole S
 whole_tick kb events edges start rest w = record {
   keys = kb.ticked (meeting_from kb events start w) edges w.keys;
   side = from_meeting events start rest (begins_from kb events start w)
@@ -56,12 +56,12 @@ whole_tick kb events edges start rest w = record {
 }
 
 -- tick n, from its start to the next
-abbrev pub next_tick : {S : Type 0} → Machine S → List Edge → List HostEvent → (ℕ → ℕ) → ℕ → Whole S → Whole S
+abbrev pub next_tick : {S : Type 0} → KeyboardMachine S → List Edge → List HostEvent → (ℕ → ℕ) → ℕ → Whole S → Whole S
 next_tick kb edges host starts n w =
     whole_tick kb host (tick_edges starts edges n) (4096 + starts n) (starts (suc n) - starts n - 609) w
 
 -- at the start of tick n. Cycle 4,096 is stamp 0, and before it nothing happens
-abbrev pub whole_at : {S : Type 0} → Machine S → List Edge → List HostEvent → (ℕ → ℕ) → ℕ → Whole S
+abbrev pub whole_at : {S : Type 0} → KeyboardMachine S → List Edge → List HostEvent → (ℕ → ℕ) → ℕ → Whole S
 whole_at kb edges host starts zero =
     record { keys = kb.start; side = quietly host (starts 0) 4096 (side_at_start UnderWay); shown = 0 }
 whole_at kb edges host starts (suc n) = next_tick kb edges host starts n (whole_at kb edges host starts n)
@@ -71,7 +71,7 @@ abbrev pub lines : (ℕ → ℕ) → ℕ → List Stamped → List LogLine
 lines starts n log = map (λ s. record { tick = tick_of starts n s.cycle; item = s.item }) log
 
 -- the expected log, up to start n
-abbrev pub expected : {S : Type 0} → Machine S → List Edge → List HostEvent → (ℕ → ℕ) → ℕ → List LogLine
+abbrev pub expected : {S : Type 0} → KeyboardMachine S → List Edge → List HostEvent → (ℕ → ℕ) → ℕ → List LogLine
 expected kb edges host starts n = lines starts n (whole_at kb edges host starts n).side.log
 
 -- the expected log of a layout, a history and the starts of its ticks, the last of which is where the run ends

@@ -13,7 +13,7 @@ use Rattle.byte_time.specs.declared.meeting.Meeting.TheVariants.{Got, Inhibited,
 
 -- the state at power-on; whether the test has ended; the byte offered; the lights; whether a place is held; and what a
 -- tick makes of the state, by its meeting and its edges
-pub record Machine (S : Type 0) : Type 0 where
+pub record KeyboardMachine (S : Type 0) : Type 0 where
   pub start : S
   pub tested : S → Bool
   pub offer : S → Option ℕ
@@ -35,7 +35,7 @@ pub record LayeredKeyboard : Type 0 where
   pub layers : Layers
 
 -- the keyboard with a layout. Each edge of a tick has its layer, which is no concern of scanning or of the test
-abbrev pub keyboard : KeyLayout → Machine LayeredKeyboard
+abbrev pub keyboard : KeyLayout → KeyboardMachine LayeredKeyboard
 keyboard layout = record {
   start = record { keyboard = at_power_on layout.rate; layers = no_layers };
   tested = λ k. k.keyboard.test == 0;

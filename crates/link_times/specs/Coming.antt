@@ -24,7 +24,7 @@ use Rattle.link_model.specs.Machine.{met_as}
 use Rattle.link_model.specs.TickEdges.{tick_edges}
 use Rattle.quiet_log.specs.Once.{left, at_tick, meeting_at, all_arrived, all_taken_away}
 
--- the byte that answers one from the system: the last byte sent, where FE asks for it; EE where EE does; FA for all
+-- the byte that answers one from the system: the last byte sent, if FE asks for it; EE if EE does; FA for all
 -- other commands, and for a parameter that is awaited; FE for any other byte
 abbrev pub reply_to : Mode → ℕ → ℕ → ℕ
 reply_to mode byte last =
@@ -55,7 +55,7 @@ abbrev pub codes_of : Keys → List TickEdge → List (List ℕ)
 codes_of keys [] = []
 codes_of keys (e ∷ edges) = code_of keys e ++ codes_of keys edges
 
--- which key still repeats behind the meeting: a command that clears the queue ends it, and so does a reset
+-- which key still repeats after the meeting: a command that clears the queue ends it, and so does a reset
 abbrev pub repeats_still : Meeting → Keyboard → Option Repeat
 repeats_still (Got byte) k = if clears_queue byte then None else k.repeats
 repeats_still Inhibited k = k.repeats
@@ -69,7 +69,7 @@ repeat_code keys inhibited None = []
 repeat_code keys inhibited (Some r) =
     if (r.count == 1) && not inhibited then make (keys.code r.on_fn r.place) ∷ [] else []
 
--- the codes of a tick: where scanning is on, the repeat's and then the edges'
+-- the codes of a tick: if scanning is on, the repeat's and then the edges'
 abbrev pub tick_codes : Keys → Meeting → List TickEdge → Keyboard → Bool → List (List ℕ)
 tick_codes keys meeting edges before scanning =
     if scanning
@@ -77,7 +77,7 @@ tick_codes keys meeting edges before scanning =
     else []
 
 -- the queue that the codes enter: a command or a reset may have cleared it; else a byte that was sent has left it,
--- where neither a reply nor AA was due before it
+-- if neither a reply nor AA was due before it
 abbrev pub queue_left : Meeting → Keyboard → KeyQueue
 queue_left (Got byte) k = if clears_queue byte then clear k.queue else k.queue
 queue_left Inhibited k = k.queue
@@ -164,7 +164,7 @@ module _ (layout : KeyLayout) (history : KeyHistory) (starts : ℕ → ℕ) wher
 
 -- after a tick there waits what comes first, then the rest of what waited, and then what its codes added, and nothing
 -- else. Its edges are those that it sees, each once, and so its codes are, of which each is one byte, or F0 and one;
--- the test has a tick less; the key that repeats has one less too, and waits a period behind its code: so AA and a
+-- the test has a tick less; the key that repeats has one less too, and waits a period after its code: so AA and a
 -- repeat come once each time
 pub record IsExact (layout : KeyLayout) (history : KeyHistory) (starts : ℕ → ℕ) (n : ℕ) : Type 0 where
   pub waits : waiting (keyboard_at layout history starts (suc n))

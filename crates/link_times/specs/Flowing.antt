@@ -20,8 +20,8 @@ Sends layout history starts n =
     (byte : ℕ) → offer (keyboard_at layout history starts n) ≡ Some byte
     → meeting_at layout history starts n ≡ Sent byte
 
--- where so it is from tick n on, the byte at place i of what waits at its start is the one that arrives in tick n + i.
--- The reply to a reset is the last byte before the test begins again, so behind it nothing is promised
+-- if so it is from tick n on, the byte at place i of what waits at its start is the one that arrives in tick n + i.
+-- The reply to a reset is the last byte before the test begins again, so after it nothing is promised
 abbrev pub OneByteATick : Type 0
 OneByteATick =
     (layout : KeyLayout) (history : KeyHistory) (starts : ℕ → ℕ) (n i byte : ℕ)

@@ -68,7 +68,7 @@ MayMeet layout history starts n byte Inhibited =
     (look_at layout history starts n).port.link
 -- Got: the keyboard fetches a byte that the controller has for it
 MayMeet layout history starts n byte (Got command) = (look_at layout history starts n).port.link ≡ Request command
--- Cut: the controller began to hold the clock behind the look, before the byte could begin; or a waiting input broke
+-- Cut: the controller began to hold the clock after the look, before the byte could begin; or a waiting input broke
 -- the frame off
 MayMeet layout history starts n byte Cut =
     HoldsOff (287 + start_at layout history starts n) (begin_at layout history starts n).port
@@ -99,8 +99,8 @@ IsGot Idle = ⊥
 IsGot (Sent byte) = ⊥
 IsGot Cut = ⊥
 
--- once the test has ended, a byte that is offered in tick n is offered still behind any ticks that hold it off, and it
--- goes in the first that doesn't, but where a byte from the system comes first
+-- once the test has ended, a byte that is offered in tick n is offered still after any ticks that hold it off, and it
+-- goes in the first that doesn't, but if a byte from the system comes first
 abbrev pub GoesAtLast : Type 0
 GoesAtLast =
     (layout : KeyLayout) (history : KeyHistory) (starts : ℕ → ℕ) (n count byte : ℕ)

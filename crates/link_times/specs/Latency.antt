@@ -19,7 +19,7 @@ use Rattle.quiet_log.specs.Once.{at_tick, meeting_at}
 use Rattle.link_times.specs.Coming.{code_of, edges_at, keyboard_at}
 use Rattle.link_times.specs.Flowing.{IsHostQuiet, IsQuietFrom}
 
--- the stamp at which INT 09h reads what arrives in tick n: 64 cycles behind its arrival, which is at offset 608
+-- the stamp at which INT 09h reads what arrives in tick n: 64 cycles after its arrival, which is at offset 608
 abbrev pub read_stamp : (ℕ → ℕ) → ℕ → ℕ
 read_stamp starts n = starts n + 608 + 64
 
@@ -45,7 +45,7 @@ ReadsWhatArrives =
     → KeepsCadenceTo starts last → n < last → meeting_at layout history starts n ≡ Sent byte
     → IsReadIn layout history starts last n byte
 
--- bytes stand behind so many others in a list
+-- bytes are after so many others in a list
 pub record StandsBehind (place : ℕ) (bytes list : List ℕ) : Type 0 where
   pub before : List ℕ
   pub behind : List ℕ
@@ -71,10 +71,10 @@ EdgesAreAmong =
     → (on_fn : Bool)
     × Contains (edges_at layout history starts n) (record { place = edge.place; down = edge.down; on_fn = on_fn })
 
--- its code waits at the next tick's start behind so many bytes. Byte i of it is read i + place ticks later: at most two
--- ticks and 660 cycles behind the edge, and a tick for each byte before it; 16 fewer for each column before the key's.
--- The edge may come a cycle behind the read of its column, at offset 16, and so waits for the next tick's; what it
--- enters goes in the tick behind that, which may start 5 cycles late: 5 + 608 + 64 - 17. In a run of the compiled image
+-- its code waits at the next tick's start after so many bytes. Byte i of it is read i + place ticks later: at most two
+-- ticks and 660 cycles after the edge, and a tick for each byte before it; 16 fewer for each column before the key's.
+-- The edge may come a cycle after the read of its column, at offset 16, and so waits for the next tick's; what it
+-- enters goes in the tick after that, which may start 5 cycles late: 5 + 608 + 64 - 17. In a run of the compiled image
 -- it starts one cycle late at most: 1 + 608 + 64 - 17
 pub record ComesInTime (layout : KeyLayout) (history : KeyHistory) (starts : ℕ → ℕ) (last n : ℕ) (edge : Edge)
     (code : List ℕ) : Type 0 where
@@ -104,7 +104,7 @@ KeysComeInTimeFrom =
     → IsQuietFrom layout history starts first → KeepsCadenceTo starts last → first ≤ n → n < last
     → Strikes layout history starts n edge code → ComesInTime layout history starts last n edge code
 
--- and of starts that keep the cadence no less would do: where the edge comes one cycle behind the read of its column, in a tick that starts at its
+-- and of starts that keep the cadence no less would do: if the edge comes one cycle after the read of its column, in a tick that starts at its
 -- multiple, and the tick that reads the byte starts five cycles late, it is read just then
 pub record IsMet (n before : ℕ) (edge : Edge) : Type 0 where
   pub starts : ℕ → ℕ

@@ -1,8 +1,8 @@
 //! When what waits arrives, and that nothing comes to the line twice or is read twice: laws of whole runs.
 //!
 //! What comes to wait in a tick is a reply, the AA of the test's end, the codes of its keys and the 00 of an overrun,
-//! each once. What waits goes one byte a tick, in its order, where nothing holds it off; and what may hold it off is
-//! told in the host's terms. This layer knows the keyboard's model, the link's, and the laws of `quiet_log`, and proves laws of them;
+//! each once. What waits goes one byte a tick, in its order, if nothing holds it off; and what may hold it off is
+//! reported in the host's terms. This layer knows the keyboard's model, the link's, and the laws of `quiet_log`, and proves laws of them;
 //! nothing of it is computed. It must not know how a run is made, nor the text of a log. Source: our own.
 #![tactic(auto)]
 
@@ -44,8 +44,8 @@ pub fn one_byte_a_tick()
     ensures quiet { QuietByteATick }
 {}
 
-/// Nothing waits for ever: a byte that is offered goes, but where the controller holds the clock, has a byte for the
-/// keyboard, or breaks the frame off for a waiting input, or the keyboard's test runs. Behind ticks that hold it off it
+/// Nothing waits for ever: a byte that is offered goes, but if the controller holds the clock, has a byte for the
+/// keyboard, or breaks the frame off for a waiting input, or the keyboard's test runs. After ticks that hold it off it
 /// is offered still, and it goes in the first that doesn't, unless a byte from the system comes first.
 pub fn nothing_waits_for_ever()
     ensures holds { NothingElseHolds }

@@ -36,7 +36,7 @@ pub record BeginsExpected (layout : KeyLayout) (p : Past) (log : List Stamped) :
   pub rest : List Stamped
   pub beginning : (whole_at (keyboard layout) p.edges p.events starts tick).side.log ≡ log ++ rest
 
--- so is what was said so far, if a keyboard stands in a past that is lawful for the layout, however long
+-- so is what was said so far, if a keyboard is in a past that is lawful for the layout, however long
 abbrev pub LogsAgree : Type 0
 LogsAgree =
     (layout : KeyLayout) (p : Past) (stop : ℕ) (k : Keyboard) (s : Stands p k) → IsKeyLayout layout
@@ -47,7 +47,7 @@ LogsAgree =
 abbrev pub StatesAreAlike : Type 0
 StatesAreAlike = (p : Past) (a b : Keyboard) (s : Stands p a) (t : Stands p b) → s.world ≡ t.world
 
--- what is told between two pasts, where keyboards stand in them, is one byte
+-- what is told between two pasts, if keyboards are in them, is one byte
 abbrev pub AnswersAreAlike : Type 0
 AnswersAreAlike =
     (f : Told → Option ℕ) (p q : Past) (a b : Keyboard) (x y : ℕ) → Stands p a → Stands q b

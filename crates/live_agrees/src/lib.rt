@@ -9,7 +9,7 @@ ghost use Rattle.live_agrees.specs.Law.{RunsEndAlike, StatesAreAlike, WordsAreAl
 
 use agreement::{goes_on_from_any_start, run_and_model_agree};
 
-/// Whatever calls were made, in whatever order, however many and for however long: let a keyboard stand in a past that
+/// Whatever calls were made, in whatever order, however many and for however long: let a keyboard be in a past that
 /// begins with a layout's compiled image, and let the keys and host events of that past be lawful for the layout. Then
 /// what was said so far is the beginning of what the model says of them, at the run's own tick starts. How often a
 /// program uses the ports is free: without keys, events in order that write bytes are lawful. And the same calls give the

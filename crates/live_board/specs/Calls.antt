@@ -27,7 +27,7 @@ pub record MayAct (act : HostAct) (k : Keyboard) : Type 0 where
 abbrev pub place_of : Machine → Stuck
 place_of m = record { pc = m.mcu.pc; byte = slice_index m.image.bytes (m.mcu.pc % 2048) }
 
--- why the host's call makes no step, the first cause that stands: it comes before stamp 0; the count of cycles is at its
+-- why the host's call makes no step, the first cause that holds: it comes before stamp 0; the count of cycles is at its
 -- end; a write finds the input buffer full; or the processor is stuck, so that no state follows
 abbrev pub IsRefused : HostAct → Keyboard → Refused → Type 0
 IsRefused act k R.Early = k.joint.cycle < 4096
@@ -38,7 +38,7 @@ IsRefused act k (R.Stuck place) =
     MayAct act k × (place ≡ place_of k.joint)
     × ((p : Past) → Stands p k → state_of (acted p (k.joint.cycle - 4096) act) ≡ None)
 
--- the host's call: the event stands at the end of the past with the stamp of this moment, and is done in the one step
+-- the host's call: the event is at the end of the past with the stamp of this moment, and is done in the one step
 -- that is made; or the call is refused, and all is as it was
 abbrev pub IsActed : {X : Type 0} → HostAct → Keyboard → Result X Refused → Keyboard → Type 0
 IsActed act old (Ok answer) new =
@@ -56,11 +56,11 @@ Says p q items =
 abbrev pub Tells : {X : Type 0} → (Told → Option X) → Past → Past → X → Type 0
 Tells f p q x = (items : List Stamped) × Says p q items × (first_in f items ≡ Some x)
 
--- a key: its edge stands at the end of the past with the stamp of this moment
+-- a key: its edge is at the end of the past with the stamp of this moment
 abbrev pub pressed_now : Past → Keyboard → ℕ → Bool → Past
 pressed_now p k place down = pressed p (record { stamp = k.joint.cycle - 4096; place = place; down = down })
 
--- a key's call is refused before stamp 0, and from then on where four edges wait
+-- a key's call is refused before stamp 0, and from then on if four edges wait
 abbrev pub IsKeyRefused : Keyboard → Refused → Type 0
 IsKeyRefused k R.Early = k.joint.cycle < 4096
 IsKeyRefused k R.Over = ⊥

@@ -1,4 +1,4 @@
--- A story that grows at its end: the run of what stood goes on.
+-- A story that grows at its end: the run of what was goes on.
 use Rattle.std.specs.Prelude.{◌≡◌, ◌≤◌, ℕ, ◌+◌, List, ◌++◌, Some}
 use Rattle.std.specs.List.{All}
 use Rattle.board_lines.specs.declared.event.Edge.{Edge}
@@ -7,7 +7,7 @@ use Rattle.joint_feed.specs.Stories.{Story, state_at}
 use Rattle.joint_run.specs.Joint.{Beside}
 use Rattle.joint_run.specs.Run.{World}
 
--- a story with more edges and more events of the host behind those that it has
+-- a story with more edges and more events of the host after those that it has
 abbrev pub grown : Story → List Edge → List HostEvent → Story
 grown s edges events = record {
   bytes = s.bytes;

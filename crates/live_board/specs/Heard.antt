@@ -20,7 +20,7 @@ use Rattle.live_board.specs.declared.refused.Refused.{Refused}
 abbrev pub has_room : Heard → Bool
 has_room h = (h.lost == 0) && nat_lt (length h.items.items) 64
 
--- an item more is said: it is kept behind the others, or lost and counted, as far as a count of 64 bits goes
+-- an item more is said: it is kept after the others, or lost and counted, as far as a count of 64 bits goes
 abbrev pub heard_one : Heard → Stamped → Heard
 heard_one h said = record {
   items = record { items = if has_room h then h.items.items ++ said ∷ [] else h.items.items };
@@ -32,7 +32,7 @@ abbrev pub heard_all : Heard → List Stamped → Heard
 heard_all h [] = h
 heard_all h (said ∷ later) = heard_all (heard_one h said) later
 
--- what the caller is handed next: the first item; and when there is none, how many others were lost behind those
+-- what the caller is handed next: the first item; and when there is none, how many others were lost after those
 abbrev pub next_by : List Stamped → ℕ → Next
 next_by (said ∷ later) lost = Said said
 next_by [] lost = if lost == 0 then Nothing else Lost lost

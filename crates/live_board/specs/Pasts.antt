@@ -25,7 +25,7 @@ story_of p = record { bytes = p.bytes; edges = p.edges; events = p.events; stop 
 abbrev pub state_of : Past → Option (World Beside)
 state_of p = state_at (story_of p) p.steps
 
--- at power-on, and so many steps later, where nothing came from outside
+-- at power-on, and so many steps later, if nothing came from outside
 abbrev pub untouched : List ℕ → ℕ → Past
 untouched bytes steps = record { bytes = bytes; edges = []; events = []; steps = steps }
 

@@ -14,7 +14,7 @@ use Rattle.live_board.specs.declared.ran.RunEnd.{RunEnd}
 use Rattle.live_board.specs.declared.ran.RunEnd.TheVariants.{Passed, Rose, Over, Stuck}
 use Rattle.live_board.specs.declared.refused.Refused.{Refused}
 
--- the step behind the first j steps raises the interrupt line
+-- the step after the first j steps raises the interrupt line
 abbrev pub rises : Past → ℕ → Bool
 rises p j = rose (irq_in (state_at (story_of p) j)) (irq_in (state_at (story_of p) (suc j)))
 

@@ -1,4 +1,4 @@
--- The keyboard stands at the state of the joint run of its past.
+-- The keyboard is at the state of the joint run of its past.
 use Rattle.std.specs.Prelude.{◌≡◌, ◌≤◌, ℕ, ◌+◌, List, [], length, drop}
 use Rattle.std.specs.List.{All}
 use Rattle.board_lines.specs.declared.event.Edge.{Edge}

@@ -32,7 +32,7 @@ pub(crate) fn status_in(items: &[Stamped]) -> Option<u8>
     }
 }
 
-/// The word of the first taking that these items tell, or none where it found the buffer empty.
+/// The word of the first taking that these items tell, or none if it found the buffer empty.
 pub(crate) fn taken_in(items: &[Stamped]) -> Option<Option<u16>>
     ensures { result ≡ first_in (λ t. t.taken) items.now }
 {

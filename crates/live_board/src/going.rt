@@ -24,7 +24,7 @@ fn has_risen(watched: bool, was: Irq, is: Irq) -> bool
     watched && was.rises_to(is)
 }
 
-/// In how many cycles quiet steps may be made, so that the step behind them begins before so many cycles from this one on
+/// In how many cycles quiet steps may be made, so that the step after them begins before so many cycles from this one on
 /// have passed, and before the count's end.
 fn room(left: u64, cycle: u64) -> u64
     requires some { 0 < left }
@@ -37,7 +37,7 @@ fn room(left: u64, cycle: u64) -> u64
 
 impl Parts {
     /// Joint steps by the events that wait: quiet ones, in at most `most` cycles together, and then one of any kind, which
-    /// is told in `seen`. Where the processor is stuck the steps before stand.
+    /// is reported in `seen`. If the processor is stuck the steps before count.
     #[inline(always)]
     pub(crate) fn glide(&mut self, most: u64, was: Irq) -> Result<(), Stuck>
         requires near { self.old.joint.cycle + most < 2 ^ 62 }
@@ -56,7 +56,7 @@ impl Parts {
         Ok(())
     }
 
-    /// Goes on until so many cycles have passed, or, where the interrupt line is watched, until it rises.
+    /// Goes on until so many cycles have passed, or, if the interrupt line is watched, until it rises.
     fn go_on(&mut self, cycles: u64, watched: bool) -> RunEnd
         ensures later { self.old.joint.cycle ≤ self.new.joint.cycle }
         ensures run { (p : Past) → Stands p self.old → HasRun p self.old cycles watched result self.new }

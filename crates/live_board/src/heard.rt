@@ -20,7 +20,7 @@ pub enum Next {
     Nothing,
 }
 
-/// The first items of the log that the caller hasn't taken yet, at most 64, and how many others behind them were lost.
+/// The first items of the log that the caller hasn't taken yet, at most 64, and how many others after them were lost.
 #[derive(Drop)]
 pub struct Heard {
     pub items: ArrayVec<Stamped, 64>,

@@ -42,7 +42,7 @@ impl Model for Keyboard {
 }
 
 impl Keyboard {
-    /// The host writes a byte to a port, in one joint step. Refused where the controller's input buffer is full.
+    /// The host writes a byte to a port, in one joint step. Refused if the controller's input buffer is full.
     pub fn write(&mut self, port: Port, byte: u8) -> Result<(), Refused>
         ensures acted { IsActed (write_of port byte) self.old result self.new }
         ensures told { IsTold (write_of port byte) self.old result self.new }
@@ -81,7 +81,7 @@ impl Keyboard {
         }
     }
 
-    /// A program takes the next word from the buffer of INT 09h, in one joint step; none where it is empty.
+    /// A program takes the next word from the buffer of INT 09h, in one joint step; none if it is empty.
     pub fn take(&mut self) -> Result<Option<u16>, Refused>
         ensures acted { IsActed Take self.old result self.new }
         ensures told { IsTold Take self.old result self.new }
@@ -117,7 +117,7 @@ impl Keyboard {
         self.parts.key(place, down)
     }
 
-    /// Goes on until so many cycles have passed, which may be one more, since a step takes one or two; or, where the
+    /// Goes on until so many cycles have passed, which may be one more, since a step takes one or two; or, if the
     /// interrupt line is watched, until it rises. Answers how many passed, and why no more.
     pub fn run(&mut self, cycles: u64, watched: bool) -> Ran
         ensures cycles { self.old.joint.cycle + result.cycles ≡ self.new.joint.cycle }
@@ -151,7 +151,7 @@ impl Keyboard {
     }
 
     /// What was said next since the caller was last handed something, in the order of the log. Sixty-four items are kept;
-    /// if more are said, those behind them are lost, until that was handed out too.
+    /// if more are said, those after them are lost, until that was handed out too.
     pub fn hand_out(&mut self) -> Next
         ensures next { result ≡ next_of self.old.heard }
         ensures after { self.new ≡ record self.old { heard = after_next self.old.heard } }
@@ -159,7 +159,7 @@ impl Keyboard {
         self.parts.heard.hand_out()
     }
 
-    /// A keyboard of its own in the same state, with memory of its own: it stands in every past in which this one does,
+    /// A keyboard of its own in the same state, with memory of its own: it is in every past in which this one does,
     /// so the same calls give the same answers.
     pub fn copied(&self, alloc: Global) -> Result<Keyboard, AllocError>
         ensures same { IfOk result (IsCopied self.now) }

@@ -2,7 +2,7 @@
 //! lights come out.
 //!
 //! This layer is the joint machine, driven by calls in place of a history that is known beforehand. What a call adds
-//! stands at the end of the past (`specs/Pasts`), and the machine is always at the state of the joint run of that past
+//! is at the end of the past (`specs/Pasts`), and the machine is always at the state of the joint run of that past
 //! (`specs/Standing`). It knows no layout and no model. Source: our own.
 #![tactic(auto)]
 

@@ -140,7 +140,7 @@ impl Parts {
         }
     }
 
-    /// One joint step, by the events that wait, told in `seen`. Where the processor is stuck all but `seen` is as it was.
+    /// One joint step, by the events that wait, reported in `seen`. If the processor is stuck all but `seen` is as it was.
     #[inline(always)]
     pub(crate) fn step(&mut self) -> Result<(), Stuck>
         requires near { self.old.joint.cycle < 2 ^ 62 }

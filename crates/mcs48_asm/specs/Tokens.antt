@@ -51,7 +51,7 @@ abbrev pub only_of : List (List ℕ) → Option (List ℕ)
 only_of (token ∷ []) = Some token
 only_of _ = None
 
--- what a token says, where it is alone
+-- what a token says, if it is alone
 abbrev pub alone : {T : Type 0} → (List ℕ → Option T) → List (List ℕ) → Option T
 alone says tokens = option_and_then says (only_of tokens)
 

@@ -59,7 +59,7 @@ module _ (layout : KeyLayout) (history : KeyHistory) (starts : ℕ → ℕ) wher
   abbrev pub arrival_in : ℕ → ℕ
   arrival_in n = 320 + (288 + (4096 + starts n))
 
-  -- the PC's side before that cycle, where a byte of the keyboard has begun in the tick
+  -- the PC's side before that cycle, if a byte of the keyboard has begun in the tick
   abbrev pub side_before : ℕ → Side UnderWay
   side_before n =
       let w : Whole LayeredKeyboard = at_tick layout history starts n in

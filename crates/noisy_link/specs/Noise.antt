@@ -58,17 +58,17 @@ abbrev pub ResendsCounted : Type 0
 ResendsCounted =
     (layout : KeyLayout) (history : KeyHistory) (starts : ℕ → ℕ) (n : ℕ) → IsCounted layout history starts n
 
--- for how many ticks nothing passes behind what was sent: behind the reply of a reset, as long as the test runs
+-- for how many ticks nothing passes after what was sent: after the reply of a reset, as long as the test runs
 abbrev pub pause : Keyboard → ℕ
 pause k = if is_reset_due k.reply then 64 else 0
 
--- what FE asks for behind it: the byte itself; where it was FE, the last one sent that wasn't; behind the reply of a
+-- what FE asks for after it: the byte itself; where it was FE, the last one sent that wasn't; after the reply of a
 -- reset AA
 abbrev pub asked_for : ℕ → Keyboard → ℕ
 asked_for byte k = if is_reset_due k.reply then 0xaa else if byte == 0xfe then k.last else byte
 
 module _ (layout : KeyLayout) (history : KeyHistory) (starts : ℕ → ℕ) where
-  -- the tick that gets FE for the byte of tick n, and the one behind it, which sends again
+  -- the tick that gets FE for the byte of tick n, and the one after it, which sends again
   abbrev pub asked_in : ℕ → ℕ
   asked_in n = suc (pause (at_tick layout history starts n).keys.keyboard + n)
 
@@ -78,14 +78,14 @@ module _ (layout : KeyLayout) (history : KeyHistory) (starts : ℕ → ℕ) wher
   abbrev pub next_byte : ℕ → ℕ → ℕ
   next_byte n byte = asked_for byte (at_tick layout history starts n).keys.keyboard
 
-  -- the keyboard gets FE, before which nothing passes, and sends what that asks for in the tick behind it
+  -- the keyboard gets FE, before which nothing passes, and sends what that asks for in the tick after it
   pub record ComesAgain (n byte : ℕ) : Type 0 where
     pub idle : (j : ℕ) → n < j → j < asked_in n → meeting_at layout history starts j ≡ Idle
     pub asked : meeting_at layout history starts (asked_in n) ≡ Got 0xfe
     pub sent : meeting_at layout history starts (next_try n) ≡ Sent (next_byte n byte)
     pub counted : wrong_before layout history starts (next_try n) ≡ suc (wrong_before layout history starts n)
 
-  -- how a byte that tick n sends ends, where it may be asked for again so often, and the run's last tick starts at
+  -- how a byte that tick n sends ends, if it may be asked for again so often, and the run's last tick starts at
   -- start `last`: it comes right; or it comes wrong and is given up, or is asked for again and comes again, unless the
   -- run ends before
   abbrev pub Ends : ℕ → ℕ → ℕ → ℕ → Type 0

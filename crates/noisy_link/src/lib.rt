@@ -10,9 +10,9 @@ ghost use Rattle.noisy_link.specs.Noise.{ArrivedByFate, DoneByFate, EachEnds, Re
 /// What becomes of each byte that is taken off the keyboard's line.
 ///
 /// One whose frame took no flip is received: it is put out, or is the mark of a break. One that took a flip is asked
-/// for again, and nothing else changes, where fewer than three before it came wrong in a row; as the fourth it is given
+/// for again, and nothing else changes, if fewer than three before it came wrong in a row; as the fourth it is given
 /// up: FF is put out, with the parity bit set. What is asked for again comes again: the keyboard gets FE, before which
-/// nothing passes, and in the tick behind that it sends the byte; or, where that was FE, the last one that wasn't; or,
+/// nothing passes, and in the tick after that it sends the byte; or, if that was FE, the last one that wasn't; or,
 /// where it was the reply of a reset, AA, once the test has run. So each byte ends: in three resends at most it comes
 /// right, or is given up, unless the run ends before. Nothing is done when this is called; the laws are its contract.
 pub fn noise_over_the_link()

@@ -16,7 +16,7 @@ use Rattle.byte_time.specs.declared.meeting.Meeting.{Meeting}
 use Rattle.byte_time.specs.declared.meeting.Meeting.TheVariants.{Got, Inhibited, Idle, Sent, Cut}
 use Rattle.key_file.specs.Histories.{KeyHistory}
 use Rattle.link_model.specs.declared.line.LogLine.{LogLine}
-use Rattle.link_model.specs.Machine.{Machine}
+use Rattle.link_model.specs.Machine.{KeyboardMachine}
 use Rattle.link_model.specs.TickEdges.{tick_edges}
 use Rattle.quiet_log.specs.Quiet.{even}
 
@@ -117,24 +117,24 @@ pub record Calm (S : Type 0) : Type 0 where
   pub pc : Pc
   pub shown : ℕ
 
-abbrev pub meets : {S : Type 0} → Machine S → Calm S → Meeting
+abbrev pub meets : {S : Type 0} → KeyboardMachine S → Calm S → Meeting
 meets kb c = calm_meeting (kb.tested c.keys) (kb.offer c.keys)
 
 -- a tick: the byte, and then the events of its second half, which begins at cycle 5,120 + 2,048 n
-abbrev pub calm_tick : {S : Type 0} → Machine S → KeyHistory → ℕ → Calm S → Calm S
+abbrev pub calm_tick : {S : Type 0} → KeyboardMachine S → KeyHistory → ℕ → Calm S → Calm S
 calm_tick kb h n c = record {
   keys = kb.ticked (meets kb c) (tick_edges even h.edges n) c.keys;
   pc = pc_after h.host 1024 (5120 + 2048 * n) (met_by (meets kb c) c.pc);
   shown = kb.lights c.keys;
 }
 
-abbrev pub calm_at : {S : Type 0} → Machine S → KeyHistory → ℕ → Calm S
+abbrev pub calm_at : {S : Type 0} → KeyboardMachine S → KeyHistory → ℕ → Calm S
 calm_at kb h zero =
     record { keys = kb.start; pc = record { mark = false; out = 0; bios = start; done = 0 }; shown = 0 }
 calm_at kb h (suc n) = calm_tick kb h n (calm_at kb h n)
 
 -- what is said in a tick, and up to it
-abbrev pub calm_items : {S : Type 0} → Machine S → KeyHistory → ℕ → Calm S → List Item
+abbrev pub calm_items : {S : Type 0} → KeyboardMachine S → KeyHistory → ℕ → Calm S → List Item
 calm_items kb h n c =
     light_items c.shown (kb.lights c.keys)
     ++ (items_of_meeting (meets kb c) c.pc ++ items_in h.host 1024 (5120 + 2048 * n) (met_by (meets kb c) c.pc))
@@ -142,6 +142,6 @@ calm_items kb h n c =
 abbrev pub in_tick : ℕ → List Item → List LogLine
 in_tick n items = map (λ item. record { tick = n; item = item }) items
 
-abbrev pub calm_lines : {S : Type 0} → Machine S → KeyHistory → ℕ → List LogLine
+abbrev pub calm_lines : {S : Type 0} → KeyboardMachine S → KeyHistory → ℕ → List LogLine
 calm_lines kb h zero = []
 calm_lines kb h (suc n) = calm_lines kb h n ++ in_tick n (calm_items kb h n (calm_at kb h n))

@@ -23,7 +23,7 @@ use Rattle.byte_time.specs.declared.meeting.Meeting.{Meeting}
 use Rattle.byte_time.specs.declared.meeting.Meeting.TheVariants.{Got, Inhibited, Idle, Sent, Cut}
 use Rattle.byte_time.specs.ByteTime.{Event, Quiet, Begins, Closes, Arrives, IsWhole, is_open, arriving, arrived_in, happened_at}
 use Rattle.byte_time.specs.ByteTime.{byte_cycle, quietly, sends, carried}
-use Rattle.link_model.specs.Machine.{Machine, keyboard}
+use Rattle.link_model.specs.Machine.{KeyboardMachine, keyboard}
 use Rattle.link_model.specs.TickEdges.{tick_edges}
 use Rattle.link_model.specs.Expected.{Whole, to_look, to_meeting, begins_from, whole_tick, whole_at, lines}
 use Rattle.quiet_log.specs.Length.{LengthLaw, LimitLaw}
@@ -124,7 +124,7 @@ module _ (events : List HostEvent) where
       record { said = omega (arith, s, a, l); done = h.done }
 
   -- a tick brings four
-  tick_within : {S : Type 0} (kb : Machine S) (edges : List (ℕ × Bool)) (start rest k : ℕ) (w : Whole S) → IsWithin events k w.side
+  tick_within : {S : Type 0} (kb : KeyboardMachine S) (edges : List (ℕ × Bool)) (start rest k : ℕ) (w : Whole S) → IsWithin events k w.side
       → IsWithin events (4 + k) (whole_tick kb events edges start rest w).side
   tick_within kb edges start rest k w h =
       let l : IsWithin events (1 + k) (to_look events w.shown (kb.lights w.keys) start w.side) =
@@ -138,7 +138,7 @@ module _ (events : List HostEvent) where
       let s = c.said in
       quietly_within rest (609 + start) (4 + k) _ (record { said = omega (arith, s); done = c.done })
 
-  pub run_within : {S : Type 0} (kb : Machine S) (edges : List Edge) (starts : ℕ → ℕ) (n : ℕ)
+  pub run_within : {S : Type 0} (kb : KeyboardMachine S) (edges : List Edge) (starts : ℕ → ℕ) (n : ℕ)
       → IsWithin events (4 * n) (whole_at kb edges events starts n).side
   run_within kb edges starts zero =
       quietly_within (starts 0) 4096 0 (side_at_start UnderWay) (record { said = omega arith; done = omega arith })

@@ -3,7 +3,7 @@ use Rattle.std.proofs.Common.{◌≡◌, ℕ, suc, zero, ◌+◌, ◌-◌, ◌*�
 use Rattle.board_lines.specs.Cadence.{KeepsCadenceTo, IsLast, listed}
 use Rattle.host_turn.specs.declared.stamped.Stamped.{Stamped}
 use Rattle.key_file.specs.Histories.{KeyHistory}
-use Rattle.link_model.specs.Machine.{Machine, keyboard}
+use Rattle.link_model.specs.Machine.{KeyboardMachine, keyboard}
 use Rattle.link_model.specs.TickEdges.{tick_edges}
 use Rattle.link_model.specs.Expected.{Whole, whole_tick, whole_at, lines, expected}
 use Rattle.quiet_log.specs.Quiet.{IsQuiet, even, last_even, EvenLaw, QuietLaw, ListedLaw}
@@ -13,7 +13,7 @@ use Rattle.quiet_log.proofs.Ahead.{IsAhead, nothing_due, ahead_met, ahead_next}
 use Rattle.quiet_log.proofs.SameEdges.{edges_same}
 use Rattle.quiet_log.proofs.Ticking.{whole_of, log_after, ticks, lines_of_tick}
 
-module _ {S : Type 0} (kb : Machine S) (h : KeyHistory) (quiet : IsQuiet h) (starts : ℕ → ℕ) (last : ℕ)
+module _ {S : Type 0} (kb : KeyboardMachine S) (h : KeyHistory) (quiet : IsQuiet h) (starts : ℕ → ℕ) (last : ℕ)
     (cadence : KeepsCadenceTo starts last) where
   -- at a start, the model is at rest
   pub record Ran (n : ℕ) : Type 0 where

@@ -12,7 +12,7 @@ use Rattle.byte_time.specs.ByteTime.{quietly, carried, meeting_in, ended_as}
 use Rattle.byte_time.proofs.Quiet.{quiet_more}
 use Rattle.key_file.specs.Histories.{KeyHistory}
 use Rattle.link_model.specs.declared.line.LogLine.{LogLine}
-use Rattle.link_model.specs.Machine.{Machine}
+use Rattle.link_model.specs.Machine.{KeyboardMachine}
 use Rattle.link_model.specs.Expected.{Whole, to_look, to_meeting, from_meeting, begins_from, meeting_from, whole_tick, lines}
 use Rattle.quiet_log.specs.Quiet.{IsQuiet}
 use Rattle.quiet_log.proofs.Calm.{Pc, pc_after, items_in, met_by, items_of_meeting, light_items, Calm, meets, calm_items, in_tick}
@@ -27,7 +27,7 @@ use Rattle.quiet_log.proofs.Saying.{tick_is, stamped_at, lights_at, said_at}
 abbrev pub whole_of : {S : Type 0} → Calm S → ℕ → List Stamped → Whole S
 whole_of c filled log = record { keys = c.keys; side = side Free false c.pc filled log; shown = c.shown }
 
-module _ {S : Type 0} (kb : Machine S) (h : KeyHistory) (quiet : IsQuiet h) (starts : ℕ → ℕ) (last : ℕ)
+module _ {S : Type 0} (kb : KeyboardMachine S) (h : KeyHistory) (quiet : IsQuiet h) (starts : ℕ → ℕ) (last : ℕ)
     (cadence : KeepsCadenceTo starts last) where
   -- the log with what is said in tick n
   abbrev pub log_after : ℕ → Calm S → List Stamped → List Stamped

@@ -21,8 +21,8 @@ use Rattle.link_model.specs.Machine.{LayeredKeyboard, keyboard}
 use Rattle.link_model.specs.Expected.{Whole, meeting_from, whole_tick, whole_at}
 use Rattle.link_model.specs.Laws.{ended_by, event_at}
 
--- of a tick's cycles a byte may arrive in one alone, where the keyboard's byte has begun, and that byte. It arrives,
--- whole or wrong by the flip that its frame took, where it is still under way, and then it is sent; one that was broken
+-- of a tick's cycles a byte may arrive in one alone, if the keyboard's byte has begun, and that byte. It arrives,
+-- whole or wrong by the flip that its frame took, if it is still under way, and then it is sent; one that was broken
 -- off doesn't arrive, and was cut
 pub record ArrivalLaw : Type 0 where
   pub arrives : (byte : ℕ) → event_at (Sent byte) 608 ≡ Arrives byte
@@ -70,7 +70,7 @@ left Idle k = waiting k
 left (Sent byte) k = if is_reset_due k.reply then queued (clear k.queue) else drop 1 (waiting k)
 left Cut k = waiting k
 
--- what comes to stand before the rest: the reply to a command; AA, as the test ends
+-- what comes to be before the rest: the reply to a command; AA, as the test ends
 abbrev pub put_before : Meeting → Keyboard → Keyboard → List ℕ
 put_before (Got byte) before after = reply_bytes after.reply
 put_before Inhibited before after = []
@@ -79,7 +79,7 @@ put_before (Sent byte) before after = []
 put_before Cut before after = []
 
 -- a tick of the keyboard: what arrives is the first that waited; each byte that waited arrives, or is taken away, or is
--- among the rest, and is so once; the rest waits on in its order, and all else that is new stands behind it
+-- among the rest, and is so once; the rest waits on in its order, and all else that is new is after it
 pub record Passes (meeting : Meeting) (before after : Keyboard) : Type 0 where
   pub first : IsBehind (arrived meeting) (waiting before)
   pub each : IsPermutation (waiting before) (arrived meeting ++ (taken_away meeting before ++ left meeting before))
@@ -120,7 +120,7 @@ SilentInTest =
     (layout : KeyLayout) (history : KeyHistory) (starts : ℕ → ℕ) (n : ℕ)
     → IsSilentInTest (at_tick layout history starts n).keys.keyboard
 
--- what comes to wait in a tick: before the rest, and behind it
+-- what comes to wait in a tick: before the rest, and after it
 abbrev pub came : Meeting → Keyboard → Keyboard → List ℕ
 came meeting before after =
     let first : List ℕ = put_before meeting before after in
@@ -156,7 +156,7 @@ AllCounted =
     ++ (all_taken_away layout history starts n count
     ++ waiting (at_tick layout history starts (count + n)).keys.keyboard))
 
--- what waits behind the reply
+-- what waits after the reply
 abbrev pub line : Keyboard → List ℕ
 line k = byte_if k.aa_due 0xaa ++ queued k.queue
 
@@ -168,13 +168,13 @@ ClearsNothing Idle k = Unit {0}
 ClearsNothing (Sent byte) k = is_reset_due k.reply ≡ false
 ClearsNothing Cut k = Unit {0}
 
--- bytes stand among others, in their order
+-- bytes are among others, in their order
 abbrev pub StandsIn : List ℕ → List ℕ → Type 0
 StandsIn [] ys = Unit {0}
 StandsIn (x ∷ xs) [] = ⊥
 StandsIn (x ∷ xs) (y ∷ ys) = ((x ≡ y) × StandsIn xs ys) ⊎ StandsIn (x ∷ xs) ys
 
--- over ticks in a row that clear nothing, with replies or without: what waited behind the reply arrives in its order,
+-- over ticks in a row that clear nothing, with replies or without: what waited after the reply arrives in its order,
 -- or waits still
 abbrev pub LineInOrder : Type 0
 LineInOrder =

@@ -23,7 +23,7 @@ IsQuietAct Mask = ⊥
 IsQuietAct Unmask = ⊥
 IsQuietAct (Flip bit) = ⊥
 
--- a stamp in the second half of a tick: behind the reads of the columns, the byte, and INT 09h's read of it
+-- a stamp in the second half of a tick: after the reads of the columns, the byte, and INT 09h's read of it
 abbrev pub IsLate : ℕ → Type 0
 IsLate stamp = 1024 ≤ stamp % 2048
 
@@ -33,7 +33,7 @@ AreRising [] = Unit {0}
 AreRising (e ∷ []) = Unit {0}
 AreRising (e ∷ f ∷ es) = (e.stamp < f.stamp) × AreRising (f ∷ es)
 
--- an end that isn't one of the five cycles behind a multiple of 2,048: in these a tick may have started, or not yet
+-- an end that isn't one of the five cycles after a multiple of 2,048: in these a tick may have started, or not yet
 abbrev pub IsClearOfStarts : ℕ → Type 0
 IsClearOfStarts stop = (stop % 2048 ≡ 0) ⊎ (6 ≤ stop % 2048)
 
@@ -70,7 +70,7 @@ QuietLaw =
     (layout : KeyLayout) (history : KeyHistory) (starts : ℕ → ℕ) (last : ℕ) → IsQuiet history
     → KeepsCadenceTo starts last → IsLast starts history.end last → SaysTheSame layout history starts last
 
--- as the law is used: the starts of a run stand in a list
+-- as the law is used: the starts of a run are in a list
 abbrev pub ListedLaw : Type 0
 ListedLaw =
     (layout : KeyLayout) (history : KeyHistory) (starts : List ℕ) → IsQuiet history

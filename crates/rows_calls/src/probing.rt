@@ -17,7 +17,7 @@ struct Case {
     meets: bool,
 }
 
-/// The last cell of data memory is 00 after the first step, and what is behind it is never met.
+/// The last cell of data memory is 00 after the first step, and what is after it is never met.
 static CASES: [Case; 7] = [
     Case {
         words: &["run", "layout", "keys"],
@@ -40,7 +40,7 @@ static CASES: [Case; 7] = [
         fails: &[],
         meets: true,
     },
-    // Where the sink fails behind a run, the probes have looked.
+    // If the sink fails after a run, the probes have looked.
     Case {
         words: &["run", "layout", "keys", "--steps"],
         place: 0x07f,

@@ -29,7 +29,7 @@ static FILES: [(&str, &[u8]); 10] = [
 /// What `run` says of `keys`.
 const LOG: &str = "64 port AA\n80 port 1E\n80 word 1E61\n100 port 9E\n";
 
-/// What stands before a trace's first change.
+/// What is before a trace's first change.
 const HEADER: &str =
     "$timescale 100 ns $end\n$scope module kbd $end\n$var wire 1 c clock $end\n$var wire 1 d data $end\n$upscope $end\n$enddefinitions $end\n#0\n1c\n1d\n";
 

@@ -4,7 +4,7 @@ use board_lines::{Lines, frame_of};
 use board_probes::{LineDecoder, Transfer};
 use std::test::Fail;
 
-/// What the decoder answers to a sample; None where it isn't behind the last one.
+/// What the decoder answers to a sample; None if it isn't after the last one.
 fn heard(decoder: &mut LineDecoder, cycle: u64, clk: bool, dat: bool) -> Option<Transfer> {
     if decoder.is_behind(cycle) {
         decoder.sample(cycle, Lines { clk, dat })

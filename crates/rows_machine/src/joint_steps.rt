@@ -131,7 +131,7 @@ fn one_event_a_cycle_and_the_hold_behind_it(rt: HostRuntime) -> Result<(), Fail>
         dat: true,
     };
     assert_eq!(&rt; seen.lines, [held, held]);
-    // the byte is read 64 cycles behind its filling, and the hold ends in that cycle
+    // the byte is read 64 cycles after its filling, and the hold ends in that cycle
     run_to(&rt, &mut joint, 4158);
     assert_eq!(&rt; joint.lines(), held);
     let seen = step(&rt, &mut joint, &nothing());

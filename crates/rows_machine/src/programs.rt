@@ -65,7 +65,7 @@ fn ran(
     }
 }
 
-/// The line that begins a text, up to its first space and behind it, and the lines behind it.
+/// The line that begins a text, up to its first space and after it, and the lines after it.
 fn cut(text: &[u8]) -> Option<(&[u8], &[u8], &[u8])> {
     let space = text.iter().position(|byte| *byte == b' ')?;
     let end = text.iter().position(|byte| *byte == b'\n')?;
@@ -75,7 +75,7 @@ fn cut(text: &[u8]) -> Option<(&[u8], &[u8], &[u8])> {
     Some((&text[..space], &text[space..end], &text[end + 1..]))
 }
 
-/// A number in decimal digits, whatever stands before them.
+/// A number in decimal digits, whatever is before them.
 fn number(digits: &[u8]) -> u64 {
     let mut value: u64 = 0;
     for digit in digits {
@@ -233,7 +233,7 @@ fn chance(seed: &mut u64) -> u8 {
     (*seed >> 33 & 0xff) as u8
 }
 
-/// Whether two processors stand alike.
+/// Whether two processors are alike.
 fn are_alike(a: &Mcu, b: &Mcu) -> bool {
     a.pc == b.pc
         && a.a == b.a

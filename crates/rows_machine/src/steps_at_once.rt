@@ -35,7 +35,7 @@ fn program(bytes: &[u8]) -> Image {
     image
 }
 
-/// A program by chance, with jumps to where they stand in it.
+/// A program by chance, with jumps to where they are in it.
 fn any_program(seed: &mut u32) -> Image {
     let mut image = program(&[]);
     for i in 0..2048 {
@@ -64,7 +64,7 @@ fn any_act(seed: &mut u32) -> HostAct {
     }
 }
 
-/// An edge and an event more, by chance, that are to come soon behind this cycle.
+/// An edge and an event more, by chance, that are to come soon after this cycle.
 fn any_more(due: &mut Due, seed: &mut u32, cycle: u64) {
     let stamp = cycle.saturating_sub(4096).saturating_add(draw(seed) as u64);
     if draw(seed) < 40 {
@@ -96,7 +96,7 @@ fn nothing() -> Due {
     }
 }
 
-/// Both machines stand at the same state.
+/// Both machines are at the same state.
 fn check_same(rt: &impl Abort, one: &Joint, other: &Joint) {
     let m = one.mcu();
     let n = other.mcu();
@@ -247,7 +247,7 @@ fn an_edge_that_is_due_is_made_by_the_last_step(rt: HostRuntime) -> Result<(), F
         down,
     });
     let mut seen = Seen::nothing();
-    // the edge is made in the first step that begins at its stamp or behind it
+    // the edge is made in the first step that begins at its stamp or after it
     assert!(&rt; go_on(&mut joint, &due, &mut seen, NOWHERE, 10_000).is_ok());
     assert_eq!(&rt; seen.edges, 0);
     assert_eq!(&rt; (joint.cycle(), joint.steps()), (4098, 2049));

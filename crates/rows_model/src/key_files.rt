@@ -233,7 +233,7 @@ fn a_history_has_the_events_of_its_lines(rt: HostRuntime) -> Result<(), Fail> {
     Ok(())
 }
 
-/// A text of so many lines `0 mask`, with another text behind them.
+/// A text of so many lines `0 mask`, with another text after them.
 fn masks(alloc: Global, number: usize, last: &[u8]) -> Result<Vec<u8>, AllocError> {
     let mut text = Vec::new(alloc);
     for _ in 0..number {

@@ -1,4 +1,4 @@
-//! A key just behind the read of its column, and what waits behind it: logs with ticks at the multiples of 2,048.
+//! A key just after the read of its column, and what waits after it: logs with ticks at the multiples of 2,048.
 
 use crate::even::even_starts;
 use key_file::read_history;
@@ -7,8 +7,8 @@ use link_model::expect;
 use pc_tables::Item;
 use std::test::Fail;
 
-/// Column 3, where `a` stands, is read at offset 64: in tick 78 at stamp 159,808. A press up to then is read by INT 09h
-/// in tick 79, and one a cycle later in tick 80, at 164,512: 4,703 cycles behind it, and 5 more where that tick starts
+/// Column 3, if `a` is, is read at offset 64: in tick 78 at stamp 159,808. A press up to then is read by INT 09h
+/// in tick 79, and one a cycle later in tick 80, at 164,512: 4,703 cycles after it, and 5 more if that tick starts
 /// late. A byte more takes a tick more, as does the F0 before a release's code, which INT 09h doesn't see.
 #[test]
 fn an_edge_behind_its_columns_read_waits_for_the_next(rt: HostRuntime) -> Result<(), Fail> {

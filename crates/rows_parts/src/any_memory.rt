@@ -153,7 +153,7 @@ fn any_state_at_000_comes_to_one_first_tick(rt: HostRuntime) -> Result<(), Fail>
 /// Where the kernel leaves program memory free, up to its end.
 const FREE: usize = 0x500;
 
-/// The source of a program that leaves a part as this one stands, and then jumps where the kernel's first jump
+/// The source of a program that leaves a part as this one is, and then jumps where the kernel's first jump
 /// does: prescaler, T, data memory, carries and A, in this order. R0 and R1 are cells 0 and 1.
 fn source_leaving(alloc: Global, part: &Mcu) -> Result<String, AllocError> {
     let mut text = String::from_str(
@@ -207,7 +207,7 @@ fn to_restart(joint: &mut Joint) -> Result<u64, Fail> {
     Ok(joint.cycle().saturating_sub(7))
 }
 
-/// The processor stands where the kernel's first jump leads, and holds what the part held.
+/// The processor is where the kernel's first jump leads, and holds what the part held.
 fn holds(mcu: &Mcu, part: &Mcu) -> bool {
     mcu.pc == RESTART
         && mcu.ram == part.ram

@@ -59,7 +59,7 @@ static CELLS: [(&str, u8); 15] = [
 /// The two that have a line in the source's table of data memory alone.
 static TOLD: [(&str, u8); 2] = [("HEAD", HEAD), ("LAYER", LAYER)];
 
-/// A byte with each name for its value, assembled behind the source, is the cell that its constant gives.
+/// A byte with each name for its value, assembled after the source, is the cell that its constant gives.
 #[test]
 fn each_cell_is_the_sources(rt: HostRuntime) -> Result<(), Fail> {
     let alloc = rt.alloc();

@@ -83,7 +83,7 @@ static LABELS: [(&str, u16); 61] = [
     ("foot", FOOT),
 ];
 
-/// A jump to each label, assembled behind the source, goes to the place that its constant gives.
+/// A jump to each label, assembled after the source, goes to the place that its constant gives.
 #[test]
 fn each_label_has_its_place(rt: HostRuntime) -> Result<(), Fail> {
     let alloc = rt.alloc();

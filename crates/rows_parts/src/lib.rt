@@ -2,7 +2,7 @@
 //! the controller's end of the link and its wires cycle by cycle, writers that take a byte at a time. What it can show is a
 //! worked row, which is run over the program.
 //!
-//! They stand in one crate, so that no layer is proved twice for its tests. Expected values were worked out by hand from the
+//! They are in one crate, so that no layer is proved twice for its tests. Expected values were worked out by hand from the
 //! rules in `docs/`, or come from the manuals; none is the program's own output.
 #![tactic(auto)]
 

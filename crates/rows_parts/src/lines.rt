@@ -4,7 +4,7 @@ use std::process::Abort;
 use std::test::Fail;
 use text_lines::{decimal, hexadecimal, is_blank_line, next_field, next_line, split_once};
 
-/// Asserts that what is left of a text begins with this line, and gives the text behind it.
+/// Asserts that what is left of a text begins with this line, and gives the text after it.
 fn take_line<'a>(rt: &impl Abort, text: &'a [u8], wanted: &[u8]) -> &'a [u8] {
     let Some((line, after)) = next_line(text) else {
         panic!(rt; "no line")
@@ -13,7 +13,7 @@ fn take_line<'a>(rt: &impl Abort, text: &'a [u8], wanted: &[u8]) -> &'a [u8] {
     after
 }
 
-/// Asserts that what is left of a line begins with this field, and gives the text behind it.
+/// Asserts that what is left of a line begins with this field, and gives the text after it.
 fn take_field<'a>(rt: &impl Abort, line: &'a [u8], wanted: &[u8]) -> &'a [u8] {
     let Some((field, after)) = next_field(line) else {
         panic!(rt; "no field")

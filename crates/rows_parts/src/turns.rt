@@ -94,7 +94,7 @@ fn a_write_waits_while_the_input_buffer_is_full(rt: HostRuntime) -> Result<(), F
     let last = event(0, HostAct::Write60(0xf5));
     check(&rt, &mut desk, 5003, last, false, &[]);
     check(&rt, &mut desk, 5004, last, false, &[]);
-    // a read isn't held up, but it stands behind the write in the order of events; done here, it lets F4 be taken
+    // a read isn't held up, but it is after the write in the order of events; done here, it lets F4 be taken
     check(
         &rt,
         &mut desk,

@@ -9,7 +9,7 @@ use Rattle.story_run.specs.declared.ending.Ending.TheVariants.{TickStart}
 use Rattle.story_run.specs.Running.{IsOverBehind}
 use Rattle.subsystem.specs.Running.{IsOutcome, Outcome}
 
--- behind the steps behind which the run of a layout's image is over, under a history that is lawful for the layout, it
+-- after the steps after which the run of a layout's image is over, under a history that is lawful for the layout, it
 -- has come to an outcome, of as many steps
 abbrev pub RunsComeToOutcomes : Type 0
 RunsComeToOutcomes =

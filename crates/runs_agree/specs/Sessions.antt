@@ -9,14 +9,14 @@ use Rattle.key_file.specs.Histories.{KeyHistory}
 use Rattle.layout_reader.specs.Layouts.{IsKeyLayout, KeyLayout}
 use Rattle.subsystem.specs.Running.{IsOutcome, Outcome}
 
--- a session ends behind so many steps: it goes on before each of them, and has ended behind the last; so as many steps,
+-- a session ends after so many steps: it goes on before each of them, and has ended after the last; so as many steps,
 -- or more, that are made from power-on lead there
 pub record EndsBehind (d : Debuggee) (steps : ℕ) : Type 0 where
   pub goes_on : (k : ℕ) → k < steps → has_ended d k ≡ false
   pub ended : has_ended d steps ≡ true
   pub walked : (n : ℕ) (probes : List Watch) → steps ≤ n → (walk d n (record { steps = 0; probes = probes })).steps ≡ steps
 
--- over a layout's image it ends where the layout's run does, for each history that is lawful for the layout
+-- over a layout's image it ends if the layout's run does, for each history that is lawful for the layout
 abbrev pub SessionsEndWithRuns : Type 0
 SessionsEndWithRuns =
     (layout : KeyLayout) (history : KeyHistory) (run : Outcome) → IsKeyLayout layout → IsLawfulFor layout history

@@ -1,7 +1,7 @@
 //! What runs have to do with each other: the run of a layout's image, the run of the same image on the board, and a
 //! debugger's session over it.
 //!
-//! This layer knows what each kind of run comes to, and that a layout's image keeps its time. It proves where the runs
+//! This layer knows what each kind of run comes to, and that a layout's image keeps its time. It proves if the runs
 //! end, and which of them say the same. Nothing depends on it for what it does. It must not know how a run is made.
 //! Source: our own.
 #![tactic(auto)]

@@ -14,8 +14,8 @@ use Rattle.story_run.specs.declared.ending.Halt.{Halt}
 use Rattle.story_run.specs.Gliding.{IsQuiet, IsStanding, IsTimely}
 use Rattle.story_run.specs.Running.{AreIn, EndsAt, IsStuckAt, log_at}
 
--- the course stands behind a step that may have something to be told, and of those before it, back to step k, there is
--- nothing; what this one said stands behind the log, in later cycles than that of the state behind step k
+-- the course is after a step that may have something to be told, and of those before it, back to step k, there is
+-- nothing; what this one said is after the log, in later cycles than that of the state after step k
 pub record IsBehind (e : Ending) (wires : Bool) (s : Story) (k : ℕ) (c : Course) : Type 0 where
   pub timely : IsTimely e s
   pub standing : IsStanding e s c
@@ -29,14 +29,14 @@ pub record IsBehind (e : Ending) (wires : Bool) (s : Story) (k : ℕ) (c : Cours
   pub near : c.joint.cycle < 2 ^ 31
   pub items : AreIn from.cycle c.joint.cycle c.seen.items.items
 
--- so it is behind some steps more, and the probes have looked at the states that they led to
+-- so it is after some steps more, and the probes have looked at the states that they led to
 pub record HasAdvanced (u : Halt) (s : Story) (old : Course) (before : List Watch) (new : Course) (after : List Watch)
     : Type 0 where
   pub behind : IsBehind u.ending u.wires s old.joint.steps new
   pub later : old.joint.cycle < new.joint.cycle
   pub looked : (first : List Watch) → before ≡ looks s old.joint.steps first → after ≡ looks s new.joint.steps first
 
--- of none of the steps there is anything to be told, and the run is stuck behind them
+-- of none of the steps there is anything to be told, and the run is stuck after them
 pub record IsStuckNow (u : Halt) (s : Story) (old : Course) (before : List Watch) (stuck : Stuck) (new : Course)
     (after : List Watch) : Type 0 where
   pub standing : IsStanding u.ending s new
@@ -48,7 +48,7 @@ abbrev pub IsAdvanced : Halt → Story → Course → List Watch → Result (Uni
 IsAdvanced u s old before (Ok done) new after = HasAdvanced u s old before new after
 IsAdvanced u s old before (Err stuck) new after = IsStuckNow u s old before stuck new after
 
--- the machine stands at a state at which the run ends
+-- the machine is at a state at which the run ends
 pub record IsEnding (e : Ending) (s : Story) (c : Course) (end : End) : Type 0 where
   pub standing : IsStanding e s c
   pub ends : EndsAt e s c.joint.steps standing.on.world end

@@ -1,4 +1,4 @@
--- What is answered of a machine is so of the state that it stands at.
+-- What is answered of a machine is so of the state that it is at.
 use Rattle.std.specs.Prelude.{◌≡◌, ℕ, Bool, false}
 use Rattle.fw_logic.specs.JointRun.{TellsTick}
 use Rattle.joint_feed.specs.Stories.{Story}
@@ -14,7 +14,7 @@ abbrev pub TellsOver : Ending → Machine → ℕ → Bool → Type 0
 TellsOver e m stop answer =
     (s : Story) (w : World Beside) → s.stop ≡ stop → w.cpu ≡ m.mcu → w.cycle ≡ m.cycle → answer ≡ is_over e s w
 
--- where the run is to end at a tick start, no tick starts there
+-- if the run is to end at a tick start, no tick starts there
 abbrev pub MeetsNoTick : Ending → Machine → Type 0
 MeetsNoTick TickStart m = TellsTick m false
 MeetsNoTick Stamp m = Unit {0}

@@ -32,7 +32,7 @@ abbrev pub IsTimely : Ending → Story → Type 0
 IsTimely TickStart s = KeepsTimeFrom (joint_start_of s.held) s.bytes s.edges s.events
 IsTimely Stamp s = Unit {0}
 
--- the machine stands at the run's state after as many steps, and the run goes on at each state before it
+-- the machine is at the run's state after as many steps, and the run goes on at each state before it
 pub record IsStanding (e : Ending) (s : Story) (c : Course) : Type 0 where
   pub on : IsOnCourse s c
   pub goes_on : GoesOnTo e s c.joint.steps
@@ -53,12 +53,12 @@ lines_in (Some w) = Some (sight_in w).lines
 abbrev pub lines_at : Story → ℕ → Option Lines
 lines_at s k = lines_in (state_at s k)
 
--- where a run is to end at a tick start, no tick starts at the states behind state k up to state n
+-- if a run is to end at a tick start, no tick starts at the states after state k up to state n
 abbrev pub AreSameStarts : Ending → Story → ℕ → ℕ → Type 0
 AreSameStarts TickStart s k n = starts_among s (suc n) ≡ starts_among s (suc k)
 AreSameStarts Stamp s k n = Unit {0}
 
--- nothing is to be told of the steps behind step k up to step n: they said nothing and led to no tick start; and where
+-- nothing is to be told of the steps after step k up to step n: they said nothing and led to no tick start; and if
 -- the wires are sampled, these kept their levels
 pub record IsQuiet (e : Ending) (wires : Bool) (s : Story) (k n : ℕ) : Type 0 where
   pub later : k ≤ n
@@ -66,7 +66,7 @@ pub record IsQuiet (e : Ending) (wires : Bool) (s : Story) (k n : ℕ) : Type 0 
   pub starts : AreSameStarts e s k n
   pub levels : wires ≡ true → (j : ℕ) → k ≤ j → j ≤ n → lines_at s j ≡ lines_at s k
 
--- probes after a look at the present state; or as they were, where it is the one behind step k
+-- probes after a look at the present state; or as they were, if it is the one after step k
 abbrev pub looked_now : Course → List Watch → List Watch
 looked_now c probes = map (looked c.joint.steps (sight_of c.joint)) probes
 

@@ -30,7 +30,7 @@ GoesOnTo e s (suc k) = GoesOnTo e s k × (w : World Beside) × (state_at s k ≡
 abbrev pub place_of : List ℕ → Cpu → Place
 place_of bytes m = record { pc = m.pc; byte = slice_index bytes (m.pc % 2048) }
 
--- the run is stuck at the state behind the first k steps: it isn't over there, and its next step would execute the
+-- the run is stuck at the state after the first k steps: it isn't over there, and its next step would execute the
 -- byte at the counter, which begins no instruction. So no state follows
 pub record IsStuckAt (e : Ending) (s : Story) (k : ℕ) (w : World Beside) (place : Place) : Type 0 where
   pub before_end : is_over e s w ≡ false
@@ -38,19 +38,19 @@ pub record IsStuckAt (e : Ending) (s : Story) (k : ℕ) (w : World Beside) (plac
   pub none : state_at s (suc k) ≡ None
   pub at : place ≡ place_of s.bytes w.cpu
 
--- the run ends at the state behind the first k steps
+-- the run ends at the state after the first k steps
 abbrev pub EndsAt : Ending → Story → ℕ → World Beside → End → Type 0
 EndsAt e s k w Over = is_over e s w ≡ true
 EndsAt e s k w (Stuck place) = IsStuckAt e s k w place
 
--- the run is over behind the first k steps, and goes on at each state before
+-- the run is over after the first k steps, and goes on at each state before
 pub record IsOverBehind (e : Ending) (s : Story) (k : ℕ) : Type 0 where
   pub goes_on : GoesOnTo e s k
   pub world : World Beside
   pub reached : state_at s k ≡ Some world
   pub over : is_over e s world ≡ true
 
--- what was said up to the state behind the first k steps; nothing where there is no such state
+-- what was said up to the state after the first k steps; nothing if there is no such state
 abbrev pub logged : Option (World Beside) → List Stamped
 logged None = []
 logged (Some w) = log_of w.board
@@ -58,7 +58,7 @@ logged (Some w) = log_of w.board
 abbrev pub log_at : Story → ℕ → List Stamped
 log_at s k = logged (state_at s k)
 
--- what the step behind the first k says
+-- what the step after the first k says
 abbrev pub step_says : Story → ℕ → List Stamped
 step_says s k = drop (length (log_at s k)) (log_at s (suc k))
 

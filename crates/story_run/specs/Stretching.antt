@@ -18,7 +18,7 @@ abbrev pub NoneHalts : Ending → (stop place to : ℕ) → Type 0
 NoneHalts TickStart stop place to = place ≡ TICK
 NoneHalts Stamp stop place to = to < 4096 + stop
 
--- quiet steps were made, none of which leads to a halt, and none at all where probes don't rest; and then one of any
+-- quiet steps were made, none of which leads to a halt, and none at all if probes don't rest; and then one of any
 -- kind, or the processor was stuck
 pub record HasMade (u : Halt) (rest : Bool) (old : Course) (result : Result Seen Stuck) (new : Course) : Type 0 where
   pub place : ℕ

@@ -5,13 +5,13 @@ use Rattle.joint_feed.specs.Stories.{Story}
 use Rattle.story_run.specs.declared.ending.Ending.{Ending}
 use Rattle.story_run.specs.Gliding.{IsQuiet}
 
--- all is told of the first steps up to the n-th: it is of the first k, and nothing is to be told of those behind them
+-- all is told of the first steps up to the n-th: it is of the first k, and nothing is to be told of those after them
 pub record IsToldTo (e : Ending) (wires : Bool) (s : Story) (told : ℕ → Type 0) (n : ℕ) : Type 0 where
   pub steps : ℕ
   pub told_so : told steps
   pub quiet : IsQuiet e wires s steps n
 
--- a sink has the whole text of a run's first steps, and behind it the next step's, broken off
+-- a sink has the whole text of a run's first steps, and after it the next step's, broken off
 pub record IsBrokenBehind (before after : Shown) (text next : List ℕ) : Type 0 where
   pub between : Shown
   pub said : IsSaid before between text

@@ -15,7 +15,7 @@ use key_file::Feed;
 use mcs48_core::Stuck;
 
 /// Makes joint steps up to one that took an event, said something, led to a halt or changed wires that are sampled; after
-/// each of them each probe looks at the state that it led to. What the last one says is left in the course. Where the
+/// each of them each probe looks at the state that it led to. What the last one says is left in the course. If the
 /// processor is stuck before there is such a step, what is left is of no use. `fill` is the byte that memory
 /// held at power-on, by which the clauses name the run. `SITE`, from 4, is a number that no other place of the program gives.
 #[inline(always)]

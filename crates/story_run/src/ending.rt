@@ -25,8 +25,8 @@ pub enum End {
     Stuck(Stuck),
 }
 
-/// What ends a stretch of steps of a run with this ending and this end stamp, besides what a step takes or says: where
-/// the run ends at a tick start each start of a tick, and else its end; and where the wires are sampled each change of
+/// What ends a stretch of steps of a run with this ending and this end stamp, besides what a step takes or says: if
+/// the run ends at a tick start each start of a tick, and else its end; and if the wires are sampled each change of
 /// a wire.
 #[derive(Clone, Copy, Debug, PartialEq, Eq, Drop)]
 pub struct Halt {

@@ -1,4 +1,4 @@
-//! Steps of a run, one after another, as long as nothing of them has to be counted or told. Probes that rest look only where
+//! Steps of a run, one after another, as long as nothing of them has to be counted or told. Probes that rest look only if
 //! they would miss something.
 
 ghost use Rattle.std.specs.Prelude.{◌≡◌, ◌<◌, ◌≤◌, List, [], true, map, Ok};
@@ -77,7 +77,7 @@ fn can_follow(course: &Course, halt: Halt, lines: Lines) -> bool
         && keeps_levels(halt.wires, lines, &course.joint)
 }
 
-/// Makes joint steps: one, or, where the probes rest, quiet ones before it. Answers whether the next one can follow at
+/// Makes joint steps: one, or, if the probes rest, quiet ones before it. Answers whether the next one can follow at
 /// once.
 #[inline(always)]
 fn goes_quietly<const SITE: u8>(
@@ -101,7 +101,7 @@ fn goes_quietly<const SITE: u8>(
 }
 
 /// Makes joint steps up to one that probes must look at, and so answers for the last of them: the first step, if they
-/// don't rest while the clock has this level; else the first one behind which it has the other, or the next can't
+/// don't rest while the clock has this level; else the first one after which it has the other, or the next can't
 /// follow at once. A look at that state comes to the same as one at each.
 #[inline(always)]
 fn goes_unseen<const SITE: u8>(
@@ -152,7 +152,7 @@ fn goes_on<const SITE: u8>(
     let rest = all_rest(probes, clk);
     let onward = goes_unseen::<SITE>(course, halt, lines, rest, clk);
     let steps = course.joint.steps();
-    // Where the processor was stuck at once there is nothing new to look at.
+    // If the processor was stuck at once there is nothing new to look at.
     if steps == first {
         return onward;
     }
@@ -162,7 +162,7 @@ fn goes_on<const SITE: u8>(
 
 /// Makes joint steps up to one that took an event, said something, led to a halt or changed wires that are sampled; of what
 /// each of them led to the probes know what a look would have told them. What the last one took and said is left in the
-/// course. Where the processor is stuck the steps before are made, and what is left is of no use. `SITE`, from 4, is a
+/// course. If the processor is stuck the steps before are made, and what is left is of no use. `SITE`, from 4, is a
 /// number that no other place of the program gives.
 #[inline(always)]
 pub(crate) fn glide<const SITE: u8>(

@@ -34,8 +34,8 @@ fn reach(course: &Course, halt: Halt) -> (u16, u64)
     }
 }
 
-/// Makes joint steps by the events that are handed in: where the probes rest quiet ones, none of which leads to a halt;
-/// and then one of any kind, which is told in the course. Where the processor is stuck the steps before are made. The
+/// Makes joint steps by the events that are handed in: if the probes rest quiet ones, none of which leads to a halt;
+/// and then one of any kind, which is reported in the course. If the processor is stuck the steps before are made. The
 /// whole of a step that probes look at is built into this place.
 #[inline(always)]
 pub(crate) fn make_steps<const SITE: u8>(

@@ -27,13 +27,13 @@ pub trait Teller<O, E> {
     /// All is told of a run's first k steps, to what was so before the first of them.
     ghost has_told: { Ending → Story → O → ℕ → Self → O → Type 0 };
 
-    /// The telling broke off in what the step behind the first k says.
+    /// The telling broke off in what the step after the first k says.
     ghost is_broken: { Ending → Story → O → ℕ → O → Type 0 };
 
     /// Whether it samples the wires.
     const WIRES: bool;
 
-    /// Tells of the step that the course stands behind. Of those before it back to step k there is nothing to be told.
+    /// Tells of the step that the course is after. Of those before it back to step k there is nothing to be told.
     fn tell(&mut self, out: &mut O, course: &Course) -> Result<(), E>
         requires told { (e : Ending) × (s : Story) × (first : O) × (k : ℕ) × IsBehind e WIRES s k course.now
             × has_told e s first k self.old out.old }

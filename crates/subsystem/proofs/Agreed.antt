@@ -14,7 +14,7 @@ use Rattle.joint_run.specs.Starts.{IsStart}
 use Rattle.agreement.proofs.Upto.{whole_up_to}
 use Rattle.agreement.specs.Agreement.{AgreesFrom}
 use Rattle.link_model.specs.Expected.{Whole, expected}
-use Rattle.link_model.specs.Machine.{Machine}
+use Rattle.link_model.specs.Machine.{KeyboardMachine}
 use Rattle.subsystem.specs.Running.{IsOutcome, lines_of, Outcome}
 use Rattle.story_run.specs.Starts.{start_stamp, starts_among}
 use Rattle.subsystem.proofs.Lines.{one_longer}
@@ -59,7 +59,7 @@ module _ (s : Story) (t : KeepsTimeFrom (joint_start_of s.held) s.bytes s.edges 
       (sym h.starts) ((numbered s t (suc run.steps)).1 j below)
 
 -- the log is that of the model at the run's own starts, for any keyboard with which the joint run agrees
-pub log_as_expected : {S : Type 0} (kb : Machine S) (s : Story) → KeepsTimeFrom (joint_start_of s.held) s.bytes s.edges s.events
+pub log_as_expected : {S : Type 0} (kb : KeyboardMachine S) (s : Story) → KeepsTimeFrom (joint_start_of s.held) s.bytes s.edges s.events
     → AgreesFrom (joint_start_of s.held) s.bytes kb s.edges s.events
     → (run : Outcome) → IsOutcome s run
     → run.log ≡ expected kb s.edges s.events (listed run.starts) (length run.starts - 1)

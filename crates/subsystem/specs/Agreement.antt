@@ -10,7 +10,7 @@ use Rattle.link_model.specs.Expected.{expected_log}
 use Rattle.quiet_log.specs.Quiet.{IsQuiet, quiet_log}
 use Rattle.subsystem.specs.Running.{Outcome, IsOutcome}
 
--- a run's log is the one that the model expects where its ticks start when the run's do, and these starts keep the
+-- a run's log is the one that the model expects if its ticks start when the run's do, and these starts keep the
 -- cadence; for a quiet history it is a function of layout and history alone. If the history is accepted, it has fewer than 800,000 items
 pub record IsAsExpected (layout : KeyLayout) (history : KeyHistory) (run : Outcome) : Type 0 where
   pub log : run.log ≡ expected_log layout history run.starts

@@ -1,4 +1,4 @@
--- What a sink has of a run's text where a put failed.
+-- What a sink has of a run's text if a put failed.
 use Rattle.std.specs.Prelude.{ℕ, suc, ◌-◌, List, length, map}
 use Rattle.board_probes.specs.Probes.{Watch}
 use Rattle.io_edge.specs.Said.{IsBrokenOff, Shown}
@@ -20,7 +20,7 @@ pub record IsLogBrokenOff (s : Story) (before after : Shown) : Type 0 where
   pub is : IsOutcome s run
   pub part : IsBrokenOff before after (log_text run.log)
 
--- the lines of what the step behind the first k says, in the tick that started last
+-- the lines of what the step after the first k says, in the tick that started last
 abbrev pub step_lines : Story → ℕ → List LogLine
 step_lines s k = map (in_tick (length (starts_among s (suc k)) - 1)) (step_says s k)
 

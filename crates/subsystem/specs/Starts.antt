@@ -5,7 +5,7 @@ use Rattle.board_probes.specs.Probes.{Watch}
 use Rattle.joint_feed.specs.Stories.{Story}
 use Rattle.subsystem.specs.Running.{IsOutcome, Outcome}
 
--- they are those of the run, and the probes have looked at the state behind each of its steps
+-- they are those of the run, and the probes have looked at the state after each of its steps
 pub record AreStartsOf (s : Story) (starts : List ℕ) (before after : List Watch) : Type 0 where
   pub run : Outcome
   pub is : IsOutcome s run

@@ -9,7 +9,7 @@ use Rattle.subsystem.specs.declared.telling.Putting.{Putting}
 use Rattle.subsystem.specs.Counts.{none_counted, with_lines}
 use Rattle.subsystem.specs.Progress.{told_by}
 
--- in a run that ends at a tick start the starts among the states up to the one behind step k are noted
+-- in a run that ends at a tick start the starts among the states up to the one after step k are noted
 pub record HasNoted (e : Ending) (s : Story) (k : ℕ) (it : Starts) : Type 0 where
   pub ending : e ≡ TickStart
   pub starts : it.stamps.items ≡ starts_among s (suc k)

@@ -7,7 +7,7 @@ use host_turn::Stamped;
 use link_model::LogLine;
 use std::alloc::AllocError;
 
-/// Puts items behind a log, in this tick.
+/// Puts items after a log, in this tick.
 pub fn push_lines(log: &mut Vec<LogLine>, tick: u32, items: &[Stamped]) -> Result<(), AllocError>
     ensures lines { OnOk result (log.new.items ≡ log.old.items ++ map (in_tick tick) items.now) }
 {

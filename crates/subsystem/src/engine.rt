@@ -80,7 +80,7 @@ fn ended_of(course: &Course, told: Putting) -> Ended
 impl<F: Feed> Engine<F> {
     /// The run of the image that `compile` gives for a layout, under the history of a feed of which nothing was taken and
     /// which is accepted for this layout. Takes all memory that the run takes: the buffer of INT 09h, and room for each
-    /// tick start. Where memory is wanting the feed is given up.
+    /// tick start. If memory runs out the feed is given up.
     pub fn new(alloc: Global, layout: &Layout, feed: F) -> Result<Engine<F>, AllocError>
         requires no_edge { (F.told feed).edges ≡ 0 }
         requires no_host { (F.told feed).host ≡ 0 }

@@ -20,7 +20,7 @@ pub struct Run {
     pub cycles: u64,
 }
 
-/// The processor as it stands.
+/// The processor as it is.
 pub(crate) fn copied(mcu: &Mcu) -> Mcu
     ensures copy { result ≡ mcu.now }
 {

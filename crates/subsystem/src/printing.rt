@@ -8,7 +8,7 @@ use pc_tables::item_line;
 use std::alloc::{AllocError, Global};
 
 /// The text of a log: a line an item, `TICK ITEM`, in upper-case hexadecimal but for the tick, which is decimal. An error
-/// where memory runs out.
+/// if memory runs out.
 pub fn print_log(alloc: Global, log: &[LogLine]) -> Result<Vec<u8>, AllocError>
     ensures text { IfOk result (λ text. text.items ≡ log_text log.now) }
 {

@@ -51,7 +51,7 @@ fn outcome_of(course: &Course, starts: Starts, log: Vec<LogLine>) -> Run
 /// It always comes to its end: the image keeps its time, and meets no byte without an instruction. Its log is the one that
 /// the model expects at the run's own tick starts; for a quiet history it is a function of layout and history alone. It has
 /// fewer than 800,000 items. Each start is at its multiple of 2,048 or at most five cycles past it, and at the last one the
-/// processor serves the timer's interrupt, in register bank 1. Only memory may be wanting: then the probes have looked at
+/// processor serves the timer's interrupt, in register bank 1. Only memory may run out: then the probes have looked at
 /// the states of some first steps.
 pub fn run(
     alloc: Global,

@@ -18,7 +18,7 @@ use std::alloc::{AllocError, Global};
 use story_run::{Ending, begin_run, tell_run};
 
 /// The stamps of the tick starts in the run that `run` makes, whose log isn't kept. After each step each probe looks at the
-/// state that it led to. Each start is at its multiple of 2,048 or at most five cycles past it. Only memory may be wanting:
+/// state that it led to. Each start is at its multiple of 2,048 or at most five cycles past it. Only memory may run out:
 /// then the probes have looked at the states of some first steps.
 pub fn tick_starts(
     alloc: Global,

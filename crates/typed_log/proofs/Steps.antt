@@ -9,7 +9,7 @@ use Rattle.byte_time.specs.declared.meeting.Meeting.{Meeting}
 use Rattle.byte_time.specs.declared.meeting.Meeting.TheVariants.{Got, Inhibited, Idle, Sent, Cut}
 use Rattle.key_file.specs.Histories.{KeyHistory}
 use Rattle.link_model.specs.declared.line.LogLine.{LogLine}
-use Rattle.link_model.specs.Machine.{Machine}
+use Rattle.link_model.specs.Machine.{KeyboardMachine}
 use Rattle.link_model.specs.TickEdges.{tick_edges}
 use Rattle.quiet_log.specs.Quiet.{even}
 use Rattle.quiet_log.proofs.Calm.{Pc, Calm, meets, met_by, read_of, marked, light_items, items_of_meeting, pc_after}
@@ -18,14 +18,14 @@ use Rattle.typed_log.specs.Typing.{Stroke, stroke_start, take_of, takes_from}
 use Rattle.typed_log.specs.Typed.{is_loss, taken_by, taken_in}
 use Rattle.typed_log.proofs.Takes.{taken_if, said_if, IsUndueTo, undue, undue_silent, taken, taken_says, take_at, take_only}
 
-abbrev pub stepped : {S : Type 0} → Machine S → List (ℕ × Bool) → Bool → Calm S → Calm S
+abbrev pub stepped : {S : Type 0} → KeyboardMachine S → List (ℕ × Bool) → Bool → Calm S → Calm S
 stepped kb edges takes c = record {
   keys = kb.ticked (meets kb c) edges c.keys;
   pc = taken_if takes (met_by (meets kb c) c.pc);
   shown = kb.lights c.keys;
 }
 
-abbrev pub says : {S : Type 0} → Machine S → Bool → Calm S → List Item
+abbrev pub says : {S : Type 0} → KeyboardMachine S → Bool → Calm S → List Item
 says kb takes c =
     light_items c.shown (kb.lights c.keys)
     ++ (items_of_meeting (meets kb c) c.pc ++ said_if takes (met_by (meets kb c) c.pc))
@@ -65,7 +65,7 @@ kept_tick n (item ∷ items) k =
     All-cons (λ (line : LogLine). is_loss line.item ≡ false) (record { tick = n; item = item }) (in_tick n items) k.0
     (kept_tick n items k.1)
 
-module _ {S : Type 0} (kb : Machine S) (h : KeyHistory) (ss : List Stroke) (host : h.host ≡ takes_from 0 ss) where
+module _ {S : Type 0} (kb : KeyboardMachine S) (h : KeyHistory) (ss : List Stroke) (host : h.host ≡ takes_from 0 ss) where
   -- the next take isn't due before a stamp
   next_is : (done stop : ℕ) → stop ≤ stroke_start done + 18432 → IsUndueTo h.host done stop
   next_is done stop l e g =

@@ -20,7 +20,7 @@ pub record IsTraceBrokenOff (s : Story) (before after : Shown) : Type 0 where
   pub is_over : IsOverBehind TickStart s steps
   pub broken : IsBrokenOff before after (trace_to s steps)
 
--- the saying of what the samples add is broken off in what that of the step behind the first k adds
+-- the saying of what the samples add is broken off in what that of the step after the first k adds
 abbrev pub AreChangesBrokenAt : Story → Shown → Shown → ℕ → Type 0
 AreChangesBrokenAt s before after k =
     IsBrokenBehind before after (changes_to s k) (text_in (state_at s (suc k)) (heard_to s k))

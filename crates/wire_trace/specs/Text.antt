@@ -1,4 +1,4 @@
--- The lines of a value change dump: what stands before the first sample, and what a sample adds.
+-- The lines of a value change dump: what is before the first sample, and what a sample adds.
 use Rattle.std.specs.Prelude.{ℕ, ◌*◌, Bool, not, ◌||◌, List, [], ◌∷◌, ◌++◌, codes, Some, None, if◌then◌else◌}
 use Rattle.std.specs.Fmt.{decimal}
 use Rattle.std.specs.declared.option.Option.{Option}

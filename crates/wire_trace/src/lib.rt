@@ -1,7 +1,7 @@
 //! The two wires of a run as a value change dump (VCD), which viewers of waveforms open, with each byte that passes over
 //! them as a comment.
 //!
-//! This layer has `story_run` make the run of a layout's compiled image under a history, and samples the wires behind the
+//! This layer has `story_run` make the run of a layout's compiled image under a history, and samples the wires after the
 //! steps that change them. It knows how a change of the wires is written, which it lends to whoever makes another run. What
 //! a transfer is, is told by `board_probes`'s decoder. It knows no instruction, no rule of the keyboard, the controller or the
 //! host, and no log. Source: the format is that of IEEE 1364, value change dump; what is written in it is our own.

@@ -10,7 +10,7 @@ use board_lines::Lines;
 use board_probes::LineDecoder;
 use io_edge::{Sink, SinkFault, say};
 
-/// The decoder hears the wires as they are after so many cycles, which are more than at its last sample; and where they
+/// The decoder hears the wires as they are after so many cycles, which are more than at its last sample; and if they
 /// differ from those of that sample, the lines of the change are put, each whole: the time, in units of 100 ns, of which
 /// a cycle has 25, the wires that turned, and the transfer that it completes, as a comment.
 pub fn put_sample<K: Sink>(

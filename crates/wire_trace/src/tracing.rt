@@ -26,11 +26,11 @@ use std::alloc::Global;
 use story_run::{Ending, begin_run, tell_run};
 use wires_heard::wires_are_heard;
 
-/// What stands before the first sample.
+/// What is before the first sample.
 const HEADER: &[u8] =
     b"$timescale 100 ns $end\n$scope module kbd $end\n$var wire 1 c clock $end\n$var wire 1 d data $end\n$upscope $end\n$enddefinitions $end\n#0\n1c\n1d\n";
 
-/// Puts what stands before the first sample: the unit of time, the two wires with their letters, and that both are high
+/// Puts what is before the first sample: the unit of time, the two wires with their letters, and that both are high
 /// at time 0.
 pub fn put_header<K: Sink>(out: &mut K) -> Result<(), SinkFault>
     ensures said { OnOk result (IsSaid (K.shown out.old) (K.shown out.new) header) }
@@ -74,13 +74,13 @@ fn put_trace<F: Feed, K: Sink>(
 /// Puts the two wires of the run of a layout's compiled image, under the history of a feed of which nothing was taken and
 /// which is accepted for this layout, as a value change dump, each line whole. The wires are sampled after each step of
 /// the run, from power-on to the first tick start at or after the end stamp; each change has its time, in units of 100 ns,
-/// of which a cycle has 25; and a byte that passes over the wires is a comment behind the change that completes it.
+/// of which a cycle has 25; and a byte that passes over the wires is a comment after the change that completes it.
 ///
-/// On Ok the whole text was said, and the sink's count of faults is as it was. Write comes only where that count rose: then
+/// On Ok the whole text was said, and the sink's count of faults is as it was. Write comes only if that count rose: then
 /// the saying was broken off, and the sink has a prefix of the text. After Memory the sink is as it was, and the feed is given
 /// up. All memory is taken before the first step.
 ///
-/// The bytes in the comments are, in order, those that the controller takes and sends: each is in the sample behind the
+/// The bytes in the comments are, in order, those that the controller takes and sends: each is in the sample after the
 /// step in one of whose cycles its frame's eleventh edge ends it, and no frame that is broken off is among them.
 pub fn trace<F: Feed, K: Sink>(
     alloc: Global,

@@ -11,7 +11,7 @@ use Rattle.pc_wires.specs.Wires.{Pc}
 use Rattle.wires_agree.specs.Cells.{bits_to}
 use Rattle.wires_agree.specs.Cycles.{board_cycles}
 
--- the bit that noise turns round, where it does, is a data bit or the parity
+-- the bit that noise turns round, if it does, is a data bit or the parity
 abbrev pub IsFlip : Option ℕ → Type 0
 IsFlip None = Unit {0}
 IsFlip (Some bit) = IsDataOrParity bit
@@ -22,7 +22,7 @@ FlipsSeen =
     (bits : ℕ → Bool) (byte : ℕ) (flip : Option ℕ) → byte_of (bits_to bits 11) ≡ Some byte → IsFlip flip
     → byte_of (turned flip (bits_to bits 11)) ≡ arriving flip byte
 
--- what is pending is such a bit in every cycle, where the events turn round no other
+-- what is pending is such a bit in every cycle, if the events turn round no other
 abbrev pub FlipsStay : Type 0
 FlipsStay =
     (events : List HostEvent) (latch : ℕ → Lines) (n now : ℕ) (b : Pc) → AreFlips events → IsFlip b.side.port.flip

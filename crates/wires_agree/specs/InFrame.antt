@@ -51,7 +51,7 @@ GotInBytes =
     → seen_in_bytes (board_cycles events latch (32 * k + suc n) now b).side
     ≡ up_to events false k n now (seen_in_bytes b.side)
 
--- from the eleventh edge on, as long as the clock stays low behind it
+-- from the eleventh edge on, as long as the clock stays low after it
 abbrev pub SentEndsInBytes : Type 0
 SentEndsInBytes =
     (events : List HostEvent) (latch : ℕ → Lines) (now byte n : ℕ) (bits : ℕ → Bool) (b : Pc)

@@ -39,7 +39,7 @@ WhilePulled =
     × (pulled (board_cycles events latch n now b).side.port.link ≡ Some since)
 
 -- a pull of the clock that a cycle begins lasts 64 cycles at least: it is there after this one and after each of the 63
--- behind it, whatever the keyboard drives and whatever the host does
+-- after it, whatever the keyboard drives and whatever the host does
 abbrev pub PullsLast : Type 0
 PullsLast =
     (events : List HostEvent) (latch : ℕ → Lines) (now n : ℕ) (b : Pc)
@@ -47,14 +47,14 @@ PullsLast =
     → n < 64
     → (drive (board_cycles events latch n (suc now) (board_cycle events now (latch now) b)).side.port.link).clk ≡ false
 
--- up to stamp 0, where the keyboard leaves the clock alone, nothing changes
+-- up to stamp 0, if the keyboard leaves the clock alone, nothing changes
 abbrev pub StampZeroFirst : Type 0
 StampZeroFirst =
     (events : List HostEvent) (latch : ℕ → Lines) (n now : ℕ) → now + n ≤ 4096
     → ((o : ℕ) → now ≤ o → o < now + n → (latch o).clk ≡ true)
     → board_cycles events latch n now pc_at_start ≡ pc_at_start
 
--- what the keyboard reads of the controller's frame, from cycle n of cell k on: the bit behind the edge
+-- what the keyboard reads of the controller's frame, from cycle n of cell k on: the bit after the edge
 abbrev pub FrameShown : Type 0
 FrameShown =
     (events : List HostEvent) (latch : ℕ → Lines) (now byte : ℕ) (bits : ℕ → Bool) (b : Pc)

@@ -34,7 +34,7 @@ meeting_from events tested offer start m =
 abbrev pub at_meeting : List HostEvent → (ℕ → Lines) → ℕ → Pc → Pc
 at_meeting events latch start b = board_cycles events latch 32 (256 + start) b
 
--- whether the controller leaves the clock alone so many cycles behind the first edge, by the state at offset 256; and at
+-- whether the controller leaves the clock alone so many cycles after the first edge, by the state at offset 256; and at
 -- the look in cell k of a frame, 18 cycles into the cell
 abbrev pub leaves_cycle : List HostEvent → (ℕ → Lines) → ℕ → Pc → ℕ → Bool
 leaves_cycle events latch start b n =
@@ -54,7 +54,7 @@ pub record Ticked
   pub idle_again : is_busy (board_cycles events latch k (256 + start) b).side.port.link ≡ false
   pub meets : meeting_from events tested offer start (seen_in_bytes b.side) ≡ meeting
 
--- behind a frame the keyboard keeps the clock low for 15 cycles more, and then leaves it alone
+-- after a frame the keyboard keeps the clock low for 15 cycles more, and then leaves it alone
 pub record EndsFrame (latch : ℕ → Lines) (start rest : ℕ) : Type 0 where
   pub low : IsDown latch (609 + start) (609 + start + 15)
   pub high : IsUp latch (624 + start) (609 + rest + start)

@@ -36,7 +36,7 @@ pub fn flips_seen()
     ensures seen { FlipsSeen }
 {}
 
-/// Where the host's events turn round no other bits, what is pending is one of these in every cycle.
+/// If the host's events turn round no other bits, what is pending is one of these in every cycle.
 pub fn flips_stay()
     ensures stay { FlipsStay }
 {}
@@ -46,12 +46,12 @@ pub fn stamp_zero_first()
     ensures first { StampZeroFirst }
 {}
 
-/// The keyboard reads the bits of the controller's frame, one behind each edge.
+/// The keyboard reads the bits of the controller's frame, one after each edge.
 pub fn frame_shown()
     ensures shown { FrameShown }
 {}
 
-/// In each cycle of a frame, in either direction, and behind it while the clock stays low, the wires with their bits
+/// In each cycle of a frame, in either direction, and after it while the clock stays low, the wires with their bits
 /// left out are byte time.
 pub fn frames_in_bytes()
     ensures sent { SentInBytes }

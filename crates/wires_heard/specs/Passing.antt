@@ -16,7 +16,7 @@ use Rattle.joint_run.specs.Run.{World}
 use Rattle.pc_wires.specs.Wires.{Pc, wires}
 
 -- the byte that a falling edge ends, with this level of data: it is the eleventh of its frame. The keyboard's byte is
--- that of bits 1 to 8 as they stood on the wires, whatever noise turns round; the controller's is the one that it sends
+-- that of bits 1 to 8 as they were on the wires, whatever noise turns round; the controller's is the one that it sends
 abbrev pub ended_by : Bool → Wire → List Transfer
 ended_by dat (Recv flip bits) =
     if length bits == 10
@@ -24,7 +24,7 @@ ended_by dat (Recv flip bits) =
     else []
 ended_by dat (Send byte edges) = if edges == 10 then record { from_host = true; byte = byte } ∷ [] else []
 
--- it ends none where no byte is under way
+-- it ends none if no byte is under way
 abbrev pub ended_at : Bool → Link Wire → List Transfer
 ended_at dat Free = []
 ended_at dat (Hold since) = []

@@ -13,19 +13,19 @@ use Rattle.layout_reader.specs.Layouts.{KeyLayout, IsKeyLayout}
 use Rattle.wires_heard.specs.Hearing.{heard_to}
 use Rattle.wires_heard.specs.Passing.{passed_at}
 
--- whether arms await one of these bytes: the keyboard's where `a` is 0, the controller's where it is 1
+-- whether arms await one of these bytes: the keyboard's if `a` is 0, the controller's if it is 1
 abbrev pub is_among : Arms → List Transfer → Bool
 is_among arms [] = false
 is_among arms (t ∷ ts) = is_awaited arms t || is_among arms ts
 
--- of so many steps behind step k those in which the controller takes, or sends, such a byte, in their order; they are
+-- of so many steps after step k those in which the controller takes, or sends, such a byte, in their order; they are
 -- numbered from 1 on
 abbrev pub passing_from : Story → Arms → ℕ → ℕ → List ℕ
 passing_from s arms k zero = []
 passing_from s arms k (suc more) =
     (if is_among arms (passed_at s k) then suc k ∷ [] else []) ++ passing_from s arms (suc k) more
 
--- a probe of the wires that has listened from power-on, and is armed behind step k; at k = 0 it is armed at power-on,
+-- a probe of the wires that has listened from power-on, and is armed after step k; at k = 0 it is armed at power-on,
 -- and has heard nothing
 abbrev pub armed_at : Story → ℕ → ℕ → ℕ → Watch
 armed_at s k a b = heard_as (armed a b) (heard_to s k)

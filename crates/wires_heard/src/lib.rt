@@ -10,9 +10,9 @@ ghost use Rattle.wires_heard.specs.Hearing.{HeardLaw};
 ghost use Rattle.wires_heard.specs.Probing.{ProbeLaw};
 
 /// For every layout and every history that is lawful for it, however long: in each step of the joint run of the
-/// layout's compiled image, the sample of the wires behind the step completes a transfer where the controller's
-/// eleventh edge of a frame lies in one of the step's cycles, and nowhere else: the keyboard's byte, as its bits stood
-/// on the wires, where the controller takes one; the controller's own, where it has sent one. A frame that is broken
+/// layout's compiled image, the sample of the wires after the step completes a transfer if the controller's
+/// eleventh edge of a frame lies in one of the step's cycles, and nowhere else: the keyboard's byte, as its bits were
+/// on the wires, if the controller takes one; the controller's own, if it has sent one. A frame that is broken
 /// off is none. So the transfers heard in the first steps of the run are, in order, the bytes that the controller takes
 /// and sends in them. Nothing is done when it is called; the law is its contract.
 pub fn wires_are_heard()
