@@ -27,7 +27,7 @@ fn later(stamp: u64, ready: u64) -> u64
 }
 
 impl EdgeQueue {
-    /// When the next edge is due; None exactly where none waits.
+    /// When the next edge is due; None exactly if none waits.
     pub fn due(&self) -> Option<u64>
         ensures due { result ≡ due_of (queue_of self.now) }
     {
