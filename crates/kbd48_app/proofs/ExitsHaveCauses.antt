@@ -1,7 +1,6 @@
 -- The causes of the exits, of a shelf that may tell its files.
 use Rattle.std.proofs.Common.{◌≡◌, ℕ, true, List, length, Some, None, IfSome, subst, sym}
 use Rattle.std.specs.declared.option.Option.{Option}
-use Rattle.key_file.specs.declared.fault.KeyFault.TheVariants.{Timing}
 use Rattle.board_probes.specs.Probes.{Watch}
 use Rattle.io_edge.specs.Said.{Shown}
 use Rattle.io_edge.specs.Shelf.{Told}

@@ -14,7 +14,7 @@ use Rattle.fw_debug.specs.Sessions.{Debuggee, of_layout, of_program, with_fill}
 use Rattle.joint_feed.specs.Stories.{story}
 use Rattle.app_words.specs.declared.kind.Kind.{Kind}
 use Rattle.app_words.specs.declared.kind.Kind.TheVariants as kinds
-use Rattle.app_words.specs.declared.refusal.Refusal.TheVariants.{Words, Hex, Layout, Keys}
+use Rattle.app_words.specs.declared.refusal.Refusal.TheVariants.{Words, Hex, Layout}
 use Rattle.app_words.specs.declared.words.BoardRun.{BoardRun}
 use Rattle.app_words.specs.declared.words.Command.{Command}
 use Rattle.app_words.specs.declared.words.Command.TheVariants.{OverFile, OverPair, Debug, Probe, Board, Feed, Sample}
