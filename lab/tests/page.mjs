@@ -39,6 +39,10 @@ async function keyboard() {
   await browser.key('keyUp', 'ShiftLeft');
   for (const code of ['KeyI', 'Comma', 'Space', 'KeyP', 'KeyC', 'Enter']) await browser.stroke(code);
   await says('screen', /^Hi, pc\n▁$/);
+  // Strokes between two pictures arrive, and Shift comes before its letter.
+  const strokes = ['lshift +', 'a +', 'a -', 'lshift -', 'o +', 'o -'].map(it => it.split(' '));
+  await browser.evaluate(`for (const [name, way] of ${JSON.stringify(strokes)}) lab.keys.hold(name, way === '+', 'test')`);
+  await says('screen', /^Hi, pc\nAo▁$/);
   await browser.stroke('CapsLock');
   await browser.until('document.querySelector("[data-lamp=\\"4\\"]").classList.contains("on")');
   await browser.stroke('KeyQ');
