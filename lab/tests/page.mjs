@@ -263,6 +263,10 @@ async function boardFiles() {
   await says('board-told', /isn't known.*--without unknown/);
   await pressed('board-told', 'Leave every such key out');
   await says('board-told', /unknown_words\.toml is made of unknown_words\.json/);
+  await browser.choose('#open-board', [join(boards, 'editor/full_size.json')]);
+  await says('board-told', /so 13 must be left out/);
+  await pressed('board-told', 'Leave keys out that are there twice');
+  await says('board-told', /full_size\.toml is made of full_size\.json/);
   await browser.choose('#open-board', [join(boards, 'ortho48/keyboard.json')]);
   await says('board-told', /it has the layouts LAYOUT_/);
   await browser.choose('#open-board', [join(boards, 'ortho48/keymap.json')]);
