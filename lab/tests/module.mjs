@@ -16,7 +16,7 @@ const layout = fileOf('us84.toml'), hex = fileOf('us84.hex');
 const besides = name => readFileSync(new URL(name, import.meta.url), 'utf8');
 const refused = (call, status) => assert.throws(call, error => error instanceof Kbd48Error && error.status === status);
 
-/** kbd48.mjs has each call and each number of the header. */
+/** kbd48.mjs has each call and each number of the header, and kbd48.d.ts each of its methods. */
 function everyCall() {
   const header = besides('../../c/kbd48.h'), source = besides('../kbd48.mjs');
   const calls = [...header.matchAll(/^int32_t (kbd48_\w+)\(/gm)].map(([, name]) => name);
@@ -27,6 +27,8 @@ function everyCall() {
   for (const [, kind, name, number] of header.matchAll(/KBD48_(ITEM_|STOP_|)(\w+) = (\d+)/g)) numbers[kinds[kind] ?? 'Status'][name] = Number(number);
   assert.deepEqual({ Status: { ...Status }, Item: { ...Item }, Stop: { ...Stop } }, numbers);
   assert.equal(TICK, Number(/KBD48_TICK (\w+)/.exec(header)[1]));
+  const types = besides('../kbd48.d.ts'), methods = Object.getOwnPropertyNames(Keyboard.prototype).filter(name => name !== 'constructor');
+  assert.deepEqual(methods.filter(name => !new RegExp(`^  (readonly )?${name}[(:]`, 'm').test(types)), [], 'what kbd48.d.ts lacks');
   return calls.length;
 }
 
