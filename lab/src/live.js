@@ -1,6 +1,6 @@
-// The keyboard that runs while one types: it goes on a step at a time, so that each change of a wire is seen. Its queue hands
-// each key over when it can be seen, and writes go in as soon as they may. Both are kept with their stamps, so that a session
-// is a key file too.
+// The keyboard that runs while one types: it stops at each change of a wire, and makes single steps while a wire is low. Its
+// queue hands each key over when it can be seen, and writes go in as soon as they may. Both are kept with their stamps, so that
+// a session is a key file too.
 import { Item, Status } from '../kbd48.mjs';
 import { hex } from './dom.js';
 import { BOTH, Hearing } from './hearing.js';
@@ -16,8 +16,6 @@ const SAYS = {
   [Item.BROKE]: () => 'break', [Item.PAUSE]: () => 'pause', [Item.RESUME]: () => 'resume', [Item.PRINT]: () => 'print',
   [Item.BOOT]: () => 'boot', [Item.SYS_MAKE]: () => 'sysreq make', [Item.SYS_BREAK]: () => 'sysreq break',
 };
-// After so many cycles without a change, with no key down and nothing to be handed in, the steps are made many at a time.
-const QUIET = 40 * CYCLES_OF_A_MS, SELF_TEST = 400 * CYCLES_OF_A_MS;
 
 // Noise is on the frame that begins next; a frame begins some cycles before its first fall of the clock.
 const BEFORE_A_FRAME = 100;
@@ -31,8 +29,6 @@ export class Live {
   constructor(keyboard, layout, names) {
     Object.assign(this, { keyboard, names, pushed: [], orders: [], events: [], edges: [], bytes: [], items: [] });
     this.hearing = new Hearing();
-    this.lastEdge = -Infinity;
-    this.down = new Set();
     this.up = false;
     this.masked = false;
     keyboard.openLayout(new TextEncoder().encode(layout));
@@ -89,14 +85,13 @@ export class Live {
     this.#drain();
   }
 
-  // One step; or more of them, for so many cycles, as long as nothing is to be seen or to be handed in between them.
+  // One step; or more of them, for so many cycles, up to the next change of a wire, if nothing is to be handed in.
   #goOn(cycles) {
     const { keyboard } = this;
     this.history.pass(this.cycle);
     if (this.orders.length && this.#hand()) return;
     const isBusy = this.levels !== BOTH || this.up || this.orders.length > 0;
-    const said = this.pushed.length ? this.#handEdge()
-      : isBusy || cycles <= 1 ? keyboard.step() : this.#isQuiet() ? keyboard.run(cycles, true) : keyboard.watch(cycles);
+    const said = this.pushed.length ? this.#handEdge() : isBusy || cycles <= 1 ? keyboard.step() : keyboard.watch(cycles);
     this.cycle += keyboard.passed;
     this.#look();
     if (said === Status.ROSE) this.up = true;
@@ -106,13 +101,6 @@ export class Live {
       this.up = false;
       this.#drain();
     }
-  }
-
-  // Nothing happens until something is handed in: the firmware of a layout sends nothing of itself after its test.
-  #isQuiet() {
-    const since = Math.max(this.lastEdge, this.edges.at(-1)?.cycle ?? 0);
-    return this.cycle > since + QUIET && this.stamp > SELF_TEST && !this.up && this.levels === BOTH && !this.down.size
-      && !this.pushed.length && !this.orders.length;
   }
 
   // An event of the host is made in a step of its own.
@@ -144,9 +132,6 @@ export class Live {
     if (keyboard.queued() === pushed.length) return status;
     const { place, down } = pushed.shift();
     this.history.note(cycle, copy => copy.key(place, down));
-    if (down) this.down.add(place);
-    else this.down.delete(place);
-    this.lastEdge = cycle;
     this.events.push({ stamp, words: `${down ? 'press' : 'release'} ${this.names.get(place)}` });
     return status;
   }
