@@ -1,7 +1,8 @@
 /** The statuses of `c/kbd48.h`. */
 export declare const Status: Readonly<{
   DONE: 0; NOT_OPEN: 1; NO_MEMORY: 2; BAD_TEXT: 3; TOO_LONG: 4; NO_SUCH_PLACE: 5; NO_SUCH_PORT: 6; FULL: 7; STUCK: 8;
-  EARLY: 9; OVER: 10; NO_WORD: 11; ROSE: 12; NO_SUCH_CELL: 13; NOTHING_SAID: 14; LOST: 15;
+  EARLY: 9; OVER: 10; NO_WORD: 11; ROSE: 12; NO_SUCH_CELL: 13; NOTHING_SAID: 14; LOST: 15; REPEATED: 16; KEY_DUE: 17;
+  NO_SUCH_KEY: 18;
 }>;
 export type StatusNumber = (typeof Status)[keyof typeof Status];
 
@@ -10,6 +11,26 @@ export declare const Item: Readonly<{
   PORT: 0; READ: 1; WORD: 2; BEEP: 3; OVERRUN: 4; LIGHTS: 5; TAKEN: 6; TAKEN_NONE: 7; STATUS: 8; OUTPUT: 9; PULSE: 10;
   BROKE: 11; PAUSE: 12; RESUME: 13; PRINT: 14; BOOT: 15; SYS_MAKE: 16; SYS_BREAK: 17;
 }>;
+
+/** What `runTo` may be asked to stop for: a sum of these. */
+export declare const Stop: Readonly<{ RISE: 1; ITEM: 2; WIRES: 4; PLACE: 8 }>;
+
+/** The place at which a tick of a layout's firmware begins. */
+export declare const TICK: 7;
+
+/** How a run with the queue ended: how many cycles passed, and how often the interrupt line rose. */
+export interface KeysRan {
+  readonly status: StatusNumber;
+  readonly passed: number;
+  readonly rises: number;
+}
+
+/** How a run to something ended: what its last step did of the mask, 0 if a limit ended it, and how many cycles passed. */
+export interface Stopped {
+  readonly status: StatusNumber;
+  readonly met: number;
+  readonly passed: number;
+}
 
 /** An item of the log: the cycle in which it was said, and its byte or word, or 0. */
 export interface Said {
@@ -66,6 +87,12 @@ export declare class Keyboard {
   static load(bytes: BufferSource): Promise<Keyboard>;
   openLayout(text: Uint8Array): void;
   openHex(text: Uint8Array): void;
+  openSample(): void;
+  openReadyLayout(text: Uint8Array): void;
+  openReadyHex(text: Uint8Array): void;
+  layoutKey(text: Uint8Array, name: string): number;
+  sampleKey(name: string): number;
+  version(): number;
   close(): void;
   free(): void;
   copy(): Keyboard;
@@ -73,7 +100,12 @@ export declare class Keyboard {
   key(place: number, down: boolean): StatusNumber;
   run(cycles: number, watched?: boolean): StatusNumber;
   step(): StatusNumber;
+  runTo(mask: number, cycles: number, limits?: { steps?: number; at?: number }): Stopped;
   watch(cycles: number): StatusNumber;
+  queueKey(place: number, down: boolean, cycle?: number): StatusNumber;
+  releaseAll(cycle?: number): void;
+  queued(): number;
+  runKeys(cycles: number, watched?: boolean): KeysRan;
   readonly passed: number;
   readonly stuck: { counter: number; byte: number };
   write(port: 0x60 | 0x64, byte: number): StatusNumber;
@@ -87,6 +119,7 @@ export declare class Keyboard {
   lights(): number;
   wires(): number;
   rises(): number;
+  lost(): number;
   cycle(): number;
   look(): Registers;
   waiting(): { edges: number; words: number };

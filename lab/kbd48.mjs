@@ -3,8 +3,14 @@
 
 export const Status = Object.freeze({
   DONE: 0, NOT_OPEN: 1, NO_MEMORY: 2, BAD_TEXT: 3, TOO_LONG: 4, NO_SUCH_PLACE: 5, NO_SUCH_PORT: 6, FULL: 7, STUCK: 8, EARLY: 9,
-  OVER: 10, NO_WORD: 11, ROSE: 12, NO_SUCH_CELL: 13, NOTHING_SAID: 14, LOST: 15,
+  OVER: 10, NO_WORD: 11, ROSE: 12, NO_SUCH_CELL: 13, NOTHING_SAID: 14, LOST: 15, REPEATED: 16, KEY_DUE: 17, NO_SUCH_KEY: 18,
 });
+
+/** What `runTo` may be asked to stop for: a rise of the interrupt line, something said, a wire that changed, a place. */
+export const Stop = Object.freeze({ RISE: 1, ITEM: 2, WIRES: 4, PLACE: 8 });
+
+/** The place at which a tick of a layout's firmware begins. */
+export const TICK = 0x007;
 
 /** What the log says, item by item. */
 export const Item = Object.freeze({
@@ -15,7 +21,7 @@ export const Item = Object.freeze({
 const STATUS_TEXTS = ['done', 'the handle is empty', 'there is no memory left', 'the text has a fault', 'the text is too long',
   'there is no such place', 'there is no such port', 'there is no room', 'the processor is stuck',
   'the processor stuck before stamp 0', 'the count of cycles is at its end', 'there is no word', 'the interrupt line rose', 'there is no such cell', 'nothing was said',
-  'more was said than is kept'];
+  'more was said than is kept', 'the key is so already', 'the next edge is due', 'there is no such key'];
 
 /** A call that was refused. `place` and `number` say which rule a text breaks, and at which entry or line. */
 export class Kbd48Error extends Error {
@@ -60,17 +66,6 @@ class Machine {
     }
   }
 
-  /** Many calls in one; `act` gets the exports. */
-  within(act) {
-    if (!this.exports) throw new Trapped(new Error('an earlier call trapped'));
-    try {
-      return act(this.exports);
-    } catch (cause) {
-      this.exports = null;
-      throw new Trapped(cause);
-    }
-  }
-
   take(size) {
     const at = this.call('page_take', BigInt(size));
     if (at === 0n) throw new Kbd48Error(Status.NO_MEMORY);
@@ -92,10 +87,12 @@ async function started(bytes) {
   return new Machine(instance.exports);
 }
 
-// Where the values lie that calls pass by pointer, in one block.
-const PLACES = { handle: 0, fault: 8, passed: 16, place: 24, byte: 28, word: 30, one: 32, two: 33, cycle: 40, item: 48, shown: 64 };
-const PLACES_SIZE = 96;
-const ONE = 1n;
+// Where the values lie that calls pass by pointer, in one block. The last is the keyboard's queue, a `kbd48_keys`.
+const PLACES = {
+  handle: 0, fault: 8, passed: 16, place: 24, byte: 28, word: 30, one: 32, two: 33, cycle: 40, item: 48, shown: 64, queue: 96,
+};
+const QUEUE_SIZE = 2672, PLACES_SIZE = PLACES.queue + QUEUE_SIZE;
+const ONE = 1n, ANY_NUMBER = (1n << 64n) - 1n;
 const P2_AT = 20; // in what kbd48_inside shows
 const COUNTS = ['off', 'cycles', 'falls of T1'];
 
@@ -112,6 +109,7 @@ export class Keyboard {
     this.base = Number(at);
     this.to = Object.fromEntries(Object.entries(PLACES).map(([name, offset]) => [name, at + BigInt(offset)]));
     machine.view.setBigUint64(this.base + PLACES.handle, 0n, true);
+    this.#queue().fill(0);
   }
 
   #byte(place) {
@@ -122,20 +120,47 @@ export class Keyboard {
     return this.machine.view.getUint16(this.base + place, true);
   }
 
+  #queue() {
+    return new Uint8Array(this.machine.view.buffer, this.base + PLACES.queue, QUEUE_SIZE);
+  }
+
   #done(status) {
     if (status !== Status.DONE) throw new Kbd48Error(status);
   }
 
+  // DONE, or one of the others that the caller expects.
+  #expected(status, ...others) {
+    if (!others.includes(status)) this.#done(status);
+    return status;
+  }
+
+  // The status of a call that reads texts: each goes in as a pointer and a length, before the other words.
+  #read(name, texts, ...words) {
+    const { machine } = this, at = machine.take(texts.reduce((sum, text) => sum + text.length, 1)), places = [];
+    let to = at;
+    for (const text of texts) {
+      machine.put(text, Number(to));
+      places.push(to, BigInt(text.length));
+      to += BigInt(text.length);
+    }
+    const status = machine.call(name, ...places, ...words);
+    machine.give(at);
+    return status;
+  }
+
+  // A keyboard that was opened begins with an empty queue.
+  #opened(status) {
+    this.#done(status);
+    this.#queue().fill(0);
+  }
+
   #open(name, text) {
-    const at = this.machine.take(text.length || 1);
-    this.machine.put(text, Number(at));
-    const status = this.machine.call(name, at, BigInt(text.length), this.to.handle, this.to.fault);
-    this.machine.give(at);
+    const status = this.#read(name, [text], this.to.handle, this.to.fault);
     if (status === Status.BAD_TEXT) {
       const { view } = this.machine;
       throw new Kbd48Error(status, view.getUint32(this.base + PLACES.fault, true), view.getUint32(this.base + PLACES.fault + 4, true));
     }
-    this.#done(status);
+    this.#opened(status);
   }
 
   /** Opens a keyboard of a layout, the bytes of a TOML text. It is at stamp 0 then. */
@@ -143,6 +168,29 @@ export class Keyboard {
 
   /** The same with a program as Intel HEX. */
   openHex(text) { this.#open('kbd48_open_hex', text); }
+
+  /** The same with the sample layout, us84. */
+  openSample() { this.#opened(this.machine.call('kbd48_open_sample', this.to.handle)); }
+
+  /** Opens a keyboard of a layout and runs it until its power-on test is over: its AA can be read. */
+  openReadyLayout(text) { this.#open('kbd48_open_ready_layout', text); }
+
+  /** The same with a program as Intel HEX. */
+  openReadyHex(text) { this.#open('kbd48_open_ready_hex', text); }
+
+  /** The place of a key by its name, such as `lshift`, in the bytes of a layout's text. The keyboard needn't be open. */
+  layoutKey(text, name) { return this.#named('kbd48_layout_key', text, new TextEncoder().encode(name)); }
+
+  /** The same in the sample layout. */
+  sampleKey(name) { return this.#named('kbd48_sample_key', new TextEncoder().encode(name)); }
+
+  #named(call, ...texts) {
+    this.#done(this.#read(call, texts, this.to.byte));
+    return this.#byte(PLACES.byte);
+  }
+
+  /** 10,000 times the first part of the library's version, 100 times the second, and the third. */
+  version() { return this.machine.call('kbd48_version'); }
 
   close() { this.#done(this.machine.call('kbd48_close', this.to.handle)); }
 
@@ -153,7 +201,8 @@ export class Keyboard {
     this.machine = null;
   }
 
-  /** A second keyboard in the same state: the same calls give the same answers. `free` gives its memory back. */
+  /** A second keyboard in the same state, with the same edges in its queue: the same calls give the same answers. `free`
+      gives its memory back. */
   copy() {
     const other = new Keyboard(this.machine);
     try {
@@ -169,6 +218,7 @@ export class Keyboard {
   copyTo(other) {
     if (other.machine !== this.machine) throw new TypeError('the two keyboards are in different modules');
     this.#done(this.machine.call('kbd48_copy', this.to.handle, other.to.handle));
+    other.#queue().set(this.#queue());
   }
 
   /** A key goes down or up. The status: DONE, or FULL where four edges wait. */
@@ -182,21 +232,50 @@ export class Keyboard {
   /** One step, which ends with ROSE if the interrupt line rose. */
   step() { return this.machine.call('kbd48_run', this.to.handle, ONE, 1, this.to.passed, this.to.place); }
 
-  /** Makes steps one by one until a wire changes its level, the interrupt line rises, or so many cycles have passed. The
-      status; `passed` says how many cycles it were. */
+  /** Runs until a step does what `mask` asks for (Stop), or to a limit of cycles or steps. `at` is the place of Stop.PLACE.
+      Returns the status, DONE or STUCK; what the last step did of the mask, 0 if a limit ended the run; and how many cycles
+      passed. */
+  runTo(mask, cycles, { steps = ANY_NUMBER, at = 0 } = {}) {
+    const { machine, to } = this, limits = [BigInt(cycles), BigInt(steps)];
+    const status = this.#expected(machine.call('kbd48_run_to', to.handle, mask, at, ...limits, to.byte, to.passed, to.place), Status.STUCK);
+    return { status, met: this.#byte(PLACES.byte), passed: this.passed };
+  }
+
+  /** Runs until a wire changes its level, the interrupt line rises, or so many cycles have passed. The status. */
   watch(cycles) {
-    const { base, to } = this, { view } = this.machine, levels = () => view.getUint8(base + PLACES.one) | view.getUint8(base + PLACES.two) << 1;
-    const before = this.wires();
-    let status = Status.DONE, gone = 0;
-    this.machine.within(exports => {
-      do {
-        status = exports.kbd48_run(to.handle, ONE, 1, to.passed, to.place);
-        gone += view.getUint8(base + PLACES.passed);
-        exports.kbd48_wires(to.handle, to.one, to.two);
-      } while (status === Status.DONE && gone < cycles && levels() === before);
-    });
-    view.setBigUint64(base + PLACES.passed, BigInt(gone), true);
-    return status;
+    const { status, met } = this.runTo(Stop.RISE | Stop.WIRES, cycles);
+    return met & Stop.RISE ? Status.ROSE : status;
+  }
+
+  /** A key goes down or up now, or at a later cycle, after all edges that wait in this keyboard's queue. The status: DONE,
+      REPEATED if the key is so already, or FULL if it goes down and 64 edges wait. */
+  queueKey(place, down, cycle = this.cycle()) {
+    return this.#expected(this.machine.call('kbd48_queue_key', this.to.queue, BigInt(cycle), place, down ? 1 : 0), Status.REPEATED, Status.FULL);
+  }
+
+  /** Each key that is down goes up now, or at a later cycle, after all edges that wait. */
+  releaseAll(cycle = this.cycle()) { this.#done(this.machine.call('kbd48_release_all', this.to.queue, BigInt(cycle))); }
+
+  /** How many edges wait in the queue, at most 160. */
+  queued() {
+    this.#done(this.machine.call('kbd48_queued', this.to.queue, this.to.byte));
+    return this.#byte(PLACES.byte);
+  }
+
+  /** Runs as `run` does, and hands over each edge of the queue when it is due. Returns the status, DONE, ROSE or STUCK; how
+      many cycles passed; and how often the interrupt line rose. */
+  runKeys(cycles, watched = false) {
+    const { machine, to } = this;
+    let status, passed = 0, rises = 0;
+    do {
+      const left = BigInt(cycles) - BigInt(passed);
+      status = this.#expected(machine.call('kbd48_run_keys', to.handle, to.queue, left, watched ? 1 : 0, to.passed, to.place),
+        Status.ROSE, Status.STUCK, Status.KEY_DUE);
+      passed += this.passed;
+      rises += this.rises();
+    } while (status === Status.KEY_DUE);
+    machine.view.setBigUint64(this.base + PLACES.passed, BigInt(passed), true);
+    return { status, passed, rises };
   }
 
   /** How many cycles the last run took. */
@@ -267,16 +346,13 @@ export class Keyboard {
   }
 
   /** How often the interrupt line rose in the last call that made a step. */
-  rises() {
-    this.#done(this.machine.call('kbd48_rises', this.to.handle, this.to.cycle));
-    return Number(this.machine.view.getBigUint64(this.base + PLACES.cycle, true));
-  }
+  rises() { return this.#long('kbd48_rises'); }
+
+  /** How many items were lost and not reported yet. */
+  lost() { return this.#long('kbd48_lost'); }
 
   /** The cycles since power-on; stamp 0 is cycle 4,096. */
-  cycle() {
-    this.#done(this.machine.call('kbd48_cycle', this.to.handle, this.to.cycle));
-    return Number(this.machine.view.getBigUint64(this.base + PLACES.cycle, true));
-  }
+  cycle() { return this.#long('kbd48_cycle'); }
 
   /** The controller's registers. */
   look() {
@@ -320,6 +396,11 @@ export class Keyboard {
   cell(number) {
     this.#done(this.machine.call('kbd48_cell', this.to.handle, number, this.to.byte));
     return this.#byte(PLACES.byte);
+  }
+
+  #long(name) {
+    this.#done(this.machine.call(name, this.to.handle, this.to.cycle));
+    return Number(this.machine.view.getBigUint64(this.base + PLACES.cycle, true));
   }
 
   #shown(many) {

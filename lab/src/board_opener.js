@@ -10,6 +10,7 @@ export const shapes = new Map();
 const WAYS = [
   [/it has the layouts (.+); --layout/, found => found[1].split(', ').map(name => [['--layout', name], name])],
   [/--without (\d+(?:,\d+)?) leaves/, found => [[['--without', found[1]], `Leave ${found[1]} out`]]],
+  [/--without doubles leaves these/, () => [[['--without', 'doubles'], 'Leave keys out that are there twice']]],
   [/--without unknown every/, () => [[['--without', 'unknown'], 'Leave every such key out']]],
   [/with --count/, () => [[['--count'], 'Count its keys']]],
   [/--any-keyboard takes/, () => [[['--any-keyboard'], 'Take it all the same']]],

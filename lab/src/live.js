@@ -1,13 +1,12 @@
-// The keyboard that runs while one types: it goes on a step at a time, so that each change of a wire is seen. Keys and
-// writes are handed in as soon as they may be, and are kept with their stamps, so that a session is a key file too.
+// The keyboard that runs while one types: it goes on a step at a time, so that each change of a wire is seen. Its queue hands
+// each key over when it can be seen, and writes go in as soon as they may. Both are kept with their stamps, so that a session
+// is a key file too.
 import { Item, Status } from '../kbd48.mjs';
 import { hex } from './dom.js';
 import { BOTH, Hearing } from './hearing.js';
 import { COPIES_APART, History } from './history.js';
 
 export const CYCLES_OF_A_MS = 400, FIRST_STAMP = 4096;
-// Cycles between two edges: a key file wants as many between two of one key, and so the codes come in the order of the edges.
-const APART = 2240;
 const KEPT = 40000, TRIMMED = 30000;
 // An item in the words of the log; what the page itself takes from the buffer of INT 09h isn't said.
 const SAYS = {
@@ -30,7 +29,7 @@ const keyFileOf = (events, end) => [...events.map(({ stamp, words }) => `${stamp
 export class Live {
   /** `names` has the key of each place. */
   constructor(keyboard, layout, names) {
-    Object.assign(this, { keyboard, names, waiting: [], orders: [], events: [], edges: [], bytes: [], items: [] });
+    Object.assign(this, { keyboard, names, pushed: [], orders: [], events: [], edges: [], bytes: [], items: [] });
     this.hearing = new Hearing();
     this.lastEdge = -Infinity;
     this.down = new Set();
@@ -48,8 +47,12 @@ export class Live {
 
   get stamp() { return this.cycle - FIRST_STAMP; }
 
-  /** A key goes down or up, as soon as a key file could have it so. */
-  press(place, down) { this.waiting.push({ place, down }); }
+  /** A key goes down or up, after all edges that wait. */
+  press(place, down) {
+    const status = this.keyboard.queueKey(place, down);
+    if (status === Status.DONE) this.pushed.push({ place, down });
+    else if (status === Status.FULL) this.#say('so many keys wait that this one is left out');
+  }
 
   /** The PC writes a byte, when the input buffer has room. */
   order(port, byte) { this.orders.push({ port, byte }); }
@@ -90,11 +93,10 @@ export class Live {
   #goOn(cycles) {
     const { keyboard } = this;
     this.history.pass(this.cycle);
-    if (this.waiting.length) this.#handEdges();
     if (this.orders.length && this.#hand()) return;
     const isBusy = this.levels !== BOTH || this.up || this.orders.length > 0;
-    const most = this.waiting.length ? Math.min(cycles, this.lastEdge + APART - this.cycle) : cycles;
-    const said = isBusy || most <= 1 ? keyboard.step() : this.#isQuiet() ? keyboard.run(most, true) : keyboard.watch(most);
+    const said = this.pushed.length ? this.#handEdge()
+      : isBusy || cycles <= 1 ? keyboard.step() : this.#isQuiet() ? keyboard.run(cycles, true) : keyboard.watch(cycles);
     this.cycle += keyboard.passed;
     this.#look();
     if (said === Status.ROSE) this.up = true;
@@ -110,7 +112,7 @@ export class Live {
   #isQuiet() {
     const since = Math.max(this.lastEdge, this.edges.at(-1)?.cycle ?? 0);
     return this.cycle > since + QUIET && this.stamp > SELF_TEST && !this.up && this.levels === BOTH && !this.down.size
-      && !this.waiting.length && !this.orders.length;
+      && !this.pushed.length && !this.orders.length;
   }
 
   // An event of the host is made in a step of its own.
@@ -136,15 +138,17 @@ export class Live {
     if (this.bytes.length > KEPT) this.bytes.splice(0, KEPT - TRIMMED);
   }
 
-  #handEdges() {
-    const [{ place, down }] = this.waiting, { cycle, stamp } = this;
-    if (cycle - this.lastEdge < APART || this.keyboard.key(place, down) !== Status.DONE) return;
+  // One step, before which the queue hands over the edge that is due. Its status.
+  #handEdge() {
+    const { keyboard, pushed, cycle, stamp } = this, { status } = keyboard.runKeys(1, true);
+    if (keyboard.queued() === pushed.length) return status;
+    const { place, down } = pushed.shift();
     this.history.note(cycle, copy => copy.key(place, down));
-    this.waiting.shift();
     if (down) this.down.add(place);
     else this.down.delete(place);
     this.lastEdge = cycle;
     this.events.push({ stamp, words: `${down ? 'press' : 'release'} ${this.names.get(place)}` });
+    return status;
   }
 
   // The next byte that the PC writes, in a step of its own. Whether there was room for it.

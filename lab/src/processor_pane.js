@@ -18,7 +18,7 @@ const FORMS = {
 const ROW = 16;
 const LIVE_ONE = 'the keyboard that I type on';
 const LOOKS_APART = 200; // ms between two pictures of a keyboard that runs
-const TICK = 30; // ms
+const STRIDES_APART = 30; // ms
 const MOST_STRIDES = 8, LIVE_STRIDE = 20000;
 const A_SECOND = 220000; // steps
 
@@ -210,7 +210,7 @@ export class ProcessorPane {
     // At a pace each picture is a round number of steps later, so that many of them come of one run.
     // The keyboard that runs has no end, so the page must be able to halt it.
     const [longest, most] = this.#isLive() ? [LIVE_STRIDE, 1] : [FOREVER, MOST_STRIDES];
-    const stride = Math.min(longest, pace >= FOREVER ? FOREVER : Math.max(1, Math.round(pace * TICK / 1000)));
+    const stride = Math.min(longest, pace >= FOREVER ? FOREVER : Math.max(1, Math.round(pace * STRIDES_APART / 1000)));
     let last = performance.now(), owed = stride;
     const tick = () => {
       const now = performance.now();
@@ -225,7 +225,7 @@ export class ProcessorPane {
           return;
         }
       }
-      this.timer = setTimeout(tick, TICK);
+      this.timer = setTimeout(tick, STRIDES_APART);
     };
     this.timer = setTimeout(tick, 0);
   }

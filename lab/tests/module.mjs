@@ -1,10 +1,10 @@
 // usage: node module.mjs LAB.html EXAMPLES [CHECKSUM]: the two modules of the page, in Node. Each line of examples/commands
-// gives its text and status byte for byte; typing gives the log of `run`; a broken text is an error; random calls have the
-// checksum of the native library, when that is given.
+// gives its text and status byte for byte; typing gives the log of `run`; a broken text is an error; what is typed at once
+// arrives; a run ends at what it was asked for; random calls have the checksum of the native library, when that is given.
 import assert from 'node:assert/strict';
 import { existsSync, readFileSync } from 'node:fs';
 import { gunzipSync } from 'node:zlib';
-import { Item, Kbd48Error, Keyboard, Program, Status } from '../kbd48.mjs';
+import { Item, Kbd48Error, Keyboard, Program, Status, Stop, TICK } from '../kbd48.mjs';
 
 const [, , page, examples, native] = process.argv;
 const CALLS = 10_000, SEED = 7;
@@ -12,7 +12,25 @@ const html = readFileSync(page, 'utf8');
 const moduleOf = id => gunzipSync(Buffer.from(new RegExp(`id="${id}">([^<]*)<`).exec(html)[1], 'base64'));
 const fileOf = name => readFileSync(`${examples}/${name}`);
 const keyboardModule = moduleOf('keyboard-module'), program = await Program.load(moduleOf('program-module'));
-const layout = fileOf('us84.toml');
+const layout = fileOf('us84.toml'), hex = fileOf('us84.hex');
+const besides = name => readFileSync(new URL(name, import.meta.url), 'utf8');
+const refused = (call, status) => assert.throws(call, error => error instanceof Kbd48Error && error.status === status);
+
+/** kbd48.mjs has each call and each number of the header, and kbd48.d.ts each of its methods. */
+function everyCall() {
+  const header = besides('../../c/kbd48.h'), source = besides('../kbd48.mjs');
+  const calls = [...header.matchAll(/^int32_t (kbd48_\w+)\(/gm)].map(([, name]) => name);
+  const exported = WebAssembly.Module.exports(new WebAssembly.Module(keyboardModule));
+  assert.deepEqual(calls.filter(name => !source.includes(`'${name}'`)), [], 'calls that kbd48.mjs lacks');
+  assert.deepEqual(calls.filter(name => !exported.some(it => it.name === name)), [], 'calls that the module lacks');
+  const numbers = { Status: {}, Item: {}, Stop: {} }, kinds = { ITEM_: 'Item', STOP_: 'Stop' };
+  for (const [, kind, name, number] of header.matchAll(/KBD48_(ITEM_|STOP_|)(\w+) = (\d+)/g)) numbers[kinds[kind] ?? 'Status'][name] = Number(number);
+  assert.deepEqual({ Status: { ...Status }, Item: { ...Item }, Stop: { ...Stop } }, numbers);
+  assert.equal(TICK, Number(/KBD48_TICK (\w+)/.exec(header)[1]));
+  const types = besides('../kbd48.d.ts'), methods = Object.getOwnPropertyNames(Keyboard.prototype).filter(name => name !== 'constructor');
+  assert.deepEqual(methods.filter(name => !new RegExp(`^  (readonly )?${name}[(:]`, 'm').test(types)), [], 'what kbd48.d.ts lacks');
+  return calls.length;
+}
 
 function everyCommand() {
   let count = 0;
@@ -128,7 +146,136 @@ async function looks() {
   assert.throws(() => keyboard.inside(), error => error.status === Status.NOT_OPEN);
 }
 
-/** The calls of native_agree.c, and the checksum of their answers. */
+/** The text of the words that INT 09h entered. */
+function taken(keyboard) {
+  const codes = [];
+  for (let word; (word = keyboard.take()) !== null;) codes.push(word & 255);
+  return String.fromCharCode(...codes);
+}
+
+/** The queue of keys: what is pushed at once arrives as it is, also at a copy, and what it has no room for is refused. */
+async function queue() {
+  const keyboard = await Keyboard.load(keyboardModule), left = keyboard.sampleKey('lshift'), names = { ' ': 'space', ',': 'comma', '!': '1' };
+  const push = (place, down) => assert.equal(keyboard.queueKey(place, down), Status.DONE), text = 'Hello, World!';
+  assert.equal(keyboard.version(), Number(/KBD48_VERSION_NUMBER (\d+)/.exec(besides('../../c/kbd48.h'))[1]));
+  assert.equal(keyboard.sampleKey('h'), 34);
+  assert.equal(keyboard.layoutKey(layout, 'h'), 34);
+  assert.equal(keyboard.layoutKey(fileOf('four_keys.toml'), 'b'), 1);
+  for (const name of ['H', '', 'nothing']) refused(() => keyboard.sampleKey(name), Status.NO_SUCH_KEY);
+  refused(() => keyboard.layoutKey(fileOf('four_keys.toml'), 'space'), Status.NO_SUCH_KEY);
+  refused(() => keyboard.layoutKey(Buffer.from('format = '), 'h'), Status.BAD_TEXT);
+  refused(() => keyboard.runKeys(1), Status.NOT_OPEN);
+  keyboard.openSample();
+  keyboard.bios(true);
+  keyboard.run(160_000);
+  for (const letter of text) {
+    const shift = /[A-Z!]/.test(letter), place = keyboard.sampleKey(names[letter] ?? letter.toLowerCase());
+    if (shift) push(left, true);
+    push(place, true);
+    push(place, false);
+    if (shift) push(left, false);
+  }
+  assert.equal(keyboard.queued(), 32);
+  const copy = keyboard.copy(), ran = keyboard.runKeys(160_000);
+  assert.deepEqual(ran, { status: Status.DONE, passed: keyboard.passed, rises: 32 });
+  assert.ok(ran.passed === 160_000 || ran.passed === 160_001, 'it goes on through each edge');
+  assert.equal(keyboard.queued(), 0);
+  assert.equal(taken(keyboard), text);
+  assert.equal(copy.queued(), 32, 'the copy has a queue of its own');
+  let rises = 0;
+  for (let end = keyboard.cycle(); copy.cycle() < end - 100;) {
+    const { status, rises: more } = copy.runKeys(1000, true);
+    assert.ok(status === Status.DONE || status === Status.ROSE);
+    rises += more;
+  }
+  assert.equal(rises, 32);
+  assert.equal(taken(copy), text);
+  // A key that is so already is refused, and so are presses while 64 edges wait. Releases find room.
+  assert.equal(keyboard.queueKey(0, false), Status.REPEATED);
+  refused(() => keyboard.queueKey(96, true), Status.NO_SUCH_PLACE);
+  for (let place = 0; place < 64; place++) push(place, true);
+  assert.equal(keyboard.queueKey(64, true), Status.FULL);
+  assert.equal(keyboard.queueKey(7, true), Status.REPEATED);
+  keyboard.copyTo(copy);
+  keyboard.releaseAll();
+  assert.deepEqual([keyboard.queued(), copy.queued()], [128, 64]);
+  keyboard.runKeys(480_000);
+  assert.equal(keyboard.queued(), 0);
+  for (let column = 0; column < 12; column++) assert.equal(keyboard.column(column), 0xFF);
+  // An edge of a later cycle waits for it; a keyboard that is opened has an empty queue.
+  const later = keyboard.cycle() + 40_000;
+  assert.equal(keyboard.queueKey(29, true, later), Status.DONE);
+  keyboard.runKeys(later - keyboard.cycle());
+  assert.equal(keyboard.queued(), 1);
+  keyboard.runKeys(1);
+  assert.equal(keyboard.queued(), 0);
+  assert.equal(keyboard.column(3), 0xDF);
+  copy.openHex(hex);
+  assert.equal(copy.queued(), 0);
+  assert.equal(copy.queueKey(0, true), Status.DONE);
+  copy.free();
+}
+
+/** A run ends at the first step that does what it was asked for, and a keyboard that is opened ready is one that was run. */
+async function runs() {
+  const keyboard = await Keyboard.load(keyboardModule);
+  keyboard.openLayout(layout);
+  keyboard.bios(true);
+  const few = keyboard.runTo(0, 400_000, { steps: 9 });
+  assert.ok(few.status === Status.DONE && few.met === 0 && few.passed >= 9 && few.passed <= 18, 'nine steps');
+  const copy = keyboard.copy(), said = keyboard.runTo(Stop.ITEM, 400_000);
+  assert.equal(said.met, Stop.ITEM);
+  const item = keyboard.next();
+  assert.deepEqual([item.kind, item.value, keyboard.next()], [Item.PORT, 0xAA, null]);
+  assert.ok(keyboard.cycle() - item.cycle < 2, 'it ends in the step in which that is said');
+  const rise = copy.runTo(Stop.RISE | Stop.ITEM, 400_000);
+  assert.deepEqual(rise, { status: Status.DONE, met: Stop.RISE, passed: copy.passed });
+  assert.ok(copy.interrupt() && copy.rises() === 1);
+  // Every change of a wire is met, at the cycle at which single steps find it.
+  keyboard.key(29, true);
+  keyboard.copyTo(copy);
+  for (let changes = 0; changes < 22; changes++) {
+    const wires = copy.wires(), { met, passed } = keyboard.runTo(Stop.WIRES, 8000);
+    let gone = 0;
+    do {
+      copy.step();
+      gone += copy.passed;
+    } while (copy.wires() === wires);
+    assert.deepEqual([met, passed, keyboard.wires()], [Stop.WIRES, gone, copy.wires()]);
+  }
+  for (let ticks = 0; ticks < 3; ticks++) {
+    const { met, passed } = keyboard.runTo(Stop.PLACE, 4096, { at: TICK });
+    assert.equal(met, Stop.PLACE);
+    assert.equal(keyboard.inside().counter, TICK);
+    assert.ok(ticks === 0 || Math.abs(passed - 2048) < 2, 'a tick has 2,048 cycles');
+  }
+  assert.equal(keyboard.runTo(Stop.PLACE, 100, { at: 0x7FF }).met, 0, 'a limit');
+  keyboard.openHex(Buffer.from(':0100000001FE\n:00000001FF\n'));
+  assert.deepEqual(keyboard.runTo(0, 10), { status: Status.STUCK, met: 0, passed: 0 });
+  assert.deepEqual(keyboard.stuck, { counter: 0, byte: 1 });
+  assert.equal(keyboard.runKeys(10).status, Status.STUCK);
+  // Ready.
+  copy.openLayout(layout);
+  while (copy.run(400_000, true) !== Status.ROSE);
+  for (const open of [() => keyboard.openReadyLayout(layout), () => keyboard.openReadyHex(hex)]) {
+    open();
+    assert.deepEqual([keyboard.cycle(), keyboard.interrupt(), keyboard.look()], [copy.cycle(), true, copy.look()]);
+    assert.equal(keyboard.read60(), 0xAA);
+  }
+  refused(() => keyboard.openReadyLayout(hex), Status.BAD_TEXT);
+  assert.equal(keyboard.status() & 1, 0, 'what was open is as it was');
+  // Six items more than are kept.
+  copy.openSample();
+  assert.equal(copy.lost(), 0);
+  for (let count = 0; count < 70; count++) copy.status();
+  assert.equal(copy.lost(), 6);
+  for (let count = 0; count < 64; count++) assert.equal(copy.next().kind, Item.STATUS);
+  refused(() => copy.next(), Status.LOST);
+  assert.deepEqual([copy.next(), copy.lost()], [null, 0]);
+  refused(() => { copy.close(); copy.runTo(0, 1); }, Status.NOT_OPEN);
+}
+
+/** The calls of calls.c, and the checksum of their answers. */
 async function checksum() {
   const keyboard = await Keyboard.load(keyboardModule), all = (1n << 64n) - 1n;
   let state = BigInt(SEED) * 2n + 1n, sum = 14695981039346656037n;
@@ -152,10 +299,12 @@ async function checksum() {
   return `${sum.toString(16).padStart(16, '0')} cycle ${keyboard.cycle()}`;
 }
 
-const commands = everyCommand();
+const calls = everyCall(), commands = everyCommand();
 await typing();
 await refusals();
 await looks();
+await queue();
+await runs();
 const sum = await checksum();
 if (native) assert.equal(sum, native.trim(), 'the native library answers otherwise');
-console.log(`${commands} commands, typing, refusals, looks and copies${native ? ', and the checksum of the native library' : ''}`);
+console.log(`${calls} calls, ${commands} commands, typing, refusals, looks and copies, the queue, runs to something${native ? ', and the checksum of the native library' : ''}`);

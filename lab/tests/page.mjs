@@ -39,6 +39,10 @@ async function keyboard() {
   await browser.key('keyUp', 'ShiftLeft');
   for (const code of ['KeyI', 'Comma', 'Space', 'KeyP', 'KeyC', 'Enter']) await browser.stroke(code);
   await says('screen', /^Hi, pc\n▁$/);
+  // Strokes between two pictures arrive, and Shift comes before its letter.
+  const strokes = ['lshift +', 'a +', 'a -', 'lshift -', 'o +', 'o -'].map(it => it.split(' '));
+  await browser.evaluate(`for (const [name, way] of ${JSON.stringify(strokes)}) lab.keys.hold(name, way === '+', 'test')`);
+  await says('screen', /^Hi, pc\nAo▁$/);
   await browser.stroke('CapsLock');
   await browser.until('document.querySelector("[data-lamp=\\"4\\"]").classList.contains("on")');
   await browser.stroke('KeyQ');
@@ -259,6 +263,10 @@ async function boardFiles() {
   await says('board-told', /isn't known.*--without unknown/);
   await pressed('board-told', 'Leave every such key out');
   await says('board-told', /unknown_words\.toml is made of unknown_words\.json/);
+  await browser.choose('#open-board', [join(boards, 'editor/full_size.json')]);
+  await says('board-told', /so 13 must be left out/);
+  await pressed('board-told', 'Leave keys out that are there twice');
+  await says('board-told', /full_size\.toml is made of full_size\.json/);
   await browser.choose('#open-board', [join(boards, 'ortho48/keyboard.json')]);
   await says('board-told', /it has the layouts LAYOUT_/);
   await browser.choose('#open-board', [join(boards, 'ortho48/keymap.json')]);

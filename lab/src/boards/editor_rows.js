@@ -1,5 +1,5 @@
 // Rows of keys as keyboard-layout-editor.com has them, plain or with what VIA writes into the legends.
-import { Place, Refused, Shapeless, isTable, listOf, numberIn, numberOf, pairOf, saysYes, textOf, within } from './refused.js';
+import { A_LIST, A_TABLE, Place, Refused, Shapeless, countOf, inShort, isTable, numberOf, pairOf, partOf, saysYes, textOf } from './refused.js';
 
 // Where the next key is drawn, and how wide. The angle of turned keys changes nothing here, and their height neither.
 class Pen {
@@ -7,13 +7,17 @@ class Pen {
     Object.assign(this, { x: 0, y: 0, left: 0, top: 0, width: 1, decal: false });
   }
 
-  take(said) {
-    if ('rx' in said) this.left = this.x = numberOf(said.rx);
-    if ('ry' in said) this.top = numberOf(said.ry);
-    if ('rx' in said || 'ry' in said) [this.x, this.y] = [this.left, this.top];
-    this.x += numberIn(said, 'x', 0);
-    this.y += numberIn(said, 'y', 0);
-    this.width = numberIn(said, 'w', this.width);
+  take(said, where) {
+    const numbers = {};
+    for (const name of ['rx', 'ry', 'x', 'y', 'w']) {
+      if (name in said) numbers[name] = numberOf(said[name], `${where}: its property ${name}`);
+    }
+    const { rx = this.left, ry = this.top, x = 0, y = 0, w = this.width } = numbers;
+    [this.left, this.top] = [rx, ry];
+    if ('rx' in numbers || 'ry' in numbers) [this.x, this.y] = [rx, ry];
+    this.x += x;
+    this.y += y;
+    this.width = w;
     if ('d' in said) this.decal = saysYes(said.d);
   }
 
@@ -30,23 +34,23 @@ class Pen {
 
 /** Each key that isn't a decal. */
 function* drawnKeys(all) {
-  let rows = listOf(all);
+  let rows = all;
   // A file of one row has no brackets around its rows; what is said of the board as a whole may come before them.
   if (!rows.some(Array.isArray) && rows.some(item => typeof item === 'string')) rows = [rows];
   if (rows.length && isTable(rows[0])) rows = rows.slice(1);
   const pen = new Pen();
   for (const [above, row] of rows.entries()) {
-    if (!Array.isArray(row)) throw new Refused(`row ${above + 1} is no row of keys`);
+    if (!Array.isArray(row)) throw new Refused(`row ${above + 1} is ${inShort(row)}, and no row of keys`);
     let number = 0;
-    for (const item of row) {
-      if (isTable(item)) pen.take(item);
+    for (const [at, item] of row.entries()) {
+      if (isTable(item)) pen.take(item, `row ${above + 1}, key ${number + 1}`);
       else if (typeof item === 'string') {
         number++;
         if (!pen.decal) {
           yield { row: above + 1, number, legends: item.split('\n').map(part => part.trim()), width: pen.width, x: pen.x, y: pen.y };
         }
         pen.passKey();
-      } else throw new Refused(`row ${above + 1} holds what is neither a key nor its properties`);
+      } else throw new Refused(`row ${above + 1}, item ${at + 1}: ${inShort(item)} is neither a key nor its properties`);
     }
     pen.passRow();
   }
@@ -137,11 +141,12 @@ export function boardOfEditor(rows, choices) {
 /** The board of VIA's definition. */
 export function boardOfVia(data, choices) {
   if (choices.layout) throw new Refused("a definition of VIA's has no named layouts, but options: --option N,M");
-  const matrix = within(data, 'matrix'), { layouts } = data;
+  const matrix = partOf(data, 'matrix', A_TABLE), { layouts } = data;
   const board = newBoard('VIA', {
-    rows: matrix.rows ?? null, columns: matrix.cols ?? null, name: 'name' in data ? textOf(data.name) : '',
+    rows: countOf(matrix.rows, 'matrix.rows'), columns: countOf(matrix.cols, 'matrix.cols'), name: 'name' in data ? textOf(data.name) : '',
     usb: usbNumber(data.vendorId, data.productId),
   });
-  readKeys(board, layouts.keymap, new Options(choices.options, saysYes(layouts.labels) ? layouts.labels : []));
+  const [rows, labels] = ['keymap', 'labels'].map(name => partOf(layouts, name, A_LIST, 'layouts.'));
+  readKeys(board, rows, new Options(choices.options, labels));
   return board;
 }

@@ -1,5 +1,6 @@
 // The command from_kle, which makes a layout of a board that another tool describes, over files of the page: the rules and
 // words of examples/from_kle, with its tables.
+import { judgeDoubles } from './doubles.js';
 import { boardOfEditor, boardOfVia } from './editor_rows.js';
 import { readJson } from './json_text.js';
 import { codesOf, isKeymap, isOfVial, judgeBoard, keymapOf } from './keymap_files.js';
@@ -13,6 +14,7 @@ import { TABLES } from './tables.js';
 import { wiringOf } from './wiring.js';
 
 const STATUS = { done: 0, words: 2, refused: 3 };
+const WITHOUT_WORDS = ['unknown', 'doubles'];
 const IN_C = /^\s*#\s*include|\bPROGMEM\b|\bLAYOUT\w*\(/m;
 
 // The words haven't the form.
@@ -41,7 +43,7 @@ function choose(choices, option, value) {
   else if (option === '--diodes' && DIODES.includes(value)) choices.diodes = value;
   else if (option === '--option' && pair) choices.options.push(pair);
   else if (option === '--layer' && layer) choices.layers.push([layer[1], Number(layer[2])]);
-  else if (option === '--without' && /^(\d+(,\d+)?|unknown)$/.test(value)) choices.without.add(value);
+  else if (option === '--without' && /^(\d+(,\d+)?|unknown|doubles)$/.test(value)) choices.without.add(value);
   else throw new WrongWords();
 }
 
@@ -80,7 +82,7 @@ function boardOf(read, choices, ofKeymap) {
 
 /** Each key that is to be left out is there. */
 function judgeLeftOut(keys, without) {
-  const numbers = keys.map(key => key.number), [strange] = [...without].filter(it => it !== 'unknown' && !numbers.includes(it)).sort();
+  const numbers = keys.map(key => key.number), [strange] = [...without].filter(it => !WITHOUT_WORDS.includes(it) && !numbers.includes(it)).sort();
   if (strange === undefined) return;
   throw new Refused(`it has no key ${strange} to leave out; keys are named as messages have them, ${numbers[0]} for ${keys[0].where}`);
 }
@@ -127,7 +129,8 @@ function madeOf(choices, names, files) {
   const board = boardOf(first.data, choices, keymap?.layout ?? null);
   judgeLeftOut(board.keys, choices.without);
   const { roles, told } = keymap ? fromKeymap(board, keymap, choices, names[0]) : fromLegends(board, choices.without);
-  const all = [...ofFile, ...board.told, ...told, ...ofLeftOut(choices.without, roles), ...missingOf(roles)];
+  const ofWords = [...ofLeftOut(choices.without, roles), ...judgeDoubles(roles, TABLES.keys.length, choices.without.has('doubles'))];
+  const all = [...ofFile, ...board.told, ...told, ...ofWords, ...missingOf(roles)];
   const wired = wiringOf(board, choices, roles), { entries, told: ofNames } = entriesOf(TABLES.keys, roles, wired.places);
   const lines = wiringLines(entries);
   if (choices.prints === 'table') {

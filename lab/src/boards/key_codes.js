@@ -37,6 +37,7 @@ function plainMeaning(code) {
 /** What a code does when it is tapped, if that is all that a key can keep of it. */
 function tapped(code, lost) {
   const tap = meaningOf(code);
+  if (tap.kind === 'nothing') return unsaid(`since it does nothing when it is tapped; ${lost}`);
   return tap.kind === 'sends' ? sends(tap.key, [tap.lost, lost].filter(Boolean).join('; ')) : tap;
 }
 

@@ -1,5 +1,5 @@
 // Keymaps: QMK's, in the order of a layout's keys, and those that VIA and Vial have saved, in the order of the matrix.
-import { Refused, charactersOf, isAlnum, isTable, saysYes, wholeOf } from './refused.js';
+import { Refused, charactersOf, inShort, isAlnum, isTable, saysYes } from './refused.js';
 
 /** Whether a file is what Vial has saved. */
 export const isOfVial = data => isTable(data) && Array.isArray(data.layout) && !('layers' in data) && !('layouts' in data);
@@ -7,10 +7,18 @@ export const isOfVial = data => isTable(data) && Array.isArray(data.layout) && !
 /** Whether a file is a keymap, and no board. */
 export const isKeymap = data => isOfVial(data) || (isTable(data) && Array.isArray(data.layers) && !('layouts' in data));
 
+/** The rows of a layer that Vial has saved. */
+function rowsOfVial(layer, number) {
+  if (!Array.isArray(layer)) throw new Refused(`layer ${number} of the keymap is ${inShort(layer)}, and no list of rows`);
+  const at = layer.findIndex(row => !Array.isArray(row));
+  if (at >= 0) throw new Refused(`layer ${number} of the keymap, row ${at + 1}, is ${inShort(layer[at])}, and no list of codes`);
+  return layer;
+}
+
 // A list of layers, each of rows; a place without a key has a number for a code.
 function keymapOfVial(data) {
-  const layers = data.layout.map(layer => layer.flatMap(row => [...row].map(code => (typeof code === 'string' ? code : 'KC_NO'))));
-  if (!layers.length) throw new Refused('the keymap has no layers');
+  if (!data.layout.length) throw new Refused('the keymap has no layers');
+  const layers = data.layout.map((layer, number) => rowsOfVial(layer, number).flat().map(code => (typeof code === 'string' ? code : 'KC_NO')));
   return { layout: null, layers, byMatrix: true, wheels: (data.encoder_layout || []).some(saysYes), usb: null, keyboard: null };
 }
 
@@ -18,10 +26,11 @@ function keymapOfVial(data) {
 export function keymapOf(data) {
   if (isOfVial(data)) return keymapOfVial(data);
   const layers = isTable(data) ? data.layers : null;
-  if (!Array.isArray(layers) || !layers.length || !layers.every(Array.isArray)) throw new Refused('the keymap has no layers');
+  if (!Array.isArray(layers) || !layers.length) throw new Refused('the keymap has no layers');
   for (const [number, layer] of layers.entries()) {
+    if (!Array.isArray(layer)) throw new Refused(`layer ${number} of the keymap is ${inShort(layer)}, and no list of codes`);
     const at = layer.findIndex(code => typeof code !== 'string');
-    if (at >= 0) throw new Refused(`layer ${number} of the keymap, code ${at + 1}, is no text`);
+    if (at >= 0) throw new Refused(`layer ${number} of the keymap, code ${at + 1}, is ${inShort(layer[at])}, and no text`);
   }
   const byMatrix = 'vendorProductId' in data || (!('layout' in data) && !('keyboard' in data) && 'macros' in data);
   const { layout = null, keyboard, vendorProductId: usb } = data;
@@ -75,7 +84,7 @@ export function codesOf(board, keymap) {
 
 /** The codes of a layer in the order of the matrix, row by row, in the order of the board's keys. */
 function inMatrix(board, number, layer) {
-  const rows = wholeOf(board.rows), columns = wholeOf(board.columns);
+  const { rows, columns } = board;
   if (rows === null || columns === null) {
     throw new Refused("the keymap is in the order of a matrix, and the board's doesn't say how many rows and columns it has");
   }

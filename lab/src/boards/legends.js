@@ -154,15 +154,23 @@ class Legends {
     if (names.length > 1) throw new Unclear(`its legends ${shownLegends(key)} are of two keys`);
     const name = names[0] !== 'shift' ? names[0] : this.taken.has('lshift') ? 'rshift' : 'lshift';
     if (key.width >= 1.5 && name === 'kpdot' && !this.hasBackspace) return wideBackspace;
-    if (signOf(said) && key.width >= 1.5 && words[0].isMove) return this.#ofWideArrow(key, name);
+    if (signOf(said) && key.width >= 1.5 && words[0].isMove) return this.#ofWideArrow(key, name, signOf(said));
     if (words[0].isMove) return { name, note: NUM_OFF };
     if (name === 'prtsc') return { name, note: STAR };
     return { name, note: name === 'caps' && words[0].text.toLowerCase().includes('shift') ? 'is taken as Caps Lock' : '' };
   }
 
-  // A wide key with an arrow alone: Backspace mostly, Shift or Tab if the arrow shows up or right.
-  #ofWideArrow(key, name) {
+  // Whether the key A is the next to the right.
+  #isLeftOfA(key) {
+    return this.keys.some((other, at) => Math.abs(other.x - key.x - key.width) < 0.1 && Math.abs(other.y - key.y) < 0.1
+      && ['a', 'q'].includes(this.said[at].characters.join(' ').toLowerCase()));
+  }
+
+  // A wide key with an arrow alone: Backspace mostly; Caps Lock if it is hollow, shows down and is beside A, as in Germany. It
+  // may be Shift or Tab if the arrow shows up or right.
+  #ofWideArrow(key, name, sign) {
     if (name === 'kp4' && !this.hasBackspace) return wideBackspace;
+    if (sign.includes('\u21E9') && this.#isLeftOfA(key)) return { name: 'caps', note: 'is taken as Caps Lock, since the key is wide and beside A' };
     throw new Unclear(`its legend ${shownLegends(key)} is on a wide key, which may be Shift, Tab or another`);
   }
 

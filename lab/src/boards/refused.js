@@ -13,32 +13,45 @@ export class Shapeless extends Error {}
 
 export const isTable = value => typeof value === 'object' && value !== null && !Array.isArray(value);
 
-export function listOf(value) {
-  if (!Array.isArray(value)) throw new Shapeless('no list');
+// The kinds of parts that a table may have.
+export const A_TABLE = { words: 'an object', has: isTable, none: () => Object.create(null) };
+export const A_LIST = { words: 'a list', has: Array.isArray, none: () => [] };
+export const A_TEXT = { words: 'a text', has: value => typeof value === 'string', none: () => '' };
+
+function jsonOf(value) {
+  if (Array.isArray(value)) return `[${value.map(jsonOf).join(', ')}]`;
+  if (isTable(value)) return `{${Object.entries(value).map(([name, it]) => `${JSON.stringify(name)}: ${jsonOf(it)}`).join(', ')}}`;
+  return typeof value === 'number' ? String(value) : JSON.stringify(value);
+}
+
+const MOST_SHOWN = 30; // characters
+
+/** A value of JSON as a message has it. */
+export function inShort(value) {
+  const text = charactersOf(jsonOf(value));
+  return text.length <= MOST_SHOWN ? text.join('') : `${text.slice(0, MOST_SHOWN - 3).join('')}...`;
+}
+
+/** A part of a table by its name, empty if it isn't there. One of another kind is refused by its path. */
+export function partOf(table, name, kind, path = '') {
+  const value = table[name] ?? null;
+  if (value === null) return kind.none();
+  if (!kind.has(value)) throw new Refused(`${path}${name} is ${inShort(value)}, and not ${kind.words}`);
   return value;
 }
 
-/** A table within a table; an empty one if there is none. */
-export function within(table, name) {
-  if (!(name in table)) return Object.create(null);
-  if (!isTable(table[name])) throw new Shapeless(`${name} is no table`);
-  return table[name];
+/** A number of a file, or a text that says one; `what` names it if it is none. */
+export function numberOf(value, what) {
+  const isText = typeof value === 'string' && /^\s*[+-]?(\d+\.?\d*|\.\d+)(e[+-]?\d+)?\s*$/i.test(value);
+  const number = isText || typeof value === 'number' ? Number(value) : NaN;
+  if (!Number.isFinite(number)) throw new Refused(`${what} is ${inShort(value)}, and no number`);
+  return number;
 }
 
-/** A number, or a text that says one. */
-export function numberOf(value) {
-  if (typeof value === 'number' || typeof value === 'boolean') return Number(value);
-  if (typeof value === 'string' && /^\s*[+-]?(\d+\.?\d*|\.\d+)(e[+-]?\d+)?\s*$/i.test(value)) return Number(value);
-  throw new Shapeless('no number');
-}
-
-/** A number of a table; without it, another. */
-export const numberIn = (table, name, other) => (name in table ? numberOf(table[name]) : other);
-
-/** A whole number, or null if there is none. */
-export function wholeOf(value) {
+/** A number of rows or columns, or null if the file doesn't say it. */
+export function countOf(value, what) {
   if (value === undefined || value === null) return null;
-  if (!Number.isInteger(value)) throw new Shapeless('no whole number');
+  if (!Number.isInteger(value) || value < 1) throw new Refused(`${what} is ${inShort(value)}, and no number of lines`);
   return value;
 }
 

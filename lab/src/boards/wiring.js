@@ -1,5 +1,5 @@
 // From the keys of a board to columns and rows here: twelve columns of eight rows, the band of each diode at the column.
-import { Place, Refused, wholeOf } from './refused.js';
+import { Place, Refused } from './refused.js';
 
 const COLUMNS = 12, ROWS_OF_A_COLUMN = 8;
 const unsaidDiodes = (line, direction) => `it doesn't say how its diodes stand: its ${line} is taken as a column here, so the band of `
@@ -97,7 +97,7 @@ function placedAnew(board, own, roles) {
 
 /** No two keys have one place, and none is outside the matrix, if its size is known. */
 function judgePlaces(board, places) {
-  const seen = new Set(), rows = wholeOf(board.rows), columns = wholeOf(board.columns);
+  const seen = new Set(), { rows, columns } = board;
   for (const place of places) {
     if (seen.has(`${place}`)) throw new Refused(`two keys have the place ${place} in the matrix`);
     if (place.row >= (rows || place.row + 1) || place.column >= (columns || place.column + 1)) {
@@ -121,7 +121,7 @@ function spansOf(numbers) {
     own in the matrix, or else a gap between them, as wide as a key. */
 function rightHalf(board) {
   const { keys } = board;
-  if (board.split && board.rows && keys.every(key => key.place)) return keys.map(key => key.place.row >= Math.floor(wholeOf(board.rows) / 2));
+  if (board.split && board.rows && keys.every(key => key.place)) return keys.map(key => key.place.row >= Math.floor(board.rows / 2));
   const ordered = [...keys].sort((a, b) => a.x - b.x);
   let reach = 0;
   for (const [number, key] of ordered.entries()) {
