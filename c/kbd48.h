@@ -1,19 +1,20 @@
-/* The keyboard of the IBM PC/AT behind a handle: keys and port accesses go in as they happen, and bytes, the interrupt
-   line and the lights come out. `docs/EMBEDDING.md` shows how it is used, and says what of it is proved.
+/* A keyboard of the IBM PC/AT in a handle: keys and port accesses go in as they happen, and bytes, the interrupt line
+   and the lights come out. `docs/EMBEDDING.md` shows how it is used, and says what of it is proved.
 
-   Time is counted in cycles of 2.5 microseconds, 400,000 a second. A joint step is one instruction of the keyboard's
-   processor, one cycle or two; between two calls the machine stands between two steps. A call that makes a step says
-   so.
+   Time is counted in cycles of 2.5 microseconds, 400,000 a second. A step is one instruction of the keyboard's
+   processor, and takes one cycle or two. Between two calls the machine is between two steps. If a call makes a step,
+   its comment says so.
 
-   Each function but kbd48_text and kbd48_version answers a status. Of an empty handle each answers KBD48_NOT_OPEN and does nothing
-   (kbd48_run then says that 0 cycles passed). A call that is refused (KBD48_NO_SUCH_PLACE, KBD48_NO_SUCH_PORT,
-   KBD48_FULL, KBD48_EARLY; of a call that makes one step also KBD48_STUCK and KBD48_OVER) leaves the keyboard as it
-   was. What is written through a pointer is written where the status is KBD48_DONE, but for what the function says.
+   Each function but kbd48_text and kbd48_version returns a status. With an empty handle each returns KBD48_NOT_OPEN
+   and does nothing (kbd48_run then says that 0 cycles passed). A call that is refused leaves the keyboard as it was:
+   the statuses are KBD48_NO_SUCH_PLACE, KBD48_NO_SUCH_PORT, KBD48_FULL, KBD48_EARLY, and of a call that makes one step
+   also KBD48_STUCK and KBD48_OVER. A call writes through its pointers if the status is KBD48_DONE. If it also writes
+   with another status, its comment says so.
 
-   The caller sees to it that
-   - a handle begins as KBD48_EMPTY, is written by these functions alone, and is copied nowhere;
-   - no pointer is null, each leads to what it names (a text of 0 bytes too), and no two of a call overlap;
-   - one call at a time has a handle; between calls it may go to another thread, where the two are ordered;
+   The caller ensures that
+   - a handle begins as KBD48_EMPTY, is written only by these functions, and is never copied;
+   - no pointer is null, each points to what it names (a text of 0 bytes too), and no two of a call overlap;
+   - a handle is in one call at a time; between calls it may go to another thread, if the two calls are ordered;
    - no call comes from a signal handler, or from the forked child of a process with threads. */
 #ifndef KBD48_H
 #define KBD48_H
@@ -45,18 +46,18 @@ enum {
     KBD48_FULL = 7,           /* the input buffer is full, or four edges wait for a step */
     KBD48_STUCK = 8,          /* the keyboard's processor is at a byte that begins no instruction */
     KBD48_EARLY = 9,          /* the program stuck in its first 4,096 cycles, before stamp 0 */
-    KBD48_OVER = 10,          /* 2 to the 62nd cycles are done, and no more are counted */
+    KBD48_OVER = 10,          /* 2 to the 62nd cycles have passed, and no more are counted */
     KBD48_NO_WORD = 11,       /* the buffer of INT 09h is empty */
     KBD48_ROSE = 12,          /* the interrupt line rose */
     KBD48_NO_SUCH_CELL = 13,  /* data memory has the cells 0 to 127 */
     KBD48_NOTHING_SAID = 14,  /* nothing was said since something was last handed out */
     KBD48_LOST = 15,          /* more was said than is kept */
-    KBD48_REPEATED = 16,      /* after the edges that wait the key is so already: down, or up */
+    KBD48_REPEATED = 16,      /* the key is already down, or already up, after the edges that wait */
     KBD48_KEY_DUE = 17,       /* the next edge of the queue is due: call again with the cycles that are left */
-    KBD48_NO_SUCH_KEY = 18    /* no key has the name, or the layout has none of it */
+    KBD48_NO_SUCH_KEY = 18    /* no key has the name, or the layout has no such key */
 };
 
-/* The same in words; a text for every number. */
+/* The status in words; there is a text for every number. */
 static inline const char *kbd48_text(int32_t status) {
     static const char *const texts[] = {
         "done", "the handle is empty", "there is no memory", "the text has a fault", "the text is too long",
@@ -68,44 +69,44 @@ static inline const char *kbd48_text(int32_t status) {
     return status >= 0 && (size_t)status < sizeof texts / sizeof *texts ? texts[status] : "no such status";
 }
 
-/* KBD48_VERSION_NUMBER as the library was built with it. */
+/* The KBD48_VERSION_NUMBER that the library was built with. */
 int32_t kbd48_version(void);
 
-/* Where a text has its first fault: the entry of a layout or the line of a HEX text, counted from 1, and the number of
-   the rule that it breaks (`docs/FORMATS.md`). Entry 0 is the layout as a whole. */
+/* The first fault of a text: the entry of a layout or the line of a HEX text, counted from 1, and the number of the
+   rule that it breaks (`docs/FORMATS.md`). Entry 0 is the layout as a whole. */
 typedef struct {
     uint32_t place;
     uint32_t number;
 } kbd48_fault;
 
-/* Where a processor is stuck: its program counter, 0 to 4,095, and the byte there. */
+/* A place at which a processor is stuck: its program counter, 0 to 4,095, and the byte there. */
 typedef struct {
     uint16_t counter;
     uint8_t byte;
 } kbd48_place;
 
-/* Opens a keyboard of this layout (TOML, at most 65,536 bytes) at `handle`, and closes the one that was there: its
+/* Opens a keyboard of this layout (TOML, at most 65,536 bytes) at `handle`, and closes the one that was there. Its
    firmware is compiled, the board is powered on, 4,096 cycles pass, which is stamp 0, and INT 09h is masked. Takes all
-   memory that the keyboard takes: no other call but those that open and kbd48_copy takes any. On KBD48_BAD_TEXT `fault` says where; on any other
-   status `fault` is as it was, and on any failure the handle is. */
+   memory that the keyboard takes: only kbd48_copy and the calls that open take any. On KBD48_BAD_TEXT `fault` is the
+   first fault; with any other status `fault` is as it was. On any failure the handle is as it was. */
 int32_t kbd48_open_layout(const uint8_t *text, size_t length, kbd48 *handle, kbd48_fault *fault);
 
 /* The same with the sample layout, us84: 84 keys, each at the place of its number. No text is read. */
 int32_t kbd48_open_sample(kbd48 *handle);
 
-/* The place, 0 to 95, of the key with this name in a layout's text, or in the sample layout. `examples/us84.toml` has the
-   names of the 84 keys; they are compared byte by byte. Otherwise KBD48_NO_SUCH_KEY, or as kbd48_open_layout of a text
-   that is no layout. These two calls need no handle. */
+/* The place, 0 to 95, of the key with this name in a layout's text, or in the sample layout. `examples/us84.toml` has
+   the names of the 84 keys; they are compared byte by byte. Returns KBD48_NO_SUCH_KEY if there is no such key, and what
+   kbd48_open_layout returns if the text is no layout. These two calls need no handle. */
 int32_t kbd48_layout_key(const uint8_t *text, size_t length, const uint8_t *name, size_t name_length, uint8_t *place);
 int32_t kbd48_sample_key(const uint8_t *name, size_t length, uint8_t *place);
 
-/* The same with a program memory as an Intel HEX text of at most 16,384 bytes, of any program. One that sticks in its
-   first cycles is opened too, and stays where it is. */
+/* As kbd48_open_layout, with a program memory of any program, as an Intel HEX text of at most 16,384 bytes. A program
+   that sticks in its first cycles is opened too, and stays at its place. */
 int32_t kbd48_open_hex(const uint8_t *text, size_t length, kbd48 *handle, kbd48_fault *fault);
 
-/* The same, and the keyboard's power-on test is over: steps are made until the interrupt line rises for its AA, which is
-   at cycle 136,000 or so, or for a second (400,000 cycles) if it doesn't. A BIOS that waits for 41 ms only after power-on
-   finds such a keyboard. What was said on the way is handed out by kbd48_next. */
+/* The same, and the keyboard's power-on test is over. Steps are made until the interrupt line rises for its AA, which
+   is at cycle 136,000 or so, or for a second (400,000 cycles) if it doesn't rise. A BIOS that waits only 41 ms after
+   power-on finds such a keyboard. kbd48_next hands out what was said on the way. */
 int32_t kbd48_open_ready_layout(const uint8_t *text, size_t length, kbd48 *handle, kbd48_fault *fault);
 int32_t kbd48_open_ready_hex(const uint8_t *text, size_t length, kbd48 *handle, kbd48_fault *fault);
 
@@ -113,25 +114,26 @@ int32_t kbd48_open_ready_hex(const uint8_t *text, size_t length, kbd48 *handle, 
 int32_t kbd48_close(kbd48 *handle);
 
 /* Opens a copy of the keyboard of `from` at `to`, and closes the one that was there. The copy is in the same state and
-   has memory of its own: the same calls give the same answers. On any failure `to` is as it was. Keep a copy to go back
-   to, or open one board up to its AA and copy it for each machine. */
+   has memory of its own: the same calls return the same. On any failure `to` is as it was. Keep a copy to go back to,
+   or open one board up to its AA and copy it for each machine. */
 int32_t kbd48_copy(kbd48 *from, kbd48 *to);
 
-/* The key at a place, 0 to 95 (eight times its column and its row), goes down or up. The edge is made before the next
-   step; no step is made yet. KBD48_FULL where four edges wait already: run a step first. */
+/* The key at a place, 0 to 95 (eight times its column plus its row), goes down or up. The edge is made before the next
+   step; no step is made yet. Returns KBD48_FULL if four edges wait already: run a step first. */
 int32_t kbd48_key(kbd48 *handle, uint8_t place, bool down);
 
-/* Makes steps until `cycles` cycles have passed (a last step of two may make it one more), or, where `watched`, until
-   the interrupt line rises, which KBD48_ROSE says. `passed` is how many passed, whatever the status. On KBD48_STUCK
-   `place` is where. */
+/* Makes steps until `cycles` cycles have passed; a last step of two cycles may make it one more. If `watched` is true,
+   it also ends when the interrupt line rises, and returns KBD48_ROSE. `passed` is how many cycles passed, whatever the
+   status. On KBD48_STUCK `place` is the place at which the processor is stuck. */
 int32_t kbd48_run(kbd48 *handle, uint64_t cycles, bool watched, uint64_t *passed, kbd48_place *place);
 
-/* A queue of edges of keys. It hands each to the keyboard as soon as the keyboard can see it and has had the time to send
-   the edge before: 2,240 cycles after a press, 4,480 after a release. So keys are reported in the order in which they
-   were pushed, and a stroke of any length is seen. It is a struct of yours: it begins as KBD48_NO_KEYS, is written by
-   these functions alone, takes no memory and has no pointer in it. Copy it by assignment; keep one for each keyboard. */
+/* A queue of edges of keys. It hands each edge to the keyboard as soon as the keyboard can see it and has had the time
+   to send the edge before: 2,240 cycles after a press, 4,480 after a release. So keys are reported in the order in
+   which they were pushed, and a stroke of any length is seen. The queue is a struct of yours: it begins as
+   KBD48_NO_KEYS, is written only by these functions, takes no memory and has no pointer. Copy it by assignment; keep
+   one for each keyboard. */
 typedef struct {
-    uint64_t stamp; /* when it happened: the cycle less 4,096 */
+    uint64_t stamp; /* when it happened: the cycle minus 4,096 */
     uint8_t place;
     bool down;
 } kbd48_pushed;
@@ -148,20 +150,21 @@ typedef struct {
 #define KBD48_NO_KEYS {0} /* what a queue begins as: no edge waits, and all keys are up */
 #endif
 
-/* The key at a place, 0 to 95, goes down or up at this cycle (that of kbd48_cycle, or a later one), after all edges that
-   wait. KBD48_REPEATED if it is so already, as with the repeats of a window system: leave them out. KBD48_FULL if
-   a key goes down and 64 edges wait; a release always finds room. In both cases the queue is as it was. */
+/* The key at a place, 0 to 95, goes down or up at this cycle (that of kbd48_cycle, or a later one), after all edges
+   that wait. Returns KBD48_REPEATED if it is already down, or already up: those are the repeats of a window system, to
+   be left out. Returns KBD48_FULL if a key goes down and 64 edges wait; a release always finds room. In both cases the
+   queue is as it was. */
 int32_t kbd48_queue_key(kbd48_keys *queue, uint64_t cycle, uint8_t place, bool down);
 
-/* Each key that is down goes up at this cycle, after all edges that wait: as when your window loses the focus. */
+/* Each key that is down goes up at this cycle, after all edges that wait. Call it when your window loses the focus. */
 int32_t kbd48_release_all(kbd48_keys *queue, uint64_t cycle);
 
 /* How many edges wait, at most 160. */
 int32_t kbd48_queued(kbd48_keys *queue, uint8_t *count);
 
-/* Hands over the edge of the queue that is due, and then runs as kbd48_run does, but up to the next edge that is due at
-   most. KBD48_KEY_DUE says that fewer than `cycles` cycles have passed: call again with the rest. The edge is handed
-   over as by kbd48_key, so it waits while four edges of that call do. */
+/* Hands over the edge of the queue that is due, and then runs as kbd48_run does, but at most up to the next edge that
+   is due. KBD48_KEY_DUE says that fewer than `cycles` cycles have passed: call again with the rest. The edge is handed
+   over as by kbd48_key, so it waits while four edges of that call wait. */
 int32_t kbd48_run_keys(kbd48 *handle, kbd48_keys *queue, uint64_t cycles, bool watched, uint64_t *passed,
                        kbd48_place *place);
 
@@ -169,19 +172,20 @@ int32_t kbd48_run_keys(kbd48 *handle, kbd48_keys *queue, uint64_t cycles, bool w
 enum {
     KBD48_STOP_RISE = 1,  /* the interrupt line rises */
     KBD48_STOP_ITEM = 2,  /* something is said: kbd48_next hands it out */
-    KBD48_STOP_WIRES = 4, /* a wire is otherwise after a step than before it */
+    KBD48_STOP_WIRES = 4, /* a wire's level after a step differs from that before it */
     KBD48_STOP_PLACE = 8  /* the processor's counter reaches the place `at`, 0 to 2,047 (its low 11 bits) */
 };
 
 /* Makes steps until one of them does what `mask` asks for, or until `cycles` cycles have passed (one more at most) or
-   `steps` steps were made. `met` says what the last step did of that; it is 0 if a limit ended the run. `passed` and
+   `steps` steps were made. `met` is what the last step did of that; it is 0 if a limit ended the run. `passed` and
    `place` are as for kbd48_run. It makes many steps at once, as kbd48_run does; with KBD48_STOP_PLACE it makes them one
    at a time. A tick of a layout's firmware begins at the place KBD48_TICK. */
 #define KBD48_TICK 0x007
 int32_t kbd48_run_to(kbd48 *handle, uint8_t mask, uint16_t at, uint64_t cycles, uint64_t steps, uint8_t *met,
                      uint64_t *passed, kbd48_place *place);
 
-/* The host writes a byte to port 0x60 or 0x64, in one step. KBD48_FULL where the controller's input buffer is full. */
+/* The host writes a byte to port 0x60 or 0x64, in one step. Returns KBD48_FULL if the controller's input buffer is
+   full. */
 int32_t kbd48_write(kbd48 *handle, uint8_t port, uint8_t byte);
 
 /* The host reads port 0x60, in one step: the last byte that the controller put out, 00 at first. */
@@ -191,12 +195,12 @@ int32_t kbd48_read60(kbd48 *handle, uint8_t *byte);
    last write to 0x64, 10 always, 80 parity error. */
 int32_t kbd48_status(kbd48 *handle, uint8_t *byte);
 
-/* INT 09h of this project reads each byte 64 cycles after it was put out, where it is on; at first it is off, and the
-   host is the caller. One step. */
+/* Switches INT 09h of this project on or off, in one step. While it is on, it reads each byte 64 cycles after it was
+   put out. At first it is off, and the host is the caller. */
 int32_t kbd48_bios(kbd48 *handle, bool on);
 
-/* A program takes the next word from the buffer of INT 09h: scan code above, character below. One step, also where
-   KBD48_NO_WORD says that the buffer is empty. */
+/* A program takes the next word from the buffer of INT 09h: the scan code is the high byte, the character the low one.
+   This makes one step, also if the buffer is empty, for which it returns KBD48_NO_WORD. */
 int32_t kbd48_take(kbd48 *handle, uint16_t *word);
 
 /* What the log says, item by item. */
@@ -206,7 +210,7 @@ enum {
     KBD48_ITEM_WORD = 2,        /* INT 09h entered this word into its buffer */
     KBD48_ITEM_BEEP = 3,        /* the buffer had no room, or it was an overrun */
     KBD48_ITEM_OVERRUN = 4,     /* the keyboard's queue had overrun */
-    KBD48_ITEM_LIGHTS = 5,      /* the lights are these now: 01 Scroll, 02 Num, 04 Caps */
+    KBD48_ITEM_LIGHTS = 5,      /* these lights are lit now: 01 Scroll, 02 Num, 04 Caps */
     KBD48_ITEM_TAKEN = 6,       /* kbd48_take took this word */
     KBD48_ITEM_TAKEN_NONE = 7,  /* kbd48_take found the buffer empty */
     KBD48_ITEM_STATUS = 8,      /* kbd48_status read this byte */
@@ -227,35 +231,36 @@ typedef struct {
     uint16_t value; /* the byte or the word, or 0 */
 } kbd48_item;
 
-/* Hands out what was said next, in the order of the log, and makes no step. KBD48_NOTHING_SAID when all was handed out.
-   Sixty-four items are kept; if more are said, all behind them are lost, until KBD48_LOST says so, once, after the 64th. */
+/* Hands out what was said next, in the order of the log, and makes no step. Returns KBD48_NOTHING_SAID when all was
+   handed out. Sixty-four items are kept. If more are said, all after them are lost, until KBD48_LOST says so, once,
+   after the 64th. */
 int32_t kbd48_next(kbd48 *handle, kbd48_item *item);
 
 /* The calls from here on make no step and change nothing. */
 
-/* How many items were lost and not reported yet: after the items that are kept, KBD48_LOST means so many. */
+/* How many items were lost and not reported yet. KBD48_LOST, after the items that are kept, means this number. */
 int32_t kbd48_lost(kbd48 *handle, uint64_t *lost);
 
 /* Whether the interrupt line (IRQ 1) is up: the output buffer is full, and its interrupt is enabled. It stays up until
    port 0x60 is read. */
 int32_t kbd48_interrupt(kbd48 *handle, bool *up);
 
-/* How often the line rose in the last call that made a step. It may fall and rise within one step, so that it is up before
-   and after: if you read AA while the controller has a command, its answer follows in the same cycle. An interrupt
-   controller in edge mode needs each rise. */
+/* How often the line rose in the last call that made a step. It may fall and rise within one step, so that it is up
+   before and after: if you read AA while the controller has a command, its answer follows in the same cycle. An
+   interrupt controller in edge mode needs each rise. */
 int32_t kbd48_rises(kbd48 *handle, uint64_t *rises);
 
 /* The lights: 01 Scroll Lock, 02 Num Lock, 04 Caps Lock. */
 int32_t kbd48_lights(kbd48 *handle, uint8_t *lights);
 
-/* The levels of the two wires after the last cycle, true for high. Each is low where the keyboard or the controller
+/* The levels of the two wires after the last cycle, true for high. A wire is low if the keyboard or the controller
    pulls it. kbd48_run_to stops at each change. */
 int32_t kbd48_wires(kbd48 *handle, bool *clock, bool *data);
 
 /* How many cycles have passed since power-on. A stamp of a key file counts from cycle 4,096. */
 int32_t kbd48_cycle(kbd48 *handle, uint64_t *cycle);
 
-/* What the controller's registers are now. */
+/* The controller's registers. */
 typedef struct {
     uint8_t status;       /* what port 0x64 would read */
     uint8_t output;       /* what port 0x60 would read: the last byte that was put out, 00 at first. It isn't taken */

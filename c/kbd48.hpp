@@ -1,5 +1,5 @@
-// The keyboard for C++ from C++11 on: an object that opens, copies, moves and closes it. The calls are those of kbd48.h,
-// which has their units and ranges. A status that no caller can go on from is thrown as Kbd48::Error.
+// The keyboard for C++11 and later: an object that opens, copies, moves and closes it. The calls are those of kbd48.h,
+// which has their units and ranges. A status after which no caller can go on is thrown as Kbd48::Error.
 #ifndef KBD48_HPP
 #define KBD48_HPP
 #include "kbd48.h"
@@ -15,7 +15,7 @@ public:
         explicit Error(int32_t why) : std::runtime_error(kbd48_text(why)), status(why) {}
     };
 
-    // Of a text with a fault: where, and which rule it breaks.
+    // A text has a fault: the entry or line, and the rule that it breaks.
     struct TextFault : Error {
         kbd48_fault fault;
         TextFault(int32_t why, kbd48_fault where) : Error(why), fault(where) {}
@@ -58,7 +58,7 @@ public:
     }
     ~Kbd48() { kbd48_close(&handle); }
 
-    // Steps. A write says whether there was room for it, a key too; a run whether the line rose.
+    // Steps. A write and a key return whether there was room; a run returns whether the line rose.
     bool key(uint8_t place, bool down) { return roomy(kbd48_key(&handle, place, down)); }
     bool write(uint8_t port, uint8_t byte) { return roomy(kbd48_write(&handle, port, byte)); }
     uint8_t read60() { return shown<uint8_t>(kbd48_read60); }
@@ -71,8 +71,8 @@ public:
         return why == KBD48_ROSE || (need(why), false);
     }
 
-    // Keys by the queue of this keyboard, which hands each edge over when it can be seen. A key that is so already changes
-    // nothing; false if it goes down and there is no room.
+    // Keys by the queue of this keyboard, which hands each edge over when it can be seen. A key that is already down, or
+    // already up, changes nothing. False if a key goes down and there is no room.
     bool queue_key(uint8_t place, bool down) {
         int32_t status = kbd48_queue_key(&keys, cycle(), place, down);
         return status == KBD48_REPEATED || roomy(status);
@@ -98,7 +98,7 @@ public:
         return ran;
     }
 
-    // Which the last step did of what the mask asks for (KBD48_STOP_...); 0 if a limit was reached.
+    // What the last step did of that which the mask asks for (KBD48_STOP_...); 0 if a limit was reached.
     uint8_t run_to(uint8_t mask, uint64_t cycles, uint64_t steps = UINT64_MAX, uint16_t at = 0) {
         uint8_t met;
         uint64_t passed;
@@ -111,7 +111,7 @@ public:
     bool take(uint16_t &word) { return is_there(kbd48_take(&handle, &word), KBD48_NO_WORD); }
     bool next(kbd48_item &item) { return is_there(kbd48_next(&handle, &item), KBD48_NOTHING_SAID); }
 
-    // Looks, which make no step. They are const, and yet one call at a time may have a keyboard.
+    // Looks, which make no step. They are const, but a keyboard may be in one call at a time only.
     bool interrupt() const { return shown<bool>(kbd48_interrupt); }
     uint64_t rises() const { return shown<uint64_t>(kbd48_rises); }
     uint64_t lost() const { return shown<uint64_t>(kbd48_lost); }

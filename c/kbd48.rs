@@ -1,5 +1,6 @@
-//! The keyboard for Rust 1.82 or later, over `libkbd48.a`. It needs no crate: put this file into your own as `mod kbd48;`,
-//! and link with `-L DIST -l static=kbd48`. The calls are those of `kbd48.h`, which has their units and ranges.
+//! The keyboard for Rust 1.82 or later, over `libkbd48.a`. It needs no crate: put this file into your own as
+//! `mod kbd48;`, and link with `-L DIST -l static=kbd48`. The calls are those of `kbd48.h`, which has their units and
+//! ranges.
 #![allow(dead_code)]
 
 use std::cell::UnsafeCell;

@@ -130,9 +130,8 @@ fn a_run_stops_for_what_it_is_asked_to(rt: HostRuntime) -> Result<(), AllocError
         wires: false,
         place: None,
     };
-    let cycle = keyboard.cycle();
-    assert!(rt; keyboard.run_to(&nothing, SECOND, 7).end == Ending::Passed);
-    assert!(rt; keyboard.cycle() >= cycle + 7 && keyboard.cycle() <= cycle + 14);
+    let seven = keyboard.run_to(&nothing, SECOND, 7);
+    assert!(rt; seven.end == Ending::Passed && 7 <= seven.cycles && seven.cycles <= 14);
     let wires = Stops {
         wires: true,
         ..nothing

@@ -7,33 +7,33 @@ use Rattle.pc_tables.specs.declared.item.Item.{Item}
 use Rattle.pc_tables.specs.Words.{words_at}
 use Rattle.bits.specs.Bits.{has_bit, with_bit, without_bit, flipped_bit}
 use Rattle.int09.specs.Bits.{ctrl, alt, num, sysreq, pause}
-use Rattle.int09.specs.Bios.{State, Outcome, quiet, says, enters, enters_if}
+use Rattle.int09.specs.Bios.{State, Effect, quiet, says, enters, enters_if}
 use Rattle.int09.specs.Keys.{shift_bit, lock_bit, keypad_digit, differ, shift_down, reverses}
 use Rattle.int09.specs.Rules.{is_make, code_of, marks, on_sysreq, alt_broken, on_shift_key, locks, lock_made, on_lock_key}
 use Rattle.quiet_log.specs.Ports.{port_of, ports}
 use Rattle.int09.specs.Rules.{without_words, in_pause, word_in, alt_typed, with_alt, with_ctrl, alone, fed}
 
 -- at most two items, and no byte that is read
-pub record IsShort (o : Outcome) : Type 0 where
+pub record IsShort (o : Effect) : Type 0 where
   pub few : length o.items ≤ 2
   pub none_read : ports o.items ≡ []
 
 -- where a rule fits
-record AreShort (o : Option Outcome) : Type 0 where
-  each : (p : Outcome) → o ≡ Some p → IsShort p
+record AreShort (o : Option Effect) : Type 0 where
+  each : (p : Effect) → o ≡ Some p → IsShort p
 
 none : AreShort None
 none = record { each = λ p e. absurd cc }
 
-some : {o : Outcome} → IsShort o → AreShort (Some o)
+some : {o : Effect} → IsShort o → AreShort (Some o)
 some h = record { each = λ p e. let k : _ ≡ p = cc in subst IsShort k h }
 
 -- by what was asked
-one_of : (b : Bool) {o p : Outcome} → IsShort o → IsShort p → IsShort (if b then o else p)
+one_of : (b : Bool) {o p : Effect} → IsShort o → IsShort p → IsShort (if b then o else p)
 one_of true h g = h
 one_of false h g = g
 
-some_of : (b : Bool) {o p : Option Outcome} → AreShort o → AreShort p → AreShort (if b then o else p)
+some_of : (b : Bool) {o p : Option Effect} → AreShort o → AreShort p → AreShort (if b then o else p)
 some_of true h g = h
 some_of false h g = g
 
@@ -136,7 +136,7 @@ short_alone code s =
     (some_of (code == 0x37) (some (short_says refl)) (some (short_enters_if (word_in (λ row. row.shift) code) s)))
 
 -- the first rule that fits, or what the others come to
-first : (o : Option Outcome) {p : Outcome} → AreShort o → IsShort p → IsShort (unwrap_or o p)
+first : (o : Option Effect) {p : Effect} → AreShort o → IsShort p → IsShort (unwrap_or o p)
 first None h g = g
 first (Some o) h g = h.each o refl
 

@@ -10,7 +10,7 @@ use Rattle.pc_tables.specs.declared.item.Item.TheVariants.{Word}
 use Rattle.pc_tables.specs.Keys.{keys, scan_at, code_at}
 use Rattle.pc_tables.specs.Words.{words, letter_on}
 use Rattle.ctl_core.specs.ScanCodes.{scan_codes, translated}
-use Rattle.int09.specs.Bios.{State, Outcome, start, quiet}
+use Rattle.int09.specs.Bios.{State, Effect, start, quiet}
 use Rattle.int09.specs.Keys.{reverses}
 use Rattle.int09.specs.Rules.{fed, marks, on_sysreq, alt_broken, on_shift_key, locks, lock_made, on_lock_key, without_words}
 use Rattle.int09.specs.Rules.{in_pause, with_alt, with_ctrl, alone}
@@ -48,11 +48,11 @@ unfolding keys scan_codes translated
 scan_is = at_table (λ k. translated (code_at k)) (λ k. Some (scan_at k)) 84 refl
 
 -- what there is for a word with a character
-abbrev on_word : Option ℕ → (ℕ → Outcome) → Outcome
+abbrev on_word : Option ℕ → (ℕ → Effect) → Effect
 on_word None f = quiet start
 on_word (Some w) f = if w % 256 == 0 then quiet start else f w
 
-on_word_is : (o : Option ℕ) (f g : ℕ → Outcome) (w : ℕ) → on_word o f ≡ on_word o g → o ≡ Some w → (w % 256 == 0)
+on_word_is : (o : Option ℕ) (f g : ℕ → Effect) (w : ℕ) → on_word o f ≡ on_word o g → o ≡ Some w → (w % 256 == 0)
     ≡ false
     → f w ≡ g w
 on_word_is o f g w h e z =
@@ -62,7 +62,7 @@ on_word_is o f g w h e z =
 abbrev pub broken : ℕ → ℕ
 broken k = with_bit 0x80 (scan_at k)
 
-abbrev pub entered : ℕ → State → Outcome
+abbrev pub entered : ℕ → State → Effect
 entered w s = record { after = record s { words = w ∷ [] }; items = Word w ∷ [] }
 
 -- a key without a shift key: its word of the base column, and nothing at its break
@@ -97,7 +97,7 @@ is_left k = scan_at k == 0x2a
 abbrev pub under_shift_key : Bool → State
 under_shift_key left = record start { shifts = bit_by left }
 
-shift_table : (f g : ℕ → Outcome) → table (λ k. if is_shift k then f k else quiet start) 84
+shift_table : (f g : ℕ → Effect) → table (λ k. if is_shift k then f k else quiet start) 84
     ≡ table (λ k. if is_shift k then g k else quiet start) 84 → (k : ℕ) → k < 84 → is_shift k ≡ true → f k ≡ g k
 shift_table f g h k l s =
     sym (ap (λ b. if b then f k else quiet start) s)

@@ -11,7 +11,7 @@ use Rattle.layout_reader.specs.Layouts.{KeyLayout, is_fn_place}
 use Rattle.ctl_core.specs.ScanCodes.{translated}
 use Rattle.ctl_core.specs.Translation.{translation, coded}
 use Rattle.ctl_core.specs.declared.translation.Translated.{Translated}
-use Rattle.int09.specs.Bios.{State, Outcome, first_word}
+use Rattle.int09.specs.Bios.{State, Effect, first_word}
 use Rattle.int09.specs.Rules.{fed}
 use Rattle.byte_time.specs.declared.meeting.Meeting.{Meeting}
 use Rattle.byte_time.specs.declared.meeting.Meeting.TheVariants.{Idle, Sent}
@@ -123,11 +123,11 @@ module _ (keys : Keys) (rate last : ℕ) where
           ap (λ (t : Translated). read_of t.byte
           (marked t.mark (record { mark = mark; out = out; bios = bios; done = done })))
           (translation_is mark)
-          ∙ ap (λ (o : Outcome). record { mark = false; out = put mark; bios = o.after; done = done }) f;
+          ∙ ap (λ (o : Effect). record { mark = false; out = put mark; bios = o.after; done = done }) f;
       said =
           ap (λ (t : Translated). said_of_read t.byte (record { mark = mark; out = out; bios = bios; done = done }))
           (translation_is mark)
-          ∙ ap (λ (o : Outcome). Port (put mark) ∷ o.items) f;
+          ∙ ap (λ (o : Effect). Port (put mark) ∷ o.items) f;
     }
 
 -- the edges of a tick take the queue, the key that repeats and the keys that are held from one state to another

@@ -110,7 +110,7 @@ module _ (s : Story) (time : KeepsTimeFrom (joint_start_of s.held) s.bytes s.edg
   some_state : (k : ℕ) → (w : World Beside) × (state_at s k ≡ Some w)
   some_state k = time.goes_on k
 
-  module _ {S : Type 0} (kb : Rattle.link_model.specs.Machine.Machine S)
+  module _ {S : Type 0} (kb : Rattle.link_model.specs.Machine.KeyboardMachine S)
       (wires : DrivesWires (joint_start_of s.held) s.bytes kb s.edges s.events) where
     first : Stands 0
     first =
