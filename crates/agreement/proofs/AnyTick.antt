@@ -5,14 +5,15 @@ use Rattle.mcs48_core.specs.Cpu.{Cpu}
 use Rattle.fw_kernel.specs.declared.cells.TheConstants.{LIGHTS}
 use Rattle.fw_kernel.specs.Places.{HasKernel}
 use Rattle.fw_kernel.specs.declared.labels.TheConstants.{TICK}
+use Rattle.fw_keys.proofs.Begun.{IsAnyStart}
 use Rattle.fw_keys.proofs.Block.{Safe}
 use Rattle.fw_keys.proofs.Ended.{AtHead}
 use Rattle.fw_keys.proofs.Frames.{sent_works, cut_works, got_works}
-use Rattle.fw_keys.proofs.FramelessTick.{late, soon, changed_in, four, fine, inv, board3, held_before, cpu_at_head, Came, any_tick, works}
+use Rattle.fw_keys.proofs.FramelessTick.{changed_in, four, fine, inv, board3, held_before, cpu_at_head, Came, any_tick, works}
 use Rattle.fw_keys.proofs.Scan.{edges_most}
-use Rattle.fw_keys.proofs.Serve.{Work, fit}
+use Rattle.fw_keys.proofs.Serve.{Work, any_edges, fit}
 use Rattle.fw_keys.specs.Edges.{image_keys, IsSilentAlike}
-use Rattle.fw_keys.specs.Frameless.{cells_in, shown_by, layers_by, IsStarted, IsRepeating, IsFrameless, edges_now, latch_now}
+use Rattle.fw_keys.specs.Frameless.{cells_in, shown_by, layers_by, IsRepeating, IsFrameless, edges_now, latch_now}
 use Rattle.fw_keys.specs.Frameless.{clock_now, data_now, data_again}
 use Rattle.fw_keys.specs.State.{Inv}
 use Rattle.fw_link.proofs.Latches.{driven}
@@ -25,6 +26,7 @@ use Rattle.fw_link.specs.Reading.{byte_in, right_in}
 use Rattle.fw_logic.proofs.Laws.{comes_as}
 use Rattle.fw_logic.proofs.Path.{Stage}
 use Rattle.fw_logic.proofs.Service.{stacked}
+use Rattle.fw_logic.proofs.Timers.{TimerState, IsInRange, timer_of}
 use Rattle.fw_logic.specs.Scan.{in_tick}
 use Rattle.mcs48_ranges.specs.Sizes.{IsByte}
 use Rattle.joint_run.specs.Run.{Board, World, after_cycles}
@@ -35,14 +37,15 @@ use Rattle.kbd_model.specs.declared.meeting.Meeting.TheVariants.{Sent, Cut, Got}
 use Rattle.agreement.proofs.AtLook.{one_byte, sent_at, received_at}
 use Rattle.agreement.proofs.Fitting.{Behind, clock, data_wire, data_second, clock_look, data_look}
 use Rattle.agreement.proofs.Fitting.{sends_frame, cuts_frame, gets_frame}
-use Rattle.agreement.proofs.Happened.{Happened}
+use Rattle.agreement.proofs.Ran.{Ran}
 use Rattle.agreement.proofs.Lit.{shine, from_lights, from_head}
 use Rattle.agreement.proofs.Pressing.{pressed_at}
+use Rattle.agreement.specs.AnyKeys.{longest_tick}
 use Rattle.agreement.specs.Firmware.{Finds, HasWholeCodes, Offers, IsOpen, clock_in, data_in, board_at}
 
 module _ (d : Board) (bytes : List ℕ) (hk : HasKernel bytes) (alike : IsSilentAlike bytes) (small : All IsByte bytes)
     (low : (p1 p2 c : ℕ) (s : d.State) → (d.pins p1 p2 c s).bus < 256) (w : World d.State)
-    (s : IsStarted w.cpu) (repeats : IsRepeating bytes w.cpu.ram) (few : length (edges_now d w) ≤ 4) where
+    (s : IsAnyStart w.cpu) (repeats : IsRepeating bytes w.cpu.ram) where
   -- the latch from the lights on, the tick's start, and the keyboard
   abbrev v : ℕ
   v = latch_now d w
@@ -61,22 +64,22 @@ module _ (d : Board) (bytes : List ℕ) (hk : HasKernel bytes) (alike : IsSilent
   ring = drop 112 w.cpu.ram
 
   abbrev held : List Bool
-  held = held_before d bytes hk alike small low w s few
+  held = held_before d bytes hk alike small low w s
 
-  abbrev first : Bool → Cpu
-  first l = cpu_at_head d bytes hk alike small low w s few l
+  abbrev first : TimerState → Cpu
+  first l = cpu_at_head d bytes hk alike small low w s l
 
   abbrev third : d.State
-  third = board3 d bytes hk alike small low w s few
+  third = board3 d bytes hk alike small low w s
 
   abbrev begins : Inv (stacked f)
-  begins = inv d bytes hk alike small low w s few
+  begins = inv d bytes hk alike small low w s
 
   abbrev y : ℕ
   y = start + 3 + 231
 
-  abbrev shines : Bool → d.State
-  shines l = shine d bytes hk alike small low w s few l
+  abbrev shines : TimerState → d.State
+  shines l = shine d bytes hk alike small low w s l
 
   -- the lights stand above the wires' bits
   pub released : IsReleased v
@@ -91,19 +94,25 @@ module _ (d : Board) (bytes : List ℕ) (hk : HasKernel bytes) (alike : IsSilent
   abbrev gone : Frame → ℕ → d.State
   gone frame n = board_at d w frame n
 
-  abbrev Comes : Meeting → (Bool → Stage d.State → Type 0) → World d.State → Type 0
-  Comes meeting G u = Came d bytes hk alike small low w s few meeting G u
+  abbrev Comes : Meeting → ℕ → (TimerState → Stage d.State → Type 0) → World d.State → Type 0
+  Comes meeting last_off G u = Came d bytes hk alike small low w s meeting last_off G u
 
   abbrev So : Meeting → Frame → World d.State → Type 0
-  So meeting frame u = Happened d bytes meeting frame w u
+  So meeting frame u = Ran d bytes meeting frame w u
+
+  -- the work of a tick fits: with four edges at most it is in time, and it is never longer than the longest
+  record Fits (last_off : ℕ) : Type 0 where
+    few : length (edges_now d w) ≤ 4 → 3 + last_off ≤ 2040
+    any : 7 + last_off ≤ longest_tick
 
   -- a tick that came to its end, by the board there
-  came_so : (meeting : Meeting) (G : Bool → Stage d.State → Type 0) (frame : Frame) (u : World d.State)
-      (c : Comes meeting G u) → c.from.cpu.p2 ≡ v → ((n : ℕ) → u.cycle ≡ start + n → u.board ≡ gone frame n)
+  came_so : (meeting : Meeting) (last_off : ℕ) (G : TimerState → Stage d.State → Type 0) (frame : Frame)
+      (u : World d.State) → Fits last_off → (c : Comes meeting last_off G u) → c.from.cpu.p2 ≡ v → ((n : ℕ) → u.cycle ≡ start + n → u.board ≡ gone frame n)
       → So meeting frame u
-  came_so meeting G frame u c p2 is = record {
+  came_so meeting last_off G frame u fits c p2 is = record {
     started = c.started;
-    time = c.time;
+    soon = c.within longest_tick (omega arith) fits.any;
+    prompt = λ started few. c.prompt started (fits.few few);
     keyboard = c.keyboard;
     layers = c.layers;
     repeating = c.repeating;
@@ -113,12 +122,13 @@ module _ (d : Board) (bytes : List ℕ) (hk : HasKernel bytes) (alike : IsSilent
   }
 
   -- without a frame no port is written from the head's end on
-  abbrev head : Bool → Stage d.State → Type 0
+  abbrev head : TimerState → Stage d.State → Type 0
   head l = AtHead d bytes hk alike small low held (start + 3) (first l) third (stacked f) ring
 
-  still_came : (meeting : Meeting) (u : World d.State) → Comes meeting head u → So meeting NoFrame u
-  still_came meeting u c =
-      came_so meeting head NoFrame u c c.facts.p2
+  still_came : (meeting : Meeting) (last_off : ℕ) (u : World d.State) → Fits last_off → Comes meeting last_off head u
+      → So meeting NoFrame u
+  still_came meeting last_off u fits c =
+      came_so meeting last_off head NoFrame u fits c c.facts.p2
       (λ j e.
       let off : c.from.off ≡ 231 = c.facts.off in
       let at : u.cycle ≡ start + (3 + c.from.off) + c.n = c.cycle in
@@ -127,30 +137,30 @@ module _ (d : Board) (bytes : List ℕ) (hk : HasKernel bytes) (alike : IsSilent
       c.board_now ∙ ap (λ p. after_cycles c.n (start + (3 + c.from.off)) (d.cycle p) c.from.board) c.facts.p2
       ∙ ap (λ q. after_cycles c.n (start + (3 + c.from.off)) (d.cycle v) q) c.facts.board_is
       ∙ ap (λ x. after_cycles c.n x (d.cycle v) (shines c.l)) z
-      ∙ from_head d bytes hk alike small low w s few NoFrame c.l c.n
+      ∙ from_head d bytes hk alike small low w s NoFrame c.l c.n
       (λ i l. without_frame w.cpu.p2 v (232 + i) (omega arith))
       ∙ ap (gone NoFrame) n)
 
   -- the board in a frame, by the latch of the tick
-  abbrev framing : Bool → d.State
+  abbrev framing : TimerState → d.State
   framing l = after_cycles 26 y (d.cycle v) (shines l)
 
-  in_frame : (frame : Frame) (l : Bool) (n : ℕ) → n ≤ frame_cycles frame
+  in_frame : (frame : Frame) (l : TimerState) (n : ℕ) → n ≤ frame_cycles frame
       → driven d (260 + start) (frame_latch frame v) n 0 (framing l) ≡ gone frame (260 + n)
   in_frame frame l n room =
       spans_as d start (latch frame) n 260 (260 + start) (frame_latch frame v) (framing l) w.board (omega arith)
       (λ i u. sym (within w.cpu.p2 v frame i (omega (arith, u, room))))
-      (from_head d bytes hk alike small low w s few frame l 26
+      (from_head d bytes hk alike small low w s frame l 26
       (λ i u. before_data w.cpu.p2 v frame i (omega (arith, u))))
 
   -- a frame of n cycles, behind which the latch leaves both wires alone
-  abbrev framed : Frame → Bool → Stage d.State → Type 0
+  abbrev framed : Frame → TimerState → Stage d.State → Type 0
   framed frame l = Behind d v start (frame_latch frame v) (frame_cycles frame) (framing l)
 
-  frame_came : (meeting : Meeting) (frame : Frame) (u : World d.State)
-      → Comes meeting (framed frame) u → So meeting frame u
-  frame_came meeting frame u c =
-      came_so meeting (framed frame) frame u c c.facts.p2
+  frame_came : (meeting : Meeting) (frame : Frame) (last_off : ℕ) (u : World d.State) → Fits last_off
+      → Comes meeting last_off (framed frame) u → So meeting frame u
+  frame_came meeting frame last_off u fits c =
+      came_so meeting last_off (framed frame) frame u fits c c.facts.p2
       (λ j e.
       let n : ℕ = frame_cycles frame in
       let off : c.from.off ≡ 257 + n = c.facts.off in
@@ -165,35 +175,35 @@ module _ (d : Board) (bytes : List ℕ) (hk : HasKernel bytes) (alike : IsSilent
       ∙ ap (gone frame) i)
 
   -- the looks of the tick
-  clock_is : (l : Bool)
+  clock_is : (l : TimerState)
       → clock d bytes hk alike small low held (start + 3) (first l) third (stacked f) ring start refl released
       ≡ clock_now d w
   clock_is l =
       let a : y + 22 ≡ start + 232 + 24 = omega arith in
-      ap (λ q. (d.pins 44 v (y + 22) q).t0) (from_lights d bytes hk alike small low w s few l 22 y (omega arith))
+      ap (λ q. (d.pins 44 v (y + 22) q).t0) (from_lights d bytes hk alike small low w s l 22 y (omega arith))
       ∙ ap (λ c. (d.pins 44 v c (after_cycles 24 (start + 232) (d.cycle v) (in_tick d w 232))).t0) a
 
-  data_is : (l : Bool)
+  data_is : (l : TimerState)
       → data_wire d bytes hk alike small low held (start + 3) (first l) third (stacked f) ring start refl released
       ≡ data_now d w
   data_is l =
       let a : y + 24 ≡ start + 232 + 26 = omega arith in
-      ap (λ q. (d.pins 44 v (y + 24) q).t1) (from_lights d bytes hk alike small low w s few l 24 y (omega arith))
+      ap (λ q. (d.pins 44 v (y + 24) q).t1) (from_lights d bytes hk alike small low w s l 24 y (omega arith))
       ∙ ap (λ c. (d.pins 44 v c (after_cycles 26 (start + 232) (d.cycle v) (in_tick d w 232))).t1) a
 
-  second_is : (l : Bool)
+  second_is : (l : TimerState)
       → data_second d bytes hk alike small low held (start + 3) (first l) third (stacked f) ring start refl released
       ≡ data_again d w
   second_is l =
       let a : y + 52 ≡ start + 232 + 54 = omega arith in
-      ap (λ q. (d.pins 44 v (y + 52) q).t1) (from_lights d bytes hk alike small low w s few l 52 y (omega arith))
+      ap (λ q. (d.pins 44 v (y + 52) q).t1) (from_lights d bytes hk alike small low w s l 52 y (omega arith))
       ∙ ap (λ c. (d.pins 44 v c (after_cycles 54 (start + 232) (d.cycle v) (in_tick d w 232))).t1) a
 
   -- those of a frame, by the offset from the look at data
   abbrev look_off : ℕ → ℕ
   look_off k = 28 + 32 * k + 18
 
-  clock_look_is : (l : Bool) (byte look : ℕ) → IsLook look
+  clock_look_is : (l : TimerState) (byte look : ℕ) → IsLook look
       → clock_look d bytes hk alike small low held (start + 3) (first l) third (stacked f) ring start refl released byte
       look
       ≡ clock_in d w byte look
@@ -207,7 +217,7 @@ module _ (d : Board) (bytes : List ℕ) (hk : HasKernel bytes) (alike : IsSilent
       (sym (sent_at w.cpu.p2 v byte look is))
       ∙ ap (λ c. (d.pins 44 (latch frame (260 + look)) c (gone frame (260 + look))).t0) a
 
-  data_look_is : (l : Bool) (k : ℕ) → k < 10
+  data_look_is : (l : TimerState) (k : ℕ) → k < 10
       → data_look d bytes hk alike small low held (start + 3) (first l) third (stacked f) ring start refl released k
       ≡ data_in d w k
   data_look_is l k few =
@@ -220,95 +230,103 @@ module _ (d : Board) (bytes : List ℕ) (hk : HasKernel bytes) (alike : IsSilent
       (sym (received_at w.cpu.p2 v released k few))
       ∙ ap (λ c. (d.pins 44 (latch frame (306 + 32 * k)) c (gone frame (306 + 32 * k))).t1) a
 
-  -- the work of a tick up to an offset; with four edges at most it is in time
-  abbrev Does : Meeting → ℕ → (Bool → Stage d.State → Type 0) → Type 0
+  -- the work of a tick up to an offset
+  abbrev Does : Meeting → ℕ → (TimerState → Stage d.State → Type 0) → Type 0
   Does meeting last_off G =
-      (l : Bool) → Work d bytes hk alike small low start (late d bytes hk alike small low w s few)
-      (soon d bytes hk alike small low w s few) w.cpu.tf w.cpu.last_t1 f ring w.cpu w.board l meeting last_off (G l)
+      (l : TimerState) → IsInRange l → Work d bytes hk alike small low start (timer_of w.cpu) f ring w.cpu w.board l meeting last_off (G l)
 
   abbrev most : ℕ
-  most = edges_most (changed_in d bytes hk alike small low w s few)
+  most = edges_most (changed_in d bytes hk alike small low w s)
 
-  abbrev edges_few : most ≤ 728
-  edges_few = four d bytes hk alike small low w s few
+  -- all but the edges takes so many cycles
+  fits_in : (others last_off : ℕ) → last_off ≡ others + most → others ≤ 749 → Fits last_off
+  fits_in others last_off sum less =
+      let any : most ≤ 7176 = any_edges (changed_in d bytes hk alike small low w s) in
+      record {
+        few = λ h.
+            let edges : most ≤ 728 = four d bytes hk alike small low w s h in omega (arith, edges, sum, less);
+        any = omega (arith, any, sum, less);
+      }
 
-  by_way : (meeting : Meeting) (frame : Frame) (last_off : ℕ) (G : Bool → Stage d.State → Type 0)
-      → 3 + last_off ≤ 2040 → Does meeting last_off G
-      → ((u : World d.State) → Comes meeting G u → So meeting frame u)
+  by_way : (meeting : Meeting) (frame : Frame) (last_off : ℕ) (G : TimerState → Stage d.State → Type 0)
+      → Fits last_off → Does meeting last_off G
+      → ((u : World d.State) → Fits last_off → Comes meeting last_off G u → So meeting frame u)
       → Tick d TICK bytes w (So meeting frame)
-  by_way meeting frame last_off G room work turn =
-      let t = any_tick d bytes hk alike small low w s few meeting last_off
-      (pressed_at (image_keys bytes) meeting (layers_by w.cpu.ram) kbd repeats) room G work in
+  by_way meeting frame last_off G fits work turn =
+      let t = any_tick d bytes hk alike small low w s meeting last_off
+      (pressed_at (image_keys bytes) meeting (layers_by w.cpu.ram) kbd repeats) G work in
       record {
         at = t.at;
         first = t.first;
         step = t.step;
-        rest = comes_as d TICK bytes (Comes meeting G) (So meeting frame) t.first turn t.rest;
+        rest = comes_as d TICK bytes (Comes meeting last_off G) (So meeting frame) t.first (λ u c. turn u fits c) t.rest;
       }
 
-  safe : (l : Bool) → Safe (first l) 10 (stacked f) ring
-  safe l =
-      fit d bytes hk alike small low start (late d bytes hk alike small low w s few)
-      (soon d bytes hk alike small low w s few) w.cpu.tf w.cpu.last_t1 f ring w.cpu w.board l
-      (fine d bytes hk alike small low w s few)
+  safe : (l : TimerState) → IsInRange l → Safe (first l) 10 (stacked f) ring
+  safe l range =
+      fit d bytes hk alike small low start (timer_of w.cpu) f ring w.cpu w.board l range
+      (fine d bytes hk alike small low w s)
 
   -- without a frame
   pub quiet : (meeting : Meeting) → IsFrameless d w meeting → Tick d TICK bytes w (So meeting NoFrame)
   quiet meeting q =
-      let h : most ≤ 728 = edges_few in
-      let a = works d bytes hk alike small low w s few meeting q in
+      let a = works d bytes hk alike small low w s meeting q in
       let max : a.0 ≤ 56 = a.1 in
-      by_way meeting NoFrame (231 + (a.0 + (56 + (2 + most)))) head (omega (arith, h, max)) a.2 (still_came meeting)
+      let last_off : ℕ = 231 + (a.0 + (56 + (2 + most))) in
+      by_way meeting NoFrame last_off head (fits_in (231 + (a.0 + (56 + 2))) last_off (omega arith) (omega (arith, max))) a.2
+      (still_came meeting last_off)
 
   -- what is offered is sent, or cut at a look
   pub sent : (byte : ℕ) → HasWholeCodes w.cpu.ram → Offers d w byte
       → ((look : ℕ) → IsLook look → clock_in d w byte look ≡ true) → Tick d TICK bytes w (So Sent (SentFrame byte))
   sent byte codes o looks =
-      let h : most ≤ 728 = edges_few in
       let frame : Frame = SentFrame byte in
-      by_way Sent frame (231 + (394 + (9 + 48 + (56 + (2 + most))))) (framed frame) (omega (arith, h))
-      (λ l.
+      let last_off : ℕ = 231 + (394 + (9 + 48 + (56 + (2 + most)))) in
+      by_way Sent frame last_off (framed frame)
+      (fits_in (231 + (394 + (9 + 48 + (56 + 2)))) last_off (omega arith) (omega arith))
+      (λ l range.
       sent_works d bytes hk alike small low held (start + 3) (first l) third (stacked f) ring 394 (framed frame l)
       begins o.0.0 codes
       (sends_frame d bytes hk alike small low held (start + 3) (first l) third (stacked f) ring start refl released
       o.0.0 (clock_is l ∙ o.0.1) byte o.2 (data_is l ∙ o.1)
-      (λ look is. clock_look_is l byte look is ∙ looks look is)) (safe l))
-      (frame_came Sent frame)
+      (λ look is. clock_look_is l byte look is ∙ looks look is)) (safe l range))
+      (frame_came Sent frame last_off)
 
   pub cut : (byte look : ℕ) → Offers d w byte → IsLook look
       → ((earlier : ℕ) → IsLook earlier → earlier < look → clock_in d w byte earlier ≡ true)
       → clock_in d w byte look ≡ false → Tick d TICK bytes w (So Cut (CutFrame byte look))
   cut byte look o is looks last =
-      let h : most ≤ 728 = edges_few in
       let far : look ≤ 344 = look_within look is in
       let frame : Frame = CutFrame byte look in
       let n : ℕ = cut_after look in
-      by_way Cut frame (231 + (26 + n + (0 + (56 + (2 + most))))) (framed frame) (omega (arith, h, far))
-      (λ l.
+      let last_off : ℕ = 231 + (26 + n + (0 + (56 + (2 + most)))) in
+      by_way Cut frame last_off (framed frame)
+      (fits_in (231 + (26 + n + (0 + (56 + 2)))) last_off (omega arith) (omega (arith, far)))
+      (λ l range.
       cut_works d bytes hk alike small low held (start + 3) (first l) third (stacked f) ring (26 + n) (framed frame l)
       begins o.0.0
       (cuts_frame d bytes hk alike small low held (start + 3) (first l) third (stacked f) ring start refl released
       o.0.0 (clock_is l ∙ o.0.1) byte o.2 (data_is l ∙ o.1) look is
       (λ earlier at u. clock_look_is l byte earlier at ∙ looks earlier at u) (clock_look_is l byte look is ∙ last))
-      (safe l))
-      (frame_came Cut frame)
+      (safe l range))
+      (frame_came Cut frame last_off)
 
   -- a byte is received: what the looks at data read
   pub got : (byte : ℕ) (good : Bool) → byte_in (data_in d w) ≡ byte → right_in (data_in d w) ≡ good → IsOpen d w
       → data_now d w ≡ false → data_again d w ≡ false → Tick d TICK bytes w (So (Got byte good) ReceivedFrame)
   got byte good is right ended pulled still =
-      let h : most ≤ 728 = edges_few in
-      by_way (Got byte good) ReceivedFrame (231 + (392 + (68 + (56 + (2 + most))))) (framed ReceivedFrame)
-      (omega (arith, h))
-      (λ l.
+      let last_off : ℕ = 231 + (392 + (68 + (56 + (2 + most)))) in
+      by_way (Got byte good) ReceivedFrame last_off (framed ReceivedFrame)
+      (fits_in (231 + (392 + (68 + (56 + 2)))) last_off (omega arith) (omega arith))
+      (λ l range.
       let same = one_byte
       (data_look d bytes hk alike small low held (start + 3) (first l) third (stacked f) ring start refl released)
       (data_in d w) (λ k u. data_look_is l k (omega (arith, u))) in
       got_works d bytes hk alike small low held (start + 3) (first l) third (stacked f) ring byte good 392
       (framed ReceivedFrame l) begins ended.0
       (gets_frame d bytes hk alike small low held (start + 3) (first l) third (stacked f) ring start refl released
-      ended.0 (clock_is l ∙ ended.1) byte good (data_is l ∙ pulled) (second_is l ∙ still) (same.0 ∙ is) (same.1 ∙ right)) (safe l))
-      (frame_came (Got byte good) ReceivedFrame)
+      ended.0 (clock_is l ∙ ended.1) byte good (data_is l ∙ pulled) (second_is l ∙ still) (same.0 ∙ is) (same.1 ∙ right)) (safe l range))
+      (frame_came (Got byte good) ReceivedFrame last_off)
 
   -- by what the looks find
   pub every : (frame : Frame) (meeting : Meeting) → HasWholeCodes w.cpu.ram → Finds d w frame meeting

@@ -8,6 +8,7 @@ use Rattle.fw_keys.specs.Edges.{image_keys, IsSilentAlike}
 use Rattle.fw_keys.specs.Frameless.{shown_by, layers_by, IsStarted, IsRepeating, edges_now, changed_now}
 use Rattle.fw_logic.specs.Ticks.{column_read}
 use Rattle.fw_link.specs.Latch.{Frame}
+use Rattle.fw_logic.proofs.Entered.{entered_served}
 use Rattle.fw_logic.proofs.Sweep.{selects_from, column_from}
 use Rattle.fw_logic.specs.Boards.{numbered}
 use Rattle.fw_logic.specs.Selecting.{column_latch, Selects}
@@ -17,7 +18,7 @@ use Rattle.joint_run.specs.Starts.{at_tick, Tick}
 use Rattle.mcs48_core.specs.Step.{takes_external, takes_timer}
 use Rattle.kbd_model.specs.Keyboard.{Keyboard}
 use Rattle.kbd_model.specs.declared.meeting.Meeting.{Meeting}
-use Rattle.agreement.proofs.AnyTick.{every}
+use Rattle.agreement.proofs.Timely.{every}
 use Rattle.agreement.proofs.Happened.{Happened}
 use Rattle.agreement.specs.Firmware.{Finds, Does, HasWholeCodes, HasNoPrefix, TickLaw}
 
@@ -59,7 +60,7 @@ module _ (d : Board) (bytes : List ℕ) (hk : HasKernel bytes) (alike : IsSilent
   does q =
       let t = every d bytes hk alike small low w s repeats few frame meeting whole q in
       let c = t.rest in
-      let column = column_from d bytes hk w s.entered c.goal.passes c.steps t.first c.end t.step c.run
+      let column = column_from d bytes hk w (entered_served w.cpu s.entered) c.goal.passes c.steps t.first c.end t.step c.run
       (starts_there c.end c.goal) in (
         record {
           at = t.at;
@@ -67,7 +68,7 @@ module _ (d : Board) (bytes : List ℕ) (hk : HasKernel bytes) (alike : IsSilent
           step = t.step;
           rest = record { steps = c.steps; end = c.end; run = c.run; goal = so c.end c.goal column };
         },
-        selects_from d bytes hk w s.entered c.goal.passes,
+        selects_from d bytes hk w (entered_served w.cpu s.entered) c.goal.passes,
       )
 
 pub tick_law : TickLaw

@@ -4,10 +4,11 @@ use Rattle.board_lines.specs.declared.event.Edge.{Edge}
 use Rattle.board_lines.specs.declared.event.HostEvent.{HostEvent}
 use Rattle.board_lines.specs.declared.lines.Lines.{Lines}
 use Rattle.fw_kernel.specs.Places.{HasKernel}
+use Rattle.fw_keys.proofs.Begun.{IsAnyStart}
 use Rattle.fw_keys.proofs.FramelessTick.{board3, held_before, cpu_at_head, shone_is}
 use Rattle.fw_keys.proofs.Tick.{shining}
 use Rattle.fw_keys.specs.Edges.{IsSilentAlike}
-use Rattle.fw_keys.specs.Frameless.{cells_in, IsStarted, edges_now, latch_now}
+use Rattle.fw_keys.specs.Frameless.{cells_in, latch_now}
 use Rattle.fw_link.proofs.Outside.{still_wires, lit_wires}
 use Rattle.fw_link.proofs.Latches.{driven}
 use Rattle.fw_link.proofs.Over.{IsOver, under, ticks_over}
@@ -16,6 +17,7 @@ use Rattle.fw_link.proofs.Wired.{spans_on}
 use Rattle.fw_link.specs.Latch.{Frame, tick_latch}
 use Rattle.fw_logic.proofs.Blocks.{ticks_add, joined}
 use Rattle.fw_logic.proofs.Service.{stacked}
+use Rattle.fw_logic.proofs.Timers.{TimerState}
 use Rattle.fw_logic.specs.Scan.{in_tick}
 use Rattle.mcs48_ranges.specs.Sizes.{IsByte}
 use Rattle.joint_run.specs.Joint.{Beside, joint_board, latch_of, lights_of}
@@ -27,8 +29,7 @@ use Rattle.agreement.proofs.Happened.{at_lights, at_look}
 -- at any board
 module _ (d : Board) (bytes : List ℕ) (hk : HasKernel bytes) (alike : IsSilentAlike bytes)
     (small : All IsByte bytes)
-    (low : (p1 p2 c : ℕ) (s : d.State) → (d.pins p1 p2 c s).bus < 256) (w : World d.State) (s : IsStarted w.cpu)
-    (few : length (edges_now d w) ≤ 4) where
+    (low : (p1 p2 c : ℕ) (s : d.State) → (d.pins p1 p2 c s).bus < 256) (w : World d.State) (s : IsAnyStart w.cpu) where
   abbrev old : ℕ → d.State → d.State
   old = d.cycle w.cpu.p2
 
@@ -36,17 +37,17 @@ module _ (d : Board) (bytes : List ℕ) (hk : HasKernel bytes) (alike : IsSilent
   new = d.cycle (latch_now d w)
 
   -- the board where the head of the tick ends, two cycles past the lights
-  abbrev pub shine : Bool → d.State
+  abbrev pub shine : TimerState → d.State
   shine l =
-      shining d bytes hk alike small low (held_before d bytes hk alike small low w s few) (w.cycle + 3)
-      (cpu_at_head d bytes hk alike small low w s few l)
-      (board3 d bytes hk alike small low w s few) (stacked (cells_in w.cpu.ram)) (drop 112 w.cpu.ram)
+      shining d bytes hk alike small low (held_before d bytes hk alike small low w s) (w.cycle + 3)
+      (cpu_at_head d bytes hk alike small low w s l)
+      (board3 d bytes hk alike small low w s) (stacked (cells_in w.cpu.ram)) (drop 112 w.cpu.ram)
 
   -- the board so many cycles later
-  pub from_lights : (l : Bool) (n z : ℕ) → z ≡ w.cycle + 234
+  pub from_lights : (l : TimerState) (n z : ℕ) → z ≡ w.cycle + 234
       → after_cycles n z new (shine l) ≡ after_cycles (2 + n) (w.cycle + 232) new (in_tick d w 232)
   from_lights l n z at =
-      ap (λ b. after_cycles n z new b) (shone_is d bytes hk alike small low w s few)
+      ap (λ b. after_cycles n z new b) (shone_is d bytes hk alike small low w s)
       ∙ joined 2 n (w.cycle + 232) z new (in_tick d w 232) (omega (arith, at))
 
   -- the board so many cycles past the tick's start, by the latch of a tick with a frame
@@ -60,7 +61,7 @@ module _ (d : Board) (bytes : List ℕ) (hk : HasKernel bytes) (alike : IsSilent
       (λ i l. let z : 0 + i ≡ i = omega arith in ap latch z ∙ before_lights w.cpu.p2 (latch_now d w) frame i l) refl
 
   -- so it goes on from the head's end, while the latch stays
-  pub from_head : (frame : Frame) (l : Bool) (n : ℕ)
+  pub from_head : (frame : Frame) (l : TimerState) (n : ℕ)
       → ((i : ℕ) → i < 2 + n → tick_latch w.cpu.p2 (latch_now d w) frame (232 + i) ≡ latch_now d w)
       → after_cycles n (w.cycle + 3 + 231) new (shine l) ≡ gone frame (234 + n)
   from_head frame l n still =

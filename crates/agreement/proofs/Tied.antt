@@ -14,6 +14,7 @@ use Rattle.fw_link.specs.Latch.{Frame, tick_latch}
 use Rattle.fw_link.proofs.TickLatch.{lines_by}
 use Rattle.fw_logic.proofs.Laws.{comes_as}
 use Rattle.fw_logic.proofs.Passing.{Passes}
+use Rattle.fw_logic.proofs.Entered.{entered_served}
 use Rattle.fw_logic.proofs.Sweep.{selects_from, column_from}
 use Rattle.ctl_link.specs.declared.link.Link.TheVariants.{Request}
 use Rattle.board_lines.specs.declared.event.Edge.{Edge}
@@ -166,7 +167,7 @@ module _ (layout : KeyLayout) (history : KeyHistory) (fine : IsKeyLayout layout)
 
     column_next : next.cpu.p1 ≡ 44
     column_next =
-        column_from joint bytes (has_kernel layout) w tie.started.entered passes went.rest.steps went.first next went.step
+        column_from joint bytes (has_kernel layout) w (entered_served w.cpu tie.started.entered) passes went.rest.steps went.first next went.step
         went.rest.run (is_tick edges events next went.rest.goal.0.1.started)
 
     pub tied_next : Tick joint TICK bytes w
@@ -234,7 +235,7 @@ module _ (layout : KeyLayout) (history : KeyHistory) (fine : IsKeyLayout layout)
           asked = asks_for edges events w tie.lit released (offer m.keys.keyboard)
               (meeting_from (keyboard layout) events w.cycle m) frame t.rest.goal.2 went.rest.goal.4;
           none = tied.column;
-          columns = selects_from joint bytes (has_kernel layout) w tie.started.entered passes;
+          columns = selects_from joint bytes (has_kernel layout) w (entered_served w.cpu tie.started.entered) passes;
           cut = is_cut_by edges events w tie.lit released frame
               (cut_since events lit w.cycle released (at_look edges events w) (m.keys.keyboard.test == 0)
               (offer m.keys.keyboard));

@@ -37,7 +37,7 @@ use Rattle.wires_agree.proofs.Meetings.{request_at, requests}
 use Rattle.wires_agree.proofs.Spans.{IsAt}
 use Rattle.wires_agree.specs.Cycles.{board_cycles}
 use Rattle.wires_agree.specs.Ticks.{at_meeting}
-use Rattle.agreement.proofs.AnyTick.{released, quiet, sent, cut, got}
+use Rattle.agreement.proofs.Timely.{released, quiet, sent, cut, got}
 use Rattle.agreement.proofs.AtLook.{one_byte, sent_at, received_at}
 use Rattle.agreement.proofs.Happened.{at_look, Happened}
 use Rattle.agreement.proofs.Lit.{at_clock, behind_look}

@@ -89,6 +89,7 @@ module _ (d : Board) (code : Code) (has : HasRows code) (small : All IsByte code
         free = first.free;
         order = first.order;
         clock = first.clock;
+        over = first.over;
       })
       (λ e af free.
       let a = af.0 in
@@ -264,6 +265,7 @@ module _ (d : Board) (code : Code) (has : HasRows code) (small : All IsByte code
         free = h.free;
         order = h.order;
         clock = h.clock;
+        over = h.over;
       }
 
   -- as seq, where the second block sets flag 0

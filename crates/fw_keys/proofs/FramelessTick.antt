@@ -8,7 +8,7 @@ use Rattle.fw_kernel.specs.Places.{HasKernel}
 use Rattle.joint_run.specs.Run.{Board, World, after_cycles}
 use Rattle.joint_run.specs.Starts.{Tick}
 use Rattle.mcs48_ranges.specs.Sizes.{IsByte, IsFine}
-use Rattle.fw_logic.proofs.Entered.{way_back}
+use Rattle.fw_logic.proofs.Entered.{way_back, timer_is}
 use Rattle.fw_logic.specs.Scan.{in_tick, levels_in}
 use Rattle.fw_logic.specs.Ticks.{column_read}
 use Rattle.fw_logic.proofs.Path.{Stage}
@@ -16,7 +16,8 @@ use Rattle.fw_logic.proofs.Block.{memory}
 use Rattle.fw_logic.proofs.Blocks.{absolute, joined}
 use Rattle.fw_logic.proofs.Chain.{ticks_from}
 use Rattle.fw_logic.proofs.Laws.{comes_as}
-use Rattle.fw_logic.proofs.Service.{serving, stacked, begun}
+use Rattle.fw_logic.proofs.Service.{serving, stacked, begun, entering}
+use Rattle.fw_logic.proofs.Timers.{TimerState, IsInRange, timer_of}
 use Rattle.fw_logic.proofs.Passing.{Passes}
 use Rattle.fw_logic.proofs.Serves.{Next}
 use Rattle.kbd_model.specs.declared.meeting.Meeting.{Meeting}
@@ -35,11 +36,11 @@ use Rattle.fw_keys.proofs.Scan.{edges_most}
 use Rattle.fw_keys.proofs.Ended.{AtHead, idle_works, glitch_works, inhibited_works, test_works}
 use Rattle.std.proofs.lemmas.List.Elements.{All-get_or}
 use Rattle.fw_keys.proofs.Serve.{kept_on, down, changed, held, first, first_board, fit, Goes, Work, tick, tick_passes, four_edges}
-use Rattle.fw_keys.proofs.Begun.{columns_same, columns_count, started_begun, started_is, xor_small}
+use Rattle.fw_keys.proofs.Begun.{IsAnyStart, any_start, columns_same, columns_count, start_entering, entering_start, started_is, xor_small}
 
 module _ (d : Board) (bytes : List ℕ) (hk : HasKernel bytes) (alike : IsSilentAlike bytes) (small : All IsByte bytes)
     (low : (p1 p2 c : ℕ) (s : d.State) → (d.pins p1 p2 c s).bus < 256)
-    (w : World d.State) (s : IsStarted w.cpu) (few : length (edges_now d w) ≤ 4) where
+    (w : World d.State) (s : IsAnyStart w.cpu) where
   abbrev pub keys : Keys
   keys = image_keys bytes
 
@@ -52,17 +53,14 @@ module _ (d : Board) (bytes : List ℕ) (hk : HasKernel bytes) (alike : IsSilent
   abbrev pub ring : List ℕ
   ring = drop 112 m.ram
 
-  abbrev pub late : ℕ
-  late = m.pre - 2
-
-  pub soon : late ≤ 1
-  soon = let l : m.pre ≤ 3 = s.entered.late in omega (arith, l)
+  abbrev pub timer : TimerState
+  timer = timer_of m
 
   abbrev pub down_in : ℕ → ℕ
-  down_in = down d bytes hk alike small low w.cycle late soon m.tf m.last_t1 f ring m w.board
+  down_in = down d bytes hk alike small low w.cycle timer f ring m w.board
 
   abbrev pub changed_in : ℕ → ℕ
-  changed_in = changed d bytes hk alike small low w.cycle late soon m.tf m.last_t1 f ring m w.board
+  changed_in = changed d bytes hk alike small low w.cycle timer f ring m w.board
 
   abbrev old : ℕ → d.State → d.State
   old = d.cycle m.p2
@@ -88,36 +86,35 @@ module _ (d : Board) (bytes : List ℕ) (hk : HasKernel bytes) (alike : IsSilent
   edges_is = columns_same changed_in (changed_now d w) down_in (column_read d w) 0 12 refl (λ i l. changed_is i) (λ i l. down_is i)
 
   -- a tick with four edges at most has its time
-  pub four : edges_most changed_in ≤ 728
-  four =
+  pub four : length (edges_now d w) ≤ 4 → edges_most changed_in ≤ 728
+  four few =
       let count : all_edges changed_in 0 12 ≡ length (edges_now d w) = sym (columns_count changed_in down_in 0 12) ∙ ap length edges_is in
-      let most : length (edges_now d w) ≤ 4 = few in
       four_edges changed_in (λ i l.
       let cell : f (32 + i) < 256 =
       All-get_or IsByte m.ram (32 + i) 0 (let n : length m.ram ≡ 128 = s.fine.long in omega (arith, n, l)) s.fine.ram in
       let byte : down_in i < 256 = omega arith in
       subst (λ v. v < 256) (sym (ap (λ v. bit_xor v (down_in i)) (kept_on f i))) (xor_small (f (32 + i)) (down_in i) cell byte))
-      (omega (arith, count, most))
+      (omega (arith, count, few))
 
-  is : m ≡ begun late m.tf m.last_t1 f ring m
-  is = started_begun m s
+  is : m ≡ entering timer f ring m
+  is = start_entering m s
 
-  pub fine : IsFine (begun late m.tf m.last_t1 f ring m)
+  pub fine : IsFine (entering timer f ring m)
   fine = subst (λ c. IsFine c) is s.fine
 
   pub inv : Inv (stacked f)
   inv = still (refl, refl, refl, refl, refl) s.inv
 
   abbrev pub board3 : d.State
-  board3 = first_board d bytes hk alike small low w.cycle late soon m.tf m.last_t1 f ring m w.board
+  board3 = first_board d bytes hk alike small low w.cycle timer f ring m w.board
 
   abbrev pub held_before : List Bool
-  held_before = held d bytes hk alike small low w.cycle late soon m.tf m.last_t1 f ring m w.board
+  held_before = held d bytes hk alike small low w.cycle timer f ring m w.board
 
-  abbrev pub cpu_at_head : Bool → Cpu
-  cpu_at_head l = first d bytes hk alike small low w.cycle late soon m.tf m.last_t1 f ring m w.board l
+  abbrev pub cpu_at_head : TimerState → Cpu
+  cpu_at_head l = first d bytes hk alike small low w.cycle timer f ring m w.board l
 
-  abbrev IsAtHead : Bool → Stage d.State → Type 0
+  abbrev IsAtHead : TimerState → Stage d.State → Type 0
   IsAtHead l = AtHead d bytes hk alike small low held_before (w.cycle + 3) (cpu_at_head l) board3 (stacked f) ring
 
   abbrev shone : d.State
@@ -143,37 +140,37 @@ module _ (d : Board) (bytes : List ℕ) (hk : HasKernel bytes) (alike : IsSilent
       ∙ ap (λ c. d.pins 44 (latch_now d w) c (after_cycles (2 + n) (x + 232) new (in_tick d w 232))) a
 
   pub works : (meeting : Meeting) → IsFrameless d w meeting
-      → (max : ℕ) × (max ≤ 56) × ((l : Bool) → Work d bytes hk alike small low w.cycle late soon m.tf m.last_t1 f ring m
+      → (max : ℕ) × (max ≤ 56) × ((l : TimerState) → IsInRange l → Work d bytes hk alike small low w.cycle timer f ring m
       w.board l meeting (231 + (max + (56 + (2 + edges_most changed_in)))) (IsAtHead l))
   works Idle (inl runs) = (
     36,
     omega arith,
-    λ l. test_works d bytes hk alike small low held_before (w.cycle + 3) (cpu_at_head l) board3 (stacked f) ring inv runs
-        (fit d bytes hk alike small low w.cycle late soon m.tf m.last_t1 f ring m w.board l fine),
+    λ l range. test_works d bytes hk alike small low held_before (w.cycle + 3) (cpu_at_head l) board3 (stacked f) ring inv runs
+        (fit d bytes hk alike small low w.cycle timer f ring m w.board l range fine),
   )
   works Idle (inr (inl q)) = (
     31,
     omega arith,
-    λ l. idle_works d bytes hk alike small low held_before (w.cycle + 3) (cpu_at_head l) board3 (stacked f) ring inv q.0 q.3 (
+    λ l range. idle_works d bytes hk alike small low held_before (w.cycle + 3) (cpu_at_head l) board3 (stacked f) ring inv q.0 q.3 (
       ap (λ p. p.t0) (look_is 22) ∙ q.1,
       ap (λ p. p.t1) (look_is 24) ∙ q.2,
-    ) (fit d bytes hk alike small low w.cycle late soon m.tf m.last_t1 f ring m w.board l fine),
+    ) (fit d bytes hk alike small low w.cycle timer f ring m w.board l range fine),
   )
   works Idle (inr (inr q)) = (
     56,
     omega arith,
-    λ l. glitch_works d bytes hk alike small low held_before (w.cycle + 3) (cpu_at_head l) board3 (stacked f) ring inv q.0 (
+    λ l range. glitch_works d bytes hk alike small low held_before (w.cycle + 3) (cpu_at_head l) board3 (stacked f) ring inv q.0 (
       ap (λ p. p.t0) (look_is 22) ∙ q.1,
       ap (λ p. p.t1) (look_is 24) ∙ q.2,
       ap (λ p. p.t1) (look_is 52) ∙ q.3,
-    ) (fit d bytes hk alike small low w.cycle late soon m.tf m.last_t1 f ring m w.board l fine),
+    ) (fit d bytes hk alike small low w.cycle timer f ring m w.board l range fine),
   )
   works Inhibited q = (
     31,
     omega arith,
-    λ l. inhibited_works d bytes hk alike small low held_before (w.cycle + 3) (cpu_at_head l) board3 (stacked f) ring inv q.0
+    λ l range. inhibited_works d bytes hk alike small low held_before (w.cycle + 3) (cpu_at_head l) board3 (stacked f) ring inv q.0
         (ap (λ p. p.t0) (look_is 22)
-        ∙ q.1) (fit d bytes hk alike small low w.cycle late soon m.tf m.last_t1 f ring m w.board l fine),
+        ∙ q.1) (fit d bytes hk alike small low w.cycle timer f ring m w.board l range fine),
   )
   works (Got byte good) q = elim q [ ]
   works Sent q = elim q [ ]
@@ -182,15 +179,18 @@ module _ (d : Board) (bytes : List ℕ) (hk : HasKernel bytes) (alike : IsSilent
   -- a tick of any kind, by its work: the next start, the keyboard a tick later, and the board and the port since a
   -- stage
   -- of which G is known
-  pub record Came (meeting : Meeting) (G : Bool → Stage d.State → Type 0) (v : World d.State) : Type 0 where
-    pub started : IsStarted v.cpu
-    pub time : v.cycle + m.pre ≡ w.cycle + 2048 + v.cpu.pre
+  pub record Came (meeting : Meeting) (last_off : ℕ) (G : TimerState → Stage d.State → Type 0) (v : World d.State)
+      : Type 0 where
+    pub started : IsAnyStart v.cpu
+    pub within : (n : ℕ) → 2054 ≤ n → 7 + last_off ≤ n → v.cycle ≤ w.cycle + n
+    pub prompt : IsStarted m → 3 + last_off ≤ 2040
+        → IsStarted v.cpu × (v.cycle + m.pre ≡ w.cycle + 2048 + v.cpu.pre)
     pub keyboard : shown_by v.cpu.ram
         ≡ ticked keys meeting (layered keys.is_fn (edges_now d w) (layers_by m.ram)) (shown_by m.ram)
     pub layers : layers_by v.cpu.ram ≡ all_layers_after keys.is_fn (edges_now d w) (layers_by m.ram)
     pub repeating : IsRepeating bytes v.cpu.ram
     pub passes : Passes d bytes w
-    pub l : Bool
+    pub l : TimerState
     pub from : Stage d.State
     pub n : ℕ
     pub facts : G l from
@@ -198,44 +198,56 @@ module _ (d : Board) (bytes : List ℕ) (hk : HasKernel bytes) (alike : IsSilent
     pub p2 : v.cpu.p2 ≡ from.cpu.p2
     pub board_now : v.board ≡ after_cycles n (w.cycle + (3 + from.off)) (d.cycle from.cpu.p2) from.board
 
-  comes_to : (meeting : Meeting) (G : Bool → Stage d.State → Type 0) (v : World d.State) → Passes d bytes w
-      → Next d w.cycle late (Goes d bytes hk alike small low w.cycle late soon m.tf m.last_t1 f ring m w.board
-      meeting G) v
-      → Came meeting G v
-  comes_to meeting G v passes n =
+  comes_to : (meeting : Meeting) (last_off : ℕ) (G : TimerState → Stage d.State → Type 0) (v : World d.State)
+      → Passes d bytes w
+      → Next d w.cycle timer (3 + last_off)
+      (Goes d bytes hk alike small low w.cycle timer f ring m w.board meeting G) v
+      → Came meeting last_off G v
+  comes_to meeting last_off G v passes n =
       let g = n.does in
       let e = n.end in
       let x = w.cycle in
-      let B : Cpu = begun n.late' n.tf n.last n.now n.ring e.cpu in
+      let B : Cpu = entering n.timer n.now n.ring e.cpu in
       let vcpu : v.cpu ≡ B = ap (λ (u : World d.State). u.cpu) n.is in
       let h : IsFine (serving DONE n.now n.ring e.cpu) = subst (λ c. IsFine c) n.cpu g.fine in
       let same : memory n.now n.ring ≡ memory (stacked n.now) n.ring = way_back n.now n.ring g.stack.0 g.stack.1 in
-      let most : n.late' ≤ 1 = n.most in
       let fineB : IsFine B = record {
         pc = omega arith;
         a = h.a;
         ram = subst (λ u. All IsByte u) same h.ram;
         long = subst (λ u. length u ≡ 128) same h.long;
-        t = omega arith;
-        pre = omega (arith, most);
+        t = n.range.t;
+        pre = n.range.pre;
         p1 = h.p1;
         p2 = h.p2;
         bus = h.bus;
         sp = omega arith;
       } in
       let cycle : v.cycle ≡ x + e.off + n.waited = ap (λ (u : World d.State). u.cycle) n.is in
-      let time : e.off + n.waited + late ≡ 2048 + n.late' = n.time in
-      let pre : v.cpu.pre ≡ n.late' + 2 = ap (λ (c : Cpu). c.pre) vcpu in
-      let early : 2 ≤ m.pre = s.entered.early in
       let off : e.off ≡ 3 + (g.from.off + g.n) = g.off in
       let here : x + e.off ≡ x + 3 + g.from.off + g.n = omega (arith, off) in
       let at : x + 3 + g.from.off ≡ x + (3 + g.from.off) = omega arith in
       let step : ℕ → d.State → d.State = d.cycle g.from.cpu.p2 in
       record {
-        started = subst (λ c. IsStarted c) (sym vcpu)
-            (started_is n.late' n.most n.tf n.last n.now n.ring e.cpu fineB
-            (still (refl, refl, refl, refl, refl) g.inv));
-        time = omega (arith, cycle, time, pre, early);
+        started = subst (λ c. IsAnyStart c) (sym vcpu)
+            (entering_start n.timer n.now n.ring e.cpu fineB (still (refl, refl, refl, refl, refl) g.inv));
+        within = λ k least most.
+            let short : e.off + n.waited ≤ k = n.within k least (omega (arith, most)) in omega (arith, cycle, short);
+        prompt = λ started room.
+            let early : 2 ≤ m.pre = started.entered.early in
+            let late : m.pre ≤ 3 = started.entered.late in
+            let p = n.prompt (m.pre - 2) (omega (arith, late)) (timer_is m started.entered) room in
+            let there : v.cpu ≡ begun p.late' n.timer.tf n.timer.last n.now n.ring e.cpu =
+            vcpu ∙ ap (λ b. entering b n.now n.ring e.cpu) p.timer' in
+            let pre : v.cpu.pre ≡ p.late' + 2 = ap (λ (c : Cpu). c.pre) there in
+            let time : e.off + n.waited + (m.pre - 2) ≡ 2048 + p.late' = p.time in
+            (
+              subst (λ c. IsStarted c) (sym there)
+                  (started_is p.late' p.most n.timer.tf n.timer.last n.now n.ring e.cpu
+                  (subst (λ b. IsFine (entering b n.now n.ring e.cpu)) p.timer' fineB)
+                  (still (refl, refl, refl, refl, refl) g.inv)),
+              omega (arith, cycle, time, pre, early),
+            );
         keyboard =
             ap (λ (c : Cpu). shown_by c.ram) vcpu ∙ g.kbd.keyboard
             ∙ ap (λ es. ticked keys meeting (layered keys.is_fn es (layers_of (stacked f))) (keyboard_of (stacked f)
@@ -260,51 +272,49 @@ module _ (d : Board) (bytes : List ℕ) (hk : HasKernel bytes) (alike : IsSilent
       }
 
   pub any_tick : (meeting : Meeting) (last_off : ℕ) → IsPressedAt keys meeting (layers_by m.ram) (shown_by m.ram)
-      → 3 + last_off ≤ 2040 → (G : Bool → Stage d.State → Type 0)
-      → ((l : Bool) → Work d bytes hk alike small low w.cycle late soon m.tf m.last_t1 f ring m w.board l meeting
-      last_off
-      (G l))
-      → Tick d TICK bytes w (Came meeting G)
-  any_tick meeting last_off pressed room G work =
-      let t = tick d bytes hk alike small low w.cycle late soon m.tf m.last_t1 f ring m w.board fine meeting last_off
-      pressed room G work in
-      let p = tick_passes d bytes hk alike small low w.cycle late soon m.tf m.last_t1 f ring m w.board fine meeting
-      last_off pressed room G work in
-      let same : record { cpu = begun late m.tf m.last_t1 f ring m; board = w.board; cycle = w.cycle } ≡ w =
+      → (G : TimerState → Stage d.State → Type 0)
+      → ((l : TimerState) → IsInRange l
+      → Work d bytes hk alike small low w.cycle timer f ring m w.board l meeting last_off (G l))
+      → Tick d TICK bytes w (Came meeting last_off G)
+  any_tick meeting last_off pressed G work =
+      let t = tick d bytes hk alike small low w.cycle timer f ring m w.board fine meeting last_off pressed G work in
+      let p = tick_passes d bytes hk alike small low w.cycle timer f ring m w.board fine meeting last_off pressed G work in
+      let same : record { cpu = entering timer f ring m; board = w.board; cycle = w.cycle } ≡ w =
       ap (λ c. record { cpu = c; board = w.board; cycle = w.cycle }) (sym is) in
       let done : Tick d TICK bytes
-      (record { cpu = begun late m.tf m.last_t1 f ring m; board = w.board; cycle = w.cycle }) (Came meeting G) =
+      (record { cpu = entering timer f ring m; board = w.board; cycle = w.cycle }) (Came meeting last_off G) =
       record {
         at = t.at;
         first = t.first;
         step = t.step;
         rest = comes_as d TICK bytes
-            (Next d w.cycle late (Goes d bytes hk alike small low w.cycle late soon m.tf m.last_t1 f ring m w.board
-            meeting
-            G)) (Came meeting G) t.first (λ v n. comes_to meeting G v (subst (λ u. Passes d bytes u) same p) n) t.rest;
+            (Next d w.cycle timer (3 + last_off)
+            (Goes d bytes hk alike small low w.cycle timer f ring m w.board meeting G)) (Came meeting last_off G) t.first
+            (λ v n. comes_to meeting last_off G v (subst (λ u. Passes d bytes u) same p) n) t.rest;
       } in
-      subst (λ u. Tick d TICK bytes u (Came meeting G)) same done
+      subst (λ u. Tick d TICK bytes u (Came meeting last_off G)) same done
 
-  pub frameless_tick : IsRepeating bytes m.ram → (meeting : Meeting) → IsFrameless d w meeting → Tick d TICK bytes w
-      (GoesOn d bytes meeting w)
-  frameless_tick repeats meeting q =
+  pub frameless_tick : IsStarted m → length (edges_now d w) ≤ 4 → IsRepeating bytes m.ram → (meeting : Meeting)
+      → IsFrameless d w meeting → Tick d TICK bytes w (GoesOn d bytes meeting w)
+  frameless_tick started few repeats meeting q =
       let a = works meeting q in
       let max : a.0 ≤ 56 = a.1 in
-      let edges : edges_most changed_in ≤ 728 = four in
-      let t = any_tick meeting (231 + (a.0 + (56 + (2 + edges_most changed_in)))) (frameless_pressed d w keys meeting q repeats)
-      (omega (arith, max, edges)) IsAtHead a.2 in
+      let edges : edges_most changed_in ≤ 728 = four few in
+      let last_off : ℕ = 231 + (a.0 + (56 + (2 + edges_most changed_in))) in
+      let t = any_tick meeting last_off (frameless_pressed d w keys meeting q repeats) IsAtHead a.2 in
       record {
         at = t.at;
         first = t.first;
         step = t.step;
-        rest = comes_as d TICK bytes (Came meeting IsAtHead) (GoesOn d bytes meeting w) t.first
-            (λ v c. record {
-              started = c.started;
-              time = c.time;
+        rest = comes_as d TICK bytes (Came meeting last_off IsAtHead) (GoesOn d bytes meeting w) t.first
+            (λ v c.
+            let p = c.prompt started (omega (arith, max, edges)) in
+            record {
+              started = p.0;
+              time = p.1;
               keyboard = c.keyboard;
               layers = c.layers;
-              repeating
-                  = c.repeating;
+              repeating = c.repeating;
               latch = c.p2 ∙ c.facts.p2;
             })
             t.rest;

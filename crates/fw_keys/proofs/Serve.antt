@@ -14,9 +14,12 @@ use Rattle.fw_logic.proofs.Blocks.{from_stage}
 use Rattle.fw_logic.proofs.Short.{has_rows}
 use Rattle.fw_logic.proofs.Cells.{put_other}
 use Rattle.bits.proofs.Every.{tests_by}
+use Rattle.bits.specs.Bits.{bit}
+use Rattle.mcs48_core.specs.Status.{digit}
 use Rattle.fw_logic.proofs.Block.{put, begin_at}
 use Rattle.fw_keys.proofs.Blocks.{fine_end}
-use Rattle.fw_logic.proofs.Service.{serving, stacked, begun}
+use Rattle.fw_logic.proofs.Service.{serving, stacked, entering}
+use Rattle.fw_logic.proofs.Timers.{TimerState, IsInRange}
 use Rattle.fw_logic.proofs.Leads.{Leads}
 use Rattle.fw_logic.proofs.Passing.{Passes, passes}
 use Rattle.fw_logic.proofs.Serves.{work_cpu, work_at, IsOver, Next, serves}
@@ -50,6 +53,35 @@ one_column v l false e = rw e (some_bit v l e)
 plus : (a b u v : ℕ) → a ≤ u → b ≤ v → a + b ≤ u + v
 plus a b u v h g = omega (arith, h, g)
 
+one_most : (b : Bool) → (if b then 0 else 1) ≤ 1
+one_most true = omega arith
+one_most false = omega arith
+
+columns_all : (ch : ℕ → ℕ) (c n : ℕ) → changed_columns ch c n ≤ n
+columns_all ch c zero = omega arith
+columns_all ch c (suc n) = one_more (if ch c == 0 then 0 else 1) (changed_columns ch (suc c) n) n (one_most (ch c == 0)) (columns_all ch (suc c) n)
+  where
+    one_more : (a b k : ℕ) → a ≤ 1 → b ≤ k → a + b ≤ suc k
+    one_more a b k h g = omega (arith, h, g)
+
+digit_most : (b : Bool) → digit b ≤ 1
+digit_most true = omega arith
+digit_most false = omega arith
+
+marks_all : (r n v : ℕ) → marks r n v ≤ n
+marks_all r zero v = omega arith
+marks_all r (suc n) v = one_more (digit (bit r v)) (marks (suc r) n v) n (digit_most (bit r v)) (marks_all (suc r) n v)
+  where
+    one_more : (a b k : ℕ) → a ≤ 1 → b ≤ k → a + b ≤ suc k
+    one_more a b k h g = omega (arith, h, g)
+
+edges_all : (ch : ℕ → ℕ) (c n : ℕ) → all_edges ch c n ≤ 8 * n
+edges_all ch c zero = omega arith
+edges_all ch c (suc n) = eight_more (marks 0 8 (ch c)) (all_edges ch (suc c) n) n (marks_all 0 8 (ch c)) (edges_all ch (suc c) n)
+  where
+    eight_more : (a b k : ℕ) → a ≤ 8 → b ≤ 8 * k → a + b ≤ 8 * suc k
+    eight_more a b k h g = omega (arith, h, g)
+
 columns_most : (ch : ℕ → ℕ) (c n : ℕ) → c + n ≡ 12 → ((i : ℕ) → i < 12 → ch i < 256)
     → changed_columns ch c n ≤ all_edges ch c n
 columns_most ch c zero sum l = omega arith
@@ -57,6 +89,13 @@ columns_most ch c (suc n) sum l =
     plus (if ch c == 0 then 0 else 1) (changed_columns ch (suc c) n) (marks 0 8 (ch c)) (all_edges ch (suc c) n)
     (one_column (ch c) (l c (omega (arith, sum))) (ch c == 0) refl)
     (columns_most ch (suc c) n (omega (arith, sum)) l)
+
+-- and with any edges the columns and their rows are all that there are
+pub any_edges : (ch : ℕ → ℕ) → edges_most ch ≤ 7176
+any_edges ch = by (changed_columns ch 0 12) (all_edges ch 0 12) (columns_all ch 0 12) (edges_all ch 0 12)
+  where
+    by : (m e : ℕ) → m ≤ 12 → e ≤ 8 * 12 → 9 * 12 + 93 * m + 62 * e ≤ 7176
+    by m e h g = omega (arith, h, g)
 
 pub four_edges : (ch : ℕ → ℕ) → ((i : ℕ) → i < 12 → ch i < 256) → all_edges ch 0 12 ≤ 4 → edges_most ch ≤ 728
 four_edges ch l few = sum (changed_columns ch 0 12) (all_edges ch 0 12) (columns_most ch 0 12 refl l) few
@@ -78,13 +117,13 @@ stacked_at f i l =
 
 module _ (d : Board) (bytes : List ℕ) (hk : HasKernel bytes) (alike : IsSilentAlike bytes) (small : All IsByte bytes)
     (low : (p1 p2 c : ℕ) (s : d.State) → (d.pins p1 p2 c s).bus < 256)
-    (x late : ℕ) (few : late ≤ 1) (tf last : Bool) (f : ℕ → ℕ) (ring : List ℕ) (m : Cpu) (board : d.State) where
+    (x : ℕ) (b : TimerState) (f : ℕ → ℕ) (ring : List ℕ) (m : Cpu) (board : d.State) where
   abbrev pub start : World d.State
-  start = record { cpu = begun late tf last f ring m; board = board; cycle = x }
+  start = record { cpu = entering b f ring m; board = board; cycle = x }
 
-  -- where the work begins, by the last level of T1
-  abbrev pub first : Bool → Cpu
-  first l = work_cpu late tf l f ring m
+  -- where the work begins, by its timer
+  abbrev pub first : TimerState → Cpu
+  first l = work_cpu l f ring m
 
   abbrev pub first_board : d.State
   first_board = after_cycles 3 x (d.cycle m.p2) board
@@ -100,15 +139,15 @@ module _ (d : Board) (bytes : List ℕ) (hk : HasKernel bytes) (alike : IsSilent
   held = held_by (λ c. stacked f (32 + c))
 
   -- the work of this tick
-  abbrev pub Work : Bool → Meeting → ℕ → (Stage d.State → Type 0) → Type 0
+  abbrev pub Work : TimerState → Meeting → ℕ → (Stage d.State → Type 0) → Type 0
   Work l meeting last_off F = Works d bytes hk alike small low held (x + 3) (first l) first_board (stacked f) ring
       meeting
       last_off F
 
   -- at its end data memory shows the model's keyboard a tick later, as the next tick finds it
-  pub record Goes (meeting : Meeting) (F : Bool → Stage d.State → Type 0) (now : ℕ → ℕ) (ring' : List ℕ)
+  pub record Goes (meeting : Meeting) (F : TimerState → Stage d.State → Type 0) (now : ℕ → ℕ) (ring' : List ℕ)
       (e : Stage d.State) : Type 0 where
-    pub l : Bool
+    pub l : TimerState
     pub from : Stage d.State
     pub n : ℕ
     pub kbd : Gone (image_keys bytes) meeting changed down (stacked f) ring (stacked now) ring'
@@ -122,16 +161,16 @@ module _ (d : Board) (bytes : List ℕ) (hk : HasKernel bytes) (alike : IsSilent
     pub board_now : e.board ≡ after_cycles n (x + 3 + from.off) (d.cycle from.cpu.p2) from.board
 
   -- the processor is fit for the work where it is at the tick's start
-  pub fit : (l : Bool) → IsFine (begun late tf last f ring m) → Safe (first l) 10 (stacked f) ring
-  fit l fine = (
+  pub fit : (l : TimerState) → IsInRange l → IsFine (entering b f ring m) → Safe (first l) 10 (stacked f) ring
+  fit l range fine = (
     inl refl,
     record {
       pc = omega arith;
       a = omega arith;
       ram = fine.ram;
       long = fine.long;
-      t = omega arith;
-      pre = omega (arith, few);
+      t = range.t;
+      pre = range.pre;
       p1 = fine.p1;
       p2 = fine.p2;
       bus = fine.bus;
@@ -140,16 +179,16 @@ module _ (d : Board) (bytes : List ℕ) (hk : HasKernel bytes) (alike : IsSilent
   )
 
   -- the law of the work, up to the service's end
-  module _ (fine : IsFine (begun late tf last f ring m)) (meeting : Meeting) (last_off : ℕ)
+  module _ (fine : IsFine (entering b f ring m)) (meeting : Meeting) (last_off : ℕ)
       (pressed : IsPressedAt (image_keys bytes) meeting (layers_of (stacked f)) (keyboard_of (stacked f) ring))
-      (room : 3 + last_off ≤ 2040) (F : Bool → Stage d.State → Type 0)
-      (work : (l : Bool) → Work l meeting last_off (F l)) where
-    over : (l : Bool) → Leads d (kernel_in true bytes) x (work_at d x late tf l f ring m board)
+      (F : TimerState → Stage d.State → Type 0)
+      (work : (l : TimerState) → IsInRange l → Work l meeting last_off (F l)) where
+    over : (l : TimerState) → IsInRange l → Leads d (kernel_in true bytes) x (work_at d x l f ring m board)
         (IsOver d (3 + last_off) (Goes meeting F))
-    over l =
+    over l range =
         let k : Cpu = first l in
         from_stage d (kernel_in true bytes) (has_rows true bytes hk) x 10 k (stacked f) ring
-        (work_at d x late tf l f ring m board)
+        (work_at d x l f ring m board)
         (λ e. Ended d bytes hk alike small low held (x + 3) k first_board (stacked f) ring meeting last_off (F l) e
         × IsFine e.cpu) (IsOver d (3 + last_off) (Goes meeting F)) refl
         (λ e bf.
@@ -183,12 +222,15 @@ module _ (d : Board) (bytes : List ℕ) (hk : HasKernel bytes) (alike : IsSilent
         (fine_end d (kernel_in true bytes) (has_rows true bytes hk) small low (x + 3)
         (begin_at d 10 (stacked f) ring k first_board)
         (Ended d bytes hk alike small low held (x + 3) k first_board (stacked f) ring meeting last_off (F l))
-        (fit l fine).1
-        (work l))
+        (fit l range fine).1
+        (work l range))
 
     -- so the run comes to the next start, by the service's end
-    pub tick : Tick d TICK bytes start (Next d x late (Goes meeting F))
-    tick = serves d bytes hk x late few tf last f ring m board (3 + last_off) room (Goes meeting F) over
+    abbrev in_range : IsInRange b
+    in_range = record { t = fine.t; pre = fine.pre }
+
+    pub tick : Tick d TICK bytes start (Next d x b (3 + last_off) (Goes meeting F))
+    tick = serves d bytes hk x b in_range f ring m board (3 + last_off) (Goes meeting F) over
 
     pub tick_passes : Passes d bytes start
-    tick_passes = passes d bytes hk x late few tf last f ring m board (3 + last_off) room (Goes meeting F) over
+    tick_passes = passes d bytes hk x b in_range f ring m board (3 + last_off) (Goes meeting F) over

@@ -50,6 +50,9 @@ module _ (d : Board) (code : Code) (has : HasRows code) where
             let k = h.clock timed timing (omega (arith, room)) in
             let c : total (clock_of h.end.cpu) + s.off ≡ total (clock_of s.cpu) + h.end.off = k.count in
             record { count = omega (arith, c); timing = k.timing; tf = k.tf; rq = k.rq; tim_on = k.tim_on };
+        over = λ timed timing on.
+            let k = h.over timed timing on in
+            record { timing = k.timing; tim_on = k.tim_on; keeps = k.keeps; asks = λ room. k.asks (omega (arith, room)) };
       }
 
   -- a law of a block, from a stage at which the block begins

@@ -12,13 +12,13 @@ use Rattle.mcs48_core.specs.Timer.{after_timer}
 use Rattle.mcs48_core.specs.Step.{Stepped, row_at, stepped, effect, executed, entered, takes_external, takes_timer}
 use Rattle.joint_run.specs.Run.{Board, World, after_cycles, seen, after_step, joint_step}
 use Rattle.joint_run.specs.Starts.{calm_step, calm}
-use Rattle.fw_logic.proofs.Clock.{IsFree, is_plain, is_closed, clock_of, total, IsLater}
+use Rattle.fw_logic.proofs.Clock.{IsFree, is_plain, is_closed, clock_of, total, IsLater, IsAsking}
 use Rattle.fw_logic.proofs.Path.{Stage, Code}
 use Rattle.fw_logic.proofs.Path.{world_at, pins_at, moved}
 use Rattle.fw_logic.proofs.Path.{left, is_taken}
 use Rattle.fw_logic.proofs.Leads.{Leads, LetsNone, HasRows}
 use Rattle.fw_logic.proofs.Groups.{effect_clock, effect_free, plain_closed}
-use Rattle.fw_logic.proofs.Timing.{step_later, later_then}
+use Rattle.fw_logic.proofs.Timing.{step_later, later_then, step_asks, asking_then}
 
 pub not_external : (pins : Pins) (m : Cpu) → IsFree m → takes_external pins m ≡ false
 not_external pins m (inl h) = rw h refl
@@ -117,6 +117,10 @@ module _ (d : Board) (code : Code) (has : HasRows code) (x : ℕ) where
             let count : total (clock_of e.cpu) + s.off ≡ total (clock_of s.cpu) + e.off = one.count in
             later_then (clock_of s.cpu) (clock_of e.cpu) (clock_of r.end.cpu) s.off e.off r.end.off one
             (r.clock timed one.timing (omega (arith, count, room, a, b)));
+        over = λ timed timing on.
+            let one = first.over timed timing on in
+            asking_then (clock_of s.cpu) (clock_of e.cpu) (clock_of r.end.cpu) s.off e.off r.end.off
+            (first.clock timed timing) one (r.over timed one.timing one.tim_on);
       }
 
   pub stay : (Q : Stage d.State → Type 0) (s : Stage d.State) → Q s → IsFree s.cpu → Leads d code x s Q
@@ -130,6 +134,15 @@ module _ (d : Board) (code : Code) (has : HasRows code) (x : ℕ) where
         free = free;
         order = omega arith;
         clock = λ timed timing room. record { count = refl; timing = timing; tf = refl; rq = refl; tim_on = refl };
+        over = λ timed timing on.
+            let pre : s.cpu.pre < 32 = timing.pre in
+            let t : s.cpu.t < 256 = timing.t in
+            record {
+              timing = timing;
+              tim_on = on;
+              keeps = λ q. q;
+              asks = λ room. absurd (omega (arith, room, pre, t));
+            };
       }
 
   pub weaken : (Q R : Stage d.State → Type 0) (s : Stage d.State) → ((e : Stage d.State) → Q e → R e)
@@ -144,6 +157,7 @@ module _ (d : Board) (code : Code) (has : HasRows code) (x : ℕ) where
         free = h.free;
         order = h.order;
         clock = h.clock;
+        over = h.over;
       }
 
   -- a stage comes to one of the set
@@ -215,4 +229,10 @@ module _ (d : Board) (code : Code) (has : HasRows code) (x : ℕ) where
             subst (λ b. IsLater (clock_of s.cpu) (clock_of (after_timer b r.cycles pins next)) s.off (s.off + r.cycles))
             (ap (λ k. k.run) same)
             (step_later (clock_of s.cpu) next r.cycles pins s.off same timing few room);
+        over = λ timed timing on.
+            let plain : is_plain r.op ≡ true = ap (λ b. is_taken b r.op) (sym timed) ∙ taken in
+            let same = effect_clock r.op code.bytes pins (past s.cpu) plain in
+            subst (λ b. IsAsking (clock_of s.cpu) (clock_of (after_timer b r.cycles pins next)) s.off (s.off + r.cycles))
+            (ap (λ k. k.run) same)
+            (step_asks (clock_of s.cpu) next r.cycles pins s.off same timing on few);
       }

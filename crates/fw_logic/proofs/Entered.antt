@@ -1,5 +1,5 @@
 -- A tick start as the processor that the interrupt's entry leaves.
-use Rattle.std.proofs.Common.{◌≡◌, ◌≤◌, ℕ, ◌+◌, ◌-◌, Bool, true, false, List, length, drop, refl, ap, ◌∙◌, arith}
+use Rattle.std.proofs.Common.{◌≡◌, ◌≤◌, ℕ, ◌+◌, ◌-◌, Bool, true, false, List, length, drop, slice_index, refl, ap, ◌∙◌, arith}
 use Rattle.mcs48_core.specs.Cpu.{Cpu}
 use Rattle.mcs48_core.specs.declared.processor.Count.TheVariants.{Timer}
 use Rattle.fw_kernel.specs.declared.labels.TheConstants.{TICK, WAIT}
@@ -7,19 +7,54 @@ use Rattle.fw_logic.specs.Ticks.{IsEntered}
 use Rattle.fw_logic.proofs.Block.{memory, put}
 use Rattle.fw_logic.proofs.BlockLaws.{cells_of}
 use Rattle.fw_logic.proofs.Memory.{memory_is}
-use Rattle.fw_logic.proofs.Service.{serving, stacked, begun}
+use Rattle.fw_logic.proofs.Service.{serving, stacked, entering, begun}
+use Rattle.fw_logic.proofs.Timers.{TimerState, timer_of, on_time}
 
 -- memory with the way back on the stack
 pub way_back : (f : ℕ → ℕ) (ring : List ℕ) → f 8 ≡ WAIT → f 9 ≡ 16 → memory f ring ≡ memory (stacked f) ring
 way_back f ring low high = ap (λ u. memory (put f 8 u) ring) low ∙ ap (λ u. memory (put (put f 8 WAIT) 9 u) ring) high
 
--- an entered processor is one that was begun
-pub begun_is : (m : Cpu) → IsEntered m → m ≡ begun (m.pre - 2) m.tf m.last_t1 (cells_of m.ram) (drop 112 m.ram) m
-begun_is m s =
+-- a tick start, however late: as one that is entered in time, whatever the timer and its request are
+pub record IsServed (m : Cpu) : Type 0 where
+  pub pc : m.pc ≡ TICK
+  pub bank : m.rb ≡ true
+  pub depth : m.sp ≡ 1
+  pub lower : m.mb ≡ false
+  pub external : m.ext_on ≡ false
+  pub enabled : m.tim_on ≡ true
+  pub serves : m.svc ≡ true
+  pub carry : m.c ≡ false
+  pub half : m.ac ≡ false
+  pub flag : m.f0 ≡ false
+  pub run : m.run ≡ Timer
+  pub back : slice_index m.ram 8 ≡ WAIT
+  pub status : slice_index m.ram 9 ≡ 16
+  pub memory : length m.ram ≡ 128
+
+pub entered_served : (m : Cpu) → IsEntered m → IsServed m
+entered_served m s = record {
+  pc = s.pc;
+  bank = s.bank;
+  depth = s.depth;
+  lower = s.lower;
+  external = s.external;
+  enabled = s.enabled;
+  serves = s.serves;
+  carry = s.carry;
+  half = s.half;
+  flag = s.flag;
+  run = s.run;
+  back = s.back;
+  status = s.status;
+  memory = s.memory;
+}
+
+-- it is one that enters
+pub entering_is : (m : Cpu) → IsServed m → m ≡ entering (timer_of m) (cells_of m.ram) (drop 112 m.ram) m
+entering_is m s =
     let f : ℕ → ℕ = cells_of m.ram in
     let ring : List ℕ = drop 112 m.ram in
     let at : Cpu = serving TICK (stacked f) ring m in
-    let pre : m.pre ≡ m.pre - 2 + 2 = (let l : 2 ≤ m.pre = s.early in omega (arith, l)) in
     let ram : m.ram ≡ memory (stacked f) ring = memory_is m.ram s.memory ∙ way_back f ring s.back s.status in
     ap (λ v. record m { pc = v }) s.pc
     ∙ ap (λ v. record m { pc = TICK; rb = v }) s.bank
@@ -42,9 +77,39 @@ begun_is m s =
     ∙ ap (λ v. record at { c = false; ac = v }) s.half
     ∙ ap (λ v. record at { c = false; ac = false; f0 = v }) s.flag
     ∙ ap (λ v. record at { c = false; ac = false; f0 = false; run = v }) s.run
-    ∙ ap (λ v. record at { c = false; ac = false; f0 = false; run = Timer; t = v }) s.t
-    ∙ ap (λ v. record at { c = false; ac = false; f0 = false; run = Timer; t = 0; pre = v }) pre
-    ∙ ap (λ v. record at { c = false; ac = false; f0 = false; run = Timer; t = 0; pre = m.pre - 2 + 2; rq = v }) s.clear
+
+pub served_is : (b : TimerState) (f : ℕ → ℕ) (ring : List ℕ) (m : Cpu) → length (memory (stacked f) ring) ≡ 128
+    → IsServed (entering b f ring m)
+served_is b f ring m long = record {
+  pc = refl;
+  bank = refl;
+  depth = refl;
+  lower = refl;
+  external = refl;
+  enabled = refl;
+  serves = refl;
+  carry = refl;
+  half = refl;
+  flag = refl;
+  run = refl;
+  back = refl;
+  status = refl;
+  memory = long;
+}
+
+-- the timer of one in time
+pub timer_is : (m : Cpu) → IsEntered m → timer_of m ≡ on_time (m.pre - 2) m.tf m.last_t1
+timer_is m s =
+    let pre : m.pre ≡ m.pre - 2 + 2 = (let l : 2 ≤ m.pre = s.early in omega (arith, l)) in
+    let b : TimerState = timer_of m in
+    ap (λ v. record b { t = v }) s.t
+    ∙ ap (λ v. record b { t = 0; pre = v }) pre
+    ∙ ap (λ v. record b { t = 0; pre = m.pre - 2 + 2; rq = v }) s.clear
+
+-- an entered processor is one that was begun
+pub begun_is : (m : Cpu) → IsEntered m → m ≡ begun (m.pre - 2) m.tf m.last_t1 (cells_of m.ram) (drop 112 m.ram) m
+begun_is m s =
+    entering_is m (entered_served m s) ∙ ap (λ b. entering b (cells_of m.ram) (drop 112 m.ram) m) (timer_is m s)
 
 -- and the other way round
 pub entered_is : (late : ℕ) → late ≤ 1 → (tf last : Bool) (f : ℕ → ℕ) (ring : List ℕ) (m : Cpu)

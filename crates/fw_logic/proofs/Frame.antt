@@ -16,7 +16,8 @@ use Rattle.joint_run.specs.Starts.{Comes}
 use Rattle.fw_logic.proofs.Blocks.{ticks_add}
 use Rattle.fw_logic.proofs.Laws.{comes_here, comes_by, comes_then}
 use Rattle.fw_logic.proofs.Short.{has_rows}
-use Rattle.fw_logic.proofs.Service.{waiting, plain, serving, begun, later, IsDue, waits}
+use Rattle.fw_logic.proofs.Service.{waiting, plain, serving, entering, begun, later, IsDue, waits}
+use Rattle.fw_logic.proofs.Timers.{TimerState, on_time, run_on, soon_entered}
 
 -- a tick start that waiting came to
 pub record IsBegun (d : Board) (f : ℕ → ℕ) (ring : List ℕ) (m : Cpu) (board : d.State) (cycle total : ℕ)
@@ -30,25 +31,24 @@ pub record IsBegun (d : Board) (f : ℕ → ℕ) (ring : List ℕ) (m : Cpu) (bo
   pub time : total + waited ≡ 8194 + late
 
 module _ (d : Board) (bytes : List ℕ) (has : HasKernel bytes) where
-  -- the entry takes two cycles
-  enters : (tf last : Bool) (f : ℕ → ℕ) (ring : List ℕ) (m : Cpu) (board : d.State) (cycle late : ℕ) → late ≤ 1
-      → (Q : World d.State → Type 0)
+  -- the entry takes two cycles, and clears the request
+  abbrev pub entered_by : (t pre : ℕ) (tf last t1 : Bool) → TimerState
+  entered_by t pre tf last t1 = run_on 2 t1 (record { t = t; pre = pre; tf = tf; rq = false; last = last })
+
+  pub enters : (t pre : ℕ) (tf last : Bool) (f : ℕ → ℕ) (ring : List ℕ) (m : Cpu) (board : d.State) (cycle : ℕ)
+      (Q : World d.State → Type 0)
       → Comes d TICK bytes (record {
-        cpu = begun late tf (d.pins m.p1 m.p2 cycle board).t1 f ring m;
+        cpu = entering (entered_by t pre tf last (d.pins m.p1 m.p2 cycle board).t1) f ring m;
         board = after_cycles 2 cycle (d.cycle m.p2) board;
         cycle = cycle + 2;
       }) Q
-      → Comes d TICK bytes (record { cpu = waiting 0 late tf last true (plain f ring m); board = board; cycle = cycle })
+      → Comes d TICK bytes (record { cpu = waiting t pre tf last true (plain f ring m); board = board; cycle = cycle })
       Q
-  enters tf last f ring m board cycle zero l Q rest =
+  enters t pre tf last f ring m board cycle Q rest =
       let w : World d.State =
-      record { cpu = waiting 0 0 tf last true (plain f ring m); board = board; cycle = cycle } in
-      comes_by d TICK bytes Q w (record { cpu = begun 0 tf (seen d w).t1 f ring m; cycles = 2 }) refl refl rest
-  enters tf last f ring m board cycle (suc zero) l Q rest =
-      let w : World d.State =
-      record { cpu = waiting 0 1 tf last true (plain f ring m); board = board; cycle = cycle } in
-      comes_by d TICK bytes Q w (record { cpu = begun 1 tf (seen d w).t1 f ring m; cycles = 2 }) refl refl rest
-  enters tf last f ring m board cycle (suc (suc n)) l Q rest = absurd (omega (arith, l))
+      record { cpu = waiting t pre tf last true (plain f ring m); board = board; cycle = cycle } in
+      comes_by d TICK bytes Q w
+      (record { cpu = entering (entered_by t pre tf last (seen d w).t1) f ring m; cycles = 2 }) refl refl rest
 
   waits_row : row_at bytes WAIT ≡ Some (record { op = Flow (Jmp WAIT); len = 2; cycles = 2 })
   waits_row = (has_rows true bytes has WAIT (record { op = Flow (Jmp WAIT); len = 2; cycles = 2 }) refl).0
@@ -70,8 +70,16 @@ module _ (d : Board) (bytes : List ℕ) (has : HasKernel bytes) where
       let time : total + k ≡ 8192 + due.late = due.time in
       let sum : cycle + k + 2 ≡ cycle + (k + 2) = omega arith in
       let next : Cpu = begun due.late due.tf (d.pins m.p1 m.p2 (cycle + k) now).t1 f ring m in
+      let is : entered_by 0 due.late due.tf due.last (d.pins m.p1 m.p2 (cycle + k) now).t1
+      ≡ on_time due.late due.tf (d.pins m.p1 m.p2 (cycle + k) now).t1 =
+      soon_entered due.late due.most due.tf due.last (d.pins m.p1 m.p2 (cycle + k) now).t1 in
       subst (λ w. Comes d TICK bytes w (IsBegun d f ring m board cycle total)) (sym due.is)
-      (enters due.tf due.last f ring m now (cycle + k) due.late due.most (IsBegun d f ring m board cycle total)
+      (enters 0 due.late due.tf due.last f ring m now (cycle + k) (IsBegun d f ring m board cycle total)
+      (subst (λ b. Comes d TICK bytes (record {
+        cpu = entering b f ring m;
+        board = after_cycles 2 (cycle + k) (d.cycle m.p2) now;
+        cycle = cycle + k + 2;
+      }) (IsBegun d f ring m board cycle total)) (sym is)
       (comes_here d TICK bytes (IsBegun d f ring m board cycle total)
       (record { cpu = next; board = after_cycles 2 (cycle + k) (d.cycle m.p2) now; cycle = cycle + k + 2 })
       (record {
@@ -85,7 +93,7 @@ module _ (d : Board) (bytes : List ℕ) (has : HasKernel bytes) where
             ∙ ap (λ c. record { cpu = next; board = after_cycles (k + 2) cycle (d.cycle m.p2) board; cycle = c }) sum;
         most = due.most;
         time = omega (arith, time);
-      }))))
+      })))))
 
   -- RETR gives back what the entry stored
   abbrev pub given_back : Cpu → Cpu

@@ -1,6 +1,6 @@
 -- From a tick start: the columns at their offsets, and from the work's end the next start.
 use Rattle.std.proofs.Common.{◌≡◌, ◌≤◌, ◌<◌, ℕ, ◌+◌, ◌-◌, ◌*◌, Bool, true, false, ◌&&◌, ◌||◌, ◌==◌, nat_le, nat_lt}
-use Rattle.std.proofs.Common.{List, length, drop, slice_index, bit_xor, inl, refl, ap, sym, ◌∙◌, subst, arith}
+use Rattle.std.proofs.Common.{List, length, drop, slice_index, bit_xor, inl, inr, refl, ap, sym, ◌∙◌, subst, arith}
 use Rattle.std.proofs.lemmas.Bool.Decides.{nat_tests}
 use Rattle.mcs48_core.specs.Cpu.{Cpu}
 use Rattle.fw_kernel.specs.declared.labels.TheConstants.{TICK, WAIT, DONE}
@@ -21,8 +21,9 @@ use Rattle.fw_logic.proofs.HeadLaw.{head_law}
 use Rattle.fw_logic.proofs.Laws.{comes_then, comes_as}
 use Rattle.fw_logic.proofs.Memory.{memory_is}
 use Rattle.fw_logic.proofs.Path.{Stage, world_at}
-use Rattle.fw_logic.proofs.Serves.{IsOver, Next, ends}
-use Rattle.fw_logic.proofs.Service.{serving, stacked, begun}
+use Rattle.fw_logic.proofs.Serves.{IsOver, IsTimed, Next, ends}
+use Rattle.fw_logic.proofs.Service.{serving, stacked, begun, entering}
+use Rattle.fw_logic.proofs.Timers.{TimerState, on_time}
 
 -- what the reading leaves alone the head does, too
 counting_out : (i : ℕ) → is_read i ≡ false → is_counting i ≡ false
@@ -134,29 +135,34 @@ module _ (d : Board) (bytes : List ℕ) (has : HasKernel bytes) (w : World d.Sta
     abbrev Kept : (ℕ → ℕ) → List ℕ → Stage d.State → Type 0
     Kept g r s = (memory g r ≡ e.cpu.ram) × (s ≡ end)
 
-    next_so : (v : World d.State) → Next d x (w.cpu.pre - 2) Kept v → IsNext d w e v
+    abbrev timer : TimerState
+    timer = on_time (w.cpu.pre - 2) w.cpu.tf w.cpu.last_t1
+
+    next_so : (v : World d.State) → Next d x timer 2040 Kept v → IsNext d w e v
     next_so v n =
         let g : ℕ → ℕ = n.now in
         let r : List ℕ = n.ring in
         let z : Stage d.State = n.end in
         let same : z ≡ end = n.does.1 in
         let ram : memory g r ≡ e.cpu.ram = n.does.0 in
-        let B : Cpu = begun n.late' n.tf n.last g r z.cpu in
-        let cpu : v.cpu ≡ B = ap (λ (u : World d.State). u.cpu) n.is in
+        let late : w.cpu.pre ≤ 3 = s.late in
+        let p = n.prompt (w.cpu.pre - 2) (omega (arith, late)) refl (omega arith) in
+        let B : Cpu = begun p.late' n.timer.tf n.timer.last g r z.cpu in
+        let cpu : v.cpu ≡ B = ap (λ (u : World d.State). u.cpu) n.is ∙ ap (λ b. entering b g r z.cpu) p.timer' in
         let back : g 8 ≡ WAIT = sym (cell g r 8 (omega arith)) ∙ ap (λ m. slice_index m 8) ram ∙ done.back in
         let status : g 9 ≡ 16 = sym (cell g r 9 (omega arith)) ∙ ap (λ m. slice_index m 9) ram ∙ done.status in
         let stack : memory g r ≡ memory (stacked g) r = way_back g r back status in
         let off : z.off ≡ e.cycle - x = ap (λ (s : Stage d.State). s.off) same in
         let cycle : v.cycle ≡ x + z.off + n.waited = ap (λ (u : World d.State). u.cycle) n.is in
-        let time : z.off + n.waited + (w.cpu.pre - 2) ≡ 2048 + n.late' = n.time in
-        let pre : v.cpu.pre ≡ n.late' + 2 = ap (λ (c : Cpu). c.pre) cpu in
+        let time : z.off + n.waited + (w.cpu.pre - 2) ≡ 2048 + p.late' = p.time in
+        let pre : v.cpu.pre ≡ p.late' + 2 = ap (λ (c : Cpu). c.pre) cpu in
         let early : 2 ≤ w.cpu.pre = s.early in
-        let most : n.late' ≤ 1 = n.most in
+        let most : p.late' ≤ 1 = p.most in
         let behind : x ≤ e.cycle = done.behind in
         let on : v.cycle + w.cpu.pre ≡ x + 2048 + v.cpu.pre = omega (arith, cycle, time, pre, early) in
         let entered : IsEntered v.cpu =
         subst (λ c. IsEntered c) (sym cpu)
-        (entered_is n.late' most n.tf n.last g r z.cpu (ap length (sym stack ∙ ram) ∙ done.memory)) in
+        (entered_is p.late' most n.timer.tf n.timer.last g r z.cpu (ap length (sym stack ∙ ram) ∙ done.memory)) in
         record {
           entered = entered;
           time = on;
@@ -179,7 +185,6 @@ module _ (d : Board) (bytes : List ℕ) (has : HasKernel bytes) (w : World d.Sta
     pub next : Comes d TICK bytes e (IsNext d w e)
     next =
         let early : 2 ≤ w.cpu.pre = s.early in
-        let late : w.cpu.pre ≤ 3 = s.late in
         let behind : x ≤ e.cycle = done.behind in
         let in_time : e.cycle ≤ x + 2040 = done.in_time in
         let counted : 32 * e.cpu.t + e.cpu.pre + x ≡ 32 * 192 + w.cpu.pre + e.cycle = done.counted in
@@ -193,11 +198,17 @@ module _ (d : Board) (bytes : List ℕ) (has : HasKernel bytes) (w : World d.Sta
           does = (sym ram_is, refl);
         } in
         let timing : IsTiming (clock_of e.cpu) = record { run = done.run; pre = done.pre; t = done.t } in
+        let timed : IsTimed timer 2040 (e.cycle - x) e.cpu = record {
+          timing = timing;
+          asks = inr (done.clear, omega (arith, counted, early, behind));
+          punctual = λ l few is room.
+              let pre : w.cpu.pre - 2 + 2 ≡ l + 2 = ap (λ (b : TimerState). b.pre) is in
+              (done.clear, omega (arith, counted, early, behind, pre));
+        } in
         let same : world_at x end ≡ e = ap (λ c. record { cpu = e.cpu; board = e.board; cycle = c }) there in
         subst (λ u. Comes d TICK bytes u (IsNext d w e)) same
-        (comes_as d TICK bytes (Next d x (w.cpu.pre - 2) Kept) (IsNext d w e) (world_at x end) next_so
-        (ends d bytes has x (w.cpu.pre - 2) (omega (arith, late)) 2040 (omega arith) Kept end over timing done.clear
-        (omega (arith, counted, early, behind))))
+        (comes_as d TICK bytes (Next d x timer 2040 Kept) (IsNext d w e) (world_at x end) next_so
+        (ends d bytes has x timer 2040 Kept end over timed))
 
 pub reading_law : ReadingLaw
 reading_law bytes has pins tick w s = reads (numbered pins tick) bytes has w s

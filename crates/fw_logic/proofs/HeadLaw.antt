@@ -101,6 +101,7 @@ module _ (d : Board) (bytes : List ℕ) (has : HasKernel bytes) (x : ℕ) (k : C
         free = h.free;
         order = h.order;
         clock = h.clock;
+        over = h.over;
       }
 
   -- the rest of the head, which leaves the timer alone

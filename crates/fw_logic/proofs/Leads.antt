@@ -5,7 +5,7 @@ use Rattle.mcs48_core.specs.Cpu.{Cpu}
 use Rattle.mcs48_core.specs.Step.{row_at}
 use Rattle.joint_run.specs.Run.{Board, World}
 use Rattle.joint_run.specs.Starts.{calm}
-use Rattle.fw_logic.proofs.Clock.{IsFree, is_closed, IsTiming, IsLater, clock_of, total}
+use Rattle.fw_logic.proofs.Clock.{IsFree, is_closed, IsTiming, IsLater, IsAsking, clock_of, total}
 use Rattle.fw_logic.proofs.Path.{Stage, Code, world_at}
 
 -- the rows at the places of a code are those of its bytes, and take 1 or 2 cycles
@@ -19,7 +19,7 @@ pub record LetsNone (bytes : List ℕ) (m : Cpu) : Type 0 where
   pub closed : is_closed row.op ≡ true
 
 -- the joint run comes from a stage to one of the set; it meets no tick start, no interrupt can come, and where the code
--- leaves the timer alone it goes on by the cycles
+-- leaves the timer alone it goes on by the cycles, and asks if it overflows
 pub record Leads (d : Board) (code : Code) (x : ℕ) (s : Stage d.State) (Q : Stage d.State → Type 0) : Type 0 where
   pub steps : ℕ
   pub end : Stage d.State
@@ -31,3 +31,5 @@ pub record Leads (d : Board) (code : Code) (x : ℕ) (s : Stage d.State) (Q : St
   pub order : s.off ≤ end.off
   pub clock : code.timed ≡ true → IsTiming (clock_of s.cpu) → total (clock_of s.cpu) + end.off < 8192 + s.off
       → IsLater (clock_of s.cpu) (clock_of end.cpu) s.off end.off
+  pub over : code.timed ≡ true → IsTiming (clock_of s.cpu) → s.cpu.tim_on ≡ true
+      → IsAsking (clock_of s.cpu) (clock_of end.cpu) s.off end.off

@@ -4,6 +4,7 @@ pub mod Leads
 pub mod Kernel
 pub mod Block
 pub mod Timing
+pub mod Timers
 pub mod Groups
 pub mod Chain
 pub mod Sound

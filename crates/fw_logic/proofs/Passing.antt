@@ -6,7 +6,6 @@ use Rattle.fw_kernel.specs.declared.labels.TheConstants.{TICK, WAIT, DONE}
 use Rattle.fw_kernel.specs.Places.{HasKernel}
 use Rattle.joint_run.specs.Run.{Board, World, after_cycles, joint_step}
 use Rattle.joint_run.specs.Starts.{at_tick, calm, Comes}
-use Rattle.fw_logic.proofs.Clock.{IsTiming, clock_of, total}
 use Rattle.fw_logic.proofs.Path.{Stage, Run, world_at}
 use Rattle.fw_logic.proofs.Leads.{Leads, LetsNone}
 use Rattle.fw_logic.proofs.Kernel.{kernel_in}
@@ -15,8 +14,9 @@ use Rattle.fw_logic.proofs.Chain.{calm_add, each_add}
 use Rattle.fw_logic.proofs.Sound.{sound, ticks_from}
 use Rattle.fw_logic.proofs.Laws.{comes_as}
 use Rattle.fw_logic.proofs.Short.{has_rows}
-use Rattle.fw_logic.proofs.Service.{begun}
-use Rattle.fw_logic.proofs.Serves.{work_at, IsOver, Next, second, first_step, IsSet, sets, ends}
+use Rattle.fw_logic.proofs.Service.{entering}
+use Rattle.fw_logic.proofs.Serves.{work_at, IsOver, Next, second, first_step, IsSet, sets, works_on}
+use Rattle.fw_logic.proofs.Timers.{TimerState, IsInRange, Headed, headed, heads_timer}
 
 -- from a state of the service to its end and on to the next start: no instruction on the way ends the service, and the
 -- way back is on the stack there
@@ -38,37 +38,33 @@ pub record Passes (d : Board) (bytes : List ℕ) (w : World d.State) : Type 0 wh
 
 module _ (d : Board) (bytes : List ℕ) (has : HasKernel bytes) where
   -- by the law of the work
-  pub passes : (x late : ℕ) → late ≤ 1 → (tf last : Bool) (f : ℕ → ℕ) (ring : List ℕ) (m : Cpu) (board : d.State)
-      → (last_off : ℕ) → last_off ≤ 2040 → (R : (ℕ → ℕ) → List ℕ → Stage d.State → Type 0)
-      → ((last' : Bool) → Leads d (kernel_in true bytes) x (work_at d x late tf last' f ring m board)
+  pub passes : (x : ℕ) (b : TimerState) → IsInRange b → (f : ℕ → ℕ) (ring : List ℕ) (m : Cpu) (board : d.State)
+      → (last_off : ℕ) → (R : (ℕ → ℕ) → List ℕ → Stage d.State → Type 0)
+      → ((l : TimerState) → IsInRange l → Leads d (kernel_in true bytes) x (work_at d x l f ring m board)
       (IsOver d last_off R))
-      → Passes d bytes (record { cpu = begun late tf last f ring m; board = board; cycle = x })
-  passes x late few tf last f ring m board last_off room R work =
-      let pins = d.pins m.p1 m.p2 x board in
-      let two = second d bytes has x late tf pins.t1 f ring m board in
+      → Passes d bytes (record { cpu = entering b f ring m; board = board; cycle = x })
+  passes x b range f ring m board last_off R work =
+      let t1 : Bool = (d.pins m.p1 m.p2 x board).t1 in
+      let two = second d bytes has x b t1 f ring m board in
       let step = d.cycle m.p2 in
       let set = sound d (kernel_in false bytes) (has_rows false bytes has) x (Run 1 ∷ [])
-      (IsSet d bytes has x late tf f ring m board) two
-      (sets d bytes has x late few tf pins.t1 f ring m board) (inl refl) in
+      (IsSet d bytes has x b t1 f ring m board) two (sets d bytes has x b t1 f ring m board) (inl refl) in
       let e = set.end in
-      let at : Stage d.State = work_at d x late tf e.cpu.last_t1 f ring m board in
+      let l : TimerState = headed e.cpu.last_t1 t1 b in
+      let head : Headed b l = heads_timer e.cpu.last_t1 t1 b range in
+      let at : Stage d.State = work_at d x l f ring m board in
       let same : world_at x e ≡ world_at x at =
       ap (λ c. world_at x (record { cpu = c; board = e.board; off = e.off })) set.goal.0
       ∙ ap (λ o. world_at x (record { cpu = at.cpu; board = e.board; off = o })) set.goal.1
       ∙ ap (λ b. world_at x (record { cpu = at.cpu; board = b; off = 3 }))
       (set.goal.2 ∙ sym (ticks_from 1 2 x step (after_cycles 2 x step board)) ∙ sym (ticks_add 2 1 x step board)) in
-      let does = work e.cpu.last_t1 in
+      let does = work l head.range in
       let end = does.end in
       let over = does.goal in
-      let short : end.off ≤ last_off = over.short in
-      let timing : IsTiming (clock_of at.cpu) =
-      record { run = refl; pre = omega (arith, few); t = omega arith } in
-      let clock = does.clock refl timing (omega (arith, few, short, room)) in
-      let count : total (clock_of end.cpu) + 3 ≡ 32 * 192 + (late + 5) + end.off = clock.count in
       let begin : World d.State = world_at x two in
       record {
         first = begin;
-        step = first_step d bytes has x late few tf last f ring m board;
+        step = first_step d bytes has x b f ring m board;
         through = record {
           steps = set.steps + does.steps;
           done = world_at x end;
@@ -82,8 +78,8 @@ module _ (d : Board) (bytes : List ℕ) (has : HasKernel bytes) where
           low = ap (λ (c : Cpu). slice_index c.ram 8) over.cpu ∙ over.low;
           high = ap (λ (c : Cpu). slice_index c.ram 9) over.cpu ∙ over.high;
           rest =
-              comes_as d TICK bytes (Next d x late R) (λ v. at_tick d TICK v ≡ true) (world_at x end)
+              comes_as d TICK bytes (Next d x b last_off R) (λ v. at_tick d TICK v ≡ true) (world_at x end)
               (λ v n. subst (λ (u : World d.State). at_tick d TICK u ≡ true) (sym n.is) refl)
-              (ends d bytes has x late few last_off room R end over clock.timing clock.rq (omega (arith, count)));
+              (works_on d bytes has x b l head f ring m board last_off R does);
         };
       }

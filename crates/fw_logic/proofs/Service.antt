@@ -16,6 +16,7 @@ use Rattle.joint_run.specs.Starts.{Comes}
 use Rattle.fw_logic.proofs.Block.{memory, put}
 use Rattle.fw_logic.proofs.Blocks.{ticks_add}
 use Rattle.fw_logic.proofs.Laws.{comes_here, comes_by}
+use Rattle.fw_logic.proofs.Timers.{TimerState, timed, on_time}
 
 -- the main program at WAIT: the timer runs, and its interrupt alone is enabled
 abbrev pub waiting : ℕ → ℕ → Bool → Bool → Bool → Cpu → Cpu
@@ -54,19 +55,13 @@ serving pc f ring m = record m {
 abbrev pub stacked : (ℕ → ℕ) → ℕ → ℕ
 stacked f = put (put f 8 WAIT) 9 16
 
--- at a tick start, so many cycles late: the service's first instruction comes next
+-- at a tick start, whatever the timer is: the service's first instruction comes next
+abbrev pub entering : TimerState → (ℕ → ℕ) → List ℕ → Cpu → Cpu
+entering b f ring m = timed b (record (serving TICK (stacked f) ring m) { c = false; ac = false; f0 = false })
+
+-- at one that is so many cycles late
 abbrev pub begun : ℕ → Bool → Bool → (ℕ → ℕ) → List ℕ → Cpu → Cpu
-begun late tf last f ring m = record (serving TICK (stacked f) ring m) {
-  c = false;
-  ac = false;
-  f0 = false;
-  run = Timer;
-  t = 0;
-  pre = late + 2;
-  tf = tf;
-  rq = false;
-  last_t1 = last;
-}
+begun late tf last f ring m = entering (on_time late tf last) f ring m
 
 -- the timer over a step of two cycles: it goes on, or it overflows and asks
 pub record Asked (t pre : ℕ) (tf : Bool) : Type 0 where

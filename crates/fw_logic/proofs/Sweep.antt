@@ -8,19 +8,19 @@ use Rattle.fw_kernel.specs.Places.{HasKernel}
 use Rattle.joint_run.specs.Run.{Board, World, joint_step}
 use Rattle.joint_run.specs.Starts.{at_tick, calm}
 use Rattle.fw_logic.specs.Selecting.{column_latch, Selects}
-use Rattle.fw_logic.specs.Ticks.{IsEntered}
 use Rattle.fw_logic.proofs.Between.{IsStart, Working, After, same_next, later_on, along, after_on, after_column, at_offer}
 use Rattle.fw_logic.proofs.Between.{begins_work, first_of}
 use Rattle.fw_logic.proofs.BlockLaws.{cells_of}
 use Rattle.fw_logic.proofs.Chain.{calm_add}
-use Rattle.fw_logic.proofs.Entered.{begun_is}
+use Rattle.fw_logic.proofs.Entered.{IsServed, entering_is}
 use Rattle.fw_logic.proofs.Kernel.{kernel_in}
 use Rattle.fw_logic.proofs.Passing.{Passes}
 use Rattle.fw_logic.proofs.Path.{Stage, world_at}
 use Rattle.fw_logic.proofs.Selecting.{Shown, Traced, Told, shown, traced}
 use Rattle.fw_logic.proofs.Serves.{second, first_step}
-use Rattle.fw_logic.proofs.Service.{begun}
+use Rattle.fw_logic.proofs.Service.{entering}
 use Rattle.fw_logic.proofs.Short.{has_rows}
+use Rattle.fw_logic.proofs.Timers.{TimerState, timer_of}
 use Rattle.fw_logic.proofs.Turns.{IsServing}
 
 early : (old o : ℕ) → o < 10 → column_latch old o ≡ old
@@ -32,16 +32,16 @@ behind old o l =
     let b : nat_lt o 201 ≡ false = grind (arith, nat_tests, l) in
     rw (a, b) refl
 
-module _ (d : Board) (bytes : List ℕ) (has : HasKernel bytes) (x late : ℕ) (few : late ≤ 1) (tf last : Bool)
+module _ (d : Board) (bytes : List ℕ) (has : HasKernel bytes) (x : ℕ) (b : TimerState)
     (f : ℕ → ℕ) (ring : List ℕ) (m : Cpu) (board : d.State) where
   abbrev start : World d.State
-  start = record { cpu = begun late tf last f ring m; board = board; cycle = x }
+  start = record { cpu = entering b f ring m; board = board; cycle = x }
 
   abbrev latch : ℕ → ℕ
   latch = column_latch m.p1
 
   abbrev two : Stage d.State
-  two = second d bytes has x late tf (d.pins m.p1 m.p2 x board).t1 f ring m board
+  two = second d bytes has x b (d.pins m.p1 m.p2 x board).t1 f ring m board
 
   -- up to the last column
   abbrev Swept : Stage d.State → Type 0
@@ -65,7 +65,7 @@ module _ (d : Board) (bytes : List ℕ) (has : HasKernel bytes) (x late : ℕ) (
 
     first_is : p.first ≡ begin
     first_is =
-        same_next d bytes start p.first begin p.step (first_step d bytes has x late few tf last f ring m board)
+        same_next d bytes start p.first begin p.step (first_step d bytes has x b f ring m board)
 
     -- the service has begun
     serving : IsServing m.clk start.cpu
@@ -110,7 +110,7 @@ module _ (d : Board) (bytes : List ℕ) (has : HasKernel bytes) (x late : ℕ) (
     selects = record {
       at = refl;
       first = begin;
-      step = first_step d bytes has x late few tf last f ring m board;
+      step = first_step d bytes has x b f ring m board;
       put = λ c a l. sym (early m.p1 (c - x) (omega (arith, a, l)));
       latches = column;
     }
@@ -123,7 +123,7 @@ module _ (d : Board) (bytes : List ℕ) (has : HasKernel bytes) (x late : ℕ) (
         from_begin : calm d TICK bytes k begin ≡ Some e
         from_begin =
             ap (calm d TICK bytes k)
-            (same_next d bytes start begin first (first_step d bytes has x late few tf last f ring m board) step)
+            (same_next d bytes start begin first (first_step d bytes has x b f ring m board) step)
             ∙ run
 
         by : (b : Bool) → leb swept.steps k ≡ b → e.cpu.p1 ≡ 44
@@ -144,7 +144,7 @@ module _ (d : Board) (bytes : List ℕ) (has : HasKernel bytes) (x late : ℕ) (
             absurd cc
 
 -- from any tick start
-module _ (d : Board) (bytes : List ℕ) (has : HasKernel bytes) (w : World d.State) (s : IsEntered w.cpu)
+module _ (d : Board) (bytes : List ℕ) (has : HasKernel bytes) (w : World d.State) (s : IsServed w.cpu)
     (p : Passes d bytes w) where
   abbrev cells : ℕ → ℕ
   cells = cells_of w.cpu.ram
@@ -152,14 +152,11 @@ module _ (d : Board) (bytes : List ℕ) (has : HasKernel bytes) (w : World d.Sta
   abbrev rest : List ℕ
   rest = drop 112 w.cpu.ram
 
-  soon : w.cpu.pre - 2 ≤ 1
-  soon = let l : w.cpu.pre ≤ 3 = s.late in omega (arith, l)
-
   abbrev as_begun : World d.State
-  as_begun = start d bytes has w.cycle (w.cpu.pre - 2) soon w.cpu.tf w.cpu.last_t1 cells rest w.cpu w.board
+  as_begun = start d bytes has w.cycle (timer_of w.cpu) cells rest w.cpu w.board
 
   same : w ≡ as_begun
-  same = ap (λ c. record { cpu = c; board = w.board; cycle = w.cycle }) (begun_is w.cpu s)
+  same = ap (λ c. record { cpu = c; board = w.board; cycle = w.cycle }) (entering_is w.cpu s)
 
   passes_begun : Passes d bytes as_begun
   passes_begun = subst (λ u. Passes d bytes u) same p
@@ -167,10 +164,10 @@ module _ (d : Board) (bytes : List ℕ) (has : HasKernel bytes) (w : World d.Sta
   pub selects_from : Selects d TICK bytes w (λ c. column_latch w.cpu.p1 (c - w.cycle))
   selects_from =
       subst (λ u. Selects d TICK bytes u (λ c. column_latch w.cpu.p1 (c - w.cycle))) (sym same)
-      (selects d bytes has w.cycle (w.cpu.pre - 2) soon w.cpu.tf w.cpu.last_t1 cells rest w.cpu w.board passes_begun)
+      (selects d bytes has w.cycle (timer_of w.cpu) cells rest w.cpu w.board passes_begun)
 
   pub column_from : (k : ℕ) (first e : World d.State) → joint_step d bytes w ≡ Some first
       → calm d TICK bytes k first ≡ Some e → IsStart d bytes e → e.cpu.p1 ≡ 44
   column_from k first e step run at =
-      next_column d bytes has w.cycle (w.cpu.pre - 2) soon w.cpu.tf w.cpu.last_t1 cells rest w.cpu w.board passes_begun k
+      next_column d bytes has w.cycle (timer_of w.cpu) cells rest w.cpu w.board passes_begun k
       first e (subst (λ u. joint_step d bytes u ≡ Some first) same step) run at

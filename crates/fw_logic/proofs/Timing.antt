@@ -1,12 +1,12 @@
 -- The timer over a step.
-use Rattle.std.proofs.Common.{◌≡◌, ◌≤◌, ◌<◌, ℕ, ◌+◌, ◌-◌, ◌%◌, Bool, true, false, ◌&&◌, ◌==◌, nat_le, if◌then◌else◌}
+use Rattle.std.proofs.Common.{◌≡◌, ◌≤◌, ◌<◌, ℕ, ◌+◌, ◌-◌, ◌%◌, Bool, true, false, ◌&&◌, ◌==◌, nat_le, leb, if◌then◌else◌}
 use Rattle.std.proofs.Common.{refl, ap, sym, ◌∙◌, subst, arith}
 use Rattle.std.proofs.lemmas.Bool.Decides.{nat_tests}
 use Rattle.mcs48_core.specs.declared.levels.Pins.{Pins}
 use Rattle.mcs48_core.specs.declared.processor.Count.TheVariants.{Timer}
 use Rattle.mcs48_core.specs.Cpu.{Cpu}
 use Rattle.mcs48_core.specs.Timer.{after_timer}
-use Rattle.fw_logic.proofs.Clock.{Clock, clock_of, total, IsTiming, IsLater}
+use Rattle.fw_logic.proofs.Clock.{Clock, clock_of, total, IsTiming, IsLater, IsAsking}
 
 -- what a step of a running timer leaves, where T counts or not
 abbrev pub counted : Bool → ℕ → Clock → Clock
@@ -69,6 +69,57 @@ step_later k m c pins start e h few room =
       tim_on = l.tim_on;
     }))
     h room
+
+stays_true : (x r : Bool) → r ≡ true → (if x then true else r) ≡ true
+stays_true true r h = refl
+stays_true false r h = h
+
+-- a step asks if it overflows
+pub counted_asks : (k : Clock) (c : ℕ) → IsTiming k → k.tim_on ≡ true → c ≤ 2 → (b : Bool)
+    → nat_le 32 (k.pre + c) ≡ b → IsAsking k (counted b c k) 0 c
+counted_asks k c h on few false is =
+    let less : k.pre + c < 32 = grind (arith, nat_tests, is) in
+    let low : k.t < 256 = h.t in
+    record {
+      timing = record { run = refl; pre = less; t = low };
+      tim_on = on;
+      keeps = λ q. q;
+      asks = λ room. absurd (omega (arith, less, low, room));
+    }
+counted_asks k c h on few true is =
+    let l : k.pre < 32 = h.pre in
+    let low : k.t < 256 = h.t in
+    record {
+      timing = record { run = refl; pre = omega (arith, l, few); t = omega arith };
+      tim_on = on;
+      keeps = λ q. stays_true ((k.t == 255) && k.tim_on) k.rq q;
+      asks = λ room.
+          let high : k.t ≡ 255 = omega (arith, room, l, low, few) in
+          let full : (k.t == 255) ≡ true = grind (arith, nat_tests, high) in rw (full, on) refl;
+    }
+
+pub step_asks : (k : Clock) (m : Cpu) (c : ℕ) (pins : Pins) (start : ℕ) → clock_of m ≡ k → IsTiming k
+    → k.tim_on ≡ true → c ≤ 2 → IsAsking k (clock_of (after_timer m.run c pins m)) start (start + c)
+step_asks k m c pins start e h on few =
+    subst
+    (λ j. IsTiming j → j.tim_on ≡ true → IsAsking j (clock_of (after_timer m.run c pins m)) start (start + c)) e
+    (λ h on.
+    let run : m.run ≡ Timer = h.run in
+    let a = counted_asks (clock_of m) c h on few (nat_le 32 (m.pre + c)) refl in
+    subst (λ j. IsAsking (clock_of m) j start (start + c)) (sym (timer_clock m c pins run))
+    (record { timing = a.timing; tim_on = a.tim_on; keeps = a.keeps; asks = λ room. a.asks (omega (arith, room)) }))
+    h on
+
+pub asking_then : (k e f : Clock) (a b c : ℕ) → (total k + b < 8192 + a → IsLater k e a b) → IsAsking k e a b
+    → IsAsking e f b c → IsAsking k f a c
+asking_then k e f a b c later h g =
+    record { timing = g.timing; tim_on = g.tim_on; keeps = λ q. g.keeps (h.keeps q); asks = λ room. by room (leb (8192 + a) (total k + b)) refl }
+  where
+    by : 8192 + a ≤ total k + c → (x : Bool) → leb (8192 + a) (total k + b) ≡ x → f.rq ≡ true
+    by room true x = g.keeps (h.asks (grind (arith, nat_tests, x)))
+    by room false x =
+        let l = later (grind (arith, nat_tests, x)) in
+        let count : total e + a ≡ total k + b = l.count in g.asks (omega (arith, count, room))
 
 pub later_then : (k e f : Clock) (a b c : ℕ) → IsLater k e a b → IsLater e f b c → IsLater k f a c
 later_then k e f a b c h g =

@@ -1,0 +1,45 @@
+-- What a tick comes to, however late it starts and whatever the keys do.
+use Rattle.std.specs.Prelude.{◌≡◌, ◌≤◌, ℕ, ◌+◌, List, length}
+use Rattle.fw_keys.proofs.Begun.{IsAnyStart}
+use Rattle.fw_keys.specs.Edges.{image_keys}
+use Rattle.fw_keys.specs.Frameless.{IsStarted, IsRepeating, shown_by, layers_by, edges_now, latch_now}
+use Rattle.fw_link.proofs.Latches.{driven}
+use Rattle.fw_link.specs.Latch.{Frame, tick_latch}
+use Rattle.fw_logic.proofs.Passing.{Passes}
+use Rattle.joint_run.specs.Run.{Board, World}
+use Rattle.kbd_model.specs.Layers.{layered, all_layers_after}
+use Rattle.kbd_model.specs.Tick.{ticked}
+use Rattle.kbd_model.specs.declared.meeting.Meeting.{Meeting}
+use Rattle.agreement.proofs.Happened.{Happened}
+use Rattle.agreement.specs.AnyKeys.{longest_tick}
+
+-- from tick start w to tick start v: as a tick in time, but for its length, if the next start isn't in time
+pub record Ran (d : Board) (bytes : List ℕ) (meeting : Meeting) (frame : Frame) (w v : World d.State) : Type 0 where
+  pub started : IsAnyStart v.cpu
+  pub soon : v.cycle ≤ w.cycle + longest_tick
+  pub prompt : IsStarted w.cpu → length (edges_now d w) ≤ 4
+      → IsStarted v.cpu × (v.cycle + w.cpu.pre ≡ w.cycle + 2048 + v.cpu.pre)
+  pub keyboard : shown_by v.cpu.ram ≡ ticked (image_keys bytes) meeting
+      (layered (image_keys bytes).is_fn (edges_now d w) (layers_by w.cpu.ram)) (shown_by w.cpu.ram)
+  pub layers : layers_by v.cpu.ram ≡ all_layers_after (image_keys bytes).is_fn (edges_now d w) (layers_by w.cpu.ram)
+  pub repeating : IsRepeating bytes v.cpu.ram
+  pub latch : v.cpu.p2 ≡ latch_now d w
+  pub passes : Passes d bytes w
+  pub board : (n : ℕ) → v.cycle ≡ w.cycle + n
+      → v.board ≡ driven d w.cycle (tick_latch w.cpu.p2 (latch_now d w) frame) n 0 w.board
+
+-- one that starts in time, with four edges at most, is in time
+pub in_time : (d : Board) (bytes : List ℕ) (meeting : Meeting) (frame : Frame) (w v : World d.State) → IsStarted w.cpu
+    → length (edges_now d w) ≤ 4 → Ran d bytes meeting frame w v → Happened d bytes meeting frame w v
+in_time d bytes meeting frame w v started few r =
+    let p = r.prompt started few in
+    record {
+      started = p.0;
+      time = p.1;
+      keyboard = r.keyboard;
+      layers = r.layers;
+      repeating = r.repeating;
+      latch = r.latch;
+      passes = r.passes;
+      board = r.board;
+    }
