@@ -111,6 +111,7 @@ module _ (d : Board) (bytes : List ℕ) (hk : HasKernel bytes) (alike : IsSilent
       → So meeting frame u
   came_so meeting last_off G frame u fits c p2 is = record {
     started = c.started;
+    later = (let at : u.cycle ≡ start + (3 + c.from.off) + c.n = c.cycle in omega (arith, at));
     soon = c.within longest_tick (omega arith) fits.any;
     prompt = λ started few. c.prompt started (fits.few few);
     keyboard = c.keyboard;

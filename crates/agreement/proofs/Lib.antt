@@ -1,6 +1,7 @@
 pub mod Model
 pub mod InTime
 pub mod Happened
+pub mod Ran
 pub mod Ties
 pub mod Seen
 pub mod Looking
@@ -10,6 +11,7 @@ pub mod Pressing
 pub mod AtLook
 pub mod Fitting
 pub mod AnyTick
+pub mod Timely
 pub mod Does
 pub mod Ways
 pub mod OnWires
@@ -37,3 +39,5 @@ pub mod Tied
 pub mod FewShown
 pub mod FromStart
 pub mod AnyStart
+pub mod Found
+pub mod AnyKeys

@@ -16,6 +16,7 @@ use Rattle.agreement.specs.AnyKeys.{longest_tick}
 -- from tick start w to tick start v: as a tick in time, but for its length, if the next start isn't in time
 pub record Ran (d : Board) (bytes : List ℕ) (meeting : Meeting) (frame : Frame) (w v : World d.State) : Type 0 where
   pub started : IsAnyStart v.cpu
+  pub later : w.cycle ≤ v.cycle
   pub soon : v.cycle ≤ w.cycle + longest_tick
   pub prompt : IsStarted w.cpu → length (edges_now d w) ≤ 4
       → IsStarted v.cpu × (v.cycle + w.cpu.pre ≡ w.cycle + 2048 + v.cpu.pre)

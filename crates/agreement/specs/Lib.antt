@@ -5,3 +5,4 @@ pub mod Memory
 pub mod Executed
 pub mod Bytes
 pub mod AnyStart
+pub mod AnyKeys

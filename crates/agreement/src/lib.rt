@@ -8,6 +8,7 @@
 #![tactic(auto)]
 
 ghost use Rattle.agreement.specs.Agreement.{AgreementLaw, AnyMemoryLaw, PromptLaw};
+ghost use Rattle.agreement.specs.AnyKeys.{AnyKeysLaw};
 ghost use Rattle.agreement.specs.AnyStart.{AsShown, FromAnyStart, ThinShowsFew};
 ghost use Rattle.agreement.specs.Executed.{ExecutedLaw, LateLaw, SoonLaw};
 ghost use Rattle.agreement.specs.Firmware.{TickLaw};
@@ -79,4 +80,13 @@ pub fn goes_on_from_any_start()
     ensures from_any_start { FromAnyStart }
     ensures as_shown { AsShown }
     ensures thin { ThinShowsFew }
+{}
+
+/// Whatever the keys and the PC do: for every layout, under any edges at any places, any number at once, bouncing or not,
+/// in any order, and under any host events and inverted bits, whatever a part holds when it is switched on, the joint run
+/// of the layout's compiled image is never stuck. Its first tick starts at stamp 0 or 1, and each later one at most 7,932
+/// cycles after the one before: all 96 places may change in a tick that receives a byte. Nothing is done when it is called;
+/// the law is its contract.
+pub fn any_keys()
+    ensures never_stops { AnyKeysLaw }
 {}

@@ -1,0 +1,186 @@
+-- The run whatever the keys and the PC do: from each tick start to the next, and so the whole run.
+use Rattle.std.proofs.Common.{◌≡◌, ◌≤◌, ◌<◌, ℕ, suc, zero, ◌+◌, ◌-◌, ◌==◌, List, All, true, Some, refl, ap, sym, ◌∙◌}
+use Rattle.std.proofs.Common.{subst, arith}
+use Rattle.board_lines.specs.declared.event.Edge.{Edge}
+use Rattle.board_lines.specs.declared.event.HostEvent.{HostEvent}
+use Rattle.fw_compile.specs.Image.{image_of}
+use Rattle.fw_kernel.specs.Places.{HasKernel}
+use Rattle.fw_kernel.specs.declared.labels.TheConstants.{TICK}
+use Rattle.fw_keys.proofs.Begun.{IsAnyStart, any_start}
+use Rattle.fw_keys.proofs.Carried.{edges_low}
+use Rattle.fw_keys.proofs.Kept.{Sound, tick_sound}
+use Rattle.fw_keys.proofs.PowerOn.{first_started}
+use Rattle.fw_keys.specs.Edges.{image_keys, IsSilentAlike}
+use Rattle.fw_keys.specs.Frameless.{FromPowerOn, IsRepeating, IsPressed, changed_now, edges_now, layers_by, shown_by}
+use Rattle.fw_logic.proofs.Laws.{comes_as}
+use Rattle.fw_logic.proofs.Numbers.{Reached, goes_on, nth_reached}
+use Rattle.fw_logic.proofs.Starting.{IsFirst}
+use Rattle.fw_logic.specs.Boards.{power_on}
+use Rattle.fw_logic.specs.Ticks.{column_read}
+use Rattle.joint_run.specs.Joint.{Beside, beside_at_start, joint_board}
+use Rattle.joint_run.specs.Run.{Board, World, run_at}
+use Rattle.joint_run.specs.Starts.{at_tick, Comes, Tick, IsNth, IsStart}
+use Rattle.kbd_model.proofs.CodesAreWhole.{IsWhole}
+use Rattle.kbd_model.specs.Keyboard.{Keyboard}
+use Rattle.layout_reader.specs.Layouts.{KeyLayout, IsKeyLayout}
+use Rattle.mcs48_core.specs.Cpu.{Cpu}
+use Rattle.mcs48_ranges.specs.Sizes.{IsByte, IsFine}
+use Rattle.agreement.proofs.AnyTick.{every}
+use Rattle.agreement.proofs.Columns.{bus_low}
+use Rattle.agreement.proofs.Compiled.{has_kernel, is_alike, are_bytes, same_keys, no_prefix}
+use Rattle.agreement.proofs.Found.{found}
+use Rattle.agreement.proofs.Ran.{Ran}
+use Rattle.agreement.specs.Agreement.{switched_on}
+use Rattle.agreement.specs.AnyKeys.{longest_tick, NeverStops, AnyKeysLaw}
+use Rattle.agreement.specs.Firmware.{HasNoPrefix, HasWholeCodes}
+
+module _ (d : Board) (bytes : List ℕ) (hk : HasKernel bytes) (alike : IsSilentAlike bytes) (codes : HasNoPrefix bytes)
+    (small : All IsByte bytes) (low : (p1 p2 c : ℕ) (s : d.State) → (d.pins p1 p2 c s).bus < 256) where
+  -- what each tick start keeps
+  pub record GoesOn (w : World d.State) : Type 0 where
+    pub start : IsAnyStart w.cpu
+    pub repeating : IsRepeating bytes w.cpu.ram
+    pub codes : HasWholeCodes w.cpu.ram
+    pub past : 4096 ≤ w.cycle
+
+  Next : World d.State → World d.State → Type 0
+  Next w v = GoesOn v × (v.cycle ≤ w.cycle + longest_tick)
+
+  pub onward : (w : World d.State) → GoesOn w → Tick d TICK bytes w (Next w)
+  onward w g =
+      let f = found d w in
+      let t = every d bytes hk alike small low w g.start g.repeating f.frame f.meeting g.codes f.finds in
+      record {
+        at = t.at;
+        first = t.first;
+        step = t.step;
+        rest = comes_as d TICK bytes (Ran d bytes f.meeting f.frame w) (Next w) t.first
+            (λ v r.
+            let sound : Sound (image_keys bytes) (layers_by w.cpu.ram) (shown_by w.cpu.ram) =
+            record { codes = g.codes; place = g.repeating } in
+            let kept = tick_sound (image_keys bytes) codes f.meeting (edges_now d w) (layers_by w.cpu.ram)
+            (shown_by w.cpu.ram) (edges_low (changed_now d w) (column_read d w)) refl sound in
+            let before : 4096 ≤ w.cycle = g.past in
+            let later : w.cycle ≤ v.cycle = r.later in
+            (
+              record {
+                start = r.started;
+                repeating = r.repeating;
+                codes = subst (λ (k : Keyboard). IsWhole k.queue) (sym r.keyboard) kept.codes;
+                past = omega (arith, before, later);
+              },
+              r.soon,
+            ))
+            t.rest;
+      }
+
+  -- from a first start on
+  module _ (from : World d.State) (first : Comes d TICK bytes from GoesOn) where
+    record Known (n : ℕ) : Type 0 where
+      w : World d.State
+      nth : IsNth d TICK bytes from n w
+      keeps : GoesOn w
+
+    known : (n : ℕ) → Known n
+    known zero = record {
+      w = first.end;
+      nth = record { steps = first.steps; end = first.end; run = first.run; goal = refl };
+      keeps = first.goal;
+    }
+    known (suc n) =
+        let k = known n in
+        let t = onward k.w k.keeps in
+        let r = t.rest in
+        let rest : Comes d TICK bytes t.first (λ e. e ≡ r.end) =
+        record { steps = r.steps; end = r.end; run = r.run; goal = refl } in
+        record {
+          w = r.end;
+          nth = (k.w, k.nth, record { at = t.at; first = t.first; step = t.step; rest = rest });
+          keeps = r.goal.0;
+        }
+
+    reached : (n : ℕ) → Reached d TICK bytes from n (known n).w
+    reached n = nth_reached d TICK bytes from n (known n).w (known n).nth
+
+    pub stamp_of : ℕ → ℕ
+    stamp_of n = (known n).w.cycle - 4096
+
+    pub never_stuck : (k : ℕ) → (w : World d.State) × (run_at d bytes from k ≡ Some w)
+    never_stuck = goes_on d TICK bytes from (λ n. ((known n).w, reached n))
+
+    pub each : (n : ℕ) → IsStart d TICK bytes from n (stamp_of n)
+    each n =
+        let r = reached n in
+        let past : 4096 ≤ (known n).w.cycle = (known n).keeps.past in
+        record {
+          steps = r.steps;
+          state = (known n).w;
+          reached = r.run;
+          at = (onward (known n).w (known n).keeps).at;
+          number = r.count;
+          cycle = omega (arith, past);
+        }
+
+    pub soon : (n : ℕ) → stamp_of (suc n) ≤ stamp_of n + longest_tick
+    soon n =
+        let past : 4096 ≤ (known n).w.cycle = (known n).keeps.past in
+        let next : (known (suc n)).w.cycle ≤ (known n).w.cycle + longest_tick =
+        (onward (known n).w (known n).keeps).rest.goal.1 in
+        omega (arith, past, next)
+
+    pub begins : stamp_of 0 ≡ first.end.cycle - 4096
+    begins = refl
+
+-- from power-on
+module _ (layout : KeyLayout) (edges : List Edge) (events : List HostEvent) (fine : IsKeyLayout layout) (m : Cpu)
+    (small : IsFine m) where
+  abbrev joint : Board
+  joint = joint_board edges events
+
+  abbrev bytes : List ℕ
+  bytes = image_of layout
+
+  -- no code of the image is the prefix of a break
+  prefix : HasNoPrefix bytes
+  prefix on_fn p l = ap (λ c. c == 240) ((same_keys layout).code on_fn p l) ∙ no_prefix layout fine on_fn p l
+
+  abbrev Keeps : World Beside → Type 0
+  Keeps = GoesOn joint bytes (has_kernel layout) (is_alike layout fine) prefix (are_bytes layout fine) (bus_low edges events)
+
+  keeps_first : (w : World Beside) → IsFirst joint bytes beside_at_start w → FromPowerOn bytes w.cpu
+      → Keeps w × (w.cycle ≤ 4097)
+  keeps_first w i f =
+      let cycle : w.cycle ≡ 4096 + i.late = ap (λ (v : World Beside). v.cycle) i.is in
+      let most : i.late ≤ 1 = i.most in
+      (
+        record {
+          start = any_start w.cpu f.started;
+          repeating = subst (λ (k : Keyboard). IsPressed (image_keys bytes) (layers_by w.cpu.ram) k.repeats) (sym f.keyboard) tt;
+          codes = subst (λ (k : Keyboard). IsWhole k.queue) (sym f.keyboard) refl;
+          past = omega (arith, cycle);
+        },
+        omega (arith, cycle, most),
+      )
+
+  never_stops : NeverStops (switched_on edges events m) bytes edges events
+  never_stops =
+      let from : World Beside = switched_on edges events m in
+      let c = first_started joint bytes (has_kernel layout) (are_bytes layout fine) (bus_low edges events) m small beside_at_start in
+      let g = keeps_first c.end c.goal.0 c.goal.1 in
+      let first : Comes joint TICK bytes from Keeps =
+      record { steps = c.steps; end = c.end; run = c.run; goal = g.0 } in
+      let most : c.end.cycle ≤ 4097 = g.1 in
+      record {
+        goes_on = never_stuck joint bytes (has_kernel layout) (is_alike layout fine) prefix (are_bytes layout fine)
+            (bus_low edges events) from first;
+        starts = stamp_of joint bytes (has_kernel layout) (is_alike layout fine) prefix (are_bytes layout fine)
+            (bus_low edges events) from first;
+        each = each joint bytes (has_kernel layout) (is_alike layout fine) prefix (are_bytes layout fine)
+            (bus_low edges events) from first;
+        first = omega (arith, most);
+        soon = soon joint bytes (has_kernel layout) (is_alike layout fine) prefix (are_bytes layout fine)
+            (bus_low edges events) from first;
+      }
+
+pub any_keys : AnyKeysLaw
+any_keys layout edges events fine m small = never_stops layout edges events fine m small
