@@ -20,31 +20,31 @@ module _ (d : Board) (w : World d.State) where
   -- a byte that is offered is sent, or cut at the first look that finds the clock low
   offered : (byte : ℕ) → IsOpen d w → data_now d w ≡ true → offer (shown_by w.cpu.ram) ≡ Some byte
       → ((look : ℕ) → IsLook look → clock_in d w byte look ≡ true) ⊎ (FirstLow (clock_in d w byte)) → Found
-  offered byte open high is (inl leaves) =
-      record { frame = SentFrame byte; meeting = Sent; finds = (refl, (open, high, is), leaves) }
-  offered byte open high is (inr first) = record {
+  offered byte clear high is (inl leaves) =
+      record { frame = SentFrame byte; meeting = Sent; finds = (refl, (clear, high, is), leaves) }
+  offered byte clear high is (inr first) = record {
     frame = CutFrame byte first.look;
     meeting = Cut;
-    finds = (refl, (open, high, is), first.is, first.before, first.low);
+    finds = (refl, (clear, high, is), first.is, first.before, first.low);
   }
 
   by_offer : (o : Option ℕ) → offer (shown_by w.cpu.ram) ≡ o → IsOpen d w → data_now d w ≡ true → Found
-  by_offer None is open high =
-      record { frame = NoFrame; meeting = Idle; finds = inr (inl (open.0, open.1, high, is)) }
-  by_offer (Some byte) is open high = offered byte open high is (first_low (clock_in d w byte))
+  by_offer None is clear high =
+      record { frame = NoFrame; meeting = Idle; finds = inr (inl (clear.0, clear.1, high, is)) }
+  by_offer (Some byte) is clear high = offered byte clear high is (first_low (clock_in d w byte))
 
   by_again : (b : Bool) → data_again d w ≡ b → IsOpen d w → data_now d w ≡ false → Found
-  by_again true again open low =
-      record { frame = NoFrame; meeting = Idle; finds = inr (inr (open.0, open.1, low, again)) }
-  by_again false again open low = record {
+  by_again true again clear low =
+      record { frame = NoFrame; meeting = Idle; finds = inr (inr (clear.0, clear.1, low, again)) }
+  by_again false again clear low = record {
     frame = ReceivedFrame;
     meeting = Got (byte_in (data_in d w)) (right_in (data_in d w));
-    finds = (refl, open, low, again);
+    finds = (refl, clear, low, again);
   }
 
   by_data : (b : Bool) → data_now d w ≡ b → IsOpen d w → Found
-  by_data true high open = by_offer (offer (shown_by w.cpu.ram)) refl open high
-  by_data false low open = by_again (data_again d w) refl open low
+  by_data true high clear = by_offer (offer (shown_by w.cpu.ram)) refl clear high
+  by_data false low clear = by_again (data_again d w) refl clear low
 
   by_clock : (b : Bool) → clock_now d w ≡ b → tests_in d w ≡ true → Found
   by_clock true high ended = by_data (data_now d w) refl (ended, high)
