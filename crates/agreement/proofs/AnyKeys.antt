@@ -1,5 +1,5 @@
 -- The run whatever the keys and the PC do: from each tick start to the next, and so the whole run.
-use Rattle.std.proofs.Common.{◌≡◌, ◌≤◌, ◌<◌, ℕ, suc, zero, ◌+◌, ◌-◌, ◌==◌, List, All, true, Some, refl, ap, sym, ◌∙◌}
+use Rattle.std.proofs.Common.{◌≡◌, ◌≤◌, ◌<◌, ℕ, suc, zero, ◌+◌, ◌-◌, ◌*◌, ◌==◌, List, All, length, true, Some, refl, ap, sym, ◌∙◌}
 use Rattle.std.proofs.Common.{subst, arith}
 use Rattle.board_lines.specs.declared.event.Edge.{Edge}
 use Rattle.board_lines.specs.declared.event.HostEvent.{HostEvent}
@@ -13,7 +13,7 @@ use Rattle.fw_keys.proofs.PowerOn.{first_started}
 use Rattle.fw_keys.specs.Edges.{image_keys, IsSilentAlike}
 use Rattle.fw_keys.specs.Frameless.{FromPowerOn, IsRepeating, IsPressed, changed_now, edges_now, layers_by, shown_by}
 use Rattle.fw_logic.proofs.Laws.{comes_as}
-use Rattle.fw_logic.proofs.Numbers.{Reached, goes_on, nth_reached}
+use Rattle.fw_logic.proofs.Numbers.{Reached, goes_on, nth_reached, same_start}
 use Rattle.fw_logic.proofs.Starting.{IsFirst}
 use Rattle.fw_logic.specs.Boards.{power_on}
 use Rattle.fw_logic.specs.Ticks.{column_read}
@@ -31,7 +31,7 @@ use Rattle.agreement.proofs.Compiled.{has_kernel, is_alike, are_bytes, same_keys
 use Rattle.agreement.proofs.Found.{found}
 use Rattle.agreement.proofs.Ran.{Ran}
 use Rattle.agreement.specs.Agreement.{switched_on}
-use Rattle.agreement.specs.AnyKeys.{longest_tick, NeverStops, AnyKeysLaw}
+use Rattle.agreement.specs.AnyKeys.{longest_tick, tick_with, NeverStops, AnyKeysLaw}
 use Rattle.agreement.specs.Firmware.{HasNoPrefix, HasWholeCodes}
 
 module _ (d : Board) (bytes : List ℕ) (hk : HasKernel bytes) (alike : IsSilentAlike bytes) (codes : HasNoPrefix bytes)
@@ -44,7 +44,8 @@ module _ (d : Board) (bytes : List ℕ) (hk : HasKernel bytes) (alike : IsSilent
     pub past : 4096 ≤ w.cycle
 
   Next : World d.State → World d.State → Type 0
-  Next w v = GoesOn v × (v.cycle ≤ w.cycle + longest_tick)
+  Next w v =
+      GoesOn v × (v.cycle ≤ w.cycle + longest_tick) × (v.cycle ≤ w.cycle + tick_with (length (edges_now d w)))
 
   pub onward : (w : World d.State) → GoesOn w → Tick d TICK bytes w (Next w)
   onward w g =
@@ -70,6 +71,7 @@ module _ (d : Board) (bytes : List ℕ) (hk : HasKernel bytes) (alike : IsSilent
                 past = omega (arith, before, later);
               },
               r.soon,
+              r.by_keys,
             ))
             t.rest;
       }
@@ -102,34 +104,59 @@ module _ (d : Board) (bytes : List ℕ) (hk : HasKernel bytes) (alike : IsSilent
     reached : (n : ℕ) → Reached d TICK bytes from n (known n).w
     reached n = nth_reached d TICK bytes from n (known n).w (known n).nth
 
-    pub stamp_of : ℕ → ℕ
-    stamp_of n = (known n).w.cycle - 4096
+    at_start : (n : ℕ) → at_tick d TICK (known n).w ≡ true
+    at_start n = (onward (known n).w (known n).keeps).at
 
     pub never_stuck : (k : ℕ) → (w : World d.State) × (run_at d bytes from k ≡ Some w)
     never_stuck = goes_on d TICK bytes from (λ n. ((known n).w, reached n))
 
-    pub each : (n : ℕ) → IsStart d TICK bytes from n (stamp_of n)
-    each n =
+    pub starts : (n : ℕ) → (stamp : ℕ) × IsStart d TICK bytes from n stamp
+    starts n =
         let r = reached n in
-        let past : 4096 ≤ (known n).w.cycle = (known n).keeps.past in
-        record {
-          steps = r.steps;
-          state = (known n).w;
-          reached = r.run;
-          at = (onward (known n).w (known n).keeps).at;
-          number = r.count;
-          cycle = omega (arith, past);
-        }
+        let past : 4096 ≤ (known n).w.cycle = (known n).keeps.past in (
+          (known n).w.cycle - 4096,
+          record {
+            steps = r.steps;
+            state = (known n).w;
+            reached = r.run;
+            at = at_start n;
+            number = r.count;
+            cycle = omega (arith, past);
+          },
+        )
 
-    pub soon : (n : ℕ) → stamp_of (suc n) ≤ stamp_of n + longest_tick
-    soon n =
-        let past : 4096 ≤ (known n).w.cycle = (known n).keeps.past in
-        let next : (known (suc n)).w.cycle ≤ (known n).w.cycle + longest_tick =
+    -- each start of a number is that one
+    is_nth : (n stamp : ℕ) (s : IsStart d TICK bytes from n stamp) → (known n).w ≡ s.state
+    is_nth n stamp s =
+        let r = reached n in
+        same_start d TICK bytes from r.steps s.steps (known n).w s.state r.run s.reached (at_start n) s.at
+        (r.count ∙ sym s.number)
+
+    cycle_is : (n stamp : ℕ) → IsStart d TICK bytes from n stamp → (known n).w.cycle ≡ 4096 + stamp
+    cycle_is n stamp s = ap (λ (v : World d.State). v.cycle) (is_nth n stamp s) ∙ s.cycle
+
+    pub begins : (stamp : ℕ) → IsStart d TICK bytes from 0 stamp → first.end.cycle ≡ 4096 + stamp
+    begins stamp s = cycle_is 0 stamp s
+
+    pub soon : (n stamp next : ℕ) → IsStart d TICK bytes from n stamp → IsStart d TICK bytes from (suc n) next
+        → next ≤ stamp + longest_tick
+    soon n stamp next s e =
+        let here : (known n).w.cycle ≡ 4096 + stamp = cycle_is n stamp s in
+        let there : (known (suc n)).w.cycle ≡ 4096 + next = cycle_is (suc n) next e in
+        let short : (known (suc n)).w.cycle ≤ (known n).w.cycle + longest_tick =
         (onward (known n).w (known n).keeps).rest.goal.1 in
-        omega (arith, past, next)
+        omega (arith, here, there, short)
 
-    pub begins : stamp_of 0 ≡ first.end.cycle - 4096
-    begins = refl
+    pub by_keys : (n stamp next : ℕ) (s : IsStart d TICK bytes from n stamp) → IsStart d TICK bytes from (suc n) next
+        → next ≤ stamp + tick_with (length (edges_now d s.state))
+    by_keys n stamp next s e =
+        let here : (known n).w.cycle ≡ 4096 + stamp = cycle_is n stamp s in
+        let there : (known (suc n)).w.cycle ≡ 4096 + next = cycle_is (suc n) next e in
+        let keys : ℕ = length (edges_now d s.state) in
+        let short : (known (suc n)).w.cycle ≤ (known n).w.cycle + (2054 + 62 * keys) =
+        subst (λ v. (known (suc n)).w.cycle ≤ (known n).w.cycle + tick_with (length (edges_now d v))) (is_nth n stamp s)
+        (onward (known n).w (known n).keeps).rest.goal.2 in
+        omega (arith, here, there, short)
 
 -- from power-on
 module _ (layout : KeyLayout) (edges : List Edge) (events : List HostEvent) (fine : IsKeyLayout layout) (m : Cpu)
@@ -170,16 +197,18 @@ module _ (layout : KeyLayout) (edges : List Edge) (events : List HostEvent) (fin
       let first : Comes joint TICK bytes from Keeps =
       record { steps = c.steps; end = c.end; run = c.run; goal = g.0 } in
       let most : c.end.cycle ≤ 4097 = g.1 in
+      let kernel = has_kernel layout in
+      let alike = is_alike layout fine in
+      let are = are_bytes layout fine in
+      let low = bus_low edges events in
       record {
-        goes_on = never_stuck joint bytes (has_kernel layout) (is_alike layout fine) prefix (are_bytes layout fine)
-            (bus_low edges events) from first;
-        starts = stamp_of joint bytes (has_kernel layout) (is_alike layout fine) prefix (are_bytes layout fine)
-            (bus_low edges events) from first;
-        each = each joint bytes (has_kernel layout) (is_alike layout fine) prefix (are_bytes layout fine)
-            (bus_low edges events) from first;
-        first = omega (arith, most);
-        soon = soon joint bytes (has_kernel layout) (is_alike layout fine) prefix (are_bytes layout fine)
-            (bus_low edges events) from first;
+        goes_on = never_stuck joint bytes kernel alike prefix are low from first;
+        starts = starts joint bytes kernel alike prefix are low from first;
+        first = λ stamp s.
+            let at : c.end.cycle ≡ 4096 + stamp = begins joint bytes kernel alike prefix are low from first stamp s in
+            omega (arith, at, most);
+        soon = soon joint bytes kernel alike prefix are low from first;
+        by_keys = by_keys joint bytes kernel alike prefix are low from first;
       }
 
 pub any_keys : AnyKeysLaw

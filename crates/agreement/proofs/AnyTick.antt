@@ -9,7 +9,7 @@ use Rattle.fw_keys.proofs.Begun.{IsAnyStart}
 use Rattle.fw_keys.proofs.Block.{Safe}
 use Rattle.fw_keys.proofs.Ended.{AtHead}
 use Rattle.fw_keys.proofs.Frames.{sent_works, cut_works, got_works}
-use Rattle.fw_keys.proofs.FramelessTick.{changed_in, four, fine, inv, board3, held_before, cpu_at_head, Came, any_tick, works}
+use Rattle.fw_keys.proofs.FramelessTick.{changed_in, by_count, four, fine, inv, board3, held_before, cpu_at_head, Came, any_tick, works}
 use Rattle.fw_keys.proofs.Scan.{edges_most}
 use Rattle.fw_keys.proofs.Serve.{Work, any_edges, fit}
 use Rattle.fw_keys.specs.Edges.{image_keys, IsSilentAlike}
@@ -40,7 +40,7 @@ use Rattle.agreement.proofs.Fitting.{sends_frame, cuts_frame, gets_frame}
 use Rattle.agreement.proofs.Ran.{Ran}
 use Rattle.agreement.proofs.Lit.{shine, from_lights, from_head}
 use Rattle.agreement.proofs.Pressing.{pressed_at}
-use Rattle.agreement.specs.AnyKeys.{longest_tick}
+use Rattle.agreement.specs.AnyKeys.{longest_tick, tick_with}
 use Rattle.agreement.specs.Firmware.{Finds, HasWholeCodes, Offers, IsOpen, clock_in, data_in, board_at}
 
 module _ (d : Board) (bytes : List ℕ) (hk : HasKernel bytes) (alike : IsSilentAlike bytes) (small : All IsByte bytes)
@@ -104,6 +104,7 @@ module _ (d : Board) (bytes : List ℕ) (hk : HasKernel bytes) (alike : IsSilent
   record Fits (last_off : ℕ) : Type 0 where
     few : length (edges_now d w) ≤ 4 → 3 + last_off ≤ 2040
     any : 7 + last_off ≤ longest_tick
+    keys : 7 + last_off ≤ tick_with (length (edges_now d w))
 
   -- a tick that came to its end, by the board there
   came_so : (meeting : Meeting) (last_off : ℕ) (G : TimerState → Stage d.State → Type 0) (frame : Frame)
@@ -113,6 +114,7 @@ module _ (d : Board) (bytes : List ℕ) (hk : HasKernel bytes) (alike : IsSilent
     started = c.started;
     later = (let at : u.cycle ≡ start + (3 + c.from.off) + c.n = c.cycle in omega (arith, at));
     soon = c.within longest_tick (omega arith) fits.any;
+    by_keys = c.within (tick_with (length (edges_now d w))) (omega arith) fits.keys;
     prompt = λ started few. c.prompt started (fits.few few);
     keyboard = c.keyboard;
     layers = c.layers;
@@ -240,13 +242,15 @@ module _ (d : Board) (bytes : List ℕ) (hk : HasKernel bytes) (alike : IsSilent
   most = edges_most (changed_in d bytes hk alike small low w s)
 
   -- all but the edges takes so many cycles
-  fits_in : (others last_off : ℕ) → last_off ≡ others + most → others ≤ 749 → Fits last_off
+  fits_in : (others last_off : ℕ) → last_off ≡ others + most → others ≤ 817 → Fits last_off
   fits_in others last_off sum less =
       let any : most ≤ 7176 = any_edges (changed_in d bytes hk alike small low w s) in
+      let by : most ≤ 1224 + 62 * length (edges_now d w) = by_count d bytes hk alike small low w s in
       record {
         few = λ h.
             let edges : most ≤ 728 = four d bytes hk alike small low w s h in omega (arith, edges, sum, less);
         any = omega (arith, any, sum, less);
+        keys = omega (arith, by, sum, less);
       }
 
   by_way : (meeting : Meeting) (frame : Frame) (last_off : ℕ) (G : TimerState → Stage d.State → Type 0)

@@ -1,9 +1,10 @@
 -- The run whatever the keys and the PC do: it never stops.
-use Rattle.std.specs.Prelude.{◌≡◌, ◌≤◌, ℕ, suc, ◌+◌, List, Some}
+use Rattle.std.specs.Prelude.{◌≡◌, ◌≤◌, ℕ, suc, ◌+◌, ◌*◌, List, length, Some}
 use Rattle.board_lines.specs.declared.event.Edge.{Edge}
 use Rattle.board_lines.specs.declared.event.HostEvent.{HostEvent}
 use Rattle.fw_compile.specs.Image.{image_of}
 use Rattle.fw_kernel.specs.declared.labels.TheConstants.{TICK}
+use Rattle.fw_keys.specs.Frameless.{edges_now}
 use Rattle.joint_run.specs.Joint.{Beside, joint_board}
 use Rattle.joint_run.specs.Run.{World, run_at}
 use Rattle.joint_run.specs.Starts.{IsStart}
@@ -12,18 +13,25 @@ use Rattle.mcs48_core.specs.Cpu.{Cpu}
 use Rattle.mcs48_ranges.specs.Sizes.{IsFine}
 use Rattle.agreement.specs.Agreement.{switched_on}
 
--- so many cycles has the longest tick, in which all 96 places change while a byte is received
+-- no tick has more cycles, 20 milliseconds, even if all 96 places change and a byte is received
 abbrev pub longest_tick : ℕ
-longest_tick = 7932
+longest_tick = 8000
 
--- the run from a state is never stuck; its first tick starts at stamp 0 or 1, and each later one at most so many cycles
--- after the one before
+-- and with so many changed keys it has at most these
+abbrev pub tick_with : ℕ → ℕ
+tick_with keys = 2054 + 62 * keys
+
+-- the run from a state is never stuck; each number has its tick start, the first at stamp 0 or 1; and from each to the next
+-- it is no longer, also by the keys that the columns show there otherwise than data memory holds them
 pub record NeverStops (from : World Beside) (bytes : List ℕ) (edges : List Edge) (events : List HostEvent) : Type 0 where
   pub goes_on : (k : ℕ) → (w : World Beside) × (run_at (joint_board edges events) bytes from k ≡ Some w)
-  pub starts : ℕ → ℕ
-  pub each : (n : ℕ) → IsStart (joint_board edges events) TICK bytes from n (starts n)
-  pub first : starts 0 ≤ 1
-  pub soon : (n : ℕ) → starts (suc n) ≤ starts n + longest_tick
+  pub starts : (n : ℕ) → (stamp : ℕ) × IsStart (joint_board edges events) TICK bytes from n stamp
+  pub first : (stamp : ℕ) → IsStart (joint_board edges events) TICK bytes from 0 stamp → stamp ≤ 1
+  pub soon : (n stamp next : ℕ) → IsStart (joint_board edges events) TICK bytes from n stamp
+      → IsStart (joint_board edges events) TICK bytes from (suc n) next → next ≤ stamp + longest_tick
+  pub by_keys : (n stamp next : ℕ) (s : IsStart (joint_board edges events) TICK bytes from n stamp)
+      → IsStart (joint_board edges events) TICK bytes from (suc n) next
+      → next ≤ stamp + tick_with (length (edges_now (joint_board edges events) s.state))
 
 -- so is the run of a part that held anything when it was switched on, for every layout, under all edges and events: any
 -- number at once, in any order, at any places, however often and fast

@@ -35,7 +35,7 @@ use Rattle.fw_keys.proofs.Step5.{all_edges}
 use Rattle.fw_keys.proofs.Scan.{edges_most}
 use Rattle.fw_keys.proofs.Ended.{AtHead, idle_works, glitch_works, inhibited_works, test_works}
 use Rattle.std.proofs.lemmas.List.Elements.{All-get_or}
-use Rattle.fw_keys.proofs.Serve.{kept_on, down, changed, held, first, first_board, fit, Goes, Work, tick, tick_passes, four_edges}
+use Rattle.fw_keys.proofs.Serve.{kept_on, down, changed, held, first, first_board, fit, Goes, Work, tick, tick_passes, edges_by, four_edges}
 use Rattle.fw_keys.proofs.Begun.{IsAnyStart, any_start, columns_same, columns_count, start_entering, entering_start, started_is, xor_small}
 
 module _ (d : Board) (bytes : List ℕ) (hk : HasKernel bytes) (alike : IsSilentAlike bytes) (small : All IsByte bytes)
@@ -85,10 +85,17 @@ module _ (d : Board) (bytes : List ℕ) (hk : HasKernel bytes) (alike : IsSilent
   edges_is : tick_edges changed_in down_in ≡ edges_now d w
   edges_is = columns_same changed_in (changed_now d w) down_in (column_read d w) 0 12 refl (λ i l. changed_is i) (λ i l. down_is i)
 
+  counted : all_edges changed_in 0 12 ≡ length (edges_now d w)
+  counted = sym (columns_count changed_in down_in 0 12) ∙ ap length edges_is
+
+  -- the time of the edges, by how many they are
+  pub by_count : edges_most changed_in ≤ 1224 + 62 * length (edges_now d w)
+  by_count = subst (λ n. edges_most changed_in ≤ 1224 + 62 * n) counted (edges_by changed_in)
+
   -- a tick with four edges at most has its time
   pub four : length (edges_now d w) ≤ 4 → edges_most changed_in ≤ 728
   four few =
-      let count : all_edges changed_in 0 12 ≡ length (edges_now d w) = sym (columns_count changed_in down_in 0 12) ∙ ap length edges_is in
+      let count : all_edges changed_in 0 12 ≡ length (edges_now d w) = counted in
       four_edges changed_in (λ i l.
       let cell : f (32 + i) < 256 =
       All-get_or IsByte m.ram (32 + i) 0 (let n : length m.ram ≡ 128 = s.fine.long in omega (arith, n, l)) s.fine.ram in

@@ -97,6 +97,13 @@ any_edges ch = by (changed_columns ch 0 12) (all_edges ch 0 12) (columns_all ch 
     by : (m e : ℕ) → m ≤ 12 → e ≤ 8 * 12 → 9 * 12 + 93 * m + 62 * e ≤ 7176
     by m e h g = omega (arith, h, g)
 
+-- by how many they are
+pub edges_by : (ch : ℕ → ℕ) → edges_most ch ≤ 1224 + 62 * all_edges ch 0 12
+edges_by ch = by (changed_columns ch 0 12) (all_edges ch 0 12) (columns_all ch 0 12)
+  where
+    by : (m e : ℕ) → m ≤ 12 → 9 * 12 + 93 * m + 62 * e ≤ 1224 + 62 * e
+    by m e h = omega (arith, h)
+
 pub four_edges : (ch : ℕ → ℕ) → ((i : ℕ) → i < 12 → ch i < 256) → all_edges ch 0 12 ≤ 4 → edges_most ch ≤ 728
 four_edges ch l few = sum (changed_columns ch 0 12) (all_edges ch 0 12) (columns_most ch 0 12 refl l) few
   where
