@@ -14,12 +14,12 @@ use Rattle.fw_keys.specs.Edges.{image_keys, IsSilentAlike}
 use Rattle.fw_keys.specs.Frameless.{FromPowerOn, IsRepeating, IsPressed, changed_now, edges_now, layers_by, shown_by}
 use Rattle.fw_logic.proofs.Laws.{comes_as}
 use Rattle.fw_logic.proofs.Numbers.{Reached, goes_on, nth_reached, same_start}
+use Rattle.fw_logic.proofs.Passing.{Passes}
 use Rattle.fw_logic.proofs.Starting.{IsFirst}
-use Rattle.fw_logic.specs.Boards.{power_on}
 use Rattle.fw_logic.specs.Ticks.{column_read}
 use Rattle.joint_run.specs.Joint.{Beside, beside_at_start, joint_board}
 use Rattle.joint_run.specs.Run.{Board, World, run_at}
-use Rattle.joint_run.specs.Starts.{at_tick, Comes, Tick, IsNth, IsStart}
+use Rattle.joint_run.specs.Starts.{at_tick, starts_before, Comes, Tick, IsNth, IsStart}
 use Rattle.kbd_model.proofs.CodesAreWhole.{IsWhole}
 use Rattle.kbd_model.specs.Keyboard.{Keyboard}
 use Rattle.layout_reader.specs.Layouts.{KeyLayout, IsKeyLayout}
@@ -31,10 +31,10 @@ use Rattle.agreement.proofs.Compiled.{has_kernel, is_alike, are_bytes, same_keys
 use Rattle.agreement.proofs.Found.{found}
 use Rattle.agreement.proofs.Ran.{Ran}
 use Rattle.agreement.specs.Agreement.{switched_on}
-use Rattle.agreement.specs.AnyKeys.{longest_tick, tick_with, NeverStops, AnyKeysLaw}
+use Rattle.agreement.specs.AnyKeys.{longest_tick, tick_with, NeverStops}
 use Rattle.agreement.specs.Firmware.{HasNoPrefix, HasWholeCodes}
 
-module _ (d : Board) (bytes : List ℕ) (hk : HasKernel bytes) (alike : IsSilentAlike bytes) (codes : HasNoPrefix bytes)
+module _ (d : Board) (bytes : List ℕ) (hk : HasKernel bytes) (alike : IsSilentAlike bytes) (bare : HasNoPrefix bytes)
     (small : All IsByte bytes) (low : (p1 p2 c : ℕ) (s : d.State) → (d.pins p1 p2 c s).bus < 256) where
   -- what each tick start keeps
   pub record GoesOn (w : World d.State) : Type 0 where
@@ -43,9 +43,10 @@ module _ (d : Board) (bytes : List ℕ) (hk : HasKernel bytes) (alike : IsSilent
     pub codes : HasWholeCodes w.cpu.ram
     pub past : 4096 ≤ w.cycle
 
-  Next : World d.State → World d.State → Type 0
+  abbrev pub Next : World d.State → World d.State → Type 0
   Next w v =
       GoesOn v × (v.cycle ≤ w.cycle + longest_tick) × (v.cycle ≤ w.cycle + tick_with (length (edges_now d w)))
+      × Passes d bytes w
 
   pub onward : (w : World d.State) → GoesOn w → Tick d TICK bytes w (Next w)
   onward w g =
@@ -59,7 +60,7 @@ module _ (d : Board) (bytes : List ℕ) (hk : HasKernel bytes) (alike : IsSilent
             (λ v r.
             let sound : Sound (image_keys bytes) (layers_by w.cpu.ram) (shown_by w.cpu.ram) =
             record { codes = g.codes; place = g.repeating } in
-            let kept = tick_sound (image_keys bytes) codes f.meeting (edges_now d w) (layers_by w.cpu.ram)
+            let kept = tick_sound (image_keys bytes) bare f.meeting (edges_now d w) (layers_by w.cpu.ram)
             (shown_by w.cpu.ram) (edges_low (changed_now d w) (column_read d w)) refl sound in
             let before : 4096 ≤ w.cycle = g.past in
             let later : w.cycle ≤ v.cycle = r.later in
@@ -72,18 +73,19 @@ module _ (d : Board) (bytes : List ℕ) (hk : HasKernel bytes) (alike : IsSilent
               },
               r.soon,
               r.by_keys,
+              r.passes,
             ))
             t.rest;
       }
 
   -- from a first start on
   module _ (from : World d.State) (first : Comes d TICK bytes from GoesOn) where
-    record Known (n : ℕ) : Type 0 where
-      w : World d.State
-      nth : IsNth d TICK bytes from n w
-      keeps : GoesOn w
+    pub record Known (n : ℕ) : Type 0 where
+      pub w : World d.State
+      pub nth : IsNth d TICK bytes from n w
+      pub keeps : GoesOn w
 
-    known : (n : ℕ) → Known n
+    pub known : (n : ℕ) → Known n
     known zero = record {
       w = first.end;
       nth = record { steps = first.steps; end = first.end; run = first.run; goal = refl };
@@ -106,6 +108,16 @@ module _ (d : Board) (bytes : List ℕ) (hk : HasKernel bytes) (alike : IsSilent
 
     at_start : (n : ℕ) → at_tick d TICK (known n).w ≡ true
     at_start n = (onward (known n).w (known n).keeps).at
+
+    -- each start has its way through the tick
+    pub passes : (k : ℕ) (w : World d.State) → run_at d bytes from k ≡ Some w → at_tick d TICK w ≡ true
+        → Passes d bytes w
+    passes k w run at =
+        let n = starts_before d TICK bytes from k in
+        let r = reached n in
+        subst (λ v. Passes d bytes v)
+        (same_start d TICK bytes from r.steps k (known n).w w r.run run (at_start n) at r.count)
+        (onward (known n).w (known n).keeps).rest.goal.3
 
     pub never_stuck : (k : ℕ) → (w : World d.State) × (run_at d bytes from k ≡ Some w)
     never_stuck = goes_on d TICK bytes from (λ n. ((known n).w, reached n))
@@ -136,15 +148,20 @@ module _ (d : Board) (bytes : List ℕ) (hk : HasKernel bytes) (alike : IsSilent
     cycle_is n stamp s = ap (λ (v : World d.State). v.cycle) (is_nth n stamp s) ∙ s.cycle
 
     pub begins : (stamp : ℕ) → IsStart d TICK bytes from 0 stamp → first.end.cycle ≡ 4096 + stamp
+    unfolding known
     begins stamp s = cycle_is 0 stamp s
+
+    -- each is a tick behind the one before
+    one_on : (n : ℕ) → Next (known n).w (known (suc n)).w
+    unfolding known
+    one_on n = (onward (known n).w (known n).keeps).rest.goal
 
     pub soon : (n stamp next : ℕ) → IsStart d TICK bytes from n stamp → IsStart d TICK bytes from (suc n) next
         → next ≤ stamp + longest_tick
     soon n stamp next s e =
         let here : (known n).w.cycle ≡ 4096 + stamp = cycle_is n stamp s in
         let there : (known (suc n)).w.cycle ≡ 4096 + next = cycle_is (suc n) next e in
-        let short : (known (suc n)).w.cycle ≤ (known n).w.cycle + longest_tick =
-        (onward (known n).w (known n).keeps).rest.goal.1 in
+        let short : (known (suc n)).w.cycle ≤ (known n).w.cycle + longest_tick = (one_on n).1 in
         omega (arith, here, there, short)
 
     pub by_keys : (n stamp next : ℕ) (s : IsStart d TICK bytes from n stamp) → IsStart d TICK bytes from (suc n) next
@@ -155,7 +172,7 @@ module _ (d : Board) (bytes : List ℕ) (hk : HasKernel bytes) (alike : IsSilent
         let keys : ℕ = length (edges_now d s.state) in
         let short : (known (suc n)).w.cycle ≤ (known n).w.cycle + (2054 + 62 * keys) =
         subst (λ v. (known (suc n)).w.cycle ≤ (known n).w.cycle + tick_with (length (edges_now d v))) (is_nth n stamp s)
-        (onward (known n).w (known n).keeps).rest.goal.2 in
+        (one_on n).2 in
         omega (arith, here, there, short)
 
 -- from power-on
@@ -189,14 +206,35 @@ module _ (layout : KeyLayout) (edges : List Edge) (events : List HostEvent) (fin
         omega (arith, cycle, most),
       )
 
-  never_stops : NeverStops (switched_on edges events m) bytes edges events
+  abbrev from : World Beside
+  from = switched_on edges events m
+
+  first_comes : Comes joint TICK bytes from (λ w. Keeps w × (w.cycle ≤ 4097))
+  first_comes =
+      comes_as joint TICK bytes (λ w. IsFirst joint bytes beside_at_start w × FromPowerOn bytes w.cpu)
+      (λ w. Keeps w × (w.cycle ≤ 4097)) from (λ w g. keeps_first w g.0 g.1)
+      (first_started joint bytes (has_kernel layout) (are_bytes layout fine) (bus_low edges events) m small beside_at_start)
+
+  abbrev first : Comes joint TICK bytes from Keeps
+  first =
+      record { steps = first_comes.steps; end = first_comes.end; run = first_comes.run; goal = first_comes.goal.0 }
+
+  pub comes_first : Comes joint TICK bytes from (λ w. at_tick joint TICK w ≡ true)
+  comes_first =
+      comes_as joint TICK bytes Keeps (λ w. at_tick joint TICK w ≡ true) from
+      (λ w g.
+      (onward joint bytes (has_kernel layout) (is_alike layout fine) prefix (are_bytes layout fine) (bus_low edges events) w
+      g).at)
+      first
+
+  pub each_passes : (k : ℕ) (w : World Beside) → run_at joint bytes from k ≡ Some w → at_tick joint TICK w ≡ true
+      → Passes joint bytes w
+  each_passes =
+      passes joint bytes (has_kernel layout) (is_alike layout fine) prefix (are_bytes layout fine) (bus_low edges events)
+      from first
+
+  pub never_stops : NeverStops from bytes edges events
   never_stops =
-      let from : World Beside = switched_on edges events m in
-      let c = first_started joint bytes (has_kernel layout) (are_bytes layout fine) (bus_low edges events) m small beside_at_start in
-      let g = keeps_first c.end c.goal.0 c.goal.1 in
-      let first : Comes joint TICK bytes from Keeps =
-      record { steps = c.steps; end = c.end; run = c.run; goal = g.0 } in
-      let most : c.end.cycle ≤ 4097 = g.1 in
       let kernel = has_kernel layout in
       let alike = is_alike layout fine in
       let are = are_bytes layout fine in
@@ -205,11 +243,9 @@ module _ (layout : KeyLayout) (edges : List Edge) (events : List HostEvent) (fin
         goes_on = never_stuck joint bytes kernel alike prefix are low from first;
         starts = starts joint bytes kernel alike prefix are low from first;
         first = λ stamp s.
-            let at : c.end.cycle ≡ 4096 + stamp = begins joint bytes kernel alike prefix are low from first stamp s in
+            let most : first.end.cycle ≤ 4097 = first_comes.goal.1 in
+            let at : first.end.cycle ≡ 4096 + stamp = begins joint bytes kernel alike prefix are low from first stamp s in
             omega (arith, at, most);
         soon = soon joint bytes kernel alike prefix are low from first;
         by_keys = by_keys joint bytes kernel alike prefix are low from first;
       }
-
-pub any_keys : AnyKeysLaw
-any_keys layout edges events fine m small = never_stops layout edges events fine m small

@@ -41,3 +41,4 @@ pub mod FromStart
 pub mod AnyStart
 pub mod Found
 pub mod AnyKeys
+pub mod AnyRun

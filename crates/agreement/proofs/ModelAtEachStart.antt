@@ -298,18 +298,6 @@ module _ (S : Type 0) (from : World Beside) (bytes : List ℕ) (history : KeyHis
       let a = at_starts (λ w m. log_of w.board ≡ m.side.log) (λ n w m time ties few. logs w m ties) in
       record { starts = a.0; each = a.1; log = a.2 }
 
-  -- what holds of each of these starts holds of each tick start that the run reaches
-  pub at_run : (P : World Beside → Type 0)
-      → ((n : ℕ) (w : World Beside) (m : Whole S) → IsOnTime n w → R w m
-      → length (shown (kb.held m.keys) (columns_in history.edges w.cycle)) ≤ 4 → P w)
-      → (k : ℕ) (w : World Beside) → run_at d bytes from k ≡ Some w → at_tick d TICK w ≡ true → P w
-  at_run P law k w run at =
-      let known = clockwork.known d bytes from IsStand clock (starts_before d TICK bytes from k) in
-      let n : ℕ = known.set.0 in
-      let s : Stand n = stand n in
-      subst P (sym known.set.1 ∙ clockwork.is_known d bytes from IsStand clock k w run at)
-      (law n s.w s.m s.time s.ties (few n s))
-
   -- and the wires of each tick are as the law of a tick says
   pub drives : Drives d TICK bytes from (λ c. 255) (λ e. at_tick d TICK e ≡ true)
       → ((k : ℕ) (one next : World Beside) → calm d TICK bytes k from ≡ Some one → at_tick d TICK one ≡ false

@@ -1,24 +1,23 @@
 -- What the joint run of a layout's image executes, and when it looks at the clock on a chip.
-use Rattle.std.specs.Prelude.{◌≡◌, ℕ, true, Some}
+use Rattle.std.specs.Prelude.{◌≡◌, ℕ, true, List, Some}
+use Rattle.board_lines.specs.declared.event.Edge.{Edge}
+use Rattle.board_lines.specs.declared.event.HostEvent.{HostEvent}
 use Rattle.fw_compile.specs.Image.{image_of}
 use Rattle.fw_logic.specs.Executed.{IsFit, LooksLate, LooksSoon, looks}
 use Rattle.joint_run.specs.Joint.{Beside, joint_board}
 use Rattle.joint_run.specs.Run.{World, joint_step, run_at}
-use Rattle.key_file.specs.Accepted.{IsLawfulFor}
-use Rattle.key_file.specs.Histories.{KeyHistory}
 use Rattle.layout_reader.specs.Layouts.{KeyLayout, IsKeyLayout}
 use Rattle.mcs48_core.specs.Cpu.{Cpu}
 use Rattle.mcs48_ranges.specs.Sizes.{IsFine}
 use Rattle.agreement.specs.Agreement.{switched_on}
 
--- for every layout and every history that is lawful for it, whatever a part holds when it is switched on: in each
--- state of the run the instruction that comes next is in a row of the HEX text and one of the kernel's kinds
+-- for every layout, under all edges and events, whatever a part holds when it is switched on: in each state of the run the
+-- instruction that comes next is in a row of the HEX text and one of the kernel's kinds
 abbrev pub ExecutedLaw : Type 0
 ExecutedLaw =
-    (layout : KeyLayout) (history : KeyHistory) → IsKeyLayout layout → IsLawfulFor layout history
-    → (m : Cpu) → IsFine m
+    (layout : KeyLayout) (edges : List Edge) (events : List HostEvent) → IsKeyLayout layout → (m : Cpu) → IsFine m
     → (k : ℕ) (w : World Beside)
-    → run_at (joint_board history.edges history.host) (image_of layout) (switched_on history.edges history.host m) k
+    → run_at (joint_board edges events) (image_of layout) (switched_on edges events m) k
     ≡ Some w
     → IsFit (image_of layout) w.cpu
 
@@ -26,21 +25,19 @@ ExecutedLaw =
 -- has put it
 abbrev pub LateLaw : Type 0
 LateLaw =
-    (layout : KeyLayout) (history : KeyHistory) → IsKeyLayout layout → IsLawfulFor layout history
-    → (m : Cpu) → IsFine m
+    (layout : KeyLayout) (edges : List Edge) (events : List HostEvent) → IsKeyLayout layout → (m : Cpu) → IsFine m
     → (k : ℕ) (w next : World Beside)
-    → run_at (joint_board history.edges history.host) (image_of layout) (switched_on history.edges history.host m) k
+    → run_at (joint_board edges events) (image_of layout) (switched_on edges events m) k
     ≡ Some w
-    → joint_step (joint_board history.edges history.host) (image_of layout) w ≡ Some next
+    → joint_step (joint_board edges events) (image_of layout) w ≡ Some next
     → LooksLate (image_of layout) w.cpu next.cpu
 
 -- and after a look at the clock wire the next comes within 24 cycles, 60 microseconds, while a byte is being sent
 abbrev pub SoonLaw : Type 0
 SoonLaw =
-    (layout : KeyLayout) (history : KeyHistory) → IsKeyLayout layout → IsLawfulFor layout history
-    → (m : Cpu) → IsFine m
+    (layout : KeyLayout) (edges : List Edge) (events : List HostEvent) → IsKeyLayout layout → (m : Cpu) → IsFine m
     → (k : ℕ) (w : World Beside)
-    → run_at (joint_board history.edges history.host) (image_of layout) (switched_on history.edges history.host m) k
+    → run_at (joint_board edges events) (image_of layout) (switched_on edges events m) k
     ≡ Some w
     → looks (image_of layout) w.cpu ≡ true
-    → LooksSoon (joint_board history.edges history.host) (image_of layout) w
+    → LooksSoon (joint_board edges events) (image_of layout) w

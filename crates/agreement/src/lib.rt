@@ -56,7 +56,7 @@ pub fn every_tick()
     ensures ticks { TickLaw }
 {}
 
-/// For every layout and every history that is lawful for it, however long, whatever a part holds when it is switched on: in each
+/// For every layout, under all edges and host events whatsoever, whatever a part holds when it is switched on: in each
 /// state of the joint run the instruction that comes next is in the chip's own 2,048 bytes, in a row of sixteen that the
 /// HEX text has, and of the kernel's kinds. So the run never enables the clock's output on T0, drives the bus or accesses
 /// memory outside, uses the port expander, reads the pins of ports 1 and 2, reads the timer, enables the external

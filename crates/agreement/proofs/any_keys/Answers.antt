@@ -1,4 +1,4 @@
-use Rattle.agreement.proofs.AnyKeys.{any_keys}
+use Rattle.agreement.proofs.AnyRun.{any_keys}
 use Rattle.agreement.proofs.any_keys.Goals as goal
 
 pub returns : goal.returns

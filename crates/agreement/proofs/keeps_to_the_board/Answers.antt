@@ -1,4 +1,4 @@
-use Rattle.agreement.proofs.Run.{every_execution, every_look, every_next_look}
+use Rattle.agreement.proofs.AnyRun.{every_execution, every_look, every_next_look}
 use Rattle.agreement.proofs.keeps_to_the_board.Goals as goal
 
 pub returns : goal.returns
