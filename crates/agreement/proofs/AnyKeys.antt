@@ -63,8 +63,7 @@ module _ (d : Board) (bytes : List ℕ) (hk : HasKernel bytes) (alike : IsSilent
             let kept = tick_sound (image_keys bytes) bare f.meeting (edges_now d w) (layers_by w.cpu.ram)
             (shown_by w.cpu.ram) (edges_low (changed_now d w) (column_read d w)) refl sound in
             let before : 4096 ≤ w.cycle = g.past in
-            let later : w.cycle ≤ v.cycle = r.later in
-            (
+            let later : w.cycle ≤ v.cycle = r.later in (
               record {
                 start = r.started;
                 repeating = r.repeating;
@@ -195,8 +194,7 @@ module _ (layout : KeyLayout) (edges : List Edge) (events : List HostEvent) (fin
       → Keeps w × (w.cycle ≤ 4097)
   keeps_first w i f =
       let cycle : w.cycle ≡ 4096 + i.late = ap (λ (v : World Beside). v.cycle) i.is in
-      let most : i.late ≤ 1 = i.most in
-      (
+      let most : i.late ≤ 1 = i.most in (
         record {
           start = any_start w.cpu f.started;
           repeating = subst (λ (k : Keyboard). IsPressed (image_keys bytes) (layers_by w.cpu.ram) k.repeats) (sym f.keyboard) tt;

@@ -19,7 +19,7 @@ use Rattle.fw_logic.proofs.Laws.{comes_as}
 use Rattle.fw_logic.proofs.Service.{serving, stacked, begun, entering}
 use Rattle.fw_logic.proofs.Timers.{TimerState, IsInRange, timer_of}
 use Rattle.fw_logic.proofs.Passing.{Passes}
-use Rattle.fw_logic.proofs.Serves.{Next}
+use Rattle.fw_logic.proofs.Returning.{Next}
 use Rattle.kbd_model.specs.declared.meeting.Meeting.{Meeting}
 use Rattle.kbd_model.specs.declared.meeting.Meeting.TheVariants.{Idle, Inhibited, Sent, Cut, Got}
 use Rattle.kbd_model.specs.Codes.{Keys}
@@ -247,8 +247,7 @@ module _ (d : Board) (bytes : List ℕ) (hk : HasKernel bytes) (alike : IsSilent
             let there : v.cpu ≡ begun p.late' n.timer.tf n.timer.last n.now n.ring e.cpu =
             vcpu ∙ ap (λ b. entering b n.now n.ring e.cpu) p.timer' in
             let pre : v.cpu.pre ≡ p.late' + 2 = ap (λ (c : Cpu). c.pre) there in
-            let time : e.off + n.waited + (m.pre - 2) ≡ 2048 + p.late' = p.time in
-            (
+            let time : e.off + n.waited + (m.pre - 2) ≡ 2048 + p.late' = p.time in (
               subst (λ c. IsStarted c) (sym there)
                   (started_is p.late' p.most n.timer.tf n.timer.last n.now n.ring e.cpu
                   (subst (λ b. IsFine (entering b n.now n.ring e.cpu)) p.timer' fineB)

@@ -22,7 +22,8 @@ use Rattle.fw_logic.proofs.Service.{serving, stacked, entering}
 use Rattle.fw_logic.proofs.Timers.{TimerState, IsInRange}
 use Rattle.fw_logic.proofs.Leads.{Leads}
 use Rattle.fw_logic.proofs.Passing.{Passes, passes}
-use Rattle.fw_logic.proofs.Serves.{work_cpu, work_at, IsOver, Next, serves}
+use Rattle.fw_logic.proofs.Returning.{IsOver, Next}
+use Rattle.fw_logic.proofs.Serves.{work_cpu, work_at, serves}
 use Rattle.kbd_model.specs.declared.meeting.Meeting.{Meeting}
 use Rattle.fw_keys.proofs.Patch.{still}
 use Rattle.fw_keys.specs.State.{held_by, keyboard_of, Inv, layers_of}

@@ -106,11 +106,6 @@ timer_is m s =
     ∙ ap (λ v. record b { t = 0; pre = v }) pre
     ∙ ap (λ v. record b { t = 0; pre = m.pre - 2 + 2; rq = v }) s.clear
 
--- an entered processor is one that was begun
-pub begun_is : (m : Cpu) → IsEntered m → m ≡ begun (m.pre - 2) m.tf m.last_t1 (cells_of m.ram) (drop 112 m.ram) m
-begun_is m s =
-    entering_is m (entered_served m s) ∙ ap (λ b. entering b (cells_of m.ram) (drop 112 m.ram) m) (timer_is m s)
-
 -- and the other way round
 pub entered_is : (late : ℕ) → late ≤ 1 → (tf last : Bool) (f : ℕ → ℕ) (ring : List ℕ) (m : Cpu)
     → length (memory (stacked f) ring) ≡ 128 → IsEntered (begun late tf last f ring m)

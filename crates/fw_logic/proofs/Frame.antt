@@ -1,5 +1,5 @@
 -- The interrupt's entry and the service's end: from the end of a tick's work to the next tick start.
-use Rattle.std.proofs.Common.{◌≡◌, ◌≤◌, ◌<◌, ℕ, suc, zero, ◌+◌, ◌*◌, ◌%◌, List, Bool, true, false, Some}
+use Rattle.std.proofs.Common.{◌≡◌, ◌≤◌, ◌<◌, ℕ, ◌+◌, ◌*◌, ◌%◌, List, Bool, true, false, Some}
 use Rattle.std.proofs.Common.{refl, ap, sym, ◌∙◌, subst, arith}
 use Rattle.std.specs.declared.option.Option.{Option}
 use Rattle.mcs48_isa.specs.declared.operation.Op.TheVariants.{Flow}

@@ -21,7 +21,7 @@ use Rattle.fw_logic.proofs.HeadLaw.{head_law}
 use Rattle.fw_logic.proofs.Laws.{comes_then, comes_as}
 use Rattle.fw_logic.proofs.Memory.{memory_is}
 use Rattle.fw_logic.proofs.Path.{Stage, world_at}
-use Rattle.fw_logic.proofs.Serves.{IsOver, IsTimed, Next, ends}
+use Rattle.fw_logic.proofs.Returning.{IsOver, IsTimed, Next, ends}
 use Rattle.fw_logic.proofs.Service.{serving, stacked, begun, entering}
 use Rattle.fw_logic.proofs.Timers.{TimerState, on_time}
 

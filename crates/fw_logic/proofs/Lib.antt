@@ -16,6 +16,7 @@ pub mod Blocks
 pub mod Memory
 pub mod Service
 pub mod Frame
+pub mod Returning
 pub mod Serves
 pub mod Starting
 pub mod Restarting

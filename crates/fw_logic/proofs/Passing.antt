@@ -1,6 +1,6 @@
 -- How the run passes through a tick: by the service's end, to the next start.
-use Rattle.std.proofs.Common.{◌≡◌, ◌≤◌, ◌<◌, ℕ, ◌+◌, ◌*◌, List, [], ◌∷◌, Bool, true, false, Some, slice_index}
-use Rattle.std.proofs.Common.{refl, ap, sym, ◌∙◌, subst, arith, inl}
+use Rattle.std.proofs.Common.{◌≡◌, ◌<◌, ℕ, ◌+◌, List, [], ◌∷◌, Bool, true, false, Some, slice_index}
+use Rattle.std.proofs.Common.{refl, ap, sym, ◌∙◌, subst, inl}
 use Rattle.mcs48_core.specs.Cpu.{Cpu}
 use Rattle.fw_kernel.specs.declared.labels.TheConstants.{TICK, WAIT, DONE}
 use Rattle.fw_kernel.specs.Places.{HasKernel}
@@ -15,7 +15,8 @@ use Rattle.fw_logic.proofs.Sound.{sound, ticks_from}
 use Rattle.fw_logic.proofs.Laws.{comes_as}
 use Rattle.fw_logic.proofs.Short.{has_rows}
 use Rattle.fw_logic.proofs.Service.{entering}
-use Rattle.fw_logic.proofs.Serves.{work_at, IsOver, Next, second, first_step, IsSet, sets, works_on}
+use Rattle.fw_logic.proofs.Returning.{IsOver, Next}
+use Rattle.fw_logic.proofs.Serves.{work_at, second, first_step, IsSet, sets, works_on}
 use Rattle.fw_logic.proofs.Timers.{TimerState, IsInRange, Headed, headed, heads_timer}
 
 -- from a state of the service to its end and on to the next start: no instruction on the way ends the service, and the

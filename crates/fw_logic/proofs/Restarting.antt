@@ -1,5 +1,5 @@
 -- From any state at 000 to the first tick start: interrupts and the timer are switched off, and then it is as at power-on.
-use Rattle.std.proofs.Common.{◌≡◌, ◌≤◌, ℕ, ◌+◌, List, [], Bool, true, false, not, ◌&&◌, ◌==◌, Some, if◌then◌else◌}
+use Rattle.std.proofs.Common.{◌≡◌, ℕ, List, [], Bool, true, false, not, ◌&&◌, ◌==◌, Some, if◌then◌else◌}
 use Rattle.std.proofs.Common.{refl, ap, sym, ◌∙◌, subst, arith, inr, length, drop, get_or}
 use Rattle.std.proofs.lemmas.List.{drop_all}
 use Rattle.std.specs.declared.option.Option.{Option}

@@ -14,7 +14,7 @@ use Rattle.joint_run.specs.Run.{Board, World, joint_step, step_on, run_at, seen,
 use Rattle.joint_run.specs.Starts.{at_tick, calm, Comes}
 use Rattle.fw_logic.specs.Boards.{power_on}
 use Rattle.fw_logic.specs.Executed.{IsFit, LooksLate, is_kernels, puts_at, looks_at, is_late, row_looks, looks}
-use Rattle.fw_logic.proofs.Between.{IsStart, calm_on, steps_first, start_place}
+use Rattle.fw_logic.proofs.Between.{IsStart, calm_on, steps_first}
 use Rattle.fw_logic.proofs.Block.{before}
 use Rattle.fw_logic.proofs.Chain.{stepped_is, ticks_from}
 use Rattle.fw_logic.proofs.Image.{row_is}
