@@ -6,6 +6,7 @@ use Rattle.std.proofs.lemmas.Bool.Decides.{nat_tests}
 use Rattle.std.specs.declared.option.Option.{Option}
 use Rattle.std.proofs.lemmas.List.Elements.{All-replicate}
 use Rattle.agreement.specs.Agreement.{AgreementLaw}
+use Rattle.agreement.specs.AnyKeys.{AnyKeysLaw}
 use Rattle.agreement.specs.AnyStart.{AsShown}
 use Rattle.fw_kernel.specs.declared.labels.TheConstants.{TICK}
 use Rattle.joint_run.specs.Starts.{IsStart}
@@ -19,7 +20,7 @@ use Rattle.joint_run.specs.Run.{run_at}
 use Rattle.mcs48_core.specs.Reset.{reset_cpu}
 use Rattle.live_agrees.proofs.Logs.{goes_between}
 use Rattle.live_agrees.specs.Law.{AnswersAreAlike, AnyUseIsLawful, LogsAgree, LogsAreShown, StatesAreAlike, WordsAreAlike}
-use Rattle.live_agrees.specs.Law.{history_of}
+use Rattle.live_agrees.specs.Law.{NeverStuck, history_of}
 use Rattle.live_board.specs.Calls.{Tells}
 use Rattle.live_board.specs.Standing.{Stands}
 use Rattle.live_board.specs.declared.parts.Parts.{Parts as Keyboard}
@@ -150,3 +151,9 @@ logs_are_shown law layout p k s is bytes ok few =
       rest = on.0;
       beginning = sym (goes.log n stamp start) ∙ on.1;
     }
+
+-- the run under any keys has a state after each number of steps
+pub never_stuck : AnyKeysLaw → NeverStuck
+never_stuck law layout p is bytes =
+    let goes = (law layout p.edges p.events is reset_cpu cleared).goes_on p.steps in
+    (goes.0, ap (λ b. run_at (joint_board p.edges p.events) b joint_start p.steps) bytes ∙ goes.1)

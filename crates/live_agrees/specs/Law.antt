@@ -1,5 +1,5 @@
 -- A keyboard that runs as one goes, against the model.
-use Rattle.std.specs.Prelude.{◌≡◌, ◌<◌, ◌^◌, ℕ, Bool, List, [], ◌++◌}
+use Rattle.std.specs.Prelude.{◌≡◌, ◌<◌, ◌^◌, ℕ, Bool, List, [], ◌++◌, Some}
 use Rattle.std.specs.declared.option.Option.{Option}
 use Rattle.std.specs.declared.result.Result.{Result}
 use Rattle.agreement.specs.AnyStart.{AreFor, ShowsFew, model_from}
@@ -7,7 +7,8 @@ use Rattle.board_lines.specs.declared.event.HostAct.{HostAct}
 use Rattle.fw_compile.specs.Image.{image_of}
 use Rattle.fw_kernel.specs.declared.labels.TheConstants.{TICK}
 use Rattle.host_turn.specs.declared.stamped.Stamped.{Stamped}
-use Rattle.joint_run.specs.Joint.{joint_board, joint_start, log_of}
+use Rattle.joint_run.specs.Joint.{Beside, joint_board, joint_start, log_of}
+use Rattle.joint_run.specs.Run.{World}
 use Rattle.joint_run.specs.Starts.{IsStart}
 use Rattle.board_lines.specs.Flips.{AreFlips}
 use Rattle.key_file.specs.Accepted.{AreHostEventsInOrder, AreWritten, IsLawfulFor}
@@ -17,7 +18,7 @@ use Rattle.link_model.specs.Expected.{whole_at}
 use Rattle.link_model.specs.Machine.{keyboard}
 use Rattle.live_board.specs.Answers.{Told}
 use Rattle.live_board.specs.Calls.{IsActed, Tells}
-use Rattle.live_board.specs.Pasts.{Past}
+use Rattle.live_board.specs.Pasts.{Past, state_of}
 use Rattle.live_board.specs.Running.{HasRun}
 use Rattle.live_board.specs.Standing.{Stands}
 use Rattle.live_board.specs.declared.parts.Parts.{Parts as Keyboard}
@@ -88,6 +89,13 @@ abbrev pub LogsAreShown : Type 0
 LogsAreShown =
     (layout : KeyLayout) (p : Past) (k : Keyboard) (s : Stands p k) → IsKeyLayout layout → p.bytes ≡ image_of layout
     → AreFor layout p.edges p.events → ((n : ℕ) → ShowsFew p.edges n) → BeginsShown layout p (log_of s.world.board)
+
+-- of a layout's image each past has a state, whatever keys, host events and number of steps it has. So no call is refused, and
+-- no run ends, because the processor is stuck
+abbrev pub NeverStuck : Type 0
+NeverStuck =
+    (layout : KeyLayout) (p : Past) → IsKeyLayout layout → p.bytes ≡ image_of layout
+    → (w : World Beside) × (state_of p ≡ Some w)
 
 -- a program may use the ports as often and as long as it likes: if no key moved, a past is lawful whose events are in
 -- order, write bytes, and turn round data bits or the parity alone

@@ -5,9 +5,9 @@
 #![tactic(auto)]
 
 ghost use Rattle.live_agrees.specs.Law.{AnswersAreAlike, AnyUseIsLawful, CallsAreAlike, LogsAgree, LogsAreShown};
-ghost use Rattle.live_agrees.specs.Law.{RunsEndAlike, StatesAreAlike, WordsAreAlike};
+ghost use Rattle.live_agrees.specs.Law.{NeverStuck, RunsEndAlike, StatesAreAlike, WordsAreAlike};
 
-use agreement::{goes_on_from_any_start, run_and_model_agree};
+use agreement::{any_keys, goes_on_from_any_start, run_and_model_agree};
 
 /// Whatever calls were made, in whatever order, however many and for however long: let a keyboard be in a past that
 /// begins with a layout's compiled image, and let the keys and host events of that past be lawful for the layout. Then
@@ -36,4 +36,13 @@ pub fn bounces_agree()
     ensures shown { LogsAreShown }
 {
     goes_on_from_any_start();
+}
+
+/// Whatever calls were made, in whatever order, with any keys and host events: a keyboard whose past begins with a layout's
+/// compiled image has a next state. So no call is refused, and no run ends, because the processor is stuck. Nothing is done
+/// when it is called; the law is its contract.
+pub fn never_stuck()
+    ensures goes_on { NeverStuck }
+{
+    any_keys();
 }
