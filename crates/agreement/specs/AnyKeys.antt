@@ -13,16 +13,17 @@ use Rattle.mcs48_core.specs.Cpu.{Cpu}
 use Rattle.mcs48_ranges.specs.Sizes.{IsFine}
 use Rattle.agreement.specs.Agreement.{switched_on}
 
--- no tick has more cycles, 20 milliseconds, even if all 96 places change and a byte is received
+-- from one tick start to the next there are at most so many cycles, 20 milliseconds: all 96 places may change while a byte is
+-- received
 abbrev pub longest_tick : ℕ
 longest_tick = 8000
 
--- and with so many changed keys it has at most these
+-- and if so many keys changed, at most these
 abbrev pub tick_with : ℕ → ℕ
 tick_with keys = 2054 + 62 * keys
 
--- the run from a state is never stuck; each number has its tick start, the first at stamp 0 or 1; and from each to the next
--- it is no longer, also by the keys that the columns show there otherwise than data memory holds them
+-- the run from a state is never stuck; each number has its tick start, the first at stamp 0 or 1; and the next start comes
+-- within these bounds. A key changed if the tick's columns show it otherwise than data memory holds it at the tick's start
 pub record NeverStops (from : World Beside) (bytes : List ℕ) (edges : List Edge) (events : List HostEvent) : Type 0 where
   pub goes_on : (k : ℕ) → (w : World Beside) × (run_at (joint_board edges events) bytes from k ≡ Some w)
   pub starts : (n : ℕ) → (stamp : ℕ) × IsStart (joint_board edges events) TICK bytes from n stamp

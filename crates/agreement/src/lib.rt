@@ -84,9 +84,9 @@ pub fn goes_on_from_any_start()
 
 /// Whatever the keys and the PC do: for every layout, under any edges at any places, any number at once, bouncing or not,
 /// in any order, and under any host events and inverted bits, whatever a part holds when it is switched on, the joint run
-/// of the layout's compiled image is never stuck. Its first tick starts at stamp 0 or 1, and each later one at most 8,000
-/// cycles, 20 milliseconds, after the one before; if it is 2,054 cycles and 62 for each key that the tick before found
-/// changed, and that is less, at most so many. Nothing is done when it is called; the law is its contract.
+/// of the layout's compiled image is never stuck. Its first tick starts at stamp 0 or 1. Each later one starts at most
+/// 8,000 cycles, 20 milliseconds, after the one before; and at most 2,054 cycles and 62 more for each key that the tick
+/// before found changed. Nothing is done when it is called; the law is its contract.
 pub fn any_keys()
     ensures never_stops { AnyKeysLaw }
 {}
