@@ -15,6 +15,9 @@ pub mod ColumnPath
 pub mod Columns
 pub mod Step5
 pub mod Typematic
+pub mod Heal
+pub mod Healing
+pub mod Resetting
 pub mod Sent
 pub mod Scan
 pub mod Testing

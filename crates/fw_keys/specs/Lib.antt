@@ -1,3 +1,4 @@
 pub mod State
 pub mod Edges
+pub mod Healing
 pub mod Frameless
