@@ -266,10 +266,10 @@ module _ (d : Board) (bytes : List ℕ) (hk : HasKernel bytes) (alike : IsSilent
   sent byte codes o looks =
       let h : most ≤ 728 = edges_few in
       let frame : Frame = SentFrame byte in
-      by_way Sent frame (231 + (394 + (9 + 48 + (56 + (2 + most))))) (framed frame) (omega (arith, h))
+      by_way Sent frame (231 + (394 + (9 + 97 + (56 + (2 + most))))) (framed frame) (omega (arith, h))
       (λ l.
       sent_works d bytes hk alike small low held (start + 3) (first l) third (stacked f) ring 394 (framed frame l)
-      begins o.0.0 codes
+      refl begins o.0.0 codes
       (sends_frame d bytes hk alike small low held (start + 3) (first l) third (stacked f) ring start refl released
       o.0.0 (clock_is l ∙ o.0.1) byte o.2 (data_is l ∙ o.1)
       (λ look is. clock_look_is l byte look is ∙ looks look is)) (safe l))

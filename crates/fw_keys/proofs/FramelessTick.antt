@@ -34,7 +34,7 @@ use Rattle.fw_keys.proofs.Step5.{all_edges}
 use Rattle.fw_keys.proofs.Scan.{edges_most}
 use Rattle.fw_keys.proofs.Ended.{AtHead, idle_works, glitch_works, inhibited_works, test_works}
 use Rattle.std.proofs.lemmas.List.Elements.{All-get_or}
-use Rattle.fw_keys.proofs.Serve.{from, kept_on, down, changed, held, first, first_board, fit, Goes, Work, tick, tick_passes, four_edges}
+use Rattle.fw_keys.proofs.Serve.{found, kept_on, down, changed, held, first, first_board, fit, Goes, Work, tick, tick_passes, four_edges}
 use Rattle.fw_keys.proofs.Begun.{columns_same, columns_count, started_begun, started_is, xor_small}
 
 module _ (d : Board) (bytes : List ℕ) (hk : HasKernel bytes) (alike : IsSilentAlike bytes) (small : All IsByte bytes)
@@ -118,7 +118,7 @@ module _ (d : Board) (bytes : List ℕ) (hk : HasKernel bytes) (alike : IsSilent
   cpu_at_head l = first d bytes hk alike small low w.cycle late soon m.tf m.last_t1 f ring m w.board l
 
   abbrev from_layers : Meeting → Layers
-  from_layers meeting = from d bytes hk alike small low w.cycle late soon m.tf m.last_t1 f ring m w.board meeting
+  from_layers meeting = found d bytes hk alike small low w.cycle late soon m.tf m.last_t1 f ring m w.board meeting
 
   abbrev IsAtHead : Bool → Stage d.State → Type 0
   IsAtHead l = AtHead d bytes hk alike small low held_before (w.cycle + 3) (cpu_at_head l) board3 (stacked f) ring

@@ -136,10 +136,11 @@ module _ (d : Board) (bytes : List ℕ) (hk : HasKernel bytes) (small : All IsBy
             → slice_index (memory (put (on_way (48 + c)) 24 (32 + c)) ring) ((48 + c) % 128) ≡ f (48 + c)
             → down_at (before_edges f) place ≡ b → c < 12 → nat_le 256 (place + 160) ≡ false → Heals
         ends false asked first second is l late =
+            let zero : bit_and (2 ^ (7 - k)) (before_edges f c) ≡ 0 = grind (arith, nat_tests, asked) in
             leaf d (kernel_in true bytes) (has_rows true bytes hk) small low (Healed bytes f ring)
             (Until 1245 ∷ Go false ∷ Until 1252 ∷ Acc c ∷ Run 1 ∷ Acc (32 + c) ∷ Run 2 ∷ Acc (48 + c) ∷ Run 2 ∷ Acc
             (f (32 + c)) ∷ Run 1 ∷ Acc (before_edges f c) ∷ Until 1266 ∷ Acc (suc k) ∷ Run 1 ∷ Acc
-            (2 ^ (7 - k)) ∷ Until 1268 ∷ Go true ∷ Until RESET ∷ []) HEAL RESET 49 (within 0) ring x m m board f ring safe.0
+            (2 ^ (7 - k)) ∷ Until 1268 ∷ Acc 0 ∷ Go true ∷ Until RESET ∷ []) HEAL RESET 49 (within 0) ring x m m board f ring safe.0
             (λ a. record {
               kept = λ i l u v. rw (v, u) (grind (arith, nat_tests, l));
               started = refl;
@@ -158,7 +159,7 @@ module _ (d : Board) (bytes : List ℕ) (hk : HasKernel bytes) (small : All IsBy
                       first,
                       (
                         ap (λ v. bit_xor (f (32 + c)) v) second,
-                        (rows_left place place_small, (bit_read, (asked, (refl, refl, refl)))),
+                        (rows_left place place_small, (bit_read, (zero, (refl, (refl, refl, refl))))),
                       ),
                     ),
                   ),

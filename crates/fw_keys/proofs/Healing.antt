@@ -49,7 +49,7 @@ healed_same bytes meeting k l is =
     by false = refl
 
 -- what repeats is a matter of the layers of the last presses
-pressed_by : (keys : Keys) (l : Layers) (fn : Bool) (o : Option Repeat) → IsPressed keys l o
+pub pressed_by : (keys : Keys) (l : Layers) (fn : Bool) (o : Option Repeat) → IsPressed keys l o
     → IsPressed keys (record l { fn_down = fn }) o
 pressed_by keys l fn None h = tt
 pressed_by keys l fn (Some r) h = h
@@ -102,7 +102,7 @@ not_lifted bytes f none i =
     by true e = let same : i ≡ 78 = grind (arith, nat_tests, e) in rw e (ap f (sym same))
     by false e = rw e refl
 
-cell_shows : (b : Bool) → not (fn_cell b == 0) ≡ b
+pub cell_shows : (b : Bool) → not (fn_cell b == 0) ≡ b
 cell_shows true = refl
 cell_shows false = refl
 

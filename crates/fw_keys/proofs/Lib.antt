@@ -17,8 +17,9 @@ pub mod Step5
 pub mod Typematic
 pub mod Heal
 pub mod Healing
-pub mod Resetting
+pub mod Renewing
 pub mod Sent
+pub mod AnyReset
 pub mod Scan
 pub mod Testing
 pub mod Ready

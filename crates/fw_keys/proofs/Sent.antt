@@ -26,7 +26,7 @@ use Rattle.kbd_model.specs.Tick.{sent_byte, without_offered}
 use Rattle.fw_keys.proofs.Dropped.{dropped, empty, xor_is, kept_last, kept_layers}
 use Rattle.fw_keys.proofs.Bytes.{twice}
 use Rattle.fw_keys.proofs.Healing.{lifted, lifted_below, not_lifted}
-use Rattle.fw_keys.proofs.Resetting.{lifted_same, resets}
+use Rattle.fw_keys.proofs.Renewing.{lifted_same, resets}
 
 module _ (d : Board) (bytes : List ℕ) (hk : HasKernel bytes) (small : All IsByte bytes)
     (low : (p1 p2 c : ℕ) (s : d.State) → (d.pins p1 p2 c s).bus < 256) (held : List Bool)
@@ -189,7 +189,7 @@ module _ (d : Board) (bytes : List ℕ) (hk : HasKernel bytes) (small : All IsBy
       → (b64 ≡ true → b65 ≡ true → 0 < n → f 28 ≡ 240 → f 68 ≡ 0 → 1 < n) → Takes
   takes_by false false b65 e1 e2 e3 n e4 safe is next = reply_goes safe e1 e2
   takes_by false true b65 e1 e2 e3 n e4 safe is next =
-      resets d bytes hk small low held f ring inv x m board safe e1 e2
+      resets d bytes hk small low held f ring x m board inv safe e2
   takes_by true b1 false e1 e2 e3 n e4 safe is next = aa_goes safe e1 e3
   takes_by true b1 true e1 e2 e3 zero e4 safe is next =
       mark_goes safe e1 e3 (let z : (f 66 % 128 == 0) ≡ true = ap (λ v. v == 0) e4 in z)

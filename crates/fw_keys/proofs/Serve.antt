@@ -103,8 +103,8 @@ module _ (d : Board) (bytes : List ℕ) (hk : HasKernel bytes) (alike : IsSilent
   held = held_by (λ c. stacked f (32 + c))
 
   -- the layers that the tick's edges find
-  abbrev pub from : Meeting → Layers
-  from meeting = healed bytes meeting (keyboard_of (stacked f) ring) (layers_of (stacked f))
+  abbrev pub found : Meeting → Layers
+  found meeting = healed bytes meeting (keyboard_of (stacked f) ring) (layers_of (stacked f))
 
   -- the work of this tick
   abbrev pub Work : Bool → Meeting → ℕ → (Stage d.State → Type 0) → Type 0
@@ -118,7 +118,7 @@ module _ (d : Board) (bytes : List ℕ) (hk : HasKernel bytes) (alike : IsSilent
     pub l : Bool
     pub from : Stage d.State
     pub n : ℕ
-    pub kbd : Gone (image_keys bytes) meeting changed down (from meeting) (stacked f) ring (stacked now) ring'
+    pub kbd : Gone (image_keys bytes) meeting changed down (found meeting) (stacked f) ring (stacked now) ring'
     pub downs : (i : ℕ) → i < 12 → now (32 + i) ≡ down i
     pub inv : Inv (stacked now)
     pub stack : (now 8 ≡ WAIT) × (now 9 ≡ 16)
@@ -174,7 +174,7 @@ module _ (d : Board) (bytes : List ℕ) (hk : HasKernel bytes) (alike : IsSilent
             from = b.from;
             n = b.n;
             kbd =
-                keyboard_goes (image_keys bytes) meeting (from meeting) (stacked f) ring (stacked b.now) b.last down
+                keyboard_goes (image_keys bytes) meeting (found meeting) (stacked f) ring (stacked b.now) b.last down
                 (flags_long (down_at (λ c. stacked f (80 + c))) 96) (λ i l. kept_on b.now i ∙ b.downs i l) b.kbd
                 (layers_same (stacked b.now) b.now (λ i l u. stacked_at b.now i l) ∙ b.layers)
                 (pressed_healed bytes meeting (layers_of (stacked f)) (keyboard_of (stacked f) ring) pressed);

@@ -2,3 +2,4 @@ pub mod State
 pub mod Edges
 pub mod Healing
 pub mod Frameless
+pub mod Resets
