@@ -8,6 +8,7 @@ use Rattle.fw_compile.specs.Image.{image_of}
 use Rattle.fw_kernel.specs.declared.labels.TheConstants.{TICK}
 use Rattle.fw_keys.specs.Edges.{image_keys}
 use Rattle.fw_keys.specs.Frameless.{IsPressed, shown_by, layers_by}
+use Rattle.fw_keys.specs.Healing.{is_fn_held}
 use Rattle.fw_logic.specs.Ticks.{IsOnTime}
 use Rattle.joint_run.specs.Joint.{Beside, joint_board, log_of}
 use Rattle.joint_run.specs.Run.{World}
@@ -57,6 +58,7 @@ module _ (layout : KeyLayout) (edges : List Edge) (events : List HostEvent) (fin
     started = t.ties.started;
     time = time;
     repeating = t.ties.repeating;
+    fn = ap (λ (l : Layers). l.fn_down) t.ties.layers ∙ t.ties.fn ∙ ap (is_fn_held (image_of layout)) (sym t.ties.keyboard);
     codes = subst (λ (k : Keyboard). IsWhole k.queue) (sym t.ties.keyboard) t.ties.sound.codes;
     placed = λ p l is. t.placed p l (ap (λ k. is_held k p) (sym t.ties.keyboard) ∙ is);
     idle = t.ties.idle;
@@ -74,6 +76,7 @@ module _ (layout : KeyLayout) (edges : List Edge) (events : List HostEvent) (fin
       started = s.started;
       keyboard = refl;
       layers = refl;
+      fn = s.fn;
       repeating = s.repeating;
       sound = record {
         codes = s.codes;

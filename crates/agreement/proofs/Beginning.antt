@@ -47,7 +47,9 @@ use Rattle.agreement.specs.Agreement.{switched_on}
 use Rattle.fw_logic.specs.Ticks.{IsOnTime}
 use Rattle.agreement.proofs.Model.{at_first}
 use Rattle.agreement.proofs.Compiled.{silent_keys}
+use Rattle.agreement.proofs.Holding.{none_held}
 use Rattle.agreement.proofs.Ties.{Ties}
+use Rattle.fw_kernel.specs.Tables.{fn_place_at}
 
 -- the keyboard at power-on is sound
 begins_sound : (keys : Keys) (rate : ℕ) → Sound keys no_layers (at_power_on rate)
@@ -142,6 +144,7 @@ module _ (edges : List Edge) (events : List HostEvent) (noise : AreFlips events)
           started = f.started;
           keyboard = f.keyboard ∙ ap at_power_on rate;
           layers = f.layers;
+          fn = sym (none_held layout (slice_index bytes fn_place_at));
           repeating = subst (λ (k : Keyboard). IsPressed (image_keys bytes) (layers_by w.cpu.ram) k.repeats) (sym f.keyboard) tt;
           sound = begins_sound (silent_keys layout) layout.rate;
           side = b.side ∙ ap (λ n. quietly events n 4096 (side_at_start UnderWay)) past;

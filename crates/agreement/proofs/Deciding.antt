@@ -1,7 +1,7 @@
 -- Which way a tick goes: by whether the power-on test runs, the link at the look at the clock, what is offered, the link
 -- at the first edge, and the looks of the frame.
 use Rattle.std.proofs.Common.{◌≡◌, ◌≤◌, ◌<◌, ◌⊎◌, inl, inr, ℕ, suc, ◌+◌, ◌-◌, ◌*◌, ◌==◌, nat_lt, List, All, Bool, true, false, Some}
-use Rattle.std.proofs.Common.{None, length, refl, ap, sym, ◌∙◌, subst, arith}
+use Rattle.std.proofs.Common.{None, length, slice_index, refl, ap, sym, ◌∙◌, subst, arith}
 use Rattle.std.specs.declared.option.Option.{Option}
 use Rattle.std.proofs.lemmas.Bool.Decides.{nat_tests}
 use Rattle.board_lines.specs.Flips.{AreFlips}
@@ -18,6 +18,7 @@ use Rattle.ctl_link.specs.declared.link.Link.TheVariants.{Free, Hold, Ask, Reque
 use Rattle.ctl_wire.specs.Wire.{drive}
 use Rattle.ctl_wire.specs.declared.wire.Wire.{Wire}
 use Rattle.fw_kernel.specs.Places.{HasKernel}
+use Rattle.fw_kernel.specs.Tables.{fn_place_at}
 use Rattle.fw_kernel.specs.declared.labels.TheConstants.{TICK}
 use Rattle.fw_keys.proofs.Carried.{SameKeys}
 use Rattle.fw_keys.proofs.Kept.{NoPrefix}
@@ -54,6 +55,7 @@ use Rattle.agreement.proofs.Frames.{FirstLow, free_or_not, first_low, frame_offe
 use Rattle.agreement.proofs.Frames.{frame_tested, frame_in}
 use Rattle.agreement.proofs.Compiled.{silent_keys}
 use Rattle.agreement.proofs.Placed.{IsOfLayout}
+use Rattle.agreement.proofs.FnFollows.{IsFnPlaceOf}
 use Rattle.agreement.proofs.Going.{Went, goes, flip_at_look}
 use Rattle.agreement.proofs.Happened.{Happened, at_look}
 use Rattle.fw_logic.specs.Ticks.{IsOnTime}
@@ -69,6 +71,7 @@ module _ (edges : List Edge) (events : List HostEvent) (d : Board) (to : d.State
     (low : (p1 p2 c : ℕ) (s : d.State) → (d.pins p1 p2 c s).bus < 256)
     (layout : KeyLayout) (same : SameKeys (image_keys bytes) (silent_keys layout))
     (codes : NoPrefix (silent_keys layout))
+    (own : IsFnPlaceOf layout (slice_index bytes fn_place_at))
     (n : ℕ) (w : World d.State) (m : Whole LayeredKeyboard) (time : IsOnTime n (under to w))
     (tie : Ties bytes (silent_keys layout) (under to w) m)
     (columns : edges_now d w ≡ shown (is_held m.keys.keyboard) (columns_in edges w.cycle))
@@ -89,7 +92,7 @@ module _ (edges : List Edge) (events : List HostEvent) (d : Board) (to : d.State
 
   abbrev Goes : Frame → Type 0
   Goes frame = Tick d TICK bytes w
-      (Went edges events d to over bytes layout same codes n w m time tie columns of_layout released lamps noise frame)
+      (Went edges events d to over bytes layout same codes own n w m time tie columns of_layout released lamps noise frame)
 
   abbrev tests : Bool
   tests = m.keys.keyboard.test == 0
@@ -112,7 +115,7 @@ module _ (edges : List Edge) (events : List HostEvent) (d : Board) (to : d.State
       → IsNone meeting → IsFrameOf (offer m.keys.keyboard) meeting NoFrame
       → Tick d TICK bytes w (Happened d bytes (met_as meeting) NoFrame w) → Goes NoFrame
   still meeting is none fits t =
-      goes edges events d to over bytes layout same codes n w m time tie columns of_layout released lamps noise
+      goes edges events d to over bytes layout same codes own n w m time tie columns of_layout released lamps noise
       (met_as meeting) meeting NoFrame fits refl (λ byte e. elim (subst IsNone e none) [ ])
       (λ rest more k all long.
       still_ticked events v w.cycle released rest k look all tests (offer m.keys.keyboard) meeting idle_look
@@ -162,9 +165,9 @@ module _ (edges : List Edge) (events : List HostEvent) (d : Board) (to : d.State
           subst (λ (k : Keyboard). IsWhole k.queue) (sym tie.keyboard) tie.sound.codes in
           let flip : IsFlip (at_meeting events whole w.cycle look).side.port.flip =
           flips_stay events whole 32 (256 + w.cycle) look noise
-          (flip_at_look edges events d to over bytes layout same codes n w m time tie columns of_layout released lamps noise) in
+          (flip_at_look edges events d to over bytes layout same codes own n w m time tie columns of_layout released lamps noise) in
           let there : Free_there = is_there (leaves 46 (inr (inr (0, omega arith, inl refl)))) in
-          goes edges events d to over bytes layout same codes n w m time tie columns of_layout released lamps noise kbd.Sent
+          goes edges events d to over bytes layout same codes own n w m time tie columns of_layout released lamps noise kbd.Sent
           (met.Sent byte) (SentFrame byte) refl refl (λ b e. absurd cc)
           (λ rest more k all long.
           at_model whole rest k (Some byte) (met.Sent byte) ended some
@@ -235,7 +238,7 @@ module _ (edges : List Edge) (events : List HostEvent) (d : Board) (to : d.State
         -- it pulls the clock at a look, the first such: the frame is cut there
         cut : Goes (CutFrame byte first.look)
         cut =
-            goes edges events d to over bytes layout same codes n w m time tie columns of_layout released lamps noise kbd.Cut met.Cut
+            goes edges events d to over bytes layout same codes own n w m time tie columns of_layout released lamps noise kbd.Cut met.Cut
             (CutFrame byte first.look)
             (some, first.is, (since events v w.cycle released look byte free first).not_last) refl (λ b e. absurd cc)
             (λ rest more k all long. at_model here rest k (Some byte) met.Cut ended some (ticked rest k all))
@@ -278,7 +281,7 @@ module _ (edges : List Edge) (events : List HostEvent) (d : Board) (to : d.State
   -- the controller requests to send
   when_asked : (byte : ℕ) → tests ≡ true → look.side.port.link ≡ Request byte → Goes ReceivedFrame
   when_asked byte ended request =
-      goes edges events d to over bytes layout same codes n w m time tie columns of_layout released lamps noise
+      goes edges events d to over bytes layout same codes own n w m time tie columns of_layout released lamps noise
       (kbd.Got byte true) (met.Got byte) ReceivedFrame refl refl
       (λ b e. let same : byte ≡ b = cc in request ∙ ap (λ n. Request n) same)
       (λ rest more k all long.

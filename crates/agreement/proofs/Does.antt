@@ -3,9 +3,10 @@ use Rattle.std.proofs.Common.{◌≡◌, ◌≤◌, ◌<◌, ℕ, ◌-◌, ◌%�
 use Rattle.fw_kernel.specs.Places.{HasKernel}
 use Rattle.fw_kernel.specs.declared.labels.TheConstants.{TICK}
 use Rattle.fw_keys.proofs.Carried.{edges_low}
+use Rattle.fw_keys.proofs.Healing.{pressed_by}
 use Rattle.fw_keys.proofs.Kept.{Sound, tick_sound}
 use Rattle.fw_keys.specs.Edges.{image_keys, IsSilentAlike}
-use Rattle.fw_keys.specs.Frameless.{shown_by, layers_by, IsStarted, IsRepeating, edges_now, changed_now}
+use Rattle.fw_keys.specs.Frameless.{shown_by, layers_by, layers_met, IsStarted, IsRepeating, edges_now, changed_now}
 use Rattle.fw_logic.specs.Ticks.{column_read}
 use Rattle.fw_link.specs.Latch.{Frame}
 use Rattle.fw_logic.proofs.Entered.{entered_served}
@@ -28,10 +29,14 @@ module _ (d : Board) (bytes : List ℕ) (hk : HasKernel bytes) (alike : IsSilent
     (few : length (edges_now d w) ≤ 4) (frame : Frame) (meeting : Meeting) where
   so : (v : World d.State) → Happened d bytes meeting frame w v → v.cpu.p1 ≡ 44 → Does d bytes frame meeting w v
   so v h column =
-      let sound : Sound (image_keys bytes) (layers_by w.cpu.ram) (shown_by w.cpu.ram) =
-      record { codes = whole; place = repeats } in
-      let kept = tick_sound (image_keys bytes) codes meeting (edges_now d w) (layers_by w.cpu.ram) (shown_by w.cpu.ram)
-      (edges_low (changed_now d w) (column_read d w)) refl sound in
+      let sound : Sound (image_keys bytes) (layers_met bytes meeting w.cpu.ram) (shown_by w.cpu.ram) =
+      record {
+        codes = whole;
+        place = pressed_by (image_keys bytes) (layers_by w.cpu.ram) (layers_met bytes meeting w.cpu.ram).fn_down
+            (shown_by w.cpu.ram).repeats repeats;
+      } in
+      let kept = tick_sound (image_keys bytes) codes meeting (edges_now d w) (layers_met bytes meeting w.cpu.ram)
+      (shown_by w.cpu.ram) (edges_low (changed_now d w) (column_read d w)) refl sound in
       record {
         goes_on = record {
           started = h.started;

@@ -1,5 +1,5 @@
 -- From one tick start to the next, by the tick's meeting: what ties the joint run to the model goes on.
-use Rattle.std.proofs.Common.{◌≡◌, ◌≤◌, ℕ, suc, ◌+◌, ◌-◌, ◌*◌, ◌==◌, not, All, List, Bool, refl, ap, sym, ◌∙◌, subst, arith}
+use Rattle.std.proofs.Common.{◌≡◌, ◌≤◌, ℕ, suc, ◌+◌, ◌-◌, ◌*◌, ◌==◌, not, All, List, Bool, false, length, slice_index, slice_index_or, refl, ap, sym, ◌∙◌, subst, arith}
 use Rattle.board_lines.specs.declared.event.Edge.{Edge}
 use Rattle.board_lines.specs.declared.event.HostEvent.{HostEvent}
 use Rattle.board_lines.specs.declared.lines.Lines.{Lines}
@@ -12,7 +12,12 @@ use Rattle.fw_keys.proofs.Carried.{SameKeys, ticks_same, layers_alike, edges_low
 use Rattle.fw_keys.proofs.Edges.{IsWide}
 use Rattle.fw_keys.proofs.Kept.{Sound, NoPrefix, pressed_low, met_sound, tested_sound, tick_sound}
 use Rattle.fw_keys.specs.Edges.{image_keys}
-use Rattle.fw_keys.specs.Frameless.{shown_by, layers_by, edges_now, changed_now, latch_now}
+use Rattle.fw_keys.specs.Frameless.{shown_by, layers_by, layers_met, edges_now, changed_now, latch_now}
+use Rattle.fw_keys.specs.Healing.{is_fn_held}
+use Rattle.fw_keys.proofs.Healing.{healed_same}
+use Rattle.fw_kernel.specs.Tables.{fn_place_at}
+use Rattle.agreement.proofs.FnFollows.{IsFnPlaceOf, fn_follows}
+use Rattle.agreement.proofs.Holding.{ticked_holds}
 use Rattle.fw_logic.specs.Ticks.{IsOnTime, column_read}
 use Rattle.fw_link.proofs.Over.{IsOver, under}
 use Rattle.fw_link.proofs.TickLatch.{lines_by}
@@ -74,7 +79,7 @@ module _ (layout : KeyLayout) (es : List (ℕ × Bool)) (of_layout : All (IsOfLa
 module _ (edges : List Edge) (events : List HostEvent) (d : Board) (to : d.State → Beside)
     (over : IsOver edges events d to) (bytes : List ℕ) (layout : KeyLayout)
     (same : SameKeys (image_keys bytes) (silent_keys layout)) (codes : NoPrefix (silent_keys layout))
-    (n : ℕ) (w : World d.State) (m : Whole LayeredKeyboard) (time : IsOnTime n (under to w))
+    (own : IsFnPlaceOf layout (slice_index bytes fn_place_at)) (n : ℕ) (w : World d.State) (m : Whole LayeredKeyboard) (time : IsOnTime n (under to w))
     (tie : Ties bytes (silent_keys layout) (under to w) m)
     (columns : edges_now d w ≡ shown (is_held m.keys.keyboard) (columns_in edges w.cycle))
     (of_layout : All (IsOfLayout layout) (shown (is_held m.keys.keyboard) (columns_in edges w.cycle)))
@@ -135,15 +140,21 @@ module _ (edges : List Edge) (events : List HostEvent) (d : Board) (to : d.State
       let img : Keys = image_keys bytes in
       let b : Keys = silent_keys layout in
       let wide : IsWide l = subst IsWide tie.layers refl in
+      let whole : length k0.held ≡ 96 = subst (λ (k : Keyboard). length k.held ≡ 96) tie.keyboard refl in
+      let follows : (layers_by w.cpu.ram).fn_down ≡ is_fn_held bytes (shown_by w.cpu.ram) =
+      ap (λ (v : Layers). v.fn_down) tie.layers ∙ tie.fn ∙ ap (is_fn_held bytes) (sym tie.keyboard) in
+      let unhealed : layers_met bytes meeting w.cpu.ram ≡ layers_by w.cpu.ram =
+      healed_same bytes meeting (shown_by w.cpu.ram) (layers_by w.cpu.ram) follows in
       let keys : shown_by e.cpu.ram ≡ ticked b meeting (layered b.is_fn es l) k0 =
       h.keyboard
+      ∙ ap (λ v. ticked img meeting (layered img.is_fn (edges_now d w) v) (shown_by w.cpu.ram)) unhealed
       ∙ ap (λ v. ticked img meeting (layered img.is_fn (edges_now d w) (layers_by w.cpu.ram)) v) tie.keyboard
       ∙ ap (λ v. ticked img meeting (layered img.is_fn (edges_now d w) v) k0) tie.layers
       ∙ ap (λ v. ticked img meeting (layered img.is_fn v l) k0) columns
       ∙ layout_ticks img b same codes meeting es l k0 low tie.sound in
       let layers : layers_by e.cpu.ram ≡ all_layers_after b.is_fn es l =
       h.layers
-      ∙ ap (λ v. all_layers_after img.is_fn (edges_now d w) v) tie.layers
+      ∙ ap (λ v. all_layers_after img.is_fn (edges_now d w) v) (unhealed ∙ tie.layers)
       ∙ ap (λ v. all_layers_after img.is_fn v l) columns
       ∙ layers_alike img b same es l low in
       let own : ticked b meeting (layered b.is_fn es l) k0
@@ -151,12 +162,18 @@ module _ (edges : List Edge) (events : List HostEvent) (d : Board) (to : d.State
       own_ticks layout es of_layout meeting l k0
       ∙ ap (λ v. ticked (keys_of layout) v (layered (is_fn_place layout) es l) k0) (sym as_met) in
       let own_after = own_layers layout es of_layout l in
+      let place : ℕ = slice_index bytes fn_place_at in
       let pc = there.pc k end in (
         omega (arith, pass, now),
         record {
           started = h.started;
           keyboard = keys ∙ own;
           layers = layers ∙ own_after;
+          fn =
+              fn_follows (is_fn_place layout) place own es l k0.held whole low tie.fn
+              ∙ ap (λ v. slice_index_or v place false)
+              (sym (ticked_holds (keys_of layout) (met_as (meeting_from (keyboard layout) events w.cycle m)) (is_fn_place layout)
+              es l k0));
           repeating = h.repeating;
           sound =
               subst (λ v. Sound b v

@@ -2,6 +2,7 @@ pub mod Model
 pub mod InTime
 pub mod Happened
 pub mod Ran
+pub mod FnFollows
 pub mod Ties
 pub mod Seen
 pub mod Looking

@@ -40,6 +40,7 @@ use Rattle.agreement.proofs.Columns.{bus_low, board_edges}
 use Rattle.agreement.proofs.Compiled.{has_kernel, has_rate, is_alike, are_bytes, silent_keys, same_keys, no_prefix}
 use Rattle.agreement.proofs.Cutting.{cut_since, is_cut_by}
 use Rattle.agreement.proofs.Deciding.{every_tick}
+use Rattle.agreement.proofs.FnFollows.{image_fn}
 use Rattle.agreement.proofs.Frames.{frame_in}
 use Rattle.agreement.proofs.Going.{Went}
 use Rattle.agreement.proofs.Happened.{lit_latch, at_look}
@@ -149,12 +150,12 @@ module _ (layout : KeyLayout) (history : KeyHistory) (fine : IsKeyLayout layout)
     joint = joint_board edges events
 
     went : Tick joint TICK bytes w
-        (Went edges events joint (λ b. b) (itself edges events) bytes layout (same_keys layout) (no_prefix layout fine) n w m
+        (Went edges events joint (λ b. b) (itself edges events) bytes layout (same_keys layout) (no_prefix layout fine) (image_fn layout) n w m
         time tie columns of_layout released lamps ok.flips frame)
     went =
         every_tick edges events joint (λ b. b) (itself edges events) bytes (has_kernel layout)
         (is_alike layout fine) (are_bytes layout fine) (bus_low edges events) layout (same_keys layout)
-        (no_prefix layout fine) n w m time tie columns of_layout (subst (λ v. length v ≤ 4) (sym columns) four)
+        (no_prefix layout fine) (image_fn layout) n w m time tie columns of_layout (subst (λ v. length v ≤ 4) (sym columns) four)
         released lamps ok.flips
         (λ byte is. offers_byte w.cpu tie.started byte (ap offer tie.keyboard ∙ is)) asked
 
@@ -214,7 +215,7 @@ module _ (layout : KeyLayout) (history : KeyHistory) (fine : IsKeyLayout layout)
         let t =
         every_tick edges events W beneath above bytes (has_kernel layout) (is_alike layout fine)
         (are_bytes layout fine) (low_over edges events W beneath above) layout (same_keys layout)
-        (no_prefix layout fine) n (watched w) m time
+        (no_prefix layout fine) (image_fn layout) n (watched w) m time
         tie columns_above of_layout (subst (λ v. length v ≤ 4) (sym columns_above) four) released lamps ok.flips
         (λ byte is. offers_byte w.cpu tie.started byte (ap offer tie.keyboard ∙ is)) asked in
         record {
@@ -240,7 +241,7 @@ module _ (layout : KeyLayout) (history : KeyHistory) (fine : IsKeyLayout layout)
               (cut_since events lit w.cycle released (at_look edges events w) (m.keys.keyboard.test == 0)
               (offer m.keys.keyboard));
           drives = drives_tick joint latch TICK bytes w
-              (Went edges events W beneath above bytes layout (same_keys layout) (no_prefix layout fine) n (watched w) m
+              (Went edges events W beneath above bytes layout (same_keys layout) (no_prefix layout fine) (image_fn layout) n (watched w) m
               time tie columns_above of_layout released lamps ok.flips frame)
               (λ e. (at_tick joint TICK e ≡ true) × (e.cpu.p2 ≡ lit))
               (λ e g. (

@@ -11,6 +11,7 @@ use Rattle.ctl_link.specs.Link.{is_busy}
 use Rattle.fw_compile.specs.Image.{image_of}
 use Rattle.fw_kernel.specs.declared.labels.TheConstants.{TICK}
 use Rattle.fw_keys.specs.Frameless.{IsStarted, IsRepeating, shown_by, layers_by}
+use Rattle.fw_keys.specs.Healing.{is_fn_held}
 use Rattle.fw_logic.specs.Ticks.{IsOnTime}
 use Rattle.joint_run.specs.Joint.{Beside, joint_board, lights_of, log_of}
 use Rattle.joint_run.specs.Run.{World, run_at}
@@ -68,13 +69,14 @@ model_at w = record {
 }
 
 -- the state is a tick start at which data memory shows a keyboard of the layout, at its multiple of 2,048 or one cycle
--- past it: what repeats is pressed, the queue breaks no code, and the keys held are the layout's. No byte is on the way,
+-- past it: what repeats is pressed, the Fn key is down if it is held, the queue breaks no code, and the keys held are the layout's. No byte is on the way,
 -- what the PC has for the keyboard is a byte, the latch of port 2 pulls neither wire and shows the lights that were shown
 -- last, and port 1 selects no column
 pub record ShowsKeyboard (layout : KeyLayout) (n : ℕ) (w : World Beside) : Type 0 where
   pub started : IsStarted w.cpu
   pub time : IsOnTime n w
   pub repeating : IsRepeating (image_of layout) w.cpu.ram
+  pub fn : (layers_by w.cpu.ram).fn_down ≡ is_fn_held (image_of layout) (shown_by w.cpu.ram)
   pub codes : HasWholeCodes w.cpu.ram
   pub placed : (p : ℕ) → p < 96 → is_held (shown_by w.cpu.ram) p ≡ true → IsPlaceOf layout p
   pub idle : is_busy w.board.pc.side.port.link ≡ false

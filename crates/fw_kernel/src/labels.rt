@@ -123,6 +123,9 @@ pub const RESTART: u16 = 0x2ac;
 /// Data memory is cleared.
 pub const BLANK: u16 = 0x2bb;
 
+/// A reset: a flipped bit's traces go.
+pub const HEAL: u16 = 0x2c5;
+
 /// The columns' changes in order.
 pub const EDGES: u16 = 0x409;
 
@@ -182,3 +185,6 @@ pub const ENTERED: u16 = 0x4c3;
 
 /// The next column.
 pub const FOOT: u16 = 0x4c7;
+
+/// In a reset: is the Fn key held?
+pub const FN_HELD: u16 = 0x4d6;

@@ -506,7 +506,7 @@ drop:   MOV R1,#REPLYDUE
 gone:   MOV @R1,#0
         JMP scan
 d_reply: MOV @R1,#0
-        JB1 reset           ; FA to a reset: REPLYDUE was 3
+        JB1 heal            ; FA to a reset: REPLYDUE was 3
         JMP scan
 
 ; -- reset: all as at power-on but for the queue, the lights off, the test to come.
@@ -643,6 +643,16 @@ blank:  MOV R0,#7FH         ; 25
 fill:   MOV @R0,A           ; 30 + 3 for each cell, from the last to 01
         DJNZ R0,fill        ; R0, which is cell 00, ends at 0
         JMP start           ; 411
+
+; -- heal: a reset also makes right what a flipped bit may have left: STARTED is 0 or 1, and FN follows the Fn key, as
+; it was held before this tick's edges.
+; needs: HELD, CHANGED. leaves: STARTED; goes on to fn_held.
+; cycles: 8.
+heal:   MOV R1,#STARTED
+        MOV A,@R1
+        ANL A,#1
+        MOV @R1,A
+        JMP fn_held
 
 ; -- tables: behind the layout's, the delays by bits 5 and 6 of the rate, the periods by bits 0 to 4, in ticks.
         ORG 3CEH
@@ -875,4 +885,36 @@ foot:   MOV A,R6
         ADD A,#0E1H
         MOV R0,A
         JMP more
+
+; -- fn_held: is the Fn key held?
+; needs: HELD, CHANGED. leaves: FN; goes on to reset.
+; cycles: 15 to 41.
+fn_held: MOV A,#0CDH
+        MOVP3 A,@A          ; its place
+        MOV R2,A
+        ADD A,#0A0H
+        CLR A
+        JC fn_put           ; 60 and on: there is no Fn key
+        MOV A,R2
+        SWAP A
+        RL A
+        ANL A,#0FH          ; its column
+        ADD A,#HELD
+        MOV R0,A
+        ADD A,#10H          ; CHANGED + c
+        MOV R1,A
+        MOV A,@R0
+        XRL A,@R1
+        MOV R3,A            ; the keys held before this tick's edges
+        MOV A,R2
+        CPL A
+        ANL A,#7
+        INC A               ; 8 - r
+        MOVP A,@A
+        ANL A,R3
+        JZ fn_put
+        MOV A,#0FFH
+fn_put: MOV R1,#FN
+        MOV @R1,A
+        JMP reset
 ";

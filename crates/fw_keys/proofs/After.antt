@@ -33,19 +33,19 @@ module _ (d : Board) (bytes : List ℕ) (hk : HasKernel bytes) (alike : IsSilent
     pub inv : Inv g
     pub stack : (g 8 ≡ f 8) × (g 9 ≡ f 9)
 
-  -- a step of the model up to scan, then the rest of the tick
-  pub tail_law : (step : Keyboard → Keyboard) (ch hd : ℕ → ℕ) (from max x : ℕ) (m : Cpu) (board : d.State) (f : ℕ → ℕ)
-      (ring : List ℕ) → Safe m from f ring → ((i : ℕ) → i < 12 → f (48 + i) ≡ ch i)
+  -- a step of the model up to scan from cells h, then the rest of the tick
+  pub tail_law : (step : Keyboard → Keyboard) (ch hd : ℕ → ℕ) (from max x : ℕ) (m : Cpu) (board : d.State) (h f : ℕ → ℕ)
+      (ring : List ℕ) → Safe m from h ring → ((i : ℕ) → i < 12 → f (48 + i) ≡ ch i)
       → ((i : ℕ) → i < 12 → f (32 + i) ≡ hd i)
-      → Leads d (kernel_in true bytes) x (begin_at d from f ring m board)
+      → Leads d (kernel_in true bytes) x (begin_at d from h ring m board)
       (Ends d x m board SCAN max (Keeps held step f ring))
-      → Leads d (kernel_in true bytes) x (begin_at d from f ring m board)
+      → Leads d (kernel_in true bytes) x (begin_at d from h ring m board)
       (Ends d x (record m { f0 = is_scanning (step (kbd_of held f ring)) }) board DONE
       (max + (56 + (2 + edges_most ch))) (Over m.f1 ch hd step f ring))
-  tail_law step ch hd from max x m board f ring safe changes helds way =
+  tail_law step ch hd from max x m board h f ring safe changes helds way =
       let on : Bool = is_scanning (step (kbd_of held f ring)) in
       seq_f0 d (kernel_in true bytes) (has_rows true bytes hk) small low on x m board SCAN max DONE
-      (56 + (2 + edges_most ch)) (Keeps held step f ring) (Over m.f1 ch hd step f ring) (begin_at d from f ring m board)
+      (56 + (2 + edges_most ch)) (Keeps held step f ring) (Over m.f1 ch hd step f ring) (begin_at d from h ring m board)
       safe.1 way
       (λ x1 m1 board1 g r same1 q safe1.
       let flag : is_scanning (kbd_of held g r) ≡ on = ap is_scanning q.kbd in

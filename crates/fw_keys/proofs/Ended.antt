@@ -19,10 +19,13 @@ use Rattle.kbd_model.specs.Keyboard.{Keyboard, offer}
 use Rattle.kbd_model.specs.Tick.{tested_if}
 use Rattle.fw_keys.specs.State.{kbd_of, layers_of, Inv}
 use Rattle.fw_keys.specs.Edges.{image_keys, IsSilentAlike}
+use Rattle.fw_keys.specs.Healing.{healed, makes_reset}
 use Rattle.fw_keys.proofs.Block.{Safe}
 use Rattle.fw_keys.proofs.Scan.{after, edges_most, keyed}
 use Rattle.fw_keys.proofs.Tick.{down, changed, begun, lit, shining, Ticked, TickLaw, idle_tick}
+use Rattle.fw_keys.proofs.Healing.{not_healed}
 use Rattle.fw_keys.proofs.KeyedTick.{keyed_tick}
+use Rattle.kbd_model.specs.Layers.{Layers}
 use Rattle.fw_keys.proofs.Tick.{glitch_tick, inhibited_tick, test_tick, IsFreeAt, IsGlitchAt, same_kbd}
 
 module _ (d : Board) (bytes : List ℕ) (hk : HasKernel bytes) (alike : IsSilentAlike bytes) (small : All IsByte bytes)
@@ -37,6 +40,10 @@ module _ (d : Board) (bytes : List ℕ) (hk : HasKernel bytes) (alike : IsSilent
   abbrev pub lights_on : Cpu
   lights_on = lit d bytes hk alike small low held y m board f ring
 
+  -- the layers that the edges find
+  abbrev pub layers_from : Meeting → Layers
+  layers_from meeting = healed bytes meeting (kbd_of held f ring) (layers_of f)
+
   -- data memory is the model's tick later, but for the held keys; the columns are kept; from a stage on, of which F is
   -- known, no port was written
   pub record Ended (meeting : Meeting) (last_off : ℕ) (F : Stage d.State → Type 0) (e : Stage d.State) : Type 0 where
@@ -47,9 +54,9 @@ module _ (d : Board) (bytes : List ℕ) (hk : HasKernel bytes) (alike : IsSilent
     pub cpu : e.cpu ≡ scratched (record lights_on { f0 = e.cpu.f0; f1 = e.cpu.f1; p2 = e.cpu.p2 }) DONE
         (memory now last) e.cpu
     pub short : e.off ≤ last_off
-    pub kbd : kbd_of held now last ≡ keyed_tick (image_keys bytes) meeting changes_now downs_now (layers_of f)
+    pub kbd : kbd_of held now last ≡ keyed_tick (image_keys bytes) meeting changes_now downs_now (layers_from meeting)
         (kbd_of held f ring)
-    pub layers : layers_of now ≡ after (image_keys bytes) changes_now downs_now (layers_of f)
+    pub layers : layers_of now ≡ after (image_keys bytes) changes_now downs_now (layers_from meeting)
     pub downs : (i : ℕ) → i < 12 → now (32 + i) ≡ downs_now i
     pub inv : Inv now
     pub stack : (now 8 ≡ f 8) × (now 9 ≡ f 9)
@@ -69,9 +76,10 @@ module _ (d : Board) (bytes : List ℕ) (hk : HasKernel bytes) (alike : IsSilent
       (Ended meeting last_off F)
 
   silent : (meeting : Meeting) (inhibited : Bool) (max : ℕ) (step : Keyboard → Keyboard)
+      → makes_reset meeting (kbd_of held f ring) ≡ false
       → TickLaw d bytes hk alike small low held y m board f ring meeting inhibited max step
       → Works meeting (231 + (max + (56 + (2 + edges_most changes_now)))) AtHead
-  silent meeting inhibited max step h =
+  silent meeting inhibited max step none h =
       weaken d (kernel_in true bytes) (has_rows true bytes hk) y
       (λ e. Ticked d bytes hk alike small low held y m board f ring inhibited max step e
       × (keyed (image_keys bytes) inhibited changes_now downs_now (layers_of f) (step (kbd_of held f ring))
@@ -82,6 +90,7 @@ module _ (d : Board) (bytes : List ℕ) (hk : HasKernel bytes) (alike : IsSilent
       let t = a.0 in
       let off : e.off ≡ 231 + t.used = t.off in
       let short : t.used ≤ max + (56 + (2 + edges_most changes_now)) = t.short in
+      let same : layers_of f ≡ layers_from meeting = sym (not_healed bytes meeting (kbd_of held f ring) (layers_of f) none) in
       record {
         now = t.now;
         last = t.last;
@@ -91,8 +100,9 @@ module _ (d : Board) (bytes : List ℕ) (hk : HasKernel bytes) (alike : IsSilent
             ∙ sym (ap (λ (c : Cpu). scratched (record lights_on { f0 = c.f0; f1 = c.f1; p2 = c.p2 }) DONE
             (memory t.now t.last) e.cpu) t.cpu);
         short = omega (arith, off, short);
-        kbd = t.kbd ∙ a.1;
-        layers = t.layers;
+        kbd = t.kbd ∙ a.1
+            ∙ ap (λ l. keyed_tick (image_keys bytes) meeting changes_now downs_now l (kbd_of held f ring)) same;
+        layers = t.layers ∙ ap (λ l. after (image_keys bytes) changes_now downs_now l) same;
         downs = t.downs;
         inv = t.inv;
         stack = t.stack;
@@ -107,14 +117,14 @@ module _ (d : Board) (bytes : List ℕ) (hk : HasKernel bytes) (alike : IsSilent
       → IsFreeAt d bytes hk alike small low held y m board f ring → Safe m 10 f ring
       → Works Idle (231 + (31 + (56 + (2 + edges_most changes_now)))) AtHead
   idle_works inv no_test nothing wires safe =
-      silent Idle false 31 (same_kbd d bytes hk alike small low held y m board f ring)
+      silent Idle false 31 (same_kbd d bytes hk alike small low held y m board f ring) refl
       (idle_tick d bytes hk alike small low held y m board f ring inv no_test nothing wires safe)
 
   -- data is low at the first look alone
   pub glitch_works : Inv f → (f 69 == 0) ≡ true → IsGlitchAt d bytes hk alike small low held y m board f ring
       → Safe m 10 f ring → Works Idle (231 + (56 + (56 + (2 + edges_most changes_now)))) AtHead
   glitch_works inv no_test levels safe =
-      silent Idle false 56 (same_kbd d bytes hk alike small low held y m board f ring)
+      silent Idle false 56 (same_kbd d bytes hk alike small low held y m board f ring) refl
       (glitch_tick d bytes hk alike small low held y m board f ring inv no_test levels safe)
 
   -- the clock is low
@@ -125,11 +135,11 @@ module _ (d : Board) (bytes : List ℕ) (hk : HasKernel bytes) (alike : IsSilent
       ≡ false → Safe m 10 f ring
       → Works Inhibited (231 + (31 + (56 + (2 + edges_most changes_now)))) AtHead
   inhibited_works inv no_test clock safe =
-      silent Inhibited true 31 (same_kbd d bytes hk alike small low held y m board f ring)
+      silent Inhibited true 31 (same_kbd d bytes hk alike small low held y m board f ring) refl
       (inhibited_tick d bytes hk alike small low held y m board f ring inv no_test clock safe)
 
   -- the power-on test runs, whatever the wires show
   pub test_works : Inv f → (f 69 == 0) ≡ false → Safe m 10 f ring
       → Works Idle (231 + (36 + (56 + (2 + edges_most changes_now)))) AtHead
-  test_works inv runs safe = silent Idle false 36 (tested_if true)
+  test_works inv runs safe = silent Idle false 36 (tested_if true) refl
       (test_tick d bytes hk alike small low held y m board f ring inv runs safe)

@@ -23,19 +23,19 @@ use Rattle.fw_logic.proofs.Returning.{Next}
 use Rattle.kbd_model.specs.declared.meeting.Meeting.{Meeting}
 use Rattle.kbd_model.specs.declared.meeting.Meeting.TheVariants.{Idle, Inhibited, Sent, Cut, Got}
 use Rattle.kbd_model.specs.Codes.{Keys}
-use Rattle.kbd_model.specs.Layers.{layered, all_layers_after}
+use Rattle.kbd_model.specs.Layers.{Layers, layered, all_layers_after}
 use Rattle.kbd_model.specs.Tick.{ticked}
 use Rattle.fw_keys.proofs.Keyboard.{IsPressedAt, frameless_pressed}
 use Rattle.fw_keys.proofs.Patch.{still}
 use Rattle.fw_keys.specs.State.{keyboard_of, layers_of, Inv}
 use Rattle.fw_keys.specs.Edges.{image_keys, tick_edges, IsSilentAlike}
 use Rattle.fw_keys.specs.Frameless.{cells_in, shown_by, IsStarted, changed_now, edges_now, latch_now}
-use Rattle.fw_keys.specs.Frameless.{IsFrameless, GoesOn, IsRepeating, layers_by}
+use Rattle.fw_keys.specs.Frameless.{IsFrameless, GoesOn, IsRepeating, layers_by, layers_met}
 use Rattle.fw_keys.proofs.Step5.{all_edges}
 use Rattle.fw_keys.proofs.Scan.{edges_most}
 use Rattle.fw_keys.proofs.Ended.{AtHead, idle_works, glitch_works, inhibited_works, test_works}
 use Rattle.std.proofs.lemmas.List.Elements.{All-get_or}
-use Rattle.fw_keys.proofs.Serve.{kept_on, down, changed, held, first, first_board, fit, Goes, Work, tick, tick_passes, edges_by, four_edges}
+use Rattle.fw_keys.proofs.Serve.{found, kept_on, down, changed, held, first, first_board, fit, Goes, Work, tick, tick_passes, edges_by, four_edges}
 use Rattle.fw_keys.proofs.Begun.{IsAnyStart, any_start, columns_same, columns_count, start_entering, entering_start, started_is, xor_small}
 
 module _ (d : Board) (bytes : List ℕ) (hk : HasKernel bytes) (alike : IsSilentAlike bytes) (small : All IsByte bytes)
@@ -121,6 +121,9 @@ module _ (d : Board) (bytes : List ℕ) (hk : HasKernel bytes) (alike : IsSilent
   abbrev pub cpu_at_head : TimerState → Cpu
   cpu_at_head l = first d bytes hk alike small low w.cycle timer f ring m w.board l
 
+  abbrev from_layers : Meeting → Layers
+  from_layers meeting = found d bytes hk alike small low w.cycle timer f ring m w.board meeting
+
   abbrev IsAtHead : TimerState → Stage d.State → Type 0
   IsAtHead l = AtHead d bytes hk alike small low held_before (w.cycle + 3) (cpu_at_head l) board3 (stacked f) ring
 
@@ -193,8 +196,8 @@ module _ (d : Board) (bytes : List ℕ) (hk : HasKernel bytes) (alike : IsSilent
     pub prompt : IsStarted m → 3 + last_off ≤ 2040
         → IsStarted v.cpu × (v.cycle + m.pre ≡ w.cycle + 2048 + v.cpu.pre)
     pub keyboard : shown_by v.cpu.ram
-        ≡ ticked keys meeting (layered keys.is_fn (edges_now d w) (layers_by m.ram)) (shown_by m.ram)
-    pub layers : layers_by v.cpu.ram ≡ all_layers_after keys.is_fn (edges_now d w) (layers_by m.ram)
+        ≡ ticked keys meeting (layered keys.is_fn (edges_now d w) (layers_met bytes meeting m.ram)) (shown_by m.ram)
+    pub layers : layers_by v.cpu.ram ≡ all_layers_after keys.is_fn (edges_now d w) (layers_met bytes meeting m.ram)
     pub repeating : IsRepeating bytes v.cpu.ram
     pub passes : Passes d bytes w
     pub l : TimerState
@@ -256,11 +259,11 @@ module _ (d : Board) (bytes : List ℕ) (hk : HasKernel bytes) (alike : IsSilent
             );
         keyboard =
             ap (λ (c : Cpu). shown_by c.ram) vcpu ∙ g.kbd.keyboard
-            ∙ ap (λ es. ticked keys meeting (layered keys.is_fn es (layers_of (stacked f))) (keyboard_of (stacked f)
+            ∙ ap (λ es. ticked keys meeting (layered keys.is_fn es (from_layers meeting)) (keyboard_of (stacked f)
             ring)) edges_is;
         layers =
             ap (λ (c : Cpu). layers_by c.ram) vcpu ∙ g.kbd.layers
-            ∙ ap (λ es. all_layers_after keys.is_fn es (layers_of (stacked f))) edges_is;
+            ∙ ap (λ es. all_layers_after keys.is_fn es (from_layers meeting)) edges_is;
         repeating = subst (λ (c : Cpu). IsRepeating bytes c.ram) (sym vcpu) g.kbd.pressed;
         passes = passes;
         l = g.l;

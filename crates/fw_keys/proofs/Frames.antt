@@ -1,6 +1,6 @@
 -- A tick with a frame: what it needs of the frame, and what follows.
 use Rattle.fw_keys.proofs.Patch.{Keeps}
-use Rattle.std.proofs.Common.{◌≡◌, ◌≤◌, ◌<◌, ℕ, ◌+◌, List, All, Bool, true, false, not, ◌==◌}
+use Rattle.std.proofs.Common.{◌≡◌, ◌≤◌, ◌<◌, ℕ, ◌+◌, List, All, Bool, true, false, not, ◌==◌, bit_xor}
 use Rattle.std.proofs.Common.{refl, ap, sym, ◌∙◌, subst, arith, Some}
 use Rattle.mcs48_core.specs.Cpu.{Cpu}
 use Rattle.fw_kernel.specs.declared.labels.TheConstants.{DONE, SCAN, TESTED, SENT, COMMAND}
@@ -20,7 +20,10 @@ use Rattle.kbd_model.specs.Keyboard.{Keyboard, offer}
 use Rattle.kbd_model.specs.Commands.{obeyed}
 use Rattle.kbd_model.specs.Tick.{sent_byte, met, tested_if, is_inhibited, is_scanning}
 use Rattle.kbd_model.proofs.CodesAreWhole.{IsWhole}
-use Rattle.fw_keys.specs.State.{kbd_of, layers_of, queue_of, Inv}
+use Rattle.fw_keys.specs.State.{held_by, kbd_of, layers_of, queue_of, reply_of, Inv}
+use Rattle.fw_keys.specs.Healing.{healed, makes_reset}
+use Rattle.fw_keys.proofs.Healing.{lifted, lifted_below, lifted_layers, not_healed, xor_back}
+use Rattle.kbd_model.specs.Layers.{Layers}
 use Rattle.fw_keys.specs.Edges.{image_keys, IsSilentAlike}
 use Rattle.fw_keys.proofs.Block.{Ends, Safe}
 use Rattle.fw_keys.proofs.Blocks.{bytes_of, fine_end, from_stage, safe_at, here}
@@ -32,7 +35,7 @@ use Rattle.fw_keys.proofs.After.{Over, tail_law}
 use Rattle.fw_keys.proofs.Sent.{sent_law}
 use Rattle.fw_keys.proofs.Command.{command_law}
 use Rattle.fw_keys.proofs.Offered.{offered_byte, first_of_law, code_law}
-use Rattle.fw_keys.proofs.Ended.{downs_now, changes_now, lights_on, Ended, Works}
+use Rattle.fw_keys.proofs.Ended.{downs_now, changes_now, layers_from, lights_on, Ended, Works}
 use Rattle.fw_keys.proofs.SameCells.{same_cells, same_inv, head_keeps}
 
 module _ (d : Board) (bytes : List ℕ) (hk : HasKernel bytes) (alike : IsSilentAlike bytes) (small : All IsByte bytes)
@@ -72,13 +75,13 @@ module _ (d : Board) (bytes : List ℕ) (hk : HasKernel bytes) (alike : IsSilent
       → Leads d (kernel_in true bytes) (y + 231) (begin_at d TESTED (cells r4 r5) ring m' board')
       (Framed to max F (R r4 r5) (cells r4 r5))
 
-  -- what follows the frame, up to SCAN
-  abbrev pub StepLaw : ℕ → ℕ → (ℕ → ℕ → (ℕ → ℕ) → Type 0) → ((ℕ → ℕ) → Keyboard → Keyboard) → Type 0
-  StepLaw to most R step =
+  -- what follows the frame, up to SCAN; some cells may be lifted
+  abbrev pub StepLaw : ℕ → ℕ → (ℕ → ℕ → (ℕ → ℕ) → Type 0) → ((ℕ → ℕ) → Keyboard → Keyboard) → ((ℕ → ℕ) → ℕ → ℕ) → Type 0
+  StepLaw to most R step lifts =
       (r4 r5 x : ℕ) (m1 : Cpu) (board1 : d.State) (g : ℕ → ℕ) → offered_in r4 r5 ≡ offer (kbd_of held f ring)
       → R r4 r5 g → ((i : ℕ) → 64 ≤ i → i < 92 → g i ≡ f i) → Inv g → Safe m1 to g ring
       → Leads d (kernel_in true bytes) x (begin_at d to g ring m1 board1)
-      (Ends d x m1 board1 SCAN most (Keeps held (step g) g ring))
+      (Ends d x m1 board1 SCAN most (Keeps held (step g) (lifts g) ring))
 
   -- and that it is what the model does at the meeting
   abbrev pub ModelLaw : Meeting → (ℕ → ℕ → (ℕ → ℕ) → Type 0) → ((ℕ → ℕ) → Keyboard → Keyboard) → Type 0
@@ -86,9 +89,22 @@ module _ (d : Board) (bytes : List ℕ) (hk : HasKernel bytes) (alike : IsSilent
       (r4 r5 : ℕ) (g : ℕ → ℕ) → offered_in r4 r5 ≡ offer (kbd_of held f ring) → R r4 r5 g
       → step g (kbd_of held f ring) ≡ tested_if (not (f 69 == 0)) (met meeting (image_keys bytes) (kbd_of held f ring))
 
+  -- what is lifted is no cell of the keyboard, and it makes the layers those that the edges find
+  abbrev downs : ℕ → ℕ
+  downs = downs_now d bytes hk alike small low held y m board f ring
+
+  abbrev pub from : Meeting → Layers
+  from meeting = layers_from d bytes hk alike small low held y m board f ring meeting
+
+  pub record Lifts (meeting : Meeting) (lifts : (ℕ → ℕ) → ℕ → ℕ) : Type 0 where
+    pub below : (g : ℕ → ℕ) (i : ℕ) → i < 78 → lifts g i ≡ g i
+    pub layers : (g : ℕ → ℕ) → ((i : ℕ) → i < 12 → g (48 + i) ≡ bit_xor (f (32 + i)) (downs i))
+        → ((i : ℕ) → i < 12 → g (32 + i) ≡ downs i) → ((i : ℕ) → 64 ≤ i → i < 92 → g i ≡ f i)
+        → layers_of (lifts g) ≡ from meeting
+
   module _ (meeting : Meeting) (to max most : ℕ) (F : Stage d.State → Type 0) (R : ℕ → ℕ → (ℕ → ℕ) → Type 0)
-      (step : (ℕ → ℕ) → Keyboard → Keyboard)
-      (quiet : is_inhibited meeting ≡ false) (frame : FrameLaw to max F R) (law : StepLaw to most R step)
+      (step : (ℕ → ℕ) → Keyboard → Keyboard) (lifts : (ℕ → ℕ) → ℕ → ℕ) (lift : Lifts meeting lifts)
+      (quiet : is_inhibited meeting ≡ false) (frame : FrameLaw to max F R) (law : StepLaw to most R step lifts)
       (model : ModelLaw meeting R step) (inv : Inv f) where
     abbrev last_off : ℕ
     last_off = 231 + (max + (most + (56 + (2 + edges_most (changes_now d bytes hk alike small low held y m board f
@@ -125,18 +141,22 @@ module _ (d : Board) (bytes : List ℕ) (hk : HasKernel bytes) (alike : IsSilent
         let as_was = same r4 r5 now a.kept in
         let cells_same : kbd_of held now ring ≡ kbd_of held f ring =
         same_cells held now f ring (λ i l u. as_was i l (omega (arith, u))) in
-        let layers_was : layers_of now ≡ layers_of f = layers_same now f (λ i l u. as_was i (omega (arith, l)) u) in
+        let lifted_same : kbd_of held (lifts now) ring ≡ kbd_of held now ring =
+        same_cells held (lifts now) now ring (λ i l u. lift.below now i u) in
+        let layers_was : layers_of (lifts now) ≡ from meeting =
+        lift.layers now (changes r4 r5 now a.kept) (helds r4 r5 now a.kept) as_was in
         let safe : Safe e.cpu to now ring =
         safe_at d (kernel_in true bytes) (has_rows true bytes hk) small low to n now ring e.cpu a.cpu free fine in
-        let on : Bool = is_scanning (step now (kbd_of held now ring)) in
+        let on : Bool = is_scanning (step now (kbd_of held (lifts now) ring)) in
         let x : ℕ = y + 231 + e.off in
-        let tail = tail_law d bytes hk alike small low held (step now) ch hd to most x e.cpu e.board now ring safe
-        (changes r4 r5 now a.kept) (helds r4 r5 now a.kept)
+        let tail = tail_law d bytes hk alike small low held (step now) ch hd to most x e.cpu e.board now (lifts now) ring
+        safe (λ i l. lift.below now (48 + i) (omega (arith, l)) ∙ changes r4 r5 now a.kept i l)
+        (λ i l. lift.below now (32 + i) (omega (arith, l)) ∙ helds r4 r5 now a.kept i l)
         (law r4 r5 x e.cpu e.board now offers a.registers as_was (same_inv now f
         (λ i l u. as_was i l (omega (arith, u))) inv) safe) in
         from_stage d (kernel_in true bytes) (has_rows true bytes hk) small low (y + 231) to n now ring e
         (Ends d x (record e.cpu { f0 = on }) e.board DONE (most + (56 + (2 + edges_most ch)))
-        (Over d bytes hk alike small low held e.cpu.f1 ch hd (step now) now ring))
+        (Over d bytes hk alike small low held e.cpu.f1 ch hd (step now) (lifts now) ring))
         (λ e2. Goal (behind e2)) a.cpu
         (λ e2 b.
         let is : e2.cpu ≡ scratched (record lights { f0 = on; f1 = false; p2 = e.cpu.p2 }) DONE (memory b.now b.ring)
@@ -156,16 +176,19 @@ module _ (d : Board) (bytes : List ℕ) (hk : HasKernel bytes) (alike : IsSilent
           short = omega (arith, first, second);
           kbd =
               b.facts.kbd
-              ∙ ap (λ v. keyed keys v ch hd (layers_of now) (step now (kbd_of held now ring)))
+              ∙ ap (λ v. keyed keys v ch hd (layers_of (lifts now)) (step now (kbd_of held (lifts now) ring)))
               (ap (λ (c : Cpu). c.f1) a.cpu ∙ sym quiet)
-              ∙ ap (λ l. keyed keys (is_inhibited meeting) ch hd l (step now (kbd_of held now ring))) layers_was
-              ∙ ap (λ j. keyed keys (is_inhibited meeting) ch hd (layers_of f) (step now j)) cells_same
-              ∙ ap (λ j. keyed keys (is_inhibited meeting) ch hd (layers_of f) j)
+              ∙ ap (λ l. keyed keys (is_inhibited meeting) ch hd l (step now (kbd_of held (lifts now) ring))) layers_was
+              ∙ ap (λ j. keyed keys (is_inhibited meeting) ch hd (from meeting) (step now j)) (lifted_same ∙ cells_same)
+              ∙ ap (λ j. keyed keys (is_inhibited meeting) ch hd (from meeting) j)
               (model r4 r5 now offers a.registers);
           layers = b.facts.layers ∙ ap (λ l. after keys ch hd l) layers_was;
           downs = b.facts.downs;
           inv = b.facts.inv;
-          stack = (b.facts.stack.0 ∙ a.stack.0, b.facts.stack.1 ∙ a.stack.1);
+          stack = (
+            b.facts.stack.0 ∙ lift.below now 8 (omega arith) ∙ a.stack.0,
+            b.facts.stack.1 ∙ lift.below now 9 (omega arith) ∙ a.stack.1,
+          );
           facts = a.facts;
           off = omega arith;
           p2 = ap (λ (c : Cpu). c.p2) is;
@@ -211,7 +234,7 @@ module _ (d : Board) (bytes : List ℕ) (hk : HasKernel bytes) (alike : IsSilent
   abbrev sent_step : (ℕ → ℕ) → Keyboard → Keyboard
   sent_step g = sent_byte (Some (g 28)) (image_keys bytes)
 
-  sends : IsWhole (queue_of f ring) → StepLaw SENT (9 + 48) IsSent sent_step
+  sends : IsWhole (queue_of f ring) → StepLaw SENT (9 + 97) IsSent sent_step (lifted bytes)
   sends codes r4 r5 x m1 board1 g offers is as_was inv safe =
       let b : offer (kbd_of held f ring) ≡ Some (g 28) = offered_byte r4 r5 (offer (kbd_of held f ring)) offers is.1
       ∙ ap (λ v. Some v) (sym is.0) in
@@ -227,14 +250,38 @@ module _ (d : Board) (bytes : List ℕ) (hk : HasKernel bytes) (alike : IsSilent
       sent_law d bytes hk small low held x m1 board1 g ring inv safe (first_of_law held g ring (g 28) now)
       (code_law held g ring (g 28) now whole)
 
+  -- nothing is lifted
+  abbrev unlifted : (ℕ → ℕ) → ℕ → ℕ
+  unlifted g = g
+
+  unlifts : (meeting : Meeting) → makes_reset meeting (kbd_of held f ring) ≡ false → Lifts meeting unlifted
+  unlifts meeting none = record {
+    below = λ g i l. refl;
+    layers = λ g changes helds as_was.
+        layers_same g f (λ i l u. as_was i (omega (arith, l)) u)
+        ∙ sym (not_healed bytes meeting (kbd_of held f ring) (layers_of f) none);
+  }
+
+  -- a reset heals the layers
+  sent_lifts : held ≡ held_by (λ c. f (32 + c)) → Lifts Sent (lifted bytes)
+  sent_lifts held_is = record {
+    below = λ g i l. lifted_below bytes g i l;
+    layers = λ g changes helds as_was.
+        let due : g 64 ≡ f 64 = as_was 64 (omega arith) (omega arith) in
+        lifted_layers bytes g (kbd_of held f ring) (f 75) (λ c. f (32 + c)) (ap (λ v. reply_of v (f 75)) (sym due)) held_is
+        (λ c l. ap (λ v. bit_xor v (g (48 + c))) (helds c l) ∙ ap (λ v. bit_xor (downs c) v) (changes c l)
+        ∙ xor_back (f (32 + c)) (downs c))
+        ∙ ap (λ l. healed bytes Sent (kbd_of held f ring) l) (layers_same g f (λ i l u. as_was i (omega (arith, l)) u));
+  }
+
   -- the byte that was offered was sent
-  pub sent_works : (max : ℕ) (F : Stage d.State → Type 0) → Inv f → (f 69 == 0) ≡ true → IsWhole (queue_of f ring)
+  pub sent_works : (max : ℕ) (F : Stage d.State → Type 0) → held ≡ held_by (λ c. f (32 + c)) → Inv f → (f 69 == 0) ≡ true → IsWhole (queue_of f ring)
       → FrameLaw SENT max F IsSent → Safe m 10 f ring
       → Works d bytes hk alike small low held y m board f ring Sent
-      (231 + (max + (9 + 48 + (56 + (2 + edges_most (changes_now d bytes hk alike small low held y m board f
+      (231 + (max + (9 + 97 + (56 + (2 + edges_most (changes_now d bytes hk alike small low held y m board f
       ring)))))) F
-  sent_works max F inv no_test codes frame safe =
-      framed Sent SENT max (9 + 48) F IsSent sent_step refl frame (sends codes)
+  sent_works max F held_is inv no_test codes frame safe =
+      framed Sent SENT max (9 + 97) F IsSent sent_step (lifted bytes) (sent_lifts held_is) refl frame (sends codes)
       (λ r4 r5 g offers is.
       let k : Keyboard = kbd_of held f ring in
       let b : offer k ≡ Some (g 28) = offered_byte r4 r5 (offer k) offers is.1 ∙ ap (λ v. Some v) (sym is.0) in
@@ -248,7 +295,7 @@ module _ (d : Board) (bytes : List ℕ) (hk : HasKernel bytes) (alike : IsSilent
       (231 + (max + (68 + (56 + (2 + edges_most (changes_now d bytes hk alike small low held y m board f ring)))))) F
   got_works byte good max F inv no_test frame safe =
       framed (Got byte good) COMMAND max 68 F (IsGot byte good)
-      (λ g. obeyed (image_keys bytes) (g 28) (not (g 29 == 0))) refl frame
+      (λ g. obeyed (image_keys bytes) (g 28) (not (g 29 == 0))) unlifted (unlifts (Got byte good) refl) refl frame
       (λ r4 r5 x m1 board1 g offers is as_was inv1 safe1. command_law d bytes hk small low held x m1 board1 g ring inv1
       safe1)
       (λ r4 r5 g offers is.
@@ -262,7 +309,7 @@ module _ (d : Board) (bytes : List ℕ) (hk : HasKernel bytes) (alike : IsSilent
       → Works d bytes hk alike small low held y m board f ring Cut
       (231 + (max + (0 + (56 + (2 + edges_most (changes_now d bytes hk alike small low held y m board f ring)))))) F
   cut_works max F inv no_test frame safe =
-      framed Cut SCAN max 0 F IsCut (λ g k. k) refl frame
+      framed Cut SCAN max 0 F IsCut (λ g k. k) unlifted (unlifts Cut refl) refl frame
       (λ r4 r5 x m1 board1 g offers is as_was inv1 safe1.
       here d (kernel_in true bytes) (has_rows true bytes hk) small low (Keeps held (λ k. k) g ring) x SCAN m1 board1 g
       ring safe1.0

@@ -16,15 +16,15 @@ use Rattle.fw_keys.proofs.KeyedTick.{keyed_tick}
 use Rattle.fw_keys.proofs.Edges.{ticked_is}
 use Rattle.fw_keys.proofs.Held.{held_turns, held_same}
 
-flags_long : (g : ℕ → Bool) (n : ℕ) → length (flags g n) ≡ n
+pub flags_long : (g : ℕ → Bool) (n : ℕ) → length (flags g n) ≡ n
 flags_long g zero = refl
 flags_long g (suc n) = ap suc (flags_long (λ i. g (suc i)) n)
 
-pub record Gone (keys : Keys) (meeting : Meeting) (changed down : ℕ → ℕ) (s : ℕ → ℕ) (ring : List ℕ) (now : ℕ → ℕ)
-    (last : List ℕ) : Type 0 where
+pub record Gone (keys : Keys) (meeting : Meeting) (changed down : ℕ → ℕ) (from : Layers) (s : ℕ → ℕ) (ring : List ℕ)
+    (now : ℕ → ℕ) (last : List ℕ) : Type 0 where
   pub keyboard : keyboard_of now last
-      ≡ ticked keys meeting (layered keys.is_fn (tick_edges changed down) (layers_of s)) (keyboard_of s ring)
-  pub layers : layers_of now ≡ all_layers_after keys.is_fn (tick_edges changed down) (layers_of s)
+      ≡ ticked keys meeting (layered keys.is_fn (tick_edges changed down) from) (keyboard_of s ring)
+  pub layers : layers_of now ≡ all_layers_after keys.is_fn (tick_edges changed down) from
   pub pressed : IsPressed keys (layers_of now) (keyboard_of now last).repeats
 
 -- where what repeats as the keys' steps begin is pressed
@@ -48,21 +48,22 @@ frameless_pressed d w keys (Got byte good) q h = elim q [ ]
 frameless_pressed d w keys Sent q h = elim q [ ]
 frameless_pressed d w keys Cut q h = elim q [ ]
 
-pub keyboard_goes : (keys : Keys) (meeting : Meeting) (s : ℕ → ℕ) (ring : List ℕ) (now : ℕ → ℕ) (last : List ℕ)
-    (down : ℕ → ℕ)
+pub keyboard_goes : (keys : Keys) (meeting : Meeting) (from : Layers) (s : ℕ → ℕ) (ring : List ℕ) (now : ℕ → ℕ)
+    (last : List ℕ) (down : ℕ → ℕ)
+    → length from.pressed_in ≡ 96
     → ((i : ℕ) → i < 12 → now (32 + i) ≡ down i)
     → kbd_of (held_by (λ c. s (32 + c))) now last ≡ keyed_tick keys meeting (λ i. bit_xor (s (32 + i)) (down i)) down
-    (layers_of s) (keyboard_of s ring)
-    → layers_of now ≡ all_layers_after keys.is_fn (tick_edges (λ i. bit_xor (s (32 + i)) (down i)) down) (layers_of s)
-    → IsPressedAt keys meeting (layers_of s) (keyboard_of s ring)
-    → Gone keys meeting (λ i. bit_xor (s (32 + i)) (down i)) down s ring now last
-keyboard_goes keys meeting s ring now last down downs is layers pressed =
+    from (keyboard_of s ring)
+    → layers_of now ≡ all_layers_after keys.is_fn (tick_edges (λ i. bit_xor (s (32 + i)) (down i)) down) from
+    → IsPressedAt keys meeting from (keyboard_of s ring)
+    → Gone keys meeting (λ i. bit_xor (s (32 + i)) (down i)) down from s ring now last
+keyboard_goes keys meeting from s ring now last down long downs is layers pressed =
     let changed : ℕ → ℕ = λ i. bit_xor (s (32 + i)) (down i) in
     let es : List (ℕ × Bool) = tick_edges changed down in
     let held : List Bool = held_by (λ c. s (32 + c)) in
     let k : Keyboard = keyboard_of s ring in
-    let t = ticked_is keys meeting changed down (layers_of s) k (flags_long (down_at (λ c. s (80 + c))) 96) pressed in
-    let goes : keyboard_of now last ≡ ticked keys meeting (layered keys.is_fn es (layers_of s)) k =
+    let t = ticked_is keys meeting changed down from k long pressed in
+    let goes : keyboard_of now last ≡ ticked keys meeting (layered keys.is_fn es from) k =
     ap (λ h. kbd_of h now last) (held_same (λ c. now (32 + c)) down downs)
     ∙ ap (λ h. kbd_of h now last) (sym (held_turns (λ c. s (32 + c)) down changed (λ i l. refl)))
     ∙ ap (λ (k : Keyboard). record k { held = turned_all es k.held }) is
@@ -71,6 +72,6 @@ keyboard_goes keys meeting s ring now last down downs is layers pressed =
       keyboard = goes;
       layers = layers;
       pressed = subst (λ (j : Keyboard). IsPressed keys (layers_of now) j.repeats) (sym goes)
-          (subst (λ l. IsPressed keys l (ticked keys meeting (layered keys.is_fn es (layers_of s)) k).repeats)
+          (subst (λ l. IsPressed keys l (ticked keys meeting (layered keys.is_fn es from) k).repeats)
           (sym layers) t.pressed);
     }

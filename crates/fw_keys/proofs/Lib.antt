@@ -15,7 +15,11 @@ pub mod ColumnPath
 pub mod Columns
 pub mod Step5
 pub mod Typematic
+pub mod Heal
+pub mod Healing
+pub mod Renewing
 pub mod Sent
+pub mod AnyReset
 pub mod Scan
 pub mod Testing
 pub mod Ready

@@ -23,33 +23,46 @@ use Rattle.fw_logic.proofs.Short.{has_rows}
 use Rattle.mcs48_ranges.specs.Sizes.{IsByte}
 use Rattle.joint_run.specs.Run.{Board}
 use Rattle.kbd_model.specs.Tick.{sent_byte, without_offered}
-use Rattle.fw_keys.proofs.Dropped.{cleared, dropped, empty, xor_is, kept_last, kept_layers}
+use Rattle.fw_keys.proofs.Dropped.{dropped, empty, xor_is, kept_last, kept_layers}
 use Rattle.fw_keys.proofs.Bytes.{twice}
+use Rattle.fw_keys.proofs.Healing.{lifted, lifted_below, not_lifted}
+use Rattle.fw_keys.proofs.Renewing.{lifted_same, resets}
 
 module _ (d : Board) (bytes : List ℕ) (hk : HasKernel bytes) (small : All IsByte bytes)
     (low : (p1 p2 c : ℕ) (s : d.State) → (d.pins p1 p2 c s).bus < 256) (held : List Bool)
     (x : ℕ) (m : Cpu) (board : d.State) (f : ℕ → ℕ) (ring : List ℕ) (inv : Inv f) where
   abbrev Takes : Type 0
   Takes = Leads d (kernel_in true bytes) x (begin_at d DROP f ring m board)
-      (Ends d x m board SCAN 48 (Keeps held (without_offered (reply_of (f 64) (f 75)) (image_keys bytes)) f ring))
+      (Ends d x m board SCAN 97 (Keeps held (without_offered (reply_of (f 64) (f 75)) (image_keys bytes)) (lifted bytes f) ring))
 
-  by : (plan : List Note) (max : ℕ) → max ≤ 48 → (g : ℕ → ℕ) → Safe m DROP f ring
+  by : (plan : List Note) (max : ℕ) → max ≤ 97 → (g : ℕ → ℕ) → Safe m DROP f ring → bit 1 (f 64) ≡ false
       → ((a : ℕ) → Keeps held (without_offered (reply_of (f 64) (f 75)) (image_keys bytes)) f ring a g ring)
       → Path d (kernel_in true bytes) x plan (begin_at d DROP f ring m board) (Shape d x m board SCAN max g ring)
       → Takes
-  by plan max l g safe facts path =
-      relax d (kernel_in true bytes) (has_rows true bytes hk) small low x m board SCAN max 48
+  by plan max l g safe none facts path =
+      relax d (kernel_in true bytes) (has_rows true bytes hk) small low x m board SCAN max 97
       (Keeps held (without_offered (reply_of (f 64) (f 75)) (image_keys bytes)) f ring)
-      (Keeps held (without_offered (reply_of (f 64) (f 75)) (image_keys bytes)) f ring) (begin_at d DROP f ring m board)
-      l (λ a g rg h. h)
+      (Keeps held (without_offered (reply_of (f 64) (f 75)) (image_keys bytes)) (lifted bytes f) ring)
+      (begin_at d DROP f ring m board) l
+      (λ a g rg h. record {
+        kbd = h.kbd;
+        inv = h.inv;
+        cells = λ i k u. h.cells i k u ∙ sym (not_lifted bytes f none i);
+        layers = λ i k u. h.layers i k u ∙ sym (not_lifted bytes f none i);
+        stack = h.stack;
+      })
       (leaf d (kernel_in true bytes) (has_rows true bytes hk) small low
       (Keeps held (without_offered (reply_of (f 64) (f 75)) (image_keys bytes)) f ring) plan DROP SCAN max g ring x m m
       board f ring safe.0 facts path)
 
+  -- no reply is due, so no reset's
+  no_reset : (f 64 == 0) ≡ true → bit 1 (f 64) ≡ false
+  no_reset none = let z : f 64 ≡ 0 = grind (arith, nat_tests, none) in ap (λ v. bit 1 v) z
+
   -- the reply goes
   reply_goes : Safe m DROP f ring → (f 64 == 0) ≡ false → bit 1 (f 64) ≡ false → Takes
   reply_goes safe due none =
-      by (Until 524 ∷ Go true ∷ Until 558 ∷ Go false ∷ Until SCAN ∷ []) 12 (omega arith) (put (put f 64 0) 25 64) safe
+      by (Until 524 ∷ Go true ∷ Until 558 ∷ Go false ∷ Until SCAN ∷ []) 12 (omega arith) (put (put f 64 0) 25 64) safe none
       (λ a. record {
         kbd = rw (due, none) refl;
         inv = still (refl, refl, refl, refl, refl) inv;
@@ -59,36 +72,11 @@ module _ (d : Board) (bytes : List ℕ) (hk : HasKernel bytes) (small : All IsBy
       })
       (ap not due, (none, (refl, refl, refl)))
 
-  -- and the reset is made
-  abbrev pub as_new : ℕ → ℕ
-  as_new = put (put (put (put (put (put (put (put (put (put (put f 64 0) 69 64) 70 0) 71 0) 65 0) 76 170) 77 0) 73
-      (slice_index bytes 864)) 74 0) 66 (f 68)) 25 66
-
-  resets : Safe m DROP f ring → (f 64 == 0) ≡ false → bit 1 (f 64) ≡ true → Takes
-  resets safe due both =
-      let started : f 68 ≤ 1 = inv.started in
-      by (Until 524 ∷ Go true ∷ Until 558 ∷ Go true ∷ Until SCAN ∷ []) 48 (omega arith) as_new safe
-      (λ a. record {
-        kbd = ap (λ q. record (kbd_of held as_new ring) { queue = q })
-            (cleared f ring (f 68) (f 66 % 128) refl refl inv.started inv.some) ∙ rw (due, both) refl;
-        inv = record {
-          most = omega (arith, started);
-          started = inv.started;
-          some = omega (arith, started);
-          mode = omega arith;
-          lamps = omega arith;
-          fn = inv.fn;
-        };
-        cells = λ i l u. grind (arith, nat_tests, l, u);
-        layers = λ i l u. grind (arith, nat_tests, l, u);
-        stack = (refl, refl);
-      })
-      (ap not due, (both, (refl, refl, refl)))
-
   -- AA goes
   aa_goes : Safe m DROP f ring → (f 64 == 0) ≡ true → (f 65 == 0) ≡ false → Takes
   aa_goes safe none due =
       by (Until 524 ∷ Go false ∷ Until 528 ∷ Go true ∷ Until SCAN ∷ []) 14 (omega arith) (put (put f 65 0) 25 65) safe
+      (no_reset none)
       (λ a. record {
         kbd = rw (none, due) refl;
         inv = still (refl, refl, refl, refl, refl) inv;
@@ -105,7 +93,7 @@ module _ (d : Board) (bytes : List ℕ) (hk : HasKernel bytes) (small : All IsBy
       let z : f 66 % 128 ≡ 0 = grind (arith, nat_tests, is) in
       let some : f 68 ≤ f 66 % 128 = inv.some in
       by (Until 524 ∷ Go false ∷ Until 528 ∷ Go false ∷ Until 533 ∷ Go true ∷ Until SCAN ∷ []) 20 (omega arith)
-      (put (put f 66 0) 25 66) safe
+      (put (put f 66 0) 25 66) safe (no_reset none)
       (λ a. record {
         kbd = ap (λ q. record (kbd_of held (put (put f 66 0) 25 66) ring) { queue = q }) (empty f ring (f 68) z)
             ∙ rw (none, noaa) refl;
@@ -158,7 +146,7 @@ module _ (d : Board) (bytes : List ℕ) (hk : HasKernel bytes) (small : All IsBy
       let h = bytes_of m DROP f ring safe in
       let some : (f 66 % 128 == 0) ≡ false = grind (arith, nat_tests, count) in
       by (Until 524 ∷ Go false ∷ Until 528 ∷ Go false ∷ Until 533 ∷ Go false ∷ Until 544 ∷ Go true ∷ Until SCAN ∷ []) 31
-      (omega arith) (shorter 0) safe
+      (omega arith) (shorter 0) safe (no_reset none)
       (shorter_facts n 0 safe none noaa count (omega arith) (λ e. absurd (omega (arith, e)))
       (sym (ap (λ v. (v == 240) && not (not (f 68 == 0))) (sym is) ∙ ap (λ b. b && not (not (f 68 == 0))) other))) (
         ap not none,
@@ -180,7 +168,7 @@ module _ (d : Board) (bytes : List ℕ) (hk : HasKernel bytes) (small : All IsBy
       by_below 2 (λ s. bit_xor s 1) (λ s. 1 - s) refl (f 68) (omega (arith, one)) in
       let code : f 28 ≡ 240 = grind (arith, nat_tests, f0) in
       by (Until 524 ∷ Go false ∷ Until 528 ∷ Go false ∷ Until 533 ∷ Go false ∷ Until 544 ∷ Go false ∷ Until SCAN ∷ [])
-      31 (omega arith) (shorter (bit_xor (f 68) 1)) safe
+      31 (omega arith) (shorter (bit_xor (f 68) 1)) safe (no_reset none)
       (shorter_facts n (bit_xor (f 68) 1) safe none noaa count (rw small_flip (omega arith))
       (λ e. next code (let k : 1 - f 68 ≡ 1 = sym small_flip ∙ e in omega (arith, k)))
       (flips
@@ -200,7 +188,8 @@ module _ (d : Board) (bytes : List ℕ) (hk : HasKernel bytes) (small : All IsBy
       → (b64 ≡ true → b65 ≡ true → 0 < n → f 28 ≡ slice_index ring ((f 67 + 0) % 16))
       → (b64 ≡ true → b65 ≡ true → 0 < n → f 28 ≡ 240 → f 68 ≡ 0 → 1 < n) → Takes
   takes_by false false b65 e1 e2 e3 n e4 safe is next = reply_goes safe e1 e2
-  takes_by false true b65 e1 e2 e3 n e4 safe is next = resets safe e1 e2
+  takes_by false true b65 e1 e2 e3 n e4 safe is next =
+      resets d bytes hk small low held f ring x m board inv safe e2
   takes_by true b1 false e1 e2 e3 n e4 safe is next = aa_goes safe e1 e3
   takes_by true b1 true e1 e2 e3 zero e4 safe is next =
       mark_goes safe e1 e3 (let z : (f 66 % 128 == 0) ≡ true = ap (λ v. v == 0) e4 in z)
@@ -244,22 +233,27 @@ module _ (d : Board) (bytes : List ℕ) (hk : HasKernel bytes) (small : All IsBy
       → ((f 64 == 0) ≡ true → (f 65 == 0) ≡ true → 0 < f 66 % 128 → f 28 ≡ slice_index ring ((f 67 + 0) % 16))
       → ((f 64 == 0) ≡ true → (f 65 == 0) ≡ true → 0 < f 66 % 128 → f 28 ≡ 240 → f 68 ≡ 0 → 1 < f 66 % 128)
       → Leads d (kernel_in true bytes) x (begin_at d SENT f ring m board)
-      (Ends d x m board SCAN (9 + 48) (Keeps held (sent_byte (Some (f 28)) (image_keys bytes)) f ring))
+      (Ends d x m board SCAN (9 + 97) (Keeps held (sent_byte (Some (f 28)) (image_keys bytes)) (lifted bytes f) ring))
   sent_law safe is next =
       let l = lasts (f 28 == 254) refl safe in
       let g1 : ℕ → ℕ = with_last l.0 in
-      seq_just d (kernel_in true bytes) (has_rows true bytes hk) small low x m board DROP 9 SCAN 48 g1 ring
-      (Keeps held (sent_byte (Some (f 28)) (image_keys bytes)) f ring) (begin_at d SENT f ring m board) safe.1 l.1
+      seq_just d (kernel_in true bytes) (has_rows true bytes hk) small low x m board DROP 9 SCAN 97 g1 ring
+      (Keeps held (sent_byte (Some (f 28)) (image_keys bytes)) (lifted bytes f) ring) (begin_at d SENT f ring m board) safe.1 l.1
       (λ x1 m1 board1 same1 safe1.
-      relax d (kernel_in true bytes) (has_rows true bytes hk) small low x1 m1 board1 SCAN 48 48
-      (Keeps held (without_offered (reply_of (f 64) (f 75)) (image_keys bytes)) g1 ring)
-      (Keeps held (sent_byte (Some (f 28)) (image_keys bytes)) f ring) (begin_at d DROP g1 ring m1 board1) (omega arith)
+      relax d (kernel_in true bytes) (has_rows true bytes hk) small low x1 m1 board1 SCAN 97 97
+      (Keeps held (without_offered (reply_of (f 64) (f 75)) (image_keys bytes)) (lifted bytes g1) ring)
+      (Keeps held (sent_byte (Some (f 28)) (image_keys bytes)) (lifted bytes f) ring) (begin_at d DROP g1 ring m1 board1) (omega arith)
       (λ a g rg q.
       record {
         kbd = q.kbd;
         inv = q.inv;
-        cells = λ i k u. q.cells i k u ∙ kept_last f l.0 (if f 28 == 254 then f 76 else f 28) i k u;
-        layers = λ i k u. q.layers i k u ∙ kept_layers f l.0 (if f 28 == 254 then f 76 else f 28) i k u;
+        cells = λ i k u.
+            q.cells i k u ∙ lifted_below bytes g1 i (omega (arith, u))
+            ∙ kept_last f l.0 (if f 28 == 254 then f 76 else f 28) i k u ∙ sym (lifted_below bytes f i (omega (arith, u)));
+        layers = λ i k u.
+            q.layers i k u
+            ∙ lifted_same bytes g1 f (kept_last f l.0 (if f 28 == 254 then f 76 else f 28)) refl i
+            (kept_layers f l.0 (if f 28 == 254 then f 76 else f 28) i k u) refl;
         stack = q.stack;
       })
       (takes d bytes hk small low held x1 m1 board1 g1 ring

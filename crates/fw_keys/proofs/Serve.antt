@@ -26,8 +26,11 @@ use Rattle.fw_logic.proofs.Returning.{IsOver, Next}
 use Rattle.fw_logic.proofs.Serves.{work_cpu, work_at, serves}
 use Rattle.kbd_model.specs.declared.meeting.Meeting.{Meeting}
 use Rattle.fw_keys.proofs.Patch.{still}
-use Rattle.fw_keys.specs.State.{held_by, keyboard_of, Inv, layers_of}
+use Rattle.fw_keys.specs.State.{down_at, held_by, keyboard_of, Inv, layers_of}
 use Rattle.fw_keys.specs.Edges.{image_keys, IsSilentAlike}
+use Rattle.fw_keys.specs.Healing.{healed}
+use Rattle.fw_keys.proofs.Healing.{pressed_healed}
+use Rattle.kbd_model.specs.Layers.{Layers}
 use Rattle.fw_keys.proofs.Block.{Safe}
 use Rattle.fw_keys.proofs.Rows.{marks}
 use Rattle.fw_keys.proofs.Step5.{changed_columns, all_edges}
@@ -35,7 +38,7 @@ use Rattle.fw_keys.proofs.Scan.{edges_most}
 use Rattle.fw_keys.proofs.Head.{shown}
 use Rattle.fw_keys.proofs.Ended.{Ended, Works}
 use Rattle.fw_keys.proofs.Held.{layers_same}
-use Rattle.fw_keys.proofs.Keyboard.{Gone, IsPressedAt, keyboard_goes}
+use Rattle.fw_keys.proofs.Keyboard.{Gone, IsPressedAt, flags_long, keyboard_goes}
 
 -- a column has changed only where it has an edge, so four edges bound the time of step 5
 some_bit : (v : ℕ) → v < 256 → (v == 0) ≡ false → 1 ≤ marks 0 8 v
@@ -146,6 +149,10 @@ module _ (d : Board) (bytes : List ℕ) (hk : HasKernel bytes) (alike : IsSilent
   abbrev pub held : List Bool
   held = held_by (λ c. stacked f (32 + c))
 
+  -- the layers that the tick's edges find
+  abbrev pub found : Meeting → Layers
+  found meeting = healed bytes meeting (keyboard_of (stacked f) ring) (layers_of (stacked f))
+
   -- the work of this tick
   abbrev pub Work : TimerState → Meeting → ℕ → (Stage d.State → Type 0) → Type 0
   Work l meeting last_off F = Works d bytes hk alike small low held (x + 3) (first l) first_board (stacked f) ring
@@ -158,7 +165,7 @@ module _ (d : Board) (bytes : List ℕ) (hk : HasKernel bytes) (alike : IsSilent
     pub l : TimerState
     pub from : Stage d.State
     pub n : ℕ
-    pub kbd : Gone (image_keys bytes) meeting changed down (stacked f) ring (stacked now) ring'
+    pub kbd : Gone (image_keys bytes) meeting changed down (found meeting) (stacked f) ring (stacked now) ring'
     pub downs : (i : ℕ) → i < 12 → now (32 + i) ≡ down i
     pub inv : Inv (stacked now)
     pub stack : (now 8 ≡ WAIT) × (now 9 ≡ 16)
@@ -214,9 +221,10 @@ module _ (d : Board) (bytes : List ℕ) (hk : HasKernel bytes) (alike : IsSilent
             from = b.from;
             n = b.n;
             kbd =
-                keyboard_goes (image_keys bytes) meeting (stacked f) ring (stacked b.now) b.last down
-                (λ i l. kept_on b.now i ∙ b.downs i l) b.kbd
-                (layers_same (stacked b.now) b.now (λ i l u. stacked_at b.now i l) ∙ b.layers) pressed;
+                keyboard_goes (image_keys bytes) meeting (found meeting) (stacked f) ring (stacked b.now) b.last down
+                (flags_long (down_at (λ c. stacked f (80 + c))) 96) (λ i l. kept_on b.now i ∙ b.downs i l) b.kbd
+                (layers_same (stacked b.now) b.now (λ i l u. stacked_at b.now i l) ∙ b.layers)
+                (pressed_healed bytes meeting (layers_of (stacked f)) (keyboard_of (stacked f) ring) pressed);
             downs = b.downs;
             inv = still (refl, refl, refl, refl, refl) b.inv;
             stack = b.stack;

@@ -22,6 +22,7 @@ use Rattle.kbd_model.specs.Layers.{Layers, no_layers, layered, all_layers_after}
 use Rattle.kbd_model.specs.Tick.{ticked}
 use Rattle.fw_keys.specs.State.{keyboard_of, layers_of, Inv}
 use Rattle.fw_keys.specs.Edges.{image_keys, tick_edges, IsSilentAlike}
+use Rattle.fw_keys.specs.Healing.{healed}
 
 -- the keyboard that 128 bytes of data memory show
 abbrev pub cells_in : List ℕ → ℕ → ℕ
@@ -32,6 +33,10 @@ shown_by ram = keyboard_of (cells_in ram) (drop 112 ram)
 
 abbrev pub layers_by : List ℕ → Layers
 layers_by ram = layers_of (cells_in ram)
+
+-- the layers as the edges of a tick with this meeting find them
+abbrev pub layers_met : List ℕ → Meeting → List ℕ → Layers
+layers_met bytes meeting ram = healed bytes meeting (shown_by ram) (layers_by ram)
 
 -- what repeats is a key that sends something, in the layer of the last press at its place
 abbrev pub IsPressed : Keys → Layers → Option Repeat → Type 0
@@ -85,13 +90,15 @@ IsFrameless d w Cut = ⊥
 IsFrameless d w (Got byte good) = ⊥
 
 -- such a tick: the next start is 2,048 cycles later, give or take the one cycle; the keyboard and the layers that data
--- memory shows are a tick of the model later; and the latch of port 2 shows the lights and pulls no wire
+-- memory shows are a tick of the model later, with the Fn key as it is held if a reset is made; and the latch of port 2
+-- shows the lights and pulls no wire
 pub record GoesOn (d : Board) (bytes : List ℕ) (meeting : Meeting) (w v : World d.State) : Type 0 where
   pub started : IsStarted v.cpu
   pub time : v.cycle + w.cpu.pre ≡ w.cycle + 2048 + v.cpu.pre
   pub keyboard : shown_by v.cpu.ram ≡ ticked (image_keys bytes) meeting
-      (layered (image_keys bytes).is_fn (edges_now d w) (layers_by w.cpu.ram)) (shown_by w.cpu.ram)
-  pub layers : layers_by v.cpu.ram ≡ all_layers_after (image_keys bytes).is_fn (edges_now d w) (layers_by w.cpu.ram)
+      (layered (image_keys bytes).is_fn (edges_now d w) (layers_met bytes meeting w.cpu.ram)) (shown_by w.cpu.ram)
+  pub layers : layers_by v.cpu.ram
+      ≡ all_layers_after (image_keys bytes).is_fn (edges_now d w) (layers_met bytes meeting w.cpu.ram)
   pub repeating : IsRepeating bytes v.cpu.ram
   pub latch : v.cpu.p2 ≡ latch_now d w
 

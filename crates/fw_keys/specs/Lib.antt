@@ -1,3 +1,5 @@
 pub mod State
 pub mod Edges
+pub mod Healing
 pub mod Frameless
+pub mod Resets

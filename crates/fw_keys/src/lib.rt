@@ -8,5 +8,7 @@
 #![tactic(auto)]
 
 mod frameless_ticks;
+mod resetting;
 
 pub use frameless_ticks::{bare_kernel, every_frameless_tick, power_on};
+pub use resetting::any_reset;

@@ -2,8 +2,8 @@
 
 use fw_kernel::labels::{
     AGAIN, BEGIN, BEGINS, BLANK, CLEAR, COLUMN, COMMAND, CUT, DEFAULT, DONE, DROP, EDGE, EDGES,
-    ENDS, ENTER, ENTER2, ENTERED, FIRE, FN_DOWN, FN_UP, FOOT, GOT, IDLE, INHIBITED, LAMPS, LAYERS,
-    LOOKS, MORE, MOVED, O_DUE, OFFER, PARAMETER, POWER, PRESS, PULLED, R_ACK, R_CELL, R_PARITY,
+    ENDS, ENTER, ENTER2, ENTERED, FIRE, FN_DOWN, FN_HELD, FN_UP, FOOT, GOT, HEAL, IDLE, INHIBITED,
+    LAMPS, LAYERS, LOOKS, MORE, MOVED, O_DUE, OFFER, PARAMETER, POWER, PRESS, PULLED, R_ACK, R_CELL, R_PARITY,
     R_STOP, READ, READY, RECEIVE, RELEASE, REPEAT, RESET, REST, RESTART, ROW, ROWS, S_CELL, S_STOP,
     SCAN, SEND, SENT, SILENT, START, TESTED, TESTING, TICK, WAIT, WAITING,
 };
@@ -19,7 +19,7 @@ fn the_source_is_the_kernels(rt: HostRuntime) -> Result<(), Fail> {
 }
 
 /// The labels' names and places.
-static LABELS: [(&str, u16); 61] = [
+static LABELS: [(&str, u16); 63] = [
     ("tick", TICK),
     ("read", READ),
     ("offer", OFFER),
@@ -61,6 +61,7 @@ static LABELS: [(&str, u16); 61] = [
     ("power", POWER),
     ("restart", RESTART),
     ("blank", BLANK),
+    ("heal", HEAL),
     ("edges", EDGES),
     ("column", COLUMN),
     ("more", MORE),
@@ -81,6 +82,7 @@ static LABELS: [(&str, u16); 61] = [
     ("enter2", ENTER2),
     ("entered", ENTERED),
     ("foot", FOOT),
+    ("fn_held", FN_HELD),
 ];
 
 /// A jump to each label, assembled after the source, goes to the place that its constant gives.
