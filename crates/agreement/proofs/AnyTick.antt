@@ -266,7 +266,7 @@ module _ (d : Board) (bytes : List ℕ) (hk : HasKernel bytes) (alike : IsSilent
   sent byte codes o looks =
       let h : most ≤ 728 = edges_few in
       let frame : Frame = SentFrame byte in
-      by_way Sent frame (231 + (394 + (9 + 97 + (56 + (2 + most))))) (framed frame) (omega (arith, h))
+      by_way Sent frame (231 + (394 + (9 + 98 + (56 + (2 + most))))) (framed frame) (omega (arith, h))
       (λ l.
       sent_works d bytes hk alike small low held (start + 3) (first l) third (stacked f) ring 394 (framed frame l)
       refl begins o.0.0 codes
