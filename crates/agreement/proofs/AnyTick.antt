@@ -286,9 +286,9 @@ module _ (d : Board) (bytes : List ℕ) (hk : HasKernel bytes) (alike : IsSilent
       → ((look : ℕ) → IsLook look → clock_in d w byte look ≡ true) → Tick d TICK bytes w (So Sent (SentFrame byte))
   sent byte codes o looks =
       let frame : Frame = SentFrame byte in
-      let last_off : ℕ = 231 + (394 + (9 + 97 + (56 + (2 + most)))) in
+      let last_off : ℕ = 231 + (394 + (9 + 98 + (56 + (2 + most)))) in
       by_way Sent frame last_off (framed frame)
-      (fits_in (231 + (394 + (9 + 97 + (56 + 2)))) last_off (omega arith) (omega arith))
+      (fits_in (231 + (394 + (9 + 98 + (56 + 2)))) last_off (omega arith) (omega arith))
       (λ l range.
       sent_works d bytes hk alike small low held (start + 3) (first l) third (stacked f) ring 394 (framed frame l)
       refl begins o.0.0 codes

@@ -647,11 +647,12 @@ fill:   MOV @R0,A           ; 30 + 3 for each cell, from the last to 01
 ; -- heal: a reset also makes right what a flipped bit may have left: STARTED is 0 or 1, and FN follows the Fn key, as
 ; it was held before this tick's edges.
 ; needs: HELD, CHANGED. leaves: STARTED; goes on to fn_held.
-; cycles: 8.
+; cycles: 9. With fn_held it takes an even number, so the loop at wait, and each later tick, comes when it came without it.
 heal:   MOV R1,#STARTED
         MOV A,@R1
         ANL A,#1
         MOV @R1,A
+        NOP
         JMP fn_held
 
 ; -- tables: behind the layout's, the delays by bits 5 and 6 of the rate, the periods by bits 0 to 4, in ticks.
@@ -888,7 +889,7 @@ foot:   MOV A,R6
 
 ; -- fn_held: is the Fn key held?
 ; needs: HELD, CHANGED. leaves: FN; goes on to reset.
-; cycles: 15 to 41.
+; cycles: 15, or 39 to 41.
 fn_held: MOV A,#0CDH
         MOVP3 A,@A          ; its place
         MOV R2,A

@@ -79,13 +79,13 @@ module _ (d : Board) (bytes : List ℕ) (hk : HasKernel bytes) (small : All IsBy
             (h.layers (80 + i / 8) (omega arith) (let n : 80 ≤ 80 + i / 8 = omega arith in grind (arith, nat_tests, n))));
       }
 
-  pub resets_any : Comes d TICK bytes w (λ e. Resets bytes m e.cpu × (e.cycle ≤ w.cycle + 97))
+  pub resets_any : Comes d TICK bytes w (λ e. Resets bytes m e.cpu × (e.cycle ≤ w.cycle + 98))
   resets_any =
       let begin = begin_at d DROP f ring m w.board in
       let free_there : IsFree (scratched m DROP (memory f ring) m) = subst IsFree (sym same) is.free in
       let fine_there : IsFine (scratched m DROP (memory f ring) m) = subst (λ c. IsFine c) (sym same) fine in
       let law = fine_end d (kernel_in true bytes) (has_rows true bytes hk) small low w.cycle begin
-      (Ends d w.cycle m w.board SCAN (9 + (49 + 39)) (Renewed bytes held f ring)) fine_there
+      (Ends d w.cycle m w.board SCAN (9 + (50 + 39)) (Renewed bytes held f ring)) fine_there
       (any_reset d bytes hk small low held f ring w.cycle m w.board (free_there, fine_there) due) in
       let z : w.cycle + 0 ≡ w.cycle = add-zero w.cycle in
       let start : world_at w.cycle begin ≡ w =
@@ -93,8 +93,8 @@ module _ (d : Board) (bytes : List ℕ) (hk : HasKernel bytes) (small : All IsBy
       ∙ ap (λ c. record { cpu = c; board = w.board; cycle = w.cycle }) same in
       let e = law.end in
       let g = law.goal.0 in
-      let short : e.off ≤ 97 = g.short in
-      subst (λ v. Comes d TICK bytes v (λ e. Resets bytes m e.cpu × (e.cycle ≤ w.cycle + 97))) start
+      let short : e.off ≤ 98 = g.short in
+      subst (λ v. Comes d TICK bytes v (λ e. Resets bytes m e.cpu × (e.cycle ≤ w.cycle + 98))) start
       (record {
         steps = law.steps;
         end = world_at w.cycle e;

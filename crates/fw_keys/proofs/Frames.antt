@@ -234,7 +234,7 @@ module _ (d : Board) (bytes : List ℕ) (hk : HasKernel bytes) (alike : IsSilent
   abbrev sent_step : (ℕ → ℕ) → Keyboard → Keyboard
   sent_step g = sent_byte (Some (g 28)) (image_keys bytes)
 
-  sends : IsWhole (queue_of f ring) → StepLaw SENT (9 + 97) IsSent sent_step (lifted bytes)
+  sends : IsWhole (queue_of f ring) → StepLaw SENT (9 + 98) IsSent sent_step (lifted bytes)
   sends codes r4 r5 x m1 board1 g offers is as_was inv safe =
       let b : offer (kbd_of held f ring) ≡ Some (g 28) = offered_byte r4 r5 (offer (kbd_of held f ring)) offers is.1
       ∙ ap (λ v. Some v) (sym is.0) in
@@ -278,10 +278,10 @@ module _ (d : Board) (bytes : List ℕ) (hk : HasKernel bytes) (alike : IsSilent
   pub sent_works : (max : ℕ) (F : Stage d.State → Type 0) → held ≡ held_by (λ c. f (32 + c)) → Inv f → (f 69 == 0) ≡ true → IsWhole (queue_of f ring)
       → FrameLaw SENT max F IsSent → Safe m 10 f ring
       → Works d bytes hk alike small low held y m board f ring Sent
-      (231 + (max + (9 + 97 + (56 + (2 + edges_most (changes_now d bytes hk alike small low held y m board f
+      (231 + (max + (9 + 98 + (56 + (2 + edges_most (changes_now d bytes hk alike small low held y m board f
       ring)))))) F
   sent_works max F held_is inv no_test codes frame safe =
-      framed Sent SENT max (9 + 97) F IsSent sent_step (lifted bytes) (sent_lifts held_is) refl frame (sends codes)
+      framed Sent SENT max (9 + 98) F IsSent sent_step (lifted bytes) (sent_lifts held_is) refl frame (sends codes)
       (λ r4 r5 g offers is.
       let k : Keyboard = kbd_of held f ring in
       let b : offer k ≡ Some (g 28) = offered_byte r4 r5 (offer k) offers is.1 ∙ ap (λ v. Some v) (sym is.0) in

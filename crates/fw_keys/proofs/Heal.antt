@@ -66,7 +66,7 @@ module _ (d : Board) (bytes : List ℕ) (hk : HasKernel bytes) (small : All IsBy
   k = 7 - place % 8
 
   abbrev Heals : Type 0
-  Heals = Leads d (kernel_in true bytes) x (begin_at d HEAL f ring m board) (Ends d x m board RESET 49 (Healed bytes f ring))
+  Heals = Leads d (kernel_in true bytes) x (begin_at d HEAL f ring m board) (Ends d x m board RESET 50 (Healed bytes f ring))
 
   -- the cells on the way, and at its end
   abbrev on_way : ℕ → ℕ → ℕ
@@ -83,7 +83,7 @@ module _ (d : Board) (bytes : List ℕ) (hk : HasKernel bytes) (small : All IsBy
   none far =
       let late : nat_le 256 (place + 160) ≡ true = grind (arith, nat_tests, far) in
       leaf d (kernel_in true bytes) (has_rows true bytes hk) small low (Healed bytes f ring)
-      (Until 1245 ∷ Go true ∷ Until RESET ∷ []) HEAL RESET 49 without ring x m m board f ring safe.0
+      (Until 1245 ∷ Go true ∷ Until RESET ∷ []) HEAL RESET 50 without ring x m m board f ring safe.0
       (λ a. record {
         kept = λ i l u v. rw (v, u) (grind (arith, nat_tests, l));
         started = refl;
@@ -140,7 +140,7 @@ module _ (d : Board) (bytes : List ℕ) (hk : HasKernel bytes) (small : All IsBy
             leaf d (kernel_in true bytes) (has_rows true bytes hk) small low (Healed bytes f ring)
             (Until 1245 ∷ Go false ∷ Until 1252 ∷ Acc c ∷ Run 1 ∷ Acc (32 + c) ∷ Run 2 ∷ Acc (48 + c) ∷ Run 2 ∷ Acc
             (f (32 + c)) ∷ Run 1 ∷ Acc (before_edges f c) ∷ Until 1266 ∷ Acc (suc k) ∷ Run 1 ∷ Acc
-            (2 ^ (7 - k)) ∷ Until 1268 ∷ Acc 0 ∷ Go true ∷ Until RESET ∷ []) HEAL RESET 49 (within 0) ring x m m board f ring safe.0
+            (2 ^ (7 - k)) ∷ Until 1268 ∷ Acc 0 ∷ Go true ∷ Until RESET ∷ []) HEAL RESET 50 (within 0) ring x m m board f ring safe.0
             (λ a. record {
               kept = λ i l u v. rw (v, u) (grind (arith, nat_tests, l));
               started = refl;
@@ -170,7 +170,7 @@ module _ (d : Board) (bytes : List ℕ) (hk : HasKernel bytes) (small : All IsBy
             leaf d (kernel_in true bytes) (has_rows true bytes hk) small low (Healed bytes f ring)
             (Until 1245 ∷ Go false ∷ Until 1252 ∷ Acc c ∷ Run 1 ∷ Acc (32 + c) ∷ Run 2 ∷ Acc (48 + c) ∷ Run 2 ∷ Acc
             (f (32 + c)) ∷ Run 1 ∷ Acc (before_edges f c) ∷ Until 1266 ∷ Acc (suc k) ∷ Run 1 ∷ Acc
-            (2 ^ (7 - k)) ∷ Until 1268 ∷ Go false ∷ Until RESET ∷ []) HEAL RESET 49 (within 255) ring x m m board f ring safe.0
+            (2 ^ (7 - k)) ∷ Until 1268 ∷ Go false ∷ Until RESET ∷ []) HEAL RESET 50 (within 255) ring x m m board f ring safe.0
             (λ a. record {
               kept = λ i l u v. rw (v, u) (grind (arith, nat_tests, l));
               started = refl;

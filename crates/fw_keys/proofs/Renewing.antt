@@ -158,16 +158,16 @@ module _ (d : Board) (bytes : List ℕ) (hk : HasKernel bytes) (small : All IsBy
   -- whatever the cells are
   pub any_reset : Safe m DROP f ring → bit 1 (f 64) ≡ true
       → Leads d (kernel_in true bytes) x (begin_at d DROP f ring m board)
-      (Ends d x m board SCAN (9 + (49 + 39)) (Renewed bytes held f ring))
+      (Ends d x m board SCAN (9 + (50 + 39)) (Renewed bytes held f ring))
   any_reset safe both =
       let byte : f 68 < 256 = (bytes_of m DROP f ring safe).cell 68 (omega arith) in
-      seq_just d (kernel_in true bytes) (has_rows true bytes hk) small low x m board HEAL 9 SCAN (49 + 39) (replied f) ring
+      seq_just d (kernel_in true bytes) (has_rows true bytes hk) small low x m board HEAL 9 SCAN (50 + 39) (replied f) ring
       (Renewed bytes held f ring) (begin_at d DROP f ring m board) safe.1
       (leaf d (kernel_in true bytes) (has_rows true bytes hk) small low (Just (replied f) ring)
       (Until 524 ∷ Go true ∷ Until 558 ∷ Go true ∷ []) DROP HEAL 9 (replied f) ring x m m board f ring safe.0
       (λ a. (refl, refl)) (ap not (some_reply (f 64) both), (both, (refl, refl, refl))))
       (λ x1 m1 board1 same1 safe1.
-      seq d (kernel_in true bytes) (has_rows true bytes hk) small low x1 m1 board1 RESET 49 SCAN 39
+      seq d (kernel_in true bytes) (has_rows true bytes hk) small low x1 m1 board1 RESET 50 SCAN 39
       (Healed bytes (replied f) ring) (Renewed bytes held f ring) (begin_at d HEAL (replied f) ring m1 board1) safe1.1
       (heals d bytes hk small low x1 m1 board1 (replied f) ring safe1)
       (λ x2 m2 board2 g r same2 h safe2.
@@ -191,9 +191,9 @@ module _ (d : Board) (bytes : List ℕ) (hk : HasKernel bytes) (small : All IsBy
 
     pub resets : Safe m DROP f ring → bit 1 (f 64) ≡ true
         → Leads d (kernel_in true bytes) x (begin_at d DROP f ring m board)
-        (Ends d x m board SCAN 97 (Keeps held Step (lifted bytes f) ring))
+        (Ends d x m board SCAN 98 (Keeps held Step (lifted bytes f) ring))
     resets safe both =
-        relax d (kernel_in true bytes) (has_rows true bytes hk) small low x m board SCAN (9 + (49 + 39)) 97
+        relax d (kernel_in true bytes) (has_rows true bytes hk) small low x m board SCAN (9 + (50 + 39)) 98
         (Renewed bytes held f ring) (Keeps held Step (lifted bytes f) ring) (begin_at d DROP f ring m board) (omega arith)
         (λ a g r h. record {
           kbd = h.kbd

@@ -33,14 +33,14 @@ module _ (d : Board) (bytes : List ℕ) (hk : HasKernel bytes) (small : All IsBy
     (x : ℕ) (m : Cpu) (board : d.State) (f : ℕ → ℕ) (ring : List ℕ) (inv : Inv f) where
   abbrev Takes : Type 0
   Takes = Leads d (kernel_in true bytes) x (begin_at d DROP f ring m board)
-      (Ends d x m board SCAN 97 (Keeps held (without_offered (reply_of (f 64) (f 75)) (image_keys bytes)) (lifted bytes f) ring))
+      (Ends d x m board SCAN 98 (Keeps held (without_offered (reply_of (f 64) (f 75)) (image_keys bytes)) (lifted bytes f) ring))
 
-  by : (plan : List Note) (max : ℕ) → max ≤ 97 → (g : ℕ → ℕ) → Safe m DROP f ring → bit 1 (f 64) ≡ false
+  by : (plan : List Note) (max : ℕ) → max ≤ 98 → (g : ℕ → ℕ) → Safe m DROP f ring → bit 1 (f 64) ≡ false
       → ((a : ℕ) → Keeps held (without_offered (reply_of (f 64) (f 75)) (image_keys bytes)) f ring a g ring)
       → Path d (kernel_in true bytes) x plan (begin_at d DROP f ring m board) (Shape d x m board SCAN max g ring)
       → Takes
   by plan max l g safe none facts path =
-      relax d (kernel_in true bytes) (has_rows true bytes hk) small low x m board SCAN max 97
+      relax d (kernel_in true bytes) (has_rows true bytes hk) small low x m board SCAN max 98
       (Keeps held (without_offered (reply_of (f 64) (f 75)) (image_keys bytes)) f ring)
       (Keeps held (without_offered (reply_of (f 64) (f 75)) (image_keys bytes)) (lifted bytes f) ring)
       (begin_at d DROP f ring m board) l
@@ -233,14 +233,14 @@ module _ (d : Board) (bytes : List ℕ) (hk : HasKernel bytes) (small : All IsBy
       → ((f 64 == 0) ≡ true → (f 65 == 0) ≡ true → 0 < f 66 % 128 → f 28 ≡ slice_index ring ((f 67 + 0) % 16))
       → ((f 64 == 0) ≡ true → (f 65 == 0) ≡ true → 0 < f 66 % 128 → f 28 ≡ 240 → f 68 ≡ 0 → 1 < f 66 % 128)
       → Leads d (kernel_in true bytes) x (begin_at d SENT f ring m board)
-      (Ends d x m board SCAN (9 + 97) (Keeps held (sent_byte (Some (f 28)) (image_keys bytes)) (lifted bytes f) ring))
+      (Ends d x m board SCAN (9 + 98) (Keeps held (sent_byte (Some (f 28)) (image_keys bytes)) (lifted bytes f) ring))
   sent_law safe is next =
       let l = lasts (f 28 == 254) refl safe in
       let g1 : ℕ → ℕ = with_last l.0 in
-      seq_just d (kernel_in true bytes) (has_rows true bytes hk) small low x m board DROP 9 SCAN 97 g1 ring
+      seq_just d (kernel_in true bytes) (has_rows true bytes hk) small low x m board DROP 9 SCAN 98 g1 ring
       (Keeps held (sent_byte (Some (f 28)) (image_keys bytes)) (lifted bytes f) ring) (begin_at d SENT f ring m board) safe.1 l.1
       (λ x1 m1 board1 same1 safe1.
-      relax d (kernel_in true bytes) (has_rows true bytes hk) small low x1 m1 board1 SCAN 97 97
+      relax d (kernel_in true bytes) (has_rows true bytes hk) small low x1 m1 board1 SCAN 98 98
       (Keeps held (without_offered (reply_of (f 64) (f 75)) (image_keys bytes)) (lifted bytes g1) ring)
       (Keeps held (sent_byte (Some (f 28)) (image_keys bytes)) (lifted bytes f) ring) (begin_at d DROP g1 ring m1 board1) (omega arith)
       (λ a g rg q.

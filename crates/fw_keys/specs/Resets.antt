@@ -39,12 +39,12 @@ pub record Resets (bytes : List ℕ) (m n : Cpu) : Type 0 where
       ≡ slice_index_or (held_before (cells_in m.ram)) (slice_index bytes fn_place_at) false
   pub pressed : (layers_by n.ram).pressed_in ≡ (layers_by m.ram).pressed_in
 
--- a program that makes one in at most 97 cycles if the reply to a reset was sent, whatever the cells hold and the pins show
+-- a program that makes one in at most 98 cycles if the reply to a reset was sent, whatever the cells hold and the pins show
 abbrev pub ResetsAny : List ℕ → Type 0
 ResetsAny bytes = (pins : ℕ → ℕ → ℕ → ℕ → Pins) (tick : ℕ → ℕ → ℕ → ℕ)
     → ((p1 p2 c s : ℕ) → (pins p1 p2 c s).bus < 256)
     → (w : World ℕ) → IsAt DROP w.cpu → IsFine w.cpu → bit 1 (slice_index w.cpu.ram REPLYDUE) ≡ true
-    → Comes (numbered pins tick) TICK bytes w (λ e. Resets bytes w.cpu e.cpu × (e.cycle ≤ w.cycle + 97))
+    → Comes (numbered pins tick) TICK bytes w (λ e. Resets bytes w.cpu e.cpu × (e.cycle ≤ w.cycle + 98))
 
 -- every image that has the kernel's bytes outside the layout's tables is one
 abbrev pub ResetLaw : Type 0
