@@ -157,7 +157,7 @@ module _ (edges : List Edge) (events : List HostEvent) (d : Board) (to : d.State
       ∙ ap (λ v. all_layers_after img.is_fn (edges_now d w) v) (unhealed ∙ tie.layers)
       ∙ ap (λ v. all_layers_after img.is_fn v l) columns
       ∙ layers_alike img b same es l low in
-      let own : ticked b meeting (layered b.is_fn es l) k0
+      let own_tick : ticked b meeting (layered b.is_fn es l) k0
       ≡ ticked (keys_of layout) (met_as (meeting_from (keyboard layout) events w.cycle m)) (layered (is_fn_place layout) es l) k0 =
       own_ticks layout es of_layout meeting l k0
       ∙ ap (λ v. ticked (keys_of layout) v (layered (is_fn_place layout) es l) k0) (sym as_met) in
@@ -167,7 +167,7 @@ module _ (edges : List Edge) (events : List HostEvent) (d : Board) (to : d.State
         omega (arith, pass, now),
         record {
           started = h.started;
-          keyboard = keys ∙ own;
+          keyboard = keys ∙ own_tick;
           layers = layers ∙ own_after;
           fn =
               fn_follows (is_fn_place layout) place own es l k0.held whole low tie.fn
@@ -179,7 +179,7 @@ module _ (edges : List Edge) (events : List HostEvent) (d : Board) (to : d.State
               subst (λ v. Sound b v
               (ticked (keys_of layout) (met_as (meeting_from (keyboard layout) events w.cycle m)) (layered (is_fn_place layout) es l) k0))
               own_after
-              (subst (λ v. Sound b (all_layers_after b.is_fn es l) v) own (tick_sound b codes meeting es l k0 low wide tie.sound));
+              (subst (λ v. Sound b (all_layers_after b.is_fn es l) v) own_tick (tick_sound b codes meeting es l k0 low wide tie.sound));
           side = ap (λ (b : Rattle.pc_wires.specs.Wires.Pc). seen_in_bytes b.side) pc
               ∙ side_is edges events u tie.released released tie.idle LayeredKeyboard (keyboard layout) m tie.side tie.shown
               lamps (lines frame) rest k met law;

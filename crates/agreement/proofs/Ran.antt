@@ -2,7 +2,7 @@
 use Rattle.std.specs.Prelude.{◌≡◌, ◌≤◌, ℕ, ◌+◌, List, length}
 use Rattle.fw_keys.proofs.Begun.{IsAnyStart}
 use Rattle.fw_keys.specs.Edges.{image_keys}
-use Rattle.fw_keys.specs.Frameless.{IsStarted, IsRepeating, shown_by, layers_by, edges_now, latch_now}
+use Rattle.fw_keys.specs.Frameless.{IsStarted, IsRepeating, shown_by, layers_by, layers_met, edges_now, latch_now}
 use Rattle.fw_link.proofs.Latches.{driven}
 use Rattle.fw_link.specs.Latch.{Frame, tick_latch}
 use Rattle.fw_logic.proofs.Passing.{Passes}
@@ -22,8 +22,8 @@ pub record Ran (d : Board) (bytes : List ℕ) (meeting : Meeting) (frame : Frame
   pub prompt : IsStarted w.cpu → length (edges_now d w) ≤ 4
       → IsStarted v.cpu × (v.cycle + w.cpu.pre ≡ w.cycle + 2048 + v.cpu.pre)
   pub keyboard : shown_by v.cpu.ram ≡ ticked (image_keys bytes) meeting
-      (layered (image_keys bytes).is_fn (edges_now d w) (layers_by w.cpu.ram)) (shown_by w.cpu.ram)
-  pub layers : layers_by v.cpu.ram ≡ all_layers_after (image_keys bytes).is_fn (edges_now d w) (layers_by w.cpu.ram)
+      (layered (image_keys bytes).is_fn (edges_now d w) (layers_met bytes meeting w.cpu.ram)) (shown_by w.cpu.ram)
+  pub layers : layers_by v.cpu.ram ≡ all_layers_after (image_keys bytes).is_fn (edges_now d w) (layers_met bytes meeting w.cpu.ram)
   pub repeating : IsRepeating bytes v.cpu.ram
   pub latch : v.cpu.p2 ≡ latch_now d w
   pub passes : Passes d bytes w
