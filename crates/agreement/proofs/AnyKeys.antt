@@ -8,10 +8,11 @@ use Rattle.fw_kernel.specs.Places.{HasKernel}
 use Rattle.fw_kernel.specs.declared.labels.TheConstants.{TICK}
 use Rattle.fw_keys.proofs.Begun.{IsAnyStart, any_start}
 use Rattle.fw_keys.proofs.Carried.{edges_low}
+use Rattle.fw_keys.proofs.Healing.{pressed_by}
 use Rattle.fw_keys.proofs.Kept.{Sound, tick_sound}
 use Rattle.fw_keys.proofs.PowerOn.{first_started}
 use Rattle.fw_keys.specs.Edges.{image_keys, IsSilentAlike}
-use Rattle.fw_keys.specs.Frameless.{FromPowerOn, IsRepeating, IsPressed, changed_now, edges_now, layers_by, shown_by}
+use Rattle.fw_keys.specs.Frameless.{FromPowerOn, IsRepeating, IsPressed, changed_now, edges_now, layers_by, layers_met, shown_by}
 use Rattle.fw_logic.proofs.Laws.{comes_as}
 use Rattle.fw_logic.proofs.Numbers.{Reached, goes_on, nth_reached, same_start}
 use Rattle.fw_logic.proofs.Passing.{Passes}
@@ -58,9 +59,13 @@ module _ (d : Board) (bytes : List ℕ) (hk : HasKernel bytes) (alike : IsSilent
         step = t.step;
         rest = comes_as d TICK bytes (Ran d bytes f.meeting f.frame w) (Next w) t.first
             (λ v r.
-            let sound : Sound (image_keys bytes) (layers_by w.cpu.ram) (shown_by w.cpu.ram) =
-            record { codes = g.codes; place = g.repeating } in
-            let kept = tick_sound (image_keys bytes) bare f.meeting (edges_now d w) (layers_by w.cpu.ram)
+            let sound : Sound (image_keys bytes) (layers_met bytes f.meeting w.cpu.ram) (shown_by w.cpu.ram) =
+            record {
+              codes = g.codes;
+              place = pressed_by (image_keys bytes) (layers_by w.cpu.ram) (layers_met bytes f.meeting w.cpu.ram).fn_down
+                  (shown_by w.cpu.ram).repeats g.repeating;
+            } in
+            let kept = tick_sound (image_keys bytes) bare f.meeting (edges_now d w) (layers_met bytes f.meeting w.cpu.ram)
             (shown_by w.cpu.ram) (edges_low (changed_now d w) (column_read d w)) refl sound in
             let before : 4096 ≤ w.cycle = g.past in
             let later : w.cycle ≤ v.cycle = r.later in (
