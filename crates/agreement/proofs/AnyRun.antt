@@ -1,12 +1,12 @@
 -- The laws of the run whatever the keys and the PC do: it never stops, and each state keeps to the board.
-use Rattle.std.proofs.Common.{◌≡◌, ℕ, true, Some, List}
+use Rattle.std.proofs.Common.{List}
 use Rattle.board_lines.specs.declared.event.Edge.{Edge}
 use Rattle.board_lines.specs.declared.event.HostEvent.{HostEvent}
 use Rattle.fw_compile.specs.Image.{image_of}
 use Rattle.fw_logic.proofs.Executing.{every_fit, every_late, every_soon}
 use Rattle.fw_logic.proofs.Waking.{Wakes, wakes}
 use Rattle.joint_run.specs.Joint.{beside_at_start, joint_board}
-use Rattle.layout_reader.specs.Layouts.{KeyLayout, IsKeyLayout}
+use Rattle.layout_reader.specs.Layouts.{KeyLayout}
 use Rattle.mcs48_core.specs.Cpu.{Cpu}
 use Rattle.mcs48_ranges.specs.Sizes.{IsFine}
 use Rattle.agreement.proofs.AnyKeys.{never_stops, comes_first, each_passes}

@@ -1,5 +1,5 @@
 -- Whatever the pins show, the looks of a tick find a frame and a meeting.
-use Rattle.std.proofs.Common.{◌≡◌, ℕ, ◌==◌, Bool, true, false, Some, None, ◌⊎◌, inl, inr, refl}
+use Rattle.std.proofs.Common.{◌≡◌, ℕ, Bool, true, false, Some, None, ◌⊎◌, inl, inr, refl}
 use Rattle.std.specs.declared.option.Option.{Option}
 use Rattle.fw_keys.specs.Frameless.{shown_by, tests_in, clock_now, data_now, data_again}
 use Rattle.fw_link.specs.Latch.{Frame, NoFrame, SentFrame, CutFrame, ReceivedFrame, IsLook}

@@ -8,8 +8,8 @@ use Rattle.fw_logic.specs.JointRun.{KeepsTimeFrom}
 use Rattle.fw_logic.proofs.Clockwork as clockwork
 use Rattle.fw_logic.proofs.Clockwork.{IsClockwork}
 use Rattle.joint_run.specs.Joint.{Beside, joint_board, log_of}
-use Rattle.joint_run.specs.Run.{Board, World, joint_step, run_at}
-use Rattle.joint_run.specs.Starts.{at_tick, calm, starts_before, Comes, Tick, IsStart}
+use Rattle.joint_run.specs.Run.{Board, World, joint_step}
+use Rattle.joint_run.specs.Starts.{at_tick, calm, Comes, Tick, IsStart}
 use Rattle.fw_link.specs.Drives.{Drives}
 use Rattle.key_file.specs.Accepted.{IsLawful}
 use Rattle.key_file.specs.Histories.{KeyHistory}

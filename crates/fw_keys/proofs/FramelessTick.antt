@@ -36,7 +36,7 @@ use Rattle.fw_keys.proofs.Scan.{edges_most}
 use Rattle.fw_keys.proofs.Ended.{AtHead, idle_works, glitch_works, inhibited_works, test_works}
 use Rattle.std.proofs.lemmas.List.Elements.{All-get_or}
 use Rattle.fw_keys.proofs.Serve.{found, kept_on, down, changed, held, first, first_board, fit, Goes, Work, tick, tick_passes, edges_by, four_edges}
-use Rattle.fw_keys.proofs.Begun.{IsAnyStart, any_start, columns_same, columns_count, start_entering, entering_start, started_is, xor_small}
+use Rattle.fw_keys.proofs.Begun.{IsAnyStart, columns_same, columns_count, start_entering, entering_start, started_is, xor_small}
 
 module _ (d : Board) (bytes : List ℕ) (hk : HasKernel bytes) (alike : IsSilentAlike bytes) (small : All IsByte bytes)
     (low : (p1 p2 c : ℕ) (s : d.State) → (d.pins p1 p2 c s).bus < 256)
