@@ -79,7 +79,7 @@ module _ (layout : KeyLayout) (es : List (ℕ × Bool)) (of_layout : All (IsOfLa
 module _ (edges : List Edge) (events : List HostEvent) (d : Board) (to : d.State → Beside)
     (over : IsOver edges events d to) (bytes : List ℕ) (layout : KeyLayout)
     (same : SameKeys (image_keys bytes) (silent_keys layout)) (codes : NoPrefix (silent_keys layout))
-    (own : IsFnPlaceOf layout (slice_index bytes fn_place_at)) (n : ℕ) (w : World d.State) (m : Whole LayeredKeyboard) (time : IsOnTime n (under to w))
+    (fn_is : IsFnPlaceOf layout (slice_index bytes fn_place_at)) (n : ℕ) (w : World d.State) (m : Whole LayeredKeyboard) (time : IsOnTime n (under to w))
     (tie : Ties bytes (silent_keys layout) (under to w) m)
     (columns : edges_now d w ≡ shown (is_held m.keys.keyboard) (columns_in edges w.cycle))
     (of_layout : All (IsOfLayout layout) (shown (is_held m.keys.keyboard) (columns_in edges w.cycle)))
@@ -170,7 +170,7 @@ module _ (edges : List Edge) (events : List HostEvent) (d : Board) (to : d.State
           keyboard = keys ∙ own_tick;
           layers = layers ∙ own_after;
           fn =
-              fn_follows (is_fn_place layout) place own es l k0.held whole low tie.fn
+              fn_follows (is_fn_place layout) place fn_is es l k0.held whole low tie.fn
               ∙ ap (λ v. slice_index_or v place false)
               (sym (ticked_holds (keys_of layout) (met_as (meeting_from (keyboard layout) events w.cycle m)) (is_fn_place layout)
               es l k0));

@@ -1,5 +1,5 @@
 -- A reset from any state of the service, in the words of the joint run.
-use Rattle.std.proofs.Common.{◌≡◌, ◌≤◌, ◌<◌, ◌⊎◌, ℕ, ◌+◌, ◌/◌, ◌%◌, true, false, List, All, Bool, drop, get_or, length, not, ◌==◌, nat_lt}
+use Rattle.std.proofs.Common.{◌≡◌, ◌≤◌, ◌<◌, ◌⊎◌, ℕ, ◌+◌, ◌/◌, ◌%◌, true, false, List, All, Bool, drop, not, ◌==◌, nat_lt}
 use Rattle.std.proofs.Common.{slice_index, refl, ap, sym, ◌∙◌, subst, arith, add-zero}
 use Rattle.std.proofs.lemmas.Bool.Decides.{nat_tests}
 use Rattle.bits.specs.Bits.{bit}
@@ -9,7 +9,6 @@ use Rattle.fw_kernel.specs.declared.cells.TheConstants.{REPLYDUE}
 use Rattle.fw_kernel.specs.declared.labels.TheConstants.{TICK, DROP, SCAN}
 use Rattle.fw_logic.proofs.Block.{begin_at, memory, scratched}
 use Rattle.fw_logic.proofs.Kernel.{kernel_in}
-use Rattle.fw_logic.proofs.Leads.{Leads}
 use Rattle.fw_logic.proofs.Memory.{memory_is}
 use Rattle.fw_logic.proofs.Path.{world_at}
 use Rattle.fw_logic.proofs.Clock.{IsFree}

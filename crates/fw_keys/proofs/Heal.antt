@@ -1,11 +1,10 @@
 -- Block heal: whatever the cells are, STARTED is 0 or 1 then, and FN follows the Fn key as it was held before this tick's
 -- edges.
 use Rattle.std.proofs.Common.{◌≡◌, ◌≤◌, ◌<◌, ℕ, suc, ◌+◌, ◌-◌, ◌*◌, ◌/◌, ◌%◌, ◌^◌, List, [], ◌∷◌, All, Bool, true, false}
-use Rattle.std.proofs.Common.{not, ◌==◌, nat_le, nat_lt, if◌then◌else◌, bit_and, bit_xor, refl, ap, sym, ◌∙◌, arith}
+use Rattle.std.proofs.Common.{not, ◌==◌, nat_le, nat_lt, if◌then◌else◌, bit_and, bit_xor, refl, ap, ◌∙◌, arith}
 use Rattle.std.proofs.Common.{slice_index}
 use Rattle.std.proofs.lemmas.Bool.Decides.{nat_tests}
 use Rattle.mcs48_core.specs.Cpu.{Cpu}
-use Rattle.mcs48_core.specs.Status.{digit}
 use Rattle.mcs48_ranges.specs.Sizes.{IsByte}
 use Rattle.bits.specs.Bits.{bit}
 use Rattle.bits.proofs.Every.{by_below}

@@ -1,6 +1,6 @@
 -- What a reset heals, and what it leaves as it is.
-use Rattle.std.proofs.Common.{◌≡◌, ◌≤◌, ◌<◌, ◌⊎◌, inl, inr, ℕ, zero, suc, ◌+◌, ◌/◌, ◌%◌, ◌^◌, List, [], ◌∷◌, Bool, true, false}
-use Rattle.std.proofs.Common.{not, ◌==◌, nat_lt, if◌then◌else◌, bit_and, bit_xor, slice_index, refl, ap, sym, ◌∙◌, arith}
+use Rattle.std.proofs.Common.{◌≡◌, ◌≤◌, ◌<◌, ℕ, zero, suc, ◌/◌, ◌%◌, List, Bool, true, false}
+use Rattle.std.proofs.Common.{not, ◌==◌, nat_lt, if◌then◌else◌, bit_xor, slice_index, refl, ap, sym, ◌∙◌, arith}
 use Rattle.std.proofs.Common.{Some, None}
 use Rattle.std.specs.Prelude.{slice_index_or}
 use Rattle.std.specs.declared.option.Option.{Option}
@@ -8,7 +8,6 @@ use Rattle.std.proofs.lemmas.Bool.Decides.{nat_tests}
 use Rattle.std.proofs.lemmas.Nat.{xor_comm}
 use Rattle.std.specs.Int.Bits.{xor_assoc, xor_self, xor_zero_r}
 use Rattle.bits.specs.Bits.{bit}
-use Rattle.bits.proofs.Every.{by_below}
 use Rattle.fw_kernel.specs.Tables.{fn_place_at}
 use Rattle.fw_keys.proofs.Fold.{fn_cell}
 use Rattle.fw_keys.proofs.Heal.{before_edges, was_held}
@@ -16,7 +15,7 @@ use Rattle.fw_keys.proofs.Keyboard.{IsPressedAt}
 use Rattle.fw_keys.specs.Edges.{image_keys}
 use Rattle.fw_keys.specs.Frameless.{IsPressed}
 use Rattle.fw_keys.specs.Healing.{healed, makes_reset, is_fn_held}
-use Rattle.fw_keys.specs.State.{down_at, flags, held_by, kbd_of, layers_of, reply_of}
+use Rattle.fw_keys.specs.State.{down_at, flags, held_by, layers_of, reply_of}
 use Rattle.fw_logic.proofs.Block.{put}
 use Rattle.kbd_model.specs.Codes.{Keys}
 use Rattle.kbd_model.specs.Keyboard.{Keyboard}

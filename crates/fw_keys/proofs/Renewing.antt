@@ -24,7 +24,7 @@ use Rattle.fw_keys.proofs.Healing.{lifted, lifted_below}
 use Rattle.fw_keys.proofs.Patch.{IsFnCell, Keeps}
 use Rattle.fw_keys.specs.Edges.{image_keys}
 use Rattle.fw_keys.specs.Resets.{started_queue}
-use Rattle.fw_keys.specs.State.{Inv, down_at, kbd_of, queue_by, queue_of, reply_of}
+use Rattle.fw_keys.specs.State.{Inv, down_at, kbd_of, queue_by, reply_of}
 use Rattle.kbd_model.specs.Keyboard.{Keyboard}
 use Rattle.kbd_model.specs.Tick.{reset, without_offered}
 
