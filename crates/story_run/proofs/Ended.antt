@@ -67,7 +67,7 @@ module _ (s : Story) (t : KeepsTimeFrom (joint_start_of s.held) s.bytes s.edges 
       over_within e.start.steps w e.start.reached over (judged (suc e.start.steps))
 
   -- it isn't stuck
-  over_at : (k : ℕ) (w : World Beside) (end : End) → EndsAt TickStart s k w end → is_over TickStart s w ≡ true
+  pub over_at : (k : ℕ) (w : World Beside) (end : End) → EndsAt TickStart s k w end → is_over TickStart s w ≡ true
   over_at k w Over ends = ends
   over_at k w (Stuck place) ends = absurd (never_stuck s (suc k) t ends.none)
 
