@@ -136,9 +136,6 @@ abbrev pub IsExpectText : KeyLayout → KeyHistory → List Watch → List Watch
 IsExpectText layout history probes left said =
     (run : Outcome) × IsRunText Expect layout history said run × HaveLookedAtAll (story (image_of layout) history) run.steps probes left
 
-module _ (layout : KeyLayout) (text : List ℕ) (history : KeyHistory) (is : history_of layout text ≡ Ok history)
-    (probes left : List Watch) (taking : Taking) where
-
 -- what `trace` says, which leaves the probes alone
 module _ (layout : KeyLayout) (text : List ℕ) (history : KeyHistory) (is : history_of layout text ≡ Ok history) (probes : List Watch) where
   module _ (law : RunsAsExpected) (outcomes : RunsComeToOutcomes)
