@@ -131,11 +131,6 @@ sampled count few law sound s this text probes left h =
       subst (λ (t : Story). HaveLookedAtAll t h.0.steps probes left) this h.3,
     )
 
--- what `expect` says, where memory isn't wanting
-abbrev pub IsExpectText : KeyLayout → KeyHistory → List Watch → List Watch → List ℕ → Type 0
-IsExpectText layout history probes left said =
-    (run : Outcome) × IsRunText Expect layout history said run × HaveLookedAtAll (story (image_of layout) history) run.steps probes left
-
 -- what `trace` says, which leaves the probes alone
 module _ (layout : KeyLayout) (text : List ℕ) (history : KeyHistory) (is : history_of layout text ≡ Ok history) (probes : List Watch) where
   module _ (law : RunsAsExpected) (outcomes : RunsComeToOutcomes)
