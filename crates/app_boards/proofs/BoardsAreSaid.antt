@@ -103,10 +103,6 @@ module _ (wanted : BoardRun) (image : List ℕ) (layout : KeyLayout) (text : Lis
       with_history (MayRun wanted image probes) (history_of layout text) history answer probes left is may
 
   module _ (history : KeyHistory) (is : history_of layout text ≡ Ok history) where
-    pub board_lacking : (probes : List Watch) (taking : Taking)
-        → MayTellBoard wanted image layout text (Err Memory) probes (left_so probes taking)
-    board_lacking probes taking = board_ran history (Err Memory) probes (left_so probes taking) is (inl (refl, refl, refl))
-
     pub boarded : (s : Story) (probes left : List Watch) (result : Result Spoken Refusal) (x y : Shown)
         → s ≡ board_story wanted image history → IsSpoken (MayBoard wanted.told s probes left) result x y
         → IsSpoken (λ answer taking log. MayTellBoard wanted image layout text answer probes (left_behind left taking log)) result x y

@@ -131,26 +131,8 @@ sampled count few law sound s this text probes left h =
       subst (λ (t : Story). HaveLookedAtAll t h.0.steps probes left) this h.3,
     )
 
--- what `expect` says, where memory isn't wanting
-abbrev pub IsExpectText : KeyLayout → KeyHistory → List Watch → List Watch → List ℕ → Type 0
-IsExpectText layout history probes left said =
-    (run : Outcome) × IsRunText Expect layout history said run × HaveLookedAtAll (story (image_of layout) history) run.steps probes left
-
-module _ (layout : KeyLayout) (text : List ℕ) (history : KeyHistory) (is : history_of layout text ≡ Ok history)
-    (probes left : List Watch) (taking : Taking) where
-  pub expected_lacking : HaveLooked layout history probes left → MayTell Expect layout text (Err Memory) probes (left_so left taking)
-  expected_lacking looked = ran Expect layout text history (Err Memory) probes (left_so left taking) is refl (inl (refl, looked))
-
-  pub expected_said : (said : List ℕ)
-      → IsExpectText layout history probes left said → MayTell Expect layout text (Ok said) probes (left_so left taking)
-  expected_said said h =
-      ran Expect layout text history (Ok said) probes (left_so left taking) is refl (inr (said, h.0, h.1, refl, h.2))
-
 -- what `trace` says, which leaves the probes alone
 module _ (layout : KeyLayout) (text : List ℕ) (history : KeyHistory) (is : history_of layout text ≡ Ok history) (probes : List Watch) where
-  pub trace_lacking : (taking : Taking) → MayTell Trace layout text (Err Memory) probes (left_so probes taking)
-  trace_lacking taking = ran Trace layout text history (Err Memory) probes (left_so probes taking) is refl (inl (refl, refl))
-
   module _ (law : RunsAsExpected) (outcomes : RunsComeToOutcomes)
       (heard : HearsAll (story (image_of layout) history)) (sound : IsKeyLayout layout) (accepted : IsAcceptedFor layout history)
       (x y : Shown) where

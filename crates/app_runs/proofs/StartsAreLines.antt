@@ -10,7 +10,7 @@ use Rattle.mcs48_core.specs.StateText.{state_text_of}
 use Rattle.story_run.specs.Telling.{IsBrokenBehind}
 use Rattle.subsystem.specs.Running.{Outcome}
 use Rattle.subsystem.specs.Texts.{log_text}
-use Rattle.subsystem.proofs.FirstStepsBeginLog.{are_lines}
+use Rattle.subsystem.proofs.Lines.{are_lines}
 use Rattle.app_runs.specs.RunTexts.{behind_log, run_text, start_line, start_lines}
 
 ends : (number stamp : ℕ) → EndsLine (start_line number stamp)

@@ -1,5 +1,4 @@
 pub mod Lines
-pub mod ByName
 pub mod ComesToEnd
 pub mod BrokenOff
 pub mod ToldByStamp

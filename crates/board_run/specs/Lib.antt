@@ -1,6 +1,5 @@
 pub mod Running
 pub mod Texts
 pub mod Ending
-pub mod Advance
 pub mod Putting
 pub mod Tracing

@@ -36,15 +36,16 @@ pub struct Board<F: Feed> {
 }
 
 impl<F: Feed> Model for Board<F> {
-    ghost use Rattle.board_run.specs.Advance.{IsReady};
     ghost use Rattle.joint_feed.specs.Filled.{run_of};
     ghost use Rattle.joint_feed.specs.Stories.{Story};
+    ghost use Rattle.story_run.specs.declared.ending.Ending.TheVariants.{Stamp};
+    ghost use Rattle.story_run.specs.Ready.{IsReady};
 
     ghost Value = { Story };
 
     ghost view = { λ b. run_of b.course (F.told b.feed).history };
 
-    ghost invariant = { λ b. IsReady (F.told b.feed) b.course };
+    ghost invariant = { λ b. IsReady Stamp (run_of b.course (F.told b.feed).history) (F.told b.feed) b.course };
 }
 
 impl<F: Feed> Board<F> {

@@ -1,5 +1,4 @@
 pub mod RunsAlike
 pub mod BoardsAlike
-pub mod Outcomes
 pub mod Sessions
 pub mod TellsBeginning

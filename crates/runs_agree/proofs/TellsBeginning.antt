@@ -21,7 +21,7 @@ use Rattle.story_run.specs.Starts.{starts_among}
 use Rattle.subsystem.specs.Running.{lines_of}
 use Rattle.subsystem.specs.Running as layout
 use Rattle.std.proofs.lemmas.List.{append_assoc}
-use Rattle.wire_trace.proofs.ChangesGrow.{later_changes}
+use Rattle.wire_trace.proofs.TraceIsSaid.{later_changes}
 use Rattle.wire_trace.specs.Text.{header}
 use Rattle.wire_trace.specs.Trace.{changes_to}
 use Rattle.story_run.proofs.Steps.{on_at, said_between, step_later}

@@ -3,14 +3,19 @@ use Rattle.std.proofs.Common.{◌≡◌, ◌≤◌, ◌⊎◌, ℕ, zero, suc, �
 use Rattle.std.specs.Prelude.{nat_le}
 use Rattle.std.proofs.lemmas.Bool.Decides.{nat_tests}
 use Rattle.fw_logic.specs.JointRun.{KeepsTimeFrom}
-use Rattle.joint_feed.proofs.Going.{same_state}
+use Rattle.joint_feed.proofs.Going.{here, same_state}
 use Rattle.joint_feed.specs.Stories.{Story, state_at}
+use Rattle.joint_feed.specs.declared.course.Course.{Course}
 use Rattle.joint_run.specs.Joint.{Beside, joint_start_of}
 use Rattle.joint_run.specs.Run.{World}
+use Rattle.story_run.specs.declared.ending.End.{End}
+use Rattle.story_run.specs.declared.ending.End.TheVariants.{Over, Stuck}
 use Rattle.story_run.specs.declared.ending.Ending.{Ending}
 use Rattle.story_run.specs.declared.ending.Ending.TheVariants.{TickStart}
-use Rattle.story_run.specs.Running.{GoesOnTo, IsOverBehind, is_over}
+use Rattle.story_run.specs.Advance.{IsEnding}
+use Rattle.story_run.specs.Running.{EndsAt, GoesOnTo, IsOverBehind, is_over}
 use Rattle.story_run.proofs.Steps.{on_at}
+use Rattle.story_run.proofs.Timekeeping.{never_stuck}
 
 -- a run that is over behind some steps goes on at no state behind them
 pub goes_on_within : (e : Ending) (s : Story) (n k : ℕ) → IsOverBehind e s n → GoesOnTo e s k → k ≤ n
@@ -60,3 +65,17 @@ module _ (s : Story) (t : KeepsTimeFrom (joint_start_of s.held) s.bytes s.edges 
       let late : nat_le (4096 + s.stop) w.cycle ≡ true = grind (arith, nat_tests, reaches, stamp) in
       let over : is_over TickStart s w ≡ true = ap (λ b. b && nat_le (4096 + s.stop) w.cycle) e.start.at ∙ late in
       over_within e.start.steps w e.start.reached over (judged (suc e.start.steps))
+
+  -- it isn't stuck
+  pub over_at : (k : ℕ) (w : World Beside) (end : End) → EndsAt TickStart s k w end → is_over TickStart s w ≡ true
+  over_at k w Over ends = ends
+  over_at k w (Stuck place) ends = absurd (never_stuck s (suc k) t ends.none)
+
+  -- so it is over where it ends
+  abbrev pub over_behind : (c : Course) (end : End) → IsEnding TickStart s c end → IsOverBehind TickStart s c.joint.steps
+  over_behind c end h = record {
+    goes_on = h.standing.goes_on;
+    world = h.standing.on.world;
+    reached = here s c h.standing.on;
+    over = over_at c.joint.steps h.standing.on.world end h.ends;
+  }

@@ -13,3 +13,6 @@ pub mod Told
 pub mod Slept
 pub mod Stretched
 pub mod Loop
+pub mod Ready
+pub mod Texts
+pub mod Looked

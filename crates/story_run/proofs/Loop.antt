@@ -1,5 +1,5 @@
 -- One turn of a run's loop.
-use Rattle.std.proofs.Common.{◌≡◌, ◌<◌, ◌^◌, ℕ, Bool, true, false, List, ap, sym, subst, ◌∙◌, arith}
+use Rattle.std.proofs.Common.{◌≡◌, ◌<◌, ◌^◌, ℕ, Bool, true, false, List, Some, ap, sym, subst, ◌∙◌, arith}
 use Rattle.std.specs.declared.result.Result.{Result}
 use Rattle.board_probes.specs.Looks.{looks}
 use Rattle.board_probes.specs.Probes.{Watch}
@@ -85,6 +85,8 @@ pub broke_off : (u : Halt) (s : Story) (broken : ℕ → Type 0) (old : Course) 
 broke_off u s broken old first before new after a so_far h = record {
   last = a.behind.last;
   goes_on = subst (GoesOnTo u.ending s) a.behind.steps a.behind.standing.goes_on;
+  led_to = a.behind.standing.on.world;
+  made = subst (λ (k : ℕ). state_at s k ≡ Some a.behind.standing.on.world) a.behind.steps (here s new a.behind.standing.on);
   broken_so = h;
   looked = a.looked first so_far ∙ ap (λ (k : ℕ). looks s k first) a.behind.steps;
 }

@@ -3,6 +3,7 @@ pub mod Running
 pub mod Answers
 pub mod Gliding
 pub mod Stretching
+pub mod Ready
 pub mod Advance
 pub mod Telling
 pub mod Looking

@@ -1,8 +1,10 @@
 -- Probes that ride on a run.
-use Rattle.std.specs.Prelude.{◌≡◌, ℕ, suc, List}
+use Rattle.std.specs.Prelude.{◌≡◌, ℕ, suc, List, Some}
 use Rattle.board_probes.specs.Looks.{looks}
 use Rattle.board_probes.specs.Probes.{Watch}
-use Rattle.joint_feed.specs.Stories.{Story}
+use Rattle.joint_feed.specs.Stories.{Story, state_at}
+use Rattle.joint_run.specs.Joint.{Beside}
+use Rattle.joint_run.specs.Run.{World}
 use Rattle.story_run.specs.declared.ending.Ending.{Ending}
 use Rattle.story_run.specs.Running.{GoesOnTo}
 
@@ -17,5 +19,7 @@ pub record HaveLookedAtSome (e : Ending) (s : Story) (before after : List Watch)
 pub record BrokeOff (e : Ending) (s : Story) (broken : ℕ → Type 0) (before after : List Watch) : Type 0 where
   pub last : ℕ
   pub goes_on : GoesOnTo e s (suc last)
+  pub led_to : World Beside
+  pub made : state_at s (suc last) ≡ Some led_to
   pub broken_so : broken last
   pub looked : after ≡ looks s (suc last) before

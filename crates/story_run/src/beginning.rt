@@ -3,13 +3,12 @@
 ghost use Rattle.std.specs.Prelude.{◌≡◌, IfOk};
 ghost use Rattle.fw_compile.specs.Image.{image_of};
 ghost use Rattle.fw_logic.specs.JointRun.{KeepsTime};
-ghost use Rattle.joint_feed.specs.Ahead.{HasTaken};
 ghost use Rattle.joint_feed.specs.Stories.{story};
 ghost use Rattle.key_file.specs.Accepted.{IsAccepted, IsAcceptedFor};
 ghost use Rattle.key_file.specs.Feeds.{Fed};
 ghost use Rattle.layout_reader.specs.Layouts.{IsKeyLayout, KeyLayout};
 ghost use Rattle.story_run.specs.declared.ending.Ending.TheVariants.{TickStart};
-ghost use Rattle.story_run.specs.Gliding.{IsStanding, IsTimely};
+ghost use Rattle.story_run.specs.Ready.{IsReady};
 
 use fw_compile::compile;
 use int09::Bios;
@@ -36,10 +35,8 @@ pub fn begin_run<F: Feed>(
     ensures accepted { IsAccepted (F.told feed.new).history }
     ensures run { IfOk result (λ course. story course.joint.image.bytes (F.told feed.new).history
         ≡ story (image_of layout.now) (F.told feed.old).history) }
-    ensures timely { IfOk result (λ course. IsTimely TickStart (story course.joint.image.bytes (F.told feed.new).history)) }
-    ensures standing { IfOk result (λ course. IsStanding TickStart (story course.joint.image.bytes (F.told feed.new).history) course) }
-    ensures steps { IfOk result (λ course. course.joint.steps ≡ 0) }
-    ensures taken { IfOk result (λ course. HasTaken (F.told feed.new) course.ahead) }
+    ensures ready { IfOk result (λ course. IsReady TickStart (story course.joint.image.bytes (F.told feed.new).history)
+        (F.told feed.new) course) }
 {
     let _ = layout.rate();
     let _ = layout.entries();

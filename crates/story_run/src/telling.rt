@@ -2,15 +2,13 @@
 
 ghost use Rattle.std.specs.Prelude.{◌≡◌, ℕ, Bool, suc, map, IfOk, OnErr, OnOk};
 ghost use Rattle.board_probes.specs.Looks.{looks};
-ghost use Rattle.joint_feed.specs.Ahead.{HasTaken};
 ghost use Rattle.joint_feed.specs.Filled.{filled_story};
 ghost use Rattle.joint_feed.specs.Stories.{Story};
-ghost use Rattle.key_file.specs.Accepted.{IsAccepted};
 ghost use Rattle.key_file.specs.Feeds.{Fed};
 ghost use Rattle.story_run.specs.declared.ending.Ending.{Ending};
 ghost use Rattle.story_run.specs.Advance.{IsBehind, IsEnding};
-ghost use Rattle.story_run.specs.Gliding.{IsStanding, IsTimely};
 ghost use Rattle.story_run.specs.Looking.{BrokeOff};
+ghost use Rattle.story_run.specs.Ready.{IsReady};
 ghost use Rattle.story_run.specs.Telling.{IsToldTo};
 
 use crate::advancing::advance;
@@ -57,11 +55,8 @@ pub fn tell_run<F: Feed, O, E, T: Teller<O, E>, const SITE: u8>(
     out: &mut O,
     probes: &mut Vec<Box<dyn Probe>>,
 ) -> Result<End, E>
-    requires accepted { IsAccepted (F.told feed.old).history }
-    requires timely { IsTimely ending (filled_story fill course.old.joint.image.bytes (F.told feed.old).history) }
-    requires standing { IsStanding ending (filled_story fill course.old.joint.image.bytes (F.told feed.old).history) course.old }
-    requires steps { course.old.joint.steps ≡ 0 }
-    requires taken { HasTaken (F.told feed.old) course.old.ahead }
+    requires ready { let run = filled_story fill course.old.joint.image.bytes (F.told feed.old).history in
+        IsReady ending run (F.told feed.old) course.old }
     requires told { let run = filled_story fill course.old.joint.image.bytes (F.told feed.old).history in
         T.has_told ending run out.old 0 teller.old out.old }
     ensures ended { let run = filled_story fill course.old.joint.image.bytes (F.told feed.old).history in

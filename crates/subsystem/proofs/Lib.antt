@@ -2,7 +2,6 @@ pub mod Agreed
 pub mod Beginning
 pub mod Ends
 pub mod Lines
-pub mod Looking
 pub mod Room
 pub mod Begun
 pub mod Going
@@ -11,4 +10,3 @@ pub mod Told
 pub mod Tellers
 pub mod Ticks
 pub mod Timekeeping
-pub mod FirstStepsBeginLog

@@ -1,13 +1,14 @@
 -- What is told behind one stretch of steps.
-use Rattle.std.proofs.Common.{◌≡◌, ◌≤◌, ◌<◌, ◌^◌, ℕ, suc, ◌+◌, ◌-◌, ◌*◌, ◌/◌, false, List, ◌++◌}
+use Rattle.std.proofs.Common.{◌≡◌, ◌≤◌, ◌<◌, ◌^◌, ℕ, suc, ◌+◌, ◌-◌, ◌*◌, ◌/◌, true, false, List, [], ◌∷◌, ◌++◌}
 use Rattle.std.proofs.Common.{length, map, drop, Some, ap, sym, subst, ◌∙◌, arith}
-use Rattle.std.proofs.lemmas.List.{map-append}
+use Rattle.std.specs.Prelude.{if◌then◌else◌}
+use Rattle.std.proofs.lemmas.List.{append-nil, map-append}
 use Rattle.std.proofs.Math.Seq.{drop-append_seam}
 use Rattle.std.specs.declared.option.Option.{Option}
 use Rattle.fw_logic.specs.JointRun.{KeepsTimeFrom}
 use Rattle.host_turn.specs.declared.stamped.Stamped.{Stamped}
 use Rattle.joint_feed.proofs.Going.{here}
-use Rattle.joint_feed.specs.Stories.{Story, state_at}
+use Rattle.joint_feed.specs.Stories.{Story, starts_tick, state_at}
 use Rattle.joint_feed.specs.declared.course.Course.{Course}
 use Rattle.joint_run.specs.Joint.{Beside, log_of, joint_start_of}
 use Rattle.joint_run.specs.Run.{World}
@@ -18,7 +19,7 @@ use Rattle.story_run.specs.Running.{log_at, logged, step_says}
 use Rattle.story_run.specs.Starts.{start_stamp, starts_among}
 use Rattle.story_run.specs.Gliding.{IsQuiet}
 use Rattle.story_run.proofs.Said.{Said}
-use Rattle.story_run.proofs.Steps.{step_said}
+use Rattle.story_run.proofs.Steps.{said_by, step_said}
 use Rattle.subsystem.specs.Account.{in_tick}
 use Rattle.subsystem.specs.Progress.{line_so_far, lines_to, told_by}
 use Rattle.io_edge.proofs.Pieces.{said_then_said}
@@ -27,17 +28,29 @@ use Rattle.subsystem.specs.Counts.{none_counted, with_lines}
 use Rattle.subsystem.specs.Putting.{IsLogBrokenAt, step_lines}
 use Rattle.subsystem.specs.Texts.{log_text}
 use Rattle.subsystem.specs.declared.counts.Counts.{Counts}
-use Rattle.subsystem.proofs.Lines.{lines_now}
+use Rattle.subsystem.proofs.Lines.{are_lines, lines_later, lines_now}
 use Rattle.subsystem.proofs.Room.{log_text-append, short_more, with_lines-append}
 use Rattle.subsystem.proofs.Begun.{begun_among, few_among, few_before}
-use Rattle.subsystem.proofs.FirstStepsBeginLog.{are_lines, still_told}
+
+module _ (s : Story) where
+  -- the start at a state changes no line of what was said before it
+  pub still_told : (k : ℕ) (w : World Beside) → state_at s k ≡ Some w
+      → map (line_so_far (starts_among s (suc k))) (log_of w.board) ≡ map (line_so_far (starts_among s k)) (log_of w.board)
+  still_told k w h =
+      let xs = starts_among s k in
+      ap (λ (o : Option (World Beside)). map (line_so_far (xs ++ start_stamp s o)) (log_of w.board)) h
+      ∙ (elim (starts_tick s w) as (λ b. map (line_so_far (xs ++ (if b then (w.cycle - 4096) ∷ [] else []))) (log_of w.board)
+      ≡ map (line_so_far xs) (log_of w.board)) [
+        | true ↦ lines_later xs (w.cycle - 4096) w.cycle (log_of w.board) (omega arith) (said_by s k w h)
+        | false ↦ ap (λ v. map (line_so_far v) (log_of w.board)) (append-nil xs)
+      ])
 
 -- what is told is so by the starts among the states up to the present one too
 all_told : (s : Story) → KeepsTimeFrom (joint_start_of s.held) s.bytes s.edges s.events → (k : ℕ) (w : World Beside) → state_at s k ≡ Some w
     → lines_to s (starts_among s (suc k)) k ≡ told_by s k
 all_told s t k w there =
     ap (λ (o : Option (World Beside)). map (line_so_far (starts_among s (suc k))) (logged o)) there
-    ∙ still_told s t k w there
+    ∙ still_told s k w there
     ∙ ap (λ (o : Option (World Beside)). map (line_so_far (starts_among s k)) (logged o)) (sym there)
 
 -- and it stays so as long as nothing is to be told

@@ -1,10 +1,11 @@
 -- What a sink has of a run's text if a put failed.
 use Rattle.std.specs.Prelude.{ℕ, suc, ◌-◌, List, length, map}
 use Rattle.board_probes.specs.Probes.{Watch}
-use Rattle.io_edge.specs.Said.{IsBrokenOff, Shown}
+use Rattle.io_edge.specs.Said.{Shown}
 use Rattle.joint_feed.specs.Stories.{Story}
 use Rattle.link_model.specs.declared.line.LogLine.{LogLine}
 use Rattle.story_run.specs.declared.ending.Ending.TheVariants.{TickStart}
+use Rattle.story_run.specs.Broken.{IsTextBrokenOff}
 use Rattle.story_run.specs.Looking.{BrokeOff}
 use Rattle.story_run.specs.Running.{step_says}
 use Rattle.story_run.specs.Starts.{starts_among}
@@ -15,10 +16,8 @@ use Rattle.subsystem.specs.Running.{IsOutcome, Outcome}
 use Rattle.subsystem.specs.Texts.{log_text}
 
 -- the text of the run's whole log is broken off, as the run would have come to it
-pub record IsLogBrokenOff (s : Story) (before after : Shown) : Type 0 where
-  pub run : Outcome
-  pub is : IsOutcome s run
-  pub part : IsBrokenOff before after (log_text run.log)
+abbrev pub IsLogBrokenOff : Story → Shown → Shown → Type 0
+IsLogBrokenOff s before after = IsTextBrokenOff Outcome (IsOutcome s) (λ run. log_text run.log) before after
 
 -- the lines of what the step after the first k says, in the tick that started last
 abbrev pub step_lines : Story → ℕ → List LogLine

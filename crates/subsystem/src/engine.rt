@@ -48,13 +48,16 @@ pub struct Engine<F: Feed> {
 
 impl<F: Feed> Model for Engine<F> {
     ghost use Rattle.joint_feed.specs.Stories.{Story, story};
-    ghost use Rattle.subsystem.specs.Progress.{HasRoom, IsReady};
+    ghost use Rattle.story_run.specs.declared.ending.Ending.TheVariants.{TickStart};
+    ghost use Rattle.story_run.specs.Ready.{IsReady};
+    ghost use Rattle.subsystem.specs.Progress.{HasRoom};
 
     ghost Value = { Story };
 
     ghost view = { λ e. story e.course.joint.image.bytes (F.told e.feed).history };
 
-    ghost invariant = { λ e. IsReady (F.told e.feed) e.course × HasRoom (F.told e.feed) e.starts };
+    ghost invariant = { λ e. IsReady TickStart (story e.course.joint.image.bytes (F.told e.feed).history) (F.told e.feed) e.course
+        × HasRoom (F.told e.feed) e.starts };
 }
 
 /// What a run that is over comes to.

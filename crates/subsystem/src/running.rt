@@ -6,6 +6,7 @@ ghost use Rattle.fw_compile.specs.Image.{image_of};
 ghost use Rattle.board_probes.specs.Looks.{looks};
 ghost use Rattle.joint_feed.specs.Stories.{story};
 ghost use Rattle.key_file.specs.Accepted.{IsAcceptedFor};
+ghost use Rattle.layout_reader.specs.Layouts.{IsKeyLayout};
 ghost use Rattle.link_model.specs.Expected.{expected_log};
 ghost use Rattle.quiet_log.specs.Quiet.{IsQuiet, quiet_log};
 ghost use Rattle.subsystem.specs.Looking.{HaveLookedAtSome};
@@ -60,6 +61,7 @@ pub fn run(
     probes: &mut Vec<Box<dyn Probe>>,
 ) -> Result<Run, AllocError>
     requires { IsAcceptedFor layout.now history.now }
+    ensures layout { IsKeyLayout layout.now }
     ensures run { IfOk result (λ run. IsRun (story (image_of layout.now) history.now) run) }
     ensures agrees { IfOk result (λ run. run.log.items ≡ expected_log layout.now history.now run.starts.items) }
     ensures quiet { IfOk result (λ run. IsQuiet history.now → run.log.items ≡ quiet_log layout.now history.now) }

@@ -17,20 +17,6 @@ use link_model::LogLine;
 use std::alloc::AllocError;
 use story_run::Teller;
 
-impl Teller<(), AllocError> for Starts {
-    ghost WIRES = { false };
-
-    ghost has_told = { λ e s first k it out. HasNoted e s k it };
-
-    ghost is_broken = { λ e s first k out. Unit {0} };
-
-    const WIRES: bool = false;
-
-    fn tell(&mut self, _out: &mut (), course: &Course) -> Result<(), AllocError> {
-        self.note(&course.joint)
-    }
-}
-
 /// Keeps the lines in a list.
 #[derive(Drop)]
 pub struct Keeping {

@@ -1,4 +1,4 @@
-//! The tick starts of the run, without its log.
+//! The tick starts of the run.
 
 ghost use Rattle.std.specs.Prelude.{◌≡◌, ◌-◌, length, map, IfOk};
 ghost use Rattle.board_lines.specs.Cadence.{KeepsCadenceTo, listed};
@@ -9,16 +9,13 @@ ghost use Rattle.layout_reader.specs.Layouts.{IsKeyLayout};
 ghost use Rattle.subsystem.specs.Looking.{HaveLookedAtSome};
 ghost use Rattle.subsystem.specs.Starts.{AreStartsOf};
 
-use crate::starts::Starts;
-use agreement::run_and_model_agree;
+use crate::running::run;
 use board_probes::Probe;
-use key_file::{History, ListFeed};
+use key_file::History;
 use layout_reader::Layout;
 use std::alloc::{AllocError, Global};
-use story_run::{Ending, begin_run, tell_run};
 
-/// The stamps of the tick starts in the run that `run` makes, whose log isn't kept. After each step each probe looks at the
-/// state that it led to. Each start is at its multiple of 2,048 or at most five cycles past it. Only memory may run out:
+/// The stamps of the tick starts in the run that `run` makes. After each step each probe looks at the state that it led to. Each start is at its multiple of 2,048 or at most five cycles past it. Only memory may run out:
 /// then the probes have looked at the states of some first steps.
 pub fn tick_starts(
     alloc: Global,
@@ -34,19 +31,6 @@ pub fn tick_starts(
     ensures looked_so_far { let s = story (image_of layout.now) history.now in
         HaveLookedAtSome s (map (λ b. watch b) probes.old.items) (map (λ b. watch b) probes.new.items) }
 {
-    run_and_model_agree();
-    let mut feed = ListFeed::new(history);
-    let mut course = begin_run(alloc, layout, &mut feed)?;
-    let stamps = Vec::new(alloc);
-    let mut starts = Starts { stamps };
-    let _end = tell_run::<ListFeed, (), AllocError, Starts, 10>(
-        &mut course,
-        &mut feed,
-        0,
-        Ending::TickStart,
-        &mut starts,
-        &mut (),
-        probes,
-    )?;
-    Ok(starts.stamps)
+    let made = run(alloc, layout, history, probes)?;
+    Ok(made.starts)
 }

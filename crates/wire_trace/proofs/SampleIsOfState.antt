@@ -1,5 +1,5 @@
 -- A sample of the machine is one of the state that its last step led to, and is heard as behind the step before.
-use Rattle.std.proofs.Common.{◌≡◌, ◌≤◌, ◌<◌, ℕ, zero, suc, true, Some, None, Ok, Err, OnErr, OnOk, refl, ap, sym, subst, ◌∙◌, arith}
+use Rattle.std.proofs.Common.{◌≡◌, ◌≤◌, ◌<◌, ℕ, zero, suc, true, Some, None, Ok, Err, OnErr, refl, ap, sym, subst, ◌∙◌, arith}
 use Rattle.std.specs.declared.option.Option.{Option}
 use Rattle.std.specs.declared.result.Result.{Result}
 use Rattle.std.proofs.lemmas.Bool.Decides.{nat_tests}
@@ -27,19 +27,10 @@ use Rattle.wire_trace.specs.Text.{sample_text}
 use Rattle.wire_trace.specs.Trace.{changes_to, text_in}
 use Rattle.wires_heard.specs.Hearing.{heard_in, heard_to, sample_in}
 
--- what follows from what is so where it was done, or where it failed
-pub on_ok : {A E P Q : Type 0} (result : Result A E) → (P → Q) → OnOk result P → OnOk result Q
-on_ok (Ok a) f p = f p
-on_ok (Err e) f p = tt
-
+-- what follows from what is so where it failed
 pub on_err : {A E P Q : Type 0} (result : Result A E) → (P → Q) → OnErr result P → OnErr result Q
 on_err (Ok a) f p = tt
 on_err (Err e) f p = f p
-
--- what is so, is so of a failure too
-pub on_err_so : {A E P : Type 0} (result : Result A E) → P → OnErr result P
-on_err_so (Ok a) p = tt
-on_err_so (Err e) p = p
 
 -- the last sample is none of a later cycle
 abbrev IsHeardBy : Option Sample → ℕ → Type 0

@@ -1,27 +1,21 @@
 -- What a sink has behind the header and what was told of a run.
-use Rattle.std.proofs.Common.{◌≡◌, ◌≤◌, ℕ, suc, true, List, ◌++◌, Some, refl, ap, sym, subst, ◌∙◌}
-use Rattle.std.proofs.lemmas.List.{append_assoc}
+use Rattle.std.proofs.Common.{◌≡◌, ◌≤◌, ◌<◌, ℕ, suc, true, List, ◌++◌, Some, refl, ap, sym, subst, ◌∙◌, arith}
 use Rattle.board_probes.specs.Transfers.{Ear, silence, wires_at}
 use Rattle.fw_logic.specs.JointRun.{KeepsTimeFrom}
 use Rattle.io_edge.specs.Said.{IsBrokenOff, IsSaid, Shown}
-use Rattle.io_edge.proofs.Pieces.{broken_before, lines_behind, said_then_broken, said_then_said}
-use Rattle.joint_feed.proofs.Going.{here}
+use Rattle.io_edge.proofs.Pieces.{broken_before, said_then_broken, said_then_said}
 use Rattle.joint_feed.specs.Stories.{Story, state_at}
 use Rattle.joint_feed.specs.declared.course.Course.{Course}
-use Rattle.story_run.proofs.Ended.{comes_to_end, goes_on_within}
-use Rattle.story_run.proofs.Timekeeping.{never_stuck}
+use Rattle.story_run.proofs.Ended.{comes_to_end, goes_on_within, over_behind}
+use Rattle.story_run.proofs.Texts.{broken_in_all, later}
 use Rattle.story_run.specs.declared.ending.End.{End}
-use Rattle.story_run.specs.declared.ending.End.TheVariants.{Over, Stuck}
 use Rattle.story_run.specs.declared.ending.Ending.{Ending}
 use Rattle.story_run.specs.declared.ending.Ending.TheVariants.{TickStart}
 use Rattle.story_run.specs.Advance.{IsEnding}
 use Rattle.story_run.specs.Looking.{BrokeOff}
-use Rattle.story_run.specs.Running.{EndsAt, is_over}
 use Rattle.story_run.specs.Telling.{IsToldTo}
 use Rattle.board_probes.specs.Probes.{Watch}
-use Rattle.joint_run.specs.Joint.{Beside, joint_start_of}
-use Rattle.joint_run.specs.Run.{World}
-use Rattle.wire_trace.proofs.ChangesGrow.{later_changes}
+use Rattle.joint_run.specs.Joint.{joint_start_of}
 use Rattle.wire_trace.proofs.OfLines.{changes_are_lines, header_is_lines}
 use Rattle.wire_trace.proofs.StillAddsNothing.{still_to}
 use Rattle.wire_trace.specs.Ending.{AreChangesBrokenAt, IsTraceBrokenOff, IsTraceSaid}
@@ -42,31 +36,20 @@ told_all e s ear first last n h =
     let level = h.told_so.0.levels ∙ ap (λ (a : Ear). Some (wires_at a.last)) h.told_so.0.all in
     subst (λ v. IsSaid first last v) (sym (still_to s k level n h.quiet.later (h.quiet.levels refl)).1) h.told_so.1
 
--- what is broken off in a sample's text is broken off in that of the samples up to it
-pub broken_at : (s : Story) (before after : Shown) (k : ℕ)
-    → AreChangesBrokenAt s before after k → IsBrokenOff before after (changes_to s (suc k))
-broken_at s before after k h =
-    said_then_broken before h.between after (changes_to s k) (text_in (state_at s (suc k)) (heard_to s k))
-    (changes_are_lines s k) h.said h.broken
+-- what later samples add is after what the earlier ones did
+pub later_changes : (s : Story) (k n : ℕ) → k ≤ n → (rest : List ℕ) × (changes_to s n ≡ changes_to s k ++ rest)
+later_changes s k n l = later (changes_to s) (λ j. text_in (state_at s (suc j)) (heard_to s j)) n (λ j m. refl) k l
 
--- and in that of all samples behind the header
-pub broken_behind : (s : Story) (before mid after : Shown) (k n : ℕ)
-    → k ≤ n → IsSaid before mid header → IsBrokenOff mid after (changes_to s k)
-    → IsBrokenOff before after (trace_to s n)
-broken_behind s before mid after k n l all part =
-    let first = changes_to s k in
-    let rest = later_changes s k n l in
-    let there : IsBrokenOff before after (header ++ first) = said_then_broken before mid after header first header_is_lines all part in
-    let text : (header ++ first) ++ rest.0 ≡ trace_to s n =
-    append_assoc header first rest.0 ∙ ap (λ v. header ++ v) (sym rest.1) in
-    subst (λ v. IsBrokenOff before after v) text
-    (broken_before before after (header ++ first) rest.0 (lines_behind header first header_is_lines (changes_are_lines s k)) there)
+-- what is broken off in what the sample of a step adds is broken off in that of all samples
+pub changes_broken : (s : Story) (before after : Shown) (k n : ℕ)
+    → k < n → AreChangesBrokenAt s before after k → IsBrokenOff before after (changes_to s n)
+changes_broken s before after k n l h =
+    broken_in_all (changes_to s) (λ j. text_in (state_at s (suc j)) (heard_to s j)) n (λ j m. refl) (changes_are_lines s) k l before after h
 
--- a run that keeps its time isn't stuck
-over_there : (s : Story) (k : ℕ) (w : World Beside) (end : End) → KeepsTimeFrom (joint_start_of s.held) s.bytes s.edges s.events
-    → EndsAt TickStart s k w end → is_over TickStart s w ≡ true
-over_there s k w Over time ends = ends
-over_there s k w (Stuck place) time ends = absurd (never_stuck s (suc k) time ends.none)
+-- and in the header with them
+pub broken_behind : (s : Story) (before mid after : Shown) (n : ℕ)
+    → IsSaid before mid header → IsBrokenOff mid after (changes_to s n) → IsBrokenOff before after (trace_to s n)
+broken_behind s before mid after n all part = said_then_broken before mid after header (changes_to s n) header_is_lines all part
 
 module _ (s : Story) (t : KeepsTimeFrom (joint_start_of s.held) s.bytes s.edges s.events) (before mid after : Shown) where
   -- the sink took both
@@ -74,12 +57,7 @@ module _ (s : Story) (t : KeepsTimeFrom (joint_start_of s.held) s.bytes s.edges 
       → IsToldTo TickStart true s (λ k. HasHeard s k ear × IsSaid mid after (changes_to s k)) c.joint.steps → IsTraceSaid s before after
   trace_said c end ear ends first told = record {
     steps = c.joint.steps;
-    is_over = record {
-      goes_on = ends.standing.goes_on;
-      world = ends.standing.on.world;
-      reached = here s c ends.standing.on;
-      over = over_there s c.joint.steps ends.standing.on.world end t ends.ends;
-    };
+    is_over = over_behind s t c end ends;
     said = said_then_said before mid after header (changes_to s c.joint.steps) header_is_lines first
         (told_all TickStart s ear mid after c.joint.steps told);
   }
@@ -90,12 +68,12 @@ module _ (s : Story) (t : KeepsTimeFrom (joint_start_of s.held) s.bytes s.edges 
       → IsTraceBrokenOff s before after
   broken_in_changes probes left first broke =
       let end = comes_to_end s t in
-      let k = broke.last in
+      let within = goes_on_within TickStart s end.0 (suc broke.last) end.1 broke.goes_on in
       record {
         steps = end.0;
         is_over = end.1;
-        broken = broken_behind s before mid after (suc k) end.0 (goes_on_within TickStart s end.0 (suc k) end.1 broke.goes_on)
-            first (broken_at s mid after k broke.broken_so);
+        broken = broken_behind s before mid after end.0 first
+            (changes_broken s mid after broke.last end.0 (omega (arith, within)) broke.broken_so);
       }
 
 -- or in it

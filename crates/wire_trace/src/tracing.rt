@@ -3,13 +3,12 @@
 ghost use Rattle.std.specs.Prelude.{◌≡◌, Err, OnErr, OnOk};
 ghost use Rattle.fw_compile.specs.Image.{image_of};
 ghost use Rattle.io_edge.specs.Said.{IsBrokenOff, IsSaid};
-ghost use Rattle.joint_feed.specs.Ahead.{HasTaken};
 ghost use Rattle.joint_feed.specs.Stories.{story};
-ghost use Rattle.key_file.specs.Accepted.{IsAccepted, IsAcceptedFor};
+ghost use Rattle.key_file.specs.Accepted.{IsAcceptedFor};
 ghost use Rattle.key_file.specs.Feeds.{Fed};
 ghost use Rattle.layout_reader.specs.Layouts.{IsKeyLayout, KeyLayout};
 ghost use Rattle.story_run.specs.declared.ending.Ending.TheVariants.{TickStart};
-ghost use Rattle.story_run.specs.Gliding.{IsStanding, IsTimely};
+ghost use Rattle.story_run.specs.Ready.{IsReady};
 ghost use Rattle.wire_trace.specs.declared.fault.TraceFault.TheVariants.{Memory, Write};
 ghost use Rattle.wire_trace.specs.Ending.{IsTraceBrokenOff, IsTraceSaid};
 ghost use Rattle.wire_trace.specs.Text.{header};
@@ -46,11 +45,8 @@ fn put_trace<F: Feed, K: Sink>(
     feed: &mut F,
     out: &mut K,
 ) -> Result<(), SinkFault>
-    requires accepted { IsAccepted (F.told feed.old).history }
-    requires timely { IsTimely TickStart (story course.old.joint.image.bytes (F.told feed.old).history) }
-    requires standing { IsStanding TickStart (story course.old.joint.image.bytes (F.told feed.old).history) course.old }
-    requires steps { course.old.joint.steps ≡ 0 }
-    requires taken { HasTaken (F.told feed.old) course.old.ahead }
+    requires ready { let run = story course.old.joint.image.bytes (F.told feed.old).history in
+        IsReady TickStart run (F.told feed.old) course.old }
     ensures said { let run = story course.old.joint.image.bytes (F.told feed.old).history in
         OnOk result (IsTraceSaid run (K.shown out.old) (K.shown out.new)) }
     ensures broken { let run = story course.old.joint.image.bytes (F.told feed.old).history in

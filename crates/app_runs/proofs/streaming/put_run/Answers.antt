@@ -2,7 +2,7 @@ use Rattle.std.proofs.Common.{subst, inl, inr}
 use Rattle.std.specs.Prelude.{[], if◌then◌else◌}
 use Rattle.io_edge.specs.Said.{IsBrokenOff, IsSaid}
 use Rattle.subsystem.specs.Ending.{ending}
-use Rattle.subsystem.proofs.Looking.{on_err}
+use Rattle.io_edge.proofs.Taken.{on_err}
 use Rattle.app_runs.specs.RunTexts.{start_lines}
 use Rattle.app_runs.proofs.StartsAreLines.{cut_in_end, cut_in_log, cut_in_starts, end_behind_log}
 use Rattle.app_runs.proofs.StartsAreLines.{err_on, ok_on, starts_behind_log, whole_run}
@@ -14,7 +14,7 @@ returns-in_err-ended-clause-broken g c =
     let x = g.K.Sink.shown c.args.out.now in
     let z = g.K.Sink.shown c.run_to.new.out in
     let h = c.in_err-ended.ensures.broken in
-    on_err c.from_residual.result
+    on_err c.from_residual.result _
     (h.run, h.is, cut_in_log c.args.ticks c.args.steps h.run x z h.part, inl c.in_err-ended.ensures.looked_to_break)
 
 pub returns-in_err-put_ticks-clause-broken : goal.returns-in_err-put_ticks-clause-broken
@@ -25,7 +25,7 @@ returns-in_err-put_ticks-clause-broken g c =
     let run = ending c.args.engine c.in_ok-ended.ended in
     let broken = subst (λ s. IsBrokenOff a z (if c.args.ticks then start_lines 0 s else [])) c.starts.ensures.starts
     c.in_err-put_ticks.ensures.broken in
-    on_err c.from_residual-in_err-put_ticks.result (
+    on_err c.from_residual-in_err-put_ticks.result _ (
       run,
       c.in_ok-ended.ensures.run,
       cut_in_starts c.args.ticks c.args.steps run x a z c.in_ok-ended.ensures.said broken,

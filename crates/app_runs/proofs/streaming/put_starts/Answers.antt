@@ -1,6 +1,6 @@
 use Rattle.std.proofs.Common.{refl, subst, ◌∙◌, arith}
 use Rattle.io_edge.specs.Said.{IsBrokenOff, IsSaid}
-use Rattle.subsystem.proofs.Looking.{on_err}
+use Rattle.io_edge.proofs.Taken.{on_err}
 use Rattle.app_runs.specs.RunTexts.{start_lines}
 use Rattle.app_runs.proofs.StartsAreLines.{cut_off, one_more}
 use Rattle.app_runs.proofs.streaming.put_starts.Goals as goal
@@ -10,7 +10,7 @@ returns-in_err-say-clause-broken g c =
     let x = g.K.Sink.shown c.args.out.now in
     let y = g.K.Sink.shown c.loop-number.out in
     let z = g.K.Sink.shown c.say.new.out in
-    on_err c.from_residual.result
+    on_err c.from_residual.result _
     (cut_off c.loop-number.number c.args.starts.now _ (omega arith) refl x y z (start_lines 0 c.args.starts.now) c.loop-number.invariant
     (subst (IsBrokenOff y z) (c.deref.ensures.0 ∙ c.start_line.ensures) c.in_err-say.ensures.broken))
 

@@ -1,8 +1,11 @@
 use Rattle.std.proofs.Common.{rules, sym, subst, ◌∙◌}
 use Rattle.fw_compile.specs.Image.{image_of}
 use Rattle.fw_logic.specs.JointRun.{KeepsTime}
+use Rattle.key_file.specs.Accepted.{IsAcceptedFor}
 use Rattle.layout_reader.specs.Layouts.{IsKeyLayout}
+use Rattle.story_run.specs.declared.ending.Ending.TheVariants.{TickStart}
 use Rattle.story_run.proofs.Loop.{same_story}
+use Rattle.story_run.proofs.Ready.{ready_at_start}
 use Rattle.story_run.proofs.beginning.begin_run.Goals as goal
 
 pub returns-clause-run : goal.returns-clause-run
@@ -11,9 +14,11 @@ returns-clause-run g c =
     (g.F.Feed.told c.begin.new.feed).history (g.F.Feed.told c.args.feed.now).history
     (c.begin.ensures.on.image ∙ c.compile-image.ensures.image) c.begin.ensures.history
 
-pub returns-clause-timely : goal.returns-clause-timely
-returns-clause-timely g c =
-    let now = (g.F.Feed.told c.begin.new.feed).history in
+pub returns-clause-ready : goal.returns-clause-ready
+returns-clause-ready g c =
+    let fed = g.F.Feed.told c.begin.new.feed in
+    let first = (g.F.Feed.told c.args.feed.now).history in
     let sound : IsKeyLayout c.args.layout.now = search rules in
-    subst (λ b. KeepsTime b now.edges now.host) (sym (c.begin.ensures.on.image ∙ c.compile-image.ensures.image))
-    (subst (λ k. KeepsTime (image_of c.args.layout.now) k.edges k.host) (sym c.begin.ensures.history) (c.requires.timely sound))
+    ready_at_start TickStart 0 c.compile-image.result.bytes first fed c.begin.result c.begin.ensures.on
+    c.begin.ensures.history c.begin.ensures.steps c.begin.ensures.taken c.requires.accepted.accepted
+    (subst (λ b. KeepsTime b first.edges first.host) (sym c.compile-image.ensures.image) (c.requires.timely sound))

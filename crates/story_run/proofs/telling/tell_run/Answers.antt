@@ -13,17 +13,17 @@ steps-init g c =
     let s = filled_story c.args.fill c.args.course.now.joint.image.bytes (g.F.Feed.told c.args.feed.now).history in
     record {
       history = refl;
-      standing = c.requires.standing;
-      taken = c.requires.taken;
-      near = first_cycle c.args.ending s c.args.course.now c.requires.standing c.requires.steps;
+      standing = c.requires.ready.standing;
+      taken = c.requires.ready.taken;
+      near = first_cycle c.args.ending s c.args.course.now c.requires.ready.standing c.requires.ready.steps;
       told = subst (λ k. g.T.Teller.has_told c.args.ending s c.args.out.now k c.args.teller.now c.args.out.now)
-          (sym c.requires.steps) c.requires.told;
-      looked = first_looked s c.args.course.now _ c.requires.steps;
+          (sym c.requires.ready.steps) c.requires.told;
+      looked = first_looked s c.args.course.now _ c.requires.ready.steps;
     }
 
 pub is_over-requires : goal.is_over-requires
 is_over-requires g c =
-    let range = c.requires.accepted.end_in_range in
+    let range = c.requires.ready.accepted.end_in_range in
     let end = c.end-stop.ensures.end in
     omega (arith, range, end)
 
@@ -34,7 +34,7 @@ advance-requires-clause-going g c =
     let u : Halt = record { ending = c.args.ending; stop = c.end-stop.result; wires = c.WIRES.result } in
     going_by u s _ c.steps.course (sym (same_run _ c.args.fill c.args.course.now c.steps.course _ _ i.standing i.history))
     (going_now u s c.steps.course i.standing (sym c.end-stop.ensures.end) c.is_over.result
-    c.is_over.ensures c.requires.timely c.requires.accepted (cc c.steps-test.true))
+    c.is_over.ensures c.requires.ready.timely c.requires.ready.accepted (cc c.steps-test.true))
 
 pub advance-requires-clause-taken : goal.advance-requires-clause-taken
 advance-requires-clause-taken g c = c.steps.invariant.taken

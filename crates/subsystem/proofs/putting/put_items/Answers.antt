@@ -7,10 +7,9 @@ use Rattle.pc_tables.specs.declared.item.Item.TheVariants.{Port}
 use Rattle.subsystem.specs.Account.{in_tick}
 use Rattle.subsystem.specs.Counts.{with_lines}
 use Rattle.subsystem.specs.Texts.{line_text, log_text}
-use Rattle.subsystem.proofs.Lines.{lines_left}
-use Rattle.subsystem.proofs.Looking.{on_err}
+use Rattle.subsystem.proofs.Lines.{line_ends, lines_left}
+use Rattle.io_edge.proofs.Taken.{on_err}
 use Rattle.subsystem.proofs.Room.{with_lines-append}
-use Rattle.subsystem.proofs.FirstStepsBeginLog.{line_ends}
 use Rattle.subsystem.proofs.putting.put_items.Goals as goal
 
 pub returns-in_err-put_line-clause-broken : goal.returns-in_err-put_line-clause-broken
@@ -24,7 +23,7 @@ returns-in_err-put_line-clause-broken g c =
     let line = in_tick c.args.tick (get_or items i d) in
     let before = g.K.Sink.shown c.loop-stamped.out in
     let after = g.K.Sink.shown c.put_line.new.out in
-    on_err c.from_residual.result
+    on_err c.from_residual.result _
     (c.loop-stamped.invariant.broken after
     (subst (λ t. IsBrokenOff before after (log_text t)) (sym left)
     (broken_before before after (line_text line) (log_text others) (inr (line_ends line)) c.in_err-put_line.ensures.broken)))

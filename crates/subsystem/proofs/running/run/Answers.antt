@@ -5,8 +5,9 @@ use Rattle.fw_logic.specs.JointRun.{KeepsTime}
 use Rattle.joint_feed.specs.Stories.{Story, story}
 use Rattle.subsystem.specs.Running.{IsOutcome, outcome}
 use Rattle.subsystem.proofs.Beginning.{begins}
-use Rattle.subsystem.proofs.Came.{came_kept, looked_some_by}
-use Rattle.subsystem.proofs.Looking.{looked_some, looked_whole}
+use Rattle.story_run.specs.declared.ending.Ending.TheVariants.{TickStart}
+use Rattle.story_run.proofs.Looked.{looked_by, some_looked, some_looked_to_break}
+use Rattle.subsystem.proofs.Came.{came_kept}
 use Rattle.subsystem.proofs.Timekeeping.{serves_at_end}
 use Rattle.key_file.proofs.Lawful.{lawful_for}
 use Rattle.subsystem.proofs.running.run.Goals as goal
@@ -19,7 +20,7 @@ begin_run-requires-clause-timely g c = λ sound.
 pub tell_run-requires-clause-told : goal.tell_run-requires-clause-told
 tell_run-requires-clause-told g c =
     let s = story c.in_ok-course.course.joint.image.bytes c.begin_run.new.feed.history in (
-      begins s c.in_ok-course.ensures.timely (record { stamps = c.new-stamps.result }) c.new-stamps.ensures.items,
+      begins s c.in_ok-course.ensures.ready.timely (record { stamps = c.new-stamps.result }) c.new-stamps.ensures.items,
       sym (append-nil c.new-log.result.items),
     )
 
@@ -32,14 +33,15 @@ returns g c =
     let s = story c.in_ok-course.course.joint.image.bytes c.begin_run.new.feed.history in
     let to = begun.run ∙ ap (λ f. story (image_of c.args.layout.now) f.history) c.new-feed.ensures in
     let came =
-    came_kept s begun.timely c.tell_run.new.course c.in_ok-_end._end r.ended c.tell_run.new.teller.starts
+    came_kept s begun.ready.timely c.tell_run.new.course c.in_ok-_end._end r.ended c.tell_run.new.teller.starts
     c.new-log.result.items c.tell_run.new.out.items c.new-log.ensures.items
     r.told run (ap (λ v. v.items) e.log) (ap (λ v. v.items) e.starts) e.end e.steps e.cycles in
     let ran = subst (λ (t : Story). IsOutcome t run) to came in
     let expected =
     c.runs_are_expected.ensures.expected c.args.layout.now c.args.history.now run c.begin_run.ensures.layout (lawful_for c.requires) ran in
-    let serving = serves_at_end s begun.timely run came in
+    let serving = serves_at_end s begun.ready.timely run came in
     record {
+      layout = c.begin_run.ensures.layout;
       run = ran;
       agrees = expected.log;
       quiet = expected.quiet;
@@ -47,13 +49,11 @@ returns g c =
       few = expected.few c.requires.accepted;
       serves = serving.0;
       bank = serving.1;
-      looked = looked_whole _ _ _ _ _ _ to e.steps r.looked;
-      looked_so_far =
-          looked_some _ _ _ _ to
-          (record { steps = c.tell_run.new.course.joint.steps; goes_on = r.ended.standing.goes_on; looked = r.looked });
+      looked = looked_by _ _ to _ _ c.tell_run.new.course.joint.steps run.steps e.steps r.looked;
+      looked_so_far = some_looked _ _ to _ _ TickStart c.tell_run.new.course.joint.steps r.ended.standing.goes_on r.looked;
     }
 
 pub returns-in_err-_end-clause-looked_so_far : goal.returns-in_err-_end-clause-looked_so_far
 returns-in_err-_end-clause-looked_so_far g c =
     let to = c.in_ok-course.ensures.run ∙ ap (λ f. story (image_of c.args.layout.now) f.history) c.new-feed.ensures in
-    looked_some _ _ _ _ to (looked_some_by _ _ _ _ c.in_err-_end.ensures.broken)
+    some_looked_to_break _ _ to _ _ TickStart _ c.in_err-_end.ensures.broken

@@ -1,6 +1,6 @@
 use Rattle.io_edge.proofs.Pieces.{none_said}
+use Rattle.io_edge.proofs.Taken.{on_err}
 use Rattle.joint_feed.specs.Stories.{story}
-use Rattle.wire_trace.proofs.SampleIsOfState.{on_err_so}
 use Rattle.wire_trace.proofs.TraceIsSaid.{broken_in_changes, broken_in_header, heard_none, trace_said}
 use Rattle.wire_trace.proofs.tracing.put_trace.Goals as goal
 
@@ -13,16 +13,16 @@ tell_run-requires-clause-told g c =
 
 pub returns-in_err-put_header-clause-broken : goal.returns-in_err-put_header-clause-broken
 returns-in_err-put_header-clause-broken g c =
-    on_err_so c.from_residual.result
-    (broken_in_header (story c.args.course.now.joint.image.bytes (g.F.Feed.told c.args.feed.now).history) c.requires.timely
+    on_err c.from_residual.result _
+    (broken_in_header (story c.args.course.now.joint.image.bytes (g.F.Feed.told c.args.feed.now).history) c.requires.ready.timely
     (g.K.Sink.shown c.args.out.now)
     (g.K.Sink.shown c.put_header.new.out)
     c.in_err-put_header.ensures.broken)
 
 pub returns-in_err-_end-clause-broken : goal.returns-in_err-_end-clause-broken
 returns-in_err-_end-clause-broken g c =
-    on_err_so c.from_residual-in_err-_end.result
-    (broken_in_changes (story c.args.course.now.joint.image.bytes (g.F.Feed.told c.args.feed.now).history) c.requires.timely
+    on_err c.from_residual-in_err-_end.result _
+    (broken_in_changes (story c.args.course.now.joint.image.bytes (g.F.Feed.told c.args.feed.now).history) c.requires.ready.timely
     (g.K.Sink.shown c.args.out.now)
     (g.K.Sink.shown c.put_header.new.out)
     (g.K.Sink.shown c.tell_run.new.out)
@@ -30,7 +30,7 @@ returns-in_err-_end-clause-broken g c =
 
 pub returns-clause-said : goal.returns-clause-said
 returns-clause-said g c =
-    trace_said (story c.args.course.now.joint.image.bytes (g.F.Feed.told c.args.feed.now).history) c.requires.timely
+    trace_said (story c.args.course.now.joint.image.bytes (g.F.Feed.told c.args.feed.now).history) c.requires.ready.timely
     (g.K.Sink.shown c.args.out.now)
     (g.K.Sink.shown c.put_header.new.out)
     (g.K.Sink.shown c.tell_run.new.out)

@@ -8,8 +8,7 @@ use Rattle.board_run.specs.Ending.{ending}
 use Rattle.board_run.specs.Running.{IsOutcome}
 use Rattle.board_run.specs.Tracing.{IsTraceBrokenOff}
 use Rattle.story_run.specs.declared.ending.Ending.TheVariants.{Stamp}
-use Rattle.board_run.proofs.BrokenOff.{some_looked}
-use Rattle.board_run.proofs.ByName.{looked_by, some_looked_by}
+use Rattle.story_run.proofs.Looked.{looked_by, some_looked, some_looked_to_break}
 use Rattle.board_run.proofs.Ends.{ends}
 use Rattle.board_run.proofs.Traced.{broke_behind_header, header_broken_off, trace_broken_off}
 use Rattle.board_run.proofs.board.Board.trace_to.Goals as goal
@@ -33,20 +32,8 @@ pub returns-in_err-put_header-clause-looked_to_break : goal.returns-in_err-put_h
 returns-in_err-put_header-clause-looked_to_break g c =
     on_err c.from_residual.result _ (inl (record { broken = c.in_err-put_header.ensures.broken; looked = refl }))
 
-pub tell_run-requires-clause-accepted : goal.tell_run-requires-clause-accepted
-tell_run-requires-clause-accepted g c = c.self.invariant.accepted
-
-pub tell_run-requires-clause-timely : goal.tell_run-requires-clause-timely
-tell_run-requires-clause-timely g c = tt
-
-pub tell_run-requires-clause-standing : goal.tell_run-requires-clause-standing
-tell_run-requires-clause-standing g c = c.self.invariant.standing
-
-pub tell_run-requires-clause-steps : goal.tell_run-requires-clause-steps
-tell_run-requires-clause-steps g c = c.self.invariant.steps
-
-pub tell_run-requires-clause-taken : goal.tell_run-requires-clause-taken
-tell_run-requires-clause-taken g c = c.self.invariant.taken
+pub tell_run-requires-clause-ready : goal.tell_run-requires-clause-ready
+tell_run-requires-clause-ready g c = c.self.invariant
 
 pub tell_run-requires-clause-told : goal.tell_run-requires-clause-told
 tell_run-requires-clause-told g c =
@@ -63,15 +50,14 @@ returns-clause-run g c =
     (ends s new c.in_ok-end.end c.in_ok-end.ensures.ended)
 
 pub returns-clause-looked : goal.returns-clause-looked
-returns-clause-looked g c = looked_by _ _ c.self.view_is _ _ c.tell_run.new.course.joint.steps c.in_ok-end.ensures.looked
+returns-clause-looked g c =
+    let k = c.tell_run.new.course.joint.steps in
+    looked_by _ _ c.self.view_is _ _ k k refl c.in_ok-end.ensures.looked
 
 pub returns-clause-looked_so_far : goal.returns-clause-looked_so_far
 returns-clause-looked_so_far g c =
-    some_looked_by _ _ c.self.view_is _ _ (record {
-      steps = c.tell_run.new.course.joint.steps;
-      goes_on = c.in_ok-end.ensures.ended.standing.goes_on;
-      looked = c.in_ok-end.ensures.looked;
-    })
+    let r = c.in_ok-end.ensures in
+    some_looked _ _ c.self.view_is _ _ Stamp c.tell_run.new.course.joint.steps r.ended.standing.goes_on r.looked
 
 pub returns-in_err-end-clause-broken : goal.returns-in_err-end-clause-broken
 returns-in_err-end-clause-broken g c =
@@ -83,7 +69,7 @@ returns-in_err-end-clause-broken g c =
     (trace_broken_off s x y z _ _ c.in_ok-put_header.ensures.said c.in_err-end.ensures.broken))
 
 pub returns-in_err-end-clause-looked_so_far : goal.returns-in_err-end-clause-looked_so_far
-returns-in_err-end-clause-looked_so_far g c = some_looked_by _ _ c.self.view_is _ _ (some_looked _ _ _ _ c.in_err-end.ensures.broken)
+returns-in_err-end-clause-looked_so_far g c = some_looked_to_break _ _ c.self.view_is _ _ Stamp _ c.in_err-end.ensures.broken
 
 pub returns-in_err-end-clause-looked_to_break : goal.returns-in_err-end-clause-looked_to_break
 returns-in_err-end-clause-looked_to_break g c =

@@ -1,33 +1,30 @@
 use Rattle.std.proofs.Common.{ap, sym, subst, ◌∙◌, arith}
 use Rattle.io_edge.proofs.Pieces.{none_said}
+use Rattle.io_edge.proofs.Taken.{on_err}
 use Rattle.joint_feed.specs.Stories.{Story, story}
 use Rattle.key_file.specs.Accepted.{IsAcceptedFor}
+use Rattle.story_run.specs.declared.ending.Ending.TheVariants.{TickStart}
 use Rattle.story_run.specs.Gliding.{history_of}
+use Rattle.story_run.proofs.Looked.{broke_by, looked_by, some_looked, some_looked_to_break}
 use Rattle.subsystem.specs.Agreement.{IsAsExpected}
 use Rattle.subsystem.specs.Ending.{ending}
-use Rattle.subsystem.specs.Putting.{IsLogBrokenOff}
+use Rattle.subsystem.specs.Putting.{IsLogBrokenAt, IsLogBrokenOff}
 use Rattle.subsystem.specs.Running.{IsOutcome}
 use Rattle.subsystem.proofs.Beginning.{begins}
-use Rattle.subsystem.proofs.Came.{HasCome, broken_whole, came, looked_some_by}
-use Rattle.subsystem.proofs.Looking.{looked_break, looked_some, looked_whole, on_err}
+use Rattle.subsystem.proofs.Came.{HasCome, broken_whole, came}
 use Rattle.subsystem.proofs.Timekeeping.{keeps_cadence}
 use Rattle.key_file.proofs.Lawful.{lawful_for}
 use Rattle.subsystem.proofs.engine.Engine.run_to.Goals as goal
 
 pub tell_run-requires : goal.tell_run-requires
 tell_run-requires g c =
-    let ready = c.self.invariant.0 in
     let room = c.self.invariant.1 in
     let s = story c.self.inside.course.joint.image.bytes (g.F.Feed.told c.self.inside.feed).history in
     record {
-      accepted = ready.accepted;
-      timely = ready.time;
-      standing = ready.standing;
-      steps = ready.steps;
-      taken = ready.taken;
+      ready = c.self.invariant.0;
       told = (
         record {
-          noted = begins s ready.time c.self.inside.starts room.none;
+          noted = begins s c.self.invariant.0.timely c.self.inside.starts room.none;
           room = room.room;
           counts = c.none.ensures;
           short = omega arith;
@@ -40,7 +37,7 @@ pub returns : goal.returns
 returns g c =
     let h = (g.F.Feed.told c.self.inside.feed).history in
     let s = story c.self.inside.course.joint.image.bytes h in
-    let time = c.self.invariant.0.time in
+    let time = c.self.invariant.0.timely in
     let x = g.K.Sink.shown c.args.out.now in
     let y = g.K.Sink.shown c.tell_run.new.out in
     let r = c.in_ok-_end.ensures in
@@ -62,12 +59,9 @@ returns g c =
           (subst (λ b. IsOutcome (story b h) (ending s ended)) image here.run));
       cadence = keeps_cadence s time (ending s ended) here.run;
       broken = tt;
-      looked = looked_whole _ _ _ _ _ _ c.self.view_is e.steps r.looked;
-      looked_so_far = looked_some _ _ _ _ c.self.view_is (record {
-        steps = c.tell_run.new.course.joint.steps;
-        goes_on = r.ended.standing.goes_on;
-        looked = r.looked;
-      });
+      looked = looked_by _ _ c.self.view_is _ _ c.tell_run.new.course.joint.steps ended.steps e.steps r.looked;
+      looked_so_far =
+          some_looked _ _ c.self.view_is _ _ TickStart c.tell_run.new.course.joint.steps r.ended.standing.goes_on r.looked;
       looked_to_break = tt;
     }
 
@@ -76,14 +70,14 @@ returns-in_err-_end-clause-broken g c =
     let s = story c.self.inside.course.joint.image.bytes (g.F.Feed.told c.self.inside.feed).history in
     let x = g.K.Sink.shown c.args.out.now in
     let y = g.K.Sink.shown c.tell_run.new.out in
-    on_err c.from_residual.result (subst (λ (t : Story). IsLogBrokenOff t x y) c.self.view_is
-    (broken_whole s c.self.invariant.0.time x y _ _ c.in_err-_end.ensures.broken))
+    on_err c.from_residual.result _ (subst (λ (t : Story). IsLogBrokenOff t x y) c.self.view_is
+    (broken_whole s c.self.invariant.0.timely x y _ _ c.in_err-_end.ensures.broken))
 
 pub returns-in_err-_end-clause-looked_so_far : goal.returns-in_err-_end-clause-looked_so_far
-returns-in_err-_end-clause-looked_so_far g c = looked_some _ _ _ _ c.self.view_is (looked_some_by _ _ _ _ c.in_err-_end.ensures.broken)
+returns-in_err-_end-clause-looked_so_far g c = some_looked_to_break _ _ c.self.view_is _ _ TickStart _ c.in_err-_end.ensures.broken
 
 pub returns-in_err-_end-clause-looked_to_break : goal.returns-in_err-_end-clause-looked_to_break
 returns-in_err-_end-clause-looked_to_break g c =
     let x = g.K.Sink.shown c.args.out.now in
     let y = g.K.Sink.shown c.tell_run.new.out in
-    on_err c.from_residual.result (looked_break _ _ x y _ _ c.self.view_is c.in_err-_end.ensures.broken)
+    on_err c.from_residual.result _ (broke_by _ _ c.self.view_is _ _ TickStart (λ s. IsLogBrokenAt s x y) c.in_err-_end.ensures.broken)

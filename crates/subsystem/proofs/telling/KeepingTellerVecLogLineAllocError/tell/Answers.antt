@@ -1,5 +1,5 @@
 use Rattle.std.proofs.Common.{◌++◌, ap, sym, ◌∙◌}
-use Rattle.subsystem.proofs.Looking.{on_ok_by}
+use Rattle.std.proofs.lemmas.Result.{on_ok_weaker}
 use Rattle.subsystem.proofs.Tellers.{few_noted, kept_on, lines_by, noted_on}
 use Rattle.subsystem.proofs.telling.KeepingTellerVecLogLineAllocError.tell.Goals as goal
 
@@ -17,7 +17,7 @@ returns-clause-told c = λ e s first k b told.
     c.in_ok-push_lines.ensures.lines
     ∙ ap (λ v. c.args.out.now.items ++ v)
     (lines_by course it c.tick.result c.as_slice.result.now c.tick.ensures c.as_slice.ensures.value) in
-    on_ok_by c.note.result
+    on_ok_weaker c.note.result
     (λ more. (
       noted_on e s k course it c.note.new.self b told.0 more,
       kept_on e s k course it first.items c.args.out.now.items c.push_lines.new.log.items b told.0 told.1 lines,

@@ -2,7 +2,7 @@ use Rattle.std.proofs.Common.{◌≤◌, length, ap, sym, subst, ◌∙◌}
 use Rattle.io_edge.specs.Said.{IsBrokenOff, IsSaid}
 use Rattle.subsystem.specs.Counts.{with_lines}
 use Rattle.subsystem.specs.Texts.{log_text}
-use Rattle.subsystem.proofs.Looking.{on_err}
+use Rattle.io_edge.proofs.Taken.{on_err}
 use Rattle.subsystem.proofs.Tellers.{broken_on, few_noted, lines_by, put_on, room_put, said_on}
 use Rattle.subsystem.proofs.telling.PuttingTellerSinkFault.tell.Goals as goal
 
@@ -24,7 +24,7 @@ returns-in_err-put_items-clause-broken g c = λ e s first k b told.
     let y = g.K.Sink.shown c.args.out.now in
     let z = g.K.Sink.shown c.put_items.new.out in
     let lines = lines_by course it.starts c.tick-tick.result c.as_slice.result.now c.tick-tick.ensures c.as_slice.ensures.value in
-    on_err c.from_residual.result
+    on_err c.from_residual.result _
     (broken_on e s k course it x y z b told.0 told.1 (subst (λ l. IsBrokenOff y z (log_text l)) lines c.in_err-put_items.ensures.broken))
 
 pub returns-clause-told : goal.returns-clause-told

@@ -1,4 +1,5 @@
-use Rattle.wire_trace.proofs.SampleIsOfState.{broken_now, heard_now, on_err, on_ok, rises_now, said_now}
+use Rattle.std.proofs.lemmas.Result.{on_ok_weaker}
+use Rattle.wire_trace.proofs.SampleIsOfState.{broken_now, heard_now, on_err, rises_now, said_now}
 use Rattle.wire_trace.proofs.telling.ChangesTellerSinkFault.tell.Goals as goal
 
 pub put_sample-requires : goal.put_sample-requires
@@ -14,7 +15,7 @@ returns-clause-told g c = λ e s first k b h.
     let it = c.args.course.now in
     let cycle = c.cycle-cycle.result in
     let lines = c.lines-lines.result in
-    on_ok c.put_sample.result (λ said. (
+    on_ok_weaker c.put_sample.result (λ said. (
       heard_now e s k it b old h.0 cycle lines c.cycle-cycle.ensures.cycle c.lines-lines.ensures.wires
           c.put_sample.new.decoder c.put_sample.ensures.heard,
       said_now e s k it b old h.0 cycle lines c.cycle-cycle.ensures.cycle c.lines-lines.ensures.wires
