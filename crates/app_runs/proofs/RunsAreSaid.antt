@@ -1,5 +1,5 @@
 -- What `run`, `expect` and `sample` may say, behind files that were judged.
-use Rattle.std.proofs.Common.{◌≡◌, ◌≤◌, ℕ, Bool, List, [], Global, Ok, Err, inl, inr, refl, ap, sym, subst}
+use Rattle.std.proofs.Common.{◌≡◌, ◌≤◌, ℕ, Bool, List, [], Global, Ok, Err, inr, refl, ap, sym, subst}
 use Rattle.std.specs.Prelude.{OnErr, OnOk}
 use Rattle.std.specs.declared.result.Result.{Result}
 use Rattle.std.specs.declared.vec.Vec.{Vec}
@@ -18,16 +18,15 @@ use Rattle.subsystem.specs.Agreement.{RunsAsExpected}
 use Rattle.runs_agree.specs.Outcomes.{RunsComeToOutcomes}
 use Rattle.subsystem.specs.Running.{IsOutcome, Outcome}
 use Rattle.app_words.specs.declared.refusal.Refusal.{Refusal}
-use Rattle.app_words.specs.declared.refusal.Refusal.TheVariants.{Memory}
 use Rattle.app_answers.specs.declared.spoken.Spoken.{Spoken}
 use Rattle.app_answers.specs.declared.spoken.Spoken.TheVariants.{Said}
 use Rattle.app_words.specs.declared.words.RunCommand.{RunCommand}
-use Rattle.app_words.specs.declared.words.RunCommand.TheVariants.{Log, Expect, Trace}
+use Rattle.app_words.specs.declared.words.RunCommand.TheVariants.{Log, Trace}
 use Rattle.app_answers.specs.Answers.{answer_of}
 use Rattle.app_answers.specs.Leaving.{Left, HaveLookedAtAll}
 use Rattle.app_runs.specs.RunAnswers.{MayAnswerRun, MayAnswerSample}
 use Rattle.app_answers.specs.FileAnswers.{Answer}
-use Rattle.app_runs.specs.RunTexts.{HaveLooked, HaveLookedToCut, IsRunText, run_text}
+use Rattle.app_runs.specs.RunTexts.{HaveLookedToCut, IsRunText, run_text}
 use Rattle.app_runs.specs.Sampling.{sample_history, sample_story, sample_text}
 use Rattle.app_answers.specs.Spoken.{IsSpoken, May, still_to_say}
 use Rattle.app_answers.specs.Taking.{Taking, Whole, CutOff}
@@ -48,10 +47,6 @@ ran command layout text history answer probes left is alone may =
     with_history (MayTellRun command layout probes) (history_of layout text) history answer probes left is (may, alone)
 
 module _ (ticks steps : Bool) (layout : KeyLayout) (text : List ℕ) (history : KeyHistory) (is : history_of layout text ≡ Ok history) where
-  -- memory is wanting before it begins
-  pub lacking : (probes : List Watch) (taking : Taking) → MayTell (Log ticks steps) layout text (Err Memory) probes (left_so probes taking)
-  lacking probes taking = ran (Log ticks steps) layout text history (Err Memory) probes (left_so probes taking) is refl (inl (refl, refl))
-
   module _ (law : RunsAsExpected) (sound : IsKeyLayout layout) (accepted : IsAcceptedFor layout history)
       (s : Story) (this : s ≡ story (image_of layout) history)
       (run : Outcome) (made : IsOutcome s run) (probes left : List Watch) where
@@ -131,26 +126,8 @@ sampled count few law sound s this text probes left h =
       subst (λ (t : Story). HaveLookedAtAll t h.0.steps probes left) this h.3,
     )
 
--- what `expect` says, where memory isn't wanting
-abbrev pub IsExpectText : KeyLayout → KeyHistory → List Watch → List Watch → List ℕ → Type 0
-IsExpectText layout history probes left said =
-    (run : Outcome) × IsRunText Expect layout history said run × HaveLookedAtAll (story (image_of layout) history) run.steps probes left
-
-module _ (layout : KeyLayout) (text : List ℕ) (history : KeyHistory) (is : history_of layout text ≡ Ok history)
-    (probes left : List Watch) (taking : Taking) where
-  pub expected_lacking : HaveLooked layout history probes left → MayTell Expect layout text (Err Memory) probes (left_so left taking)
-  expected_lacking looked = ran Expect layout text history (Err Memory) probes (left_so left taking) is refl (inl (refl, looked))
-
-  pub expected_said : (said : List ℕ)
-      → IsExpectText layout history probes left said → MayTell Expect layout text (Ok said) probes (left_so left taking)
-  expected_said said h =
-      ran Expect layout text history (Ok said) probes (left_so left taking) is refl (inr (said, h.0, h.1, refl, h.2))
-
 -- what `trace` says, which leaves the probes alone
 module _ (layout : KeyLayout) (text : List ℕ) (history : KeyHistory) (is : history_of layout text ≡ Ok history) (probes : List Watch) where
-  pub trace_lacking : (taking : Taking) → MayTell Trace layout text (Err Memory) probes (left_so probes taking)
-  trace_lacking taking = ran Trace layout text history (Err Memory) probes (left_so probes taking) is refl (inl (refl, refl))
-
   module _ (law : RunsAsExpected) (outcomes : RunsComeToOutcomes)
       (heard : HearsAll (story (image_of layout) history)) (sound : IsKeyLayout layout) (accepted : IsAcceptedFor layout history)
       (x y : Shown) where
