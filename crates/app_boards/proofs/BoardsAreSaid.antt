@@ -16,7 +16,6 @@ use Rattle.key_file.specs.KeyFile.{history_of}
 use Rattle.layout_reader.specs.Layouts.{KeyLayout}
 use Rattle.mcs48_core.specs.declared.stepping.Stuck.{Stuck as Place}
 use Rattle.app_words.specs.declared.refusal.Refusal.{Refusal}
-use Rattle.app_words.specs.declared.refusal.Refusal.TheVariants.{Memory}
 use Rattle.app_answers.specs.declared.spoken.Spoken.{Spoken}
 use Rattle.app_answers.specs.declared.spoken.Spoken.TheVariants.{Said, Stuck}
 use Rattle.wire_trace.proofs.OfLines.{changes_are_lines, header_is_lines}
@@ -31,9 +30,9 @@ use Rattle.app_boards.specs.BoardTexts.{HaveLookedToLine, board_end, board_log, 
 use Rattle.app_answers.specs.FileAnswers.{Answer}
 use Rattle.app_answers.specs.Says.{text_said}
 use Rattle.app_answers.specs.Spoken.{IsSpoken, May}
-use Rattle.app_answers.specs.Taking.{Taking, Whole, CutOff}
+use Rattle.app_answers.specs.Taking.{Whole, CutOff}
 use Rattle.app_boards.specs.Telling.{MayTellBoard}
-use Rattle.app_answers.proofs.AreSpoken.{spoken_on, with_history, left_behind, left_so}
+use Rattle.app_answers.proofs.AreSpoken.{spoken_on, with_history, left_behind}
 
 -- what is said of a run as it is made is of whole lines
 pub log_is_lines : (wanted : BoardCommand) (s : Story) (run : Outcome) → AreLines (board_log wanted s run)

@@ -1,5 +1,5 @@
 -- What `run`, `expect` and `sample` may say, behind files that were judged.
-use Rattle.std.proofs.Common.{◌≡◌, ◌≤◌, ℕ, Bool, List, [], Global, Ok, Err, inl, inr, refl, ap, sym, subst}
+use Rattle.std.proofs.Common.{◌≡◌, ◌≤◌, ℕ, Bool, List, [], Global, Ok, Err, inr, refl, ap, sym, subst}
 use Rattle.std.specs.Prelude.{OnErr, OnOk}
 use Rattle.std.specs.declared.result.Result.{Result}
 use Rattle.std.specs.declared.vec.Vec.{Vec}
@@ -18,16 +18,15 @@ use Rattle.subsystem.specs.Agreement.{RunsAsExpected}
 use Rattle.runs_agree.specs.Outcomes.{RunsComeToOutcomes}
 use Rattle.subsystem.specs.Running.{IsOutcome, Outcome}
 use Rattle.app_words.specs.declared.refusal.Refusal.{Refusal}
-use Rattle.app_words.specs.declared.refusal.Refusal.TheVariants.{Memory}
 use Rattle.app_answers.specs.declared.spoken.Spoken.{Spoken}
 use Rattle.app_answers.specs.declared.spoken.Spoken.TheVariants.{Said}
 use Rattle.app_words.specs.declared.words.RunCommand.{RunCommand}
-use Rattle.app_words.specs.declared.words.RunCommand.TheVariants.{Log, Expect, Trace}
+use Rattle.app_words.specs.declared.words.RunCommand.TheVariants.{Log, Trace}
 use Rattle.app_answers.specs.Answers.{answer_of}
 use Rattle.app_answers.specs.Leaving.{Left, HaveLookedAtAll}
 use Rattle.app_runs.specs.RunAnswers.{MayAnswerRun, MayAnswerSample}
 use Rattle.app_answers.specs.FileAnswers.{Answer}
-use Rattle.app_runs.specs.RunTexts.{HaveLooked, HaveLookedToCut, IsRunText, run_text}
+use Rattle.app_runs.specs.RunTexts.{HaveLookedToCut, IsRunText, run_text}
 use Rattle.app_runs.specs.Sampling.{sample_history, sample_story, sample_text}
 use Rattle.app_answers.specs.Spoken.{IsSpoken, May, still_to_say}
 use Rattle.app_answers.specs.Taking.{Taking, Whole, CutOff}
@@ -48,10 +47,6 @@ ran command layout text history answer probes left is alone may =
     with_history (MayTellRun command layout probes) (history_of layout text) history answer probes left is (may, alone)
 
 module _ (ticks steps : Bool) (layout : KeyLayout) (text : List ℕ) (history : KeyHistory) (is : history_of layout text ≡ Ok history) where
-  -- memory is wanting before it begins
-  pub lacking : (probes : List Watch) (taking : Taking) → MayTell (Log ticks steps) layout text (Err Memory) probes (left_so probes taking)
-  lacking probes taking = ran (Log ticks steps) layout text history (Err Memory) probes (left_so probes taking) is refl (inl (refl, refl))
-
   module _ (law : RunsAsExpected) (sound : IsKeyLayout layout) (accepted : IsAcceptedFor layout history)
       (s : Story) (this : s ≡ story (image_of layout) history)
       (run : Outcome) (made : IsOutcome s run) (probes left : List Watch) where

@@ -1,4 +1,4 @@
-use Rattle.std.proofs.Common.{◌≡◌, ap, sym, subst, ◌∙◌, ◌+◌, rules, w32}
+use Rattle.std.proofs.Common.{ap, sym, subst, ◌∙◌, ◌+◌, rules, w32}
 use Rattle.std.proofs.lemmas.Int.{to_z-of_z}
 use Rattle.live_board.specs.Running.{HasRun}
 use Rattle.edge_queue.specs.Queue.{queue_of}
