@@ -1,7 +1,7 @@
 -- The edges of a past that come out of a queue.
 use Rattle.std.proofs.Common.{◌≡◌, ◌≤◌, ◌<◌, ◌-◌, ℕ, zero, suc, true, false, List, [], ◌∷◌, ◌++◌, Some, None}
 use Rattle.std.proofs.Common.{refl, ap, sym, subst, ◌∙◌, arith, append_assoc}
-use Rattle.std.specs.Prelude.{All, nat_lt, if◌then◌else◌}
+use Rattle.std.specs.Prelude.{nat_lt, if◌then◌else◌}
 use Rattle.std.specs.declared.option.Option.{Option}
 use Rattle.std.proofs.lemmas.List.{append-nil}
 use Rattle.agreement.specs.Agreement.{AgreementLaw}
@@ -15,7 +15,7 @@ use Rattle.edge_queue.specs.Calls.Call.{Push, Take}
 use Rattle.edge_queue.specs.Laws.{AreLawful}
 use Rattle.edge_queue.specs.Queue.{Queue, after_taken, all_released, due_at, edge_at, empty, first_taken, pushed, released_to, taken}
 use Rattle.edge_queue.specs.declared.queue.Pushed.{Pushed}
-use Rattle.key_file.specs.Accepted.{AreHostEventsInOrder, AreWritten, IsLawful, IsPlaceOf}
+use Rattle.key_file.specs.Accepted.{AreHostEventsInOrder, AreWritten, IsLawful}
 use Rattle.live_agrees.proofs.Agreed.{logs_agree}
 use Rattle.live_agrees.specs.Queued.{AreFrom, HandsOn, QueuedLogsAgree, StaysQueued}
 use Rattle.live_board.specs.Pasts.{Past}
