@@ -53,10 +53,15 @@ Acts act k answer after = IsActed act k answer after × IsTold act k answer afte
 abbrev pub HasActed : HostAct → Keyboard → ℤ → Keyboard → Type 0
 HasActed act = Calls {X = Unit {0}} (Acts act)
 
+-- the key's call: no step is made, and what is kept of the log and counted of the line's rises stays
+abbrev pub Keys : ℕ → Bool → Keyboard → Result (Unit {0}) Refused → Keyboard → Type 0
+Keys place down k answer after =
+    IsKeyed place down k answer after × (after.joint ≡ k.joint) × (after.heard ≡ k.heard) × (after.rises ≡ k.rises)
+
 -- a key at a place, of which there are 96
 abbrev pub HasPressed : ℕ → Bool → Keyboard → ℤ → Keyboard → Type 0
 HasPressed place down k status after =
-    (place < 96 → Calls (IsKeyed place down) k status after) × (96 ≤ place → IsLeft no_such_place k status after)
+    (place < 96 → Calls (Keys place down) k status after) × (96 ≤ place → IsLeft no_such_place k status after)
 
 -- a write to port 60h or 64h
 abbrev pub HasWritten : ℕ → ℕ → Keyboard → ℤ → Keyboard → Type 0

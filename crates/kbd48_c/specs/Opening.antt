@@ -5,8 +5,7 @@ use Rattle.hexfile.specs.Hex.{hex_of}
 use Rattle.hexfile.specs.declared.fault.HexFault.{HexFault}
 use Rattle.layout_reader.specs.Documents.{layout_of_document}
 use Rattle.layout_reader.specs.Layouts.{KeyLayout}
-use Rattle.live_board.specs.Ready.{IsReady}
-use Rattle.live_board.specs.Running.{IsOpened}
+use Rattle.live_board.specs.Ready.{IsOpened, IsReady}
 use Rattle.live_board.specs.declared.parts.Parts.{Parts as Keyboard}
 use Rattle.kbd48_c.specs.declared.opening.Fault.{Fault}
 

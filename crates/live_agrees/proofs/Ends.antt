@@ -101,7 +101,7 @@ earlier p k (suc m) w h =
     let u = before (story_of p) (m + k) w (ap (state_at (story_of p)) (sym one) ∙ h) in
     earlier p k m u.0 u.1
 
-no_state : (p : Past) (k n : ℕ) (w : World Beside) → state_at (story_of p) n ≡ Some w → k ≤ n
+pub no_state : (p : Past) (k n : ℕ) (w : World Beside) → state_at (story_of p) n ≡ Some w → k ≤ n
     → state_at (story_of p) k ≡ None → ⊥
 no_state p k n w at l none =
     let sum : n - k + k ≡ n = omega (arith, l) in
@@ -110,7 +110,7 @@ no_state p k n w at l none =
     absurd cc
 
 -- a state of more steps is later
-later_cycle : (p : Past) (k n : ℕ) (w v : World Beside) → k < n → state_at (story_of p) k ≡ Some w
+pub later_cycle : (p : Past) (k n : ℕ) (w v : World Beside) → k < n → state_at (story_of p) k ≡ Some w
     → state_at (story_of p) n ≡ Some v → w.cycle < v.cycle
 later_cycle p k n w v less from to =
     let sum : n - suc k + suc k ≡ n = omega (arith, less) in
@@ -122,7 +122,7 @@ later_cycle p k n w v less from to =
 
 -- one run, from a state of so many steps and this cycle
 module _ (p : Past) (a : Keyboard) (cycles : ℕ) (watched : Bool) (s : Stands p a) where
-  from_here : state_at (story_of p) a.joint.steps ≡ Some s.world
+  pub from_here : state_at (story_of p) a.joint.steps ≡ Some s.world
   from_here = ap (state_at (story_of p)) s.steps ∙ here p a s
 
   -- it doesn't end before the state from which it began
@@ -143,7 +143,7 @@ module _ (p : Past) (a : Keyboard) (cycles : ℕ) (watched : Bool) (s : Stands p
       absurd (no_state p (suc k.joint.steps) a.joint.steps s.world from_here less h.0)
 
 -- a number can't rise and not rise
-both_ways : (x : Bool) → x ≡ true → x ≡ false → ⊥
+pub both_ways : (x : Bool) → x ≡ true → x ≡ false → ⊥
 both_ways x h g = let e : true ≡ false = sym h ∙ g in absurd cc
 
 -- two runs from one past

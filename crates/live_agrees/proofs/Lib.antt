@@ -1,3 +1,6 @@
 pub mod Logs
 pub mod Agreed
 pub mod Ends
+pub mod Keys
+pub mod Stops
+pub mod Queued

@@ -17,13 +17,16 @@ use Rattle.layout_reader.specs.Layouts.{IsKeyLayout, KeyLayout}
 use Rattle.link_model.specs.Expected.{whole_at}
 use Rattle.link_model.specs.Machine.{keyboard}
 use Rattle.live_board.specs.Answers.{Told}
-use Rattle.live_board.specs.Calls.{IsActed, Tells}
+use Rattle.live_board.specs.Calls.{IsActed, IsKeyed, Tells}
 use Rattle.live_board.specs.Pasts.{Past, state_of}
 use Rattle.live_board.specs.Running.{HasRun}
 use Rattle.live_board.specs.Standing.{Stands}
+use Rattle.live_board.specs.Stopping.{HasStopped}
 use Rattle.live_board.specs.declared.parts.Parts.{Parts as Keyboard}
 use Rattle.live_board.specs.declared.ran.RunEnd.{RunEnd}
 use Rattle.live_board.specs.declared.refused.Refused.{Refused}
+use Rattle.live_board.specs.declared.stops.Ending.{Ending}
+use Rattle.live_board.specs.declared.stops.Stops.{Stops}
 
 -- the keys and host events of a past, as a history with this end stamp
 abbrev pub history_of : Past → ℕ → KeyHistory
@@ -66,6 +69,12 @@ CallsAreAlike =
     (act : HostAct) (p : Past) (a b c d : Keyboard) (x y : Result (Unit {0}) Refused) → Stands p a → Stands p b
     → IsActed act a x c → IsActed act b y d → x ≡ y
 
+-- so is the call of a key
+abbrev pub KeysAreAlike : Type 0
+KeysAreAlike =
+    (place : ℕ) (down : Bool) (p : Past) (a b c d : Keyboard) (x y : Result (Unit {0}) Refused) → Stands p a → Stands p b
+    → IsKeyed place down a x c → IsKeyed place down b y d → x ≡ y
+
 -- a run of so many cycles, with the interrupt line watched or not, ends for one reason and after as many steps, if the
 -- count of cycles doesn't come to its end
 abbrev pub RunsEndAlike : Type 0
@@ -73,6 +82,13 @@ RunsEndAlike =
     (p : Past) (a b c d : Keyboard) (cycles : ℕ) (watched : Bool) (x y : RunEnd) → Stands p a → Stands p b
     → HasRun p a cycles watched x c → HasRun p b cycles watched y d → c.joint.cycle < 2 ^ 62 → d.joint.cycle < 2 ^ 62
     → (x ≡ y) × (c.joint.steps ≡ d.joint.steps)
+
+-- so does a run that stops for what it is asked to
+abbrev pub RunsStopAlike : Type 0
+RunsStopAlike =
+    (stops : Stops) (p : Past) (a b c d : Keyboard) (cycles steps : ℕ) (x y : Ending) → Stands p a → Stands p b
+    → HasStopped stops p a cycles steps x c → HasStopped stops p b cycles steps y d → c.joint.cycle < 2 ^ 62
+    → d.joint.cycle < 2 ^ 62 → (x ≡ y) × (c.joint.steps ≡ d.joint.steps)
 
 -- a log is the beginning of what the model says, which goes by what the columns show, up to one of the run's own tick
 -- starts

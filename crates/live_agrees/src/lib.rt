@@ -4,25 +4,29 @@
 //! do. Source: our own.
 #![tactic(auto)]
 
-ghost use Rattle.live_agrees.specs.Law.{AnswersAreAlike, AnyUseIsLawful, CallsAreAlike, LogsAgree, LogsAreShown};
-ghost use Rattle.live_agrees.specs.Law.{NeverStuck, RunsEndAlike, StatesAreAlike, WordsAreAlike};
+ghost use Rattle.live_agrees.specs.Law.{AnswersAreAlike, AnyUseIsLawful, CallsAreAlike, KeysAreAlike, LogsAgree};
+ghost use Rattle.live_agrees.specs.Law.{LogsAreShown, NeverStuck, RunsEndAlike, RunsStopAlike, StatesAreAlike, WordsAreAlike};
+ghost use Rattle.live_agrees.specs.Queued.{QueuedLogsAgree, StaysQueued};
 
 use agreement::{any_keys, goes_on_from_any_start, run_and_model_agree};
+use edge_queue::edges_are_lawful;
 
 /// Whatever calls were made, in whatever order, however many and for however long: let a keyboard be in a past that
 /// begins with a layout's compiled image, and let the keys and host events of that past be lawful for the layout. Then
 /// what was said so far is the beginning of what the model says of them, at the run's own tick starts. How often a
 /// program uses the ports is free: without keys, events in order that write bytes are lawful. And the same calls give the
 /// same answers: two keyboards in one past are in one state of the run, and what is told between two pasts is one byte,
-/// and one word or none; a call of the host is done of both, or refused for one cause; and a run ends for one reason.
-/// Nothing is done when it is called; the laws are its contract.
+/// and one word or none; a call of the host or of a key is done of both, or refused for one cause; and a run ends for one
+/// reason, after as many steps. Nothing is done when it is called; the laws are its contract.
 pub fn calls_agree()
     ensures agrees { LogsAgree }
     ensures one_state { StatesAreAlike }
     ensures one_answer { AnswersAreAlike }
     ensures one_word { WordsAreAlike }
     ensures one_outcome { CallsAreAlike }
+    ensures one_key { KeysAreAlike }
     ensures one_end { RunsEndAlike }
+    ensures one_stop { RunsStopAlike }
     ensures any_use { AnyUseIsLawful }
 {
     run_and_model_agree();
@@ -45,4 +49,16 @@ pub fn never_stuck()
     ensures goes_on { NeverStuck }
 {
     any_keys();
+}
+
+/// Keys that come out of a queue: let each key of a keyboard's past be one that the queue handed over when it was due,
+/// whatever was pushed, and whenever. Then the keys are lawful, and what was said so far is the beginning of what the model
+/// says, if the keys are the layout's and the host's events are lawful too. Nothing is done when it is called; the laws are
+/// its contract.
+pub fn queued_keys_agree()
+    ensures queued { StaysQueued }
+    ensures agrees { QueuedLogsAgree }
+{
+    edges_are_lawful();
+    run_and_model_agree();
 }

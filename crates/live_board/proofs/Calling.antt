@@ -27,7 +27,7 @@ use Rattle.mcs48_core.specs.declared.stepping.Stuck.{Stuck}
 use Rattle.live_board.proofs.Acting.{HasDone, has_done}
 use Rattle.live_board.proofs.Growing.{grows}
 use Rattle.live_board.proofs.Stepping.{edges_left, edges_there, handed, here, image_same}
-use Rattle.live_board.proofs.Stepping.{later_edges, later_events, on, steps_more, world_later}
+use Rattle.live_board.proofs.Stepping.{later_edges, later_events, on, parted_on, steps_more, world_later}
 use Rattle.live_board.specs.Acts.{IsAnswered}
 use Rattle.live_board.specs.Calls.{IsActed, Says, place_of}
 use Rattle.live_board.specs.Pasts.{Past, acted, pressed, state_of, story_of}
@@ -157,6 +157,9 @@ module _ (old : Keyboard) (act : HostAct) (late : 4096 ≤ old.joint.cycle) (roo
                 (later_events w.cycle goes.next.cycle p.events cycle s.reached.events_reached)
                 (All-cons (λ (x : HostEvent). x.stamp + 4096 ≤ goes.next.cycle) event [] (omega (arith, at, late, cycle)) (All-nil _));
           };
+          parted =
+              parted_on es hs due old.joint new seen s.made w s.made_within s.order grown_run waiting host_next
+              is run s.reached.edges_reached;
         }
 
     pub says_on : Says p (acted p (old.joint.cycle - 4096) act) seen.items.items
@@ -215,6 +218,7 @@ stands_still p old new joint edges host s = record {
   all_done = s.all_done;
   order = s.order;
   reached = s.reached;
+  parted = s.parted;
 }
 
 -- an edge whose stamp is now stands behind those before it
@@ -251,5 +255,15 @@ keyed_on p old new e late stamp joint edges host s =
             All-append (λ (x : Edge). x.stamp + 4096 ≤ s.world.cycle) p.edges (e ∷ []) s.reached.edges_reached
             (All-cons (λ (x : Edge). x.stamp + 4096 ≤ s.world.cycle) e [] reached (All-nil _));
         events_reached = s.reached.events_reached;
+      };
+      parted = record {
+        made_before =
+            subst (λ v. All (λ (x : Edge). x.stamp + 4096 < s.world.cycle) v)
+            (sym (take-append-le s.made p.edges (e ∷ []) s.made_within)) s.parted.made_before;
+        come_now =
+            subst (λ v. All (λ (x : Edge). s.world.cycle ≤ x.stamp + 4096) v)
+            (sym (drop-append-le s.made p.edges (e ∷ []) s.made_within))
+            (All-append (λ (x : Edge). s.world.cycle ≤ x.stamp + 4096) (drop s.made p.edges) (e ∷ []) s.parted.come_now
+            (All-cons (λ (x : Edge). s.world.cycle ≤ x.stamp + 4096) e [] soon (All-nil _)));
       };
     }

@@ -1,10 +1,12 @@
 -- One joint step goes on with the run of the past.
-use Rattle.std.proofs.Common.{◌≡◌, ◌≤◌, ℕ, suc, ◌+◌, ◌-◌, List, [], ◌++◌, length, take, drop, Some}
+use Rattle.std.proofs.Common.{◌≡◌, ◌≤◌, ◌<◌, ℕ, suc, ◌+◌, ◌-◌, true, List, [], ◌∷◌, ◌++◌, length, take, drop, Some}
 use Rattle.std.proofs.Common.{None, Ok, Err, refl, ap, sym, subst, ◌∙◌, arith}
+use Rattle.std.specs.Prelude.{if◌then◌else◌}
 use Rattle.std.specs.List.{All}
+use Rattle.std.proofs.lemmas.Bool.Decides.{nat_tests}
 use Rattle.std.proofs.lemmas.List.{drop_all, length-drop, take_all}
-use Rattle.std.proofs.lemmas.List.Elements.{All-nil}
-use Rattle.board_lines.specs.Edges.{AreInOrder}
+use Rattle.std.proofs.lemmas.List.Elements.{All-drop, All-head, All-nil, All-tail, All-take}
+use Rattle.board_lines.specs.Edges.{AreInOrder, is_made}
 use Rattle.board_lines.specs.declared.event.Edge.{Edge}
 use Rattle.board_lines.specs.declared.event.HostEvent.{HostEvent}
 use Rattle.joint_run.specs.Due.{due_step, made_first, powered_on, IsJointStep}
@@ -17,12 +19,13 @@ use Rattle.joint_run.specs.declared.machine.Machine.{Machine}
 use Rattle.joint_feed.proofs.Counts.{done_few, made_few}
 use Rattle.joint_feed.proofs.Feeding.{drop_more}
 use Rattle.joint_feed.proofs.Going.{IsMade, made as step_made, same_state}
-use Rattle.joint_feed.specs.Stories.{state_at}
+use Rattle.joint_feed.specs.Stories.{Story, state_at}
 use Rattle.mcs48_core.specs.Reset.{reset_cpu}
 use Rattle.mcs48_core.specs.declared.stepping.Stuck.{Stuck}
+use Rattle.live_board.proofs.Timed.{step_later}
 use Rattle.live_board.specs.Calls.{Says}
 use Rattle.live_board.specs.Pasts.{Past, gone_on, state_of, story_of, untouched}
-use Rattle.live_board.specs.Standing.{Stands}
+use Rattle.live_board.specs.Standing.{AreParted, Stands}
 use Rattle.live_board.specs.declared.parts.Parts.{Parts as Keyboard}
 
 -- at power-on
@@ -40,6 +43,7 @@ at_first bytes k is first edges host = record {
   all_done = refl;
   order = tt;
   reached = record { edges_reached = All-nil _; events_reached = All-nil _ };
+  parted = record { made_before = All-nil _; come_now = All-nil _ };
 }
 
 -- the state that it stands at
@@ -64,6 +68,25 @@ handed edges made cycle items e =
       e ∙ sym (take_all (length items) (drop made edges) short),
       ap (made_first cycle) (drop_all (length items) (drop made edges) short),
     )
+
+-- edges that are all reached are all made in a step
+all_made : (cycle : ℕ) (es : List Edge) → All (λ e. e.stamp + 4096 ≤ cycle) es → made_first cycle es ≡ es
+all_made cycle [] h = refl
+all_made cycle (e ∷ es) h =
+    let first = All-head (λ (x : Edge). x.stamp + 4096 ≤ cycle) e es h in
+    let is : is_made cycle e ≡ true = grind (arith, nat_tests, first) in
+    ap (λ b. if b then e ∷ made_first cycle es else []) is
+    ∙ ap (λ v. e ∷ v) (all_made cycle es (All-tail (λ (x : Edge). x.stamp + 4096 ≤ cycle) e es h))
+
+-- after that none waits, and all were made before the cycle that comes then
+pub all_parted : (soon late made : ℕ) (es : List Edge) → soon < late → length es ≤ made
+    → All (λ e. e.stamp + 4096 ≤ soon) es → AreParted late made es
+all_parted soon late made es l m h = record {
+  made_before =
+      All-take (λ (e : Edge). e.stamp + 4096 < late) made es (λ i d n. let k = h i d n in omega (arith, k, l));
+  come_now =
+      subst (λ v. All (λ (e : Edge). late ≤ e.stamp + 4096) v) (sym (drop_all made es m)) (All-nil _);
+}
 
 -- a step that was made, of a machine in the run of these edges and events, with all of them handed in
 module _ (edges : List Edge) (events : List HostEvent) (due : Due) (old new : Machine) (seen : Seen) (made : ℕ) (world : World Beside)
@@ -98,6 +121,28 @@ module _ (edges : List Edge) (events : List HostEvent) (due : Due) (old new : Ma
       let c = ap length wait in
       let d : length (drop made edges) ≡ length edges - made = length-drop made edges in
       omega (arith, a, b, c, d, within)
+
+  pub world_sooner : world.cycle < on.next.cycle
+  world_sooner =
+      let s : Story = record { bytes = old.image.bytes; edges = edges; events = events; stop = 0; held = reset_cpu } in
+      let one = steps_more in
+      let next : old.steps + 1 ≡ suc old.steps = omega arith in
+      let there : state_at s (suc old.steps) ≡ Some on.next =
+      subst (λ n. state_at s n ≡ Some on.next) (one ∙ next)
+      (subst (λ bytes. run_at (joint_board edges events) bytes joint_start new.steps ≡ Some on.next) image_same on.in_run.run) in
+      step_later s old.steps world on.next in_run.run there
+
+  -- the step makes all edges that wait
+  pub parted_on : All (λ e. e.stamp + 4096 ≤ world.cycle) edges → AreParted on.next.cycle (made + seen.edges) edges
+  parted_on reached =
+      let left = All-drop (λ (e : Edge). e.stamp + 4096 ≤ world.cycle) made edges reached in
+      let all : made_first old.cycle due.edges.items ≡ drop made edges =
+      ap (λ n. made_first n due.edges.items) in_run.cycle ∙ ap (made_first world.cycle) wait
+      ∙ all_made world.cycle (drop made edges) left in
+      let a = step.seen_so.edges in
+      let b = ap length all in
+      let c : length (drop made edges) ≡ length edges - made = length-drop made edges in
+      all_parted world.cycle on.next.cycle (made + seen.edges) edges world_sooner (omega (arith, a, b, c, within)) reached
 
   pub edges_left : (items : List Edge) → items ≡ drop seen.edges due.edges.items → items ≡ drop (made + seen.edges) edges
   edges_left items e = e ∙ ap (drop seen.edges) wait ∙ drop_more made seen.edges (made + seen.edges) edges refl
@@ -147,6 +192,9 @@ module _ (p : Past) (old : Keyboard) (s : Stands p old) (new : Keyboard)
           edges_reached = later_edges s.world.cycle on.next.cycle p.edges cycle s.reached.edges_reached;
           events_reached = later_events s.world.cycle on.next.cycle p.events cycle s.reached.events_reached;
         };
+        parted =
+            parted_on p.edges p.events old.due old.joint new.joint new.seen s.made s.world s.made_within s.order
+            s.in_run s.edges_wait no_host is run s.reached.edges_reached;
       }
 
   -- what the step says is what it puts behind the log

@@ -1,18 +1,15 @@
 -- A call that goes on until so many cycles have passed, or until the interrupt line rises.
-use Rattle.std.specs.Prelude.{◌≡◌, ◌≤◌, ◌<◌, ◌^◌, ◌+◌, ℕ, suc, Bool, true, false, List, None, Some}
-use Rattle.std.specs.declared.result.Result.{Result}
-use Rattle.board_lines.specs.declared.event.HostAct.TheVariants.{Mask}
+use Rattle.std.specs.Prelude.{◌≡◌, ◌≤◌, ◌<◌, ◌^◌, ◌+◌, ℕ, suc, Bool, true, false, None, Some}
 use Rattle.joint_feed.specs.Stories.{state_at}
 use Rattle.joint_run.specs.Joint.{Beside}
 use Rattle.joint_run.specs.Run.{World}
-use Rattle.live_board.specs.Calls.{IsActed, place_of}
-use Rattle.live_board.specs.Pasts.{Past, gone_on, state_of, story_of, untouched}
+use Rattle.live_board.specs.Calls.{place_of}
+use Rattle.live_board.specs.Pasts.{Past, gone_on, state_of, story_of}
 use Rattle.live_board.specs.Rising.{irq_in, rose}
 use Rattle.live_board.specs.Standing.{Stands}
 use Rattle.live_board.specs.declared.parts.Parts.{Parts as Keyboard}
 use Rattle.live_board.specs.declared.ran.RunEnd.{RunEnd}
 use Rattle.live_board.specs.declared.ran.RunEnd.TheVariants.{Passed, Rose, Over, Stuck}
-use Rattle.live_board.specs.declared.refused.Refused.{Refused}
 
 -- the step after the first j steps raises the interrupt line
 abbrev pub rises : Past → ℕ → Bool
@@ -49,15 +46,3 @@ pub record HasRun (p : Past) (old : Keyboard) (cycles : ℕ) (watched : Bool) (e
   pub stands : Stands (gone_on p new.joint.steps) new
   pub before : AreBefore p old.joint.steps new.joint.steps (old.joint.cycle + cycles)
   pub ends : EndsSo p old cycles watched end new
-
--- a keyboard that has just been opened: from power-on it has run to stamp 0, and there INT 09h was masked, unless the
--- program is stuck
-pub record IsOpened (bytes : List ℕ) (k : Keyboard) : Type 0 where
-  pub first : Keyboard
-  pub at_first : Stands (untouched bytes 0) first
-  pub first_cycle : first.joint.cycle ≡ 0
-  pub middle : Keyboard
-  pub end : RunEnd
-  pub ran : HasRun (untouched bytes 0) first 4096 false end middle
-  pub answer : Result (Unit {0}) Refused
-  pub masked : IsActed Mask middle answer k

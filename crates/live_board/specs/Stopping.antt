@@ -77,8 +77,13 @@ is_met m = m.rise || (m.item || (m.wires || m.place))
 abbrev pub AreUnmet : Stops → Past → ℕ → ℕ → Type 0
 AreUnmet stops p from to = (j : ℕ) → from ≤ j → j < to → is_met (met_at stops p j) ≡ false
 
--- why it ended: a limit is reached; the last step did this, and no step before it did; the count of cycles is at its end;
--- or the processor is stuck, so that no state follows
+-- neither limit is reached
+pub record IsWithin (old : Keyboard) (cycles steps : ℕ) (new : Keyboard) : Type 0 where
+  pub soon : new.joint.cycle < old.joint.cycle + cycles
+  pub few : new.joint.steps < old.joint.steps + steps
+
+-- why it ended: a limit is reached; the last step did this, and no step before it did; or, within both limits, the count
+-- of cycles is at its end, or the processor is stuck, so that no state follows
 abbrev pub StopsSo : Stops → Past → Keyboard → ℕ → ℕ → Ending → Keyboard → Type 0
 StopsSo stops p old cycles steps ends.Passed new =
     ((old.joint.cycle + cycles ≤ new.joint.cycle) ⊎ (new.joint.steps ≡ old.joint.steps + steps))
@@ -87,9 +92,9 @@ StopsSo stops p old cycles steps (ends.Met what) new =
     (last : ℕ) × (new.joint.steps ≡ suc last) × (old.joint.steps ≤ last) × AreUnmet stops p old.joint.steps last
     × (met_at stops p last ≡ what) × (is_met what ≡ true)
 StopsSo stops p old cycles steps ends.Over new =
-    (2 ^ 62 ≤ new.joint.cycle) × AreUnmet stops p old.joint.steps new.joint.steps
+    (2 ^ 62 ≤ new.joint.cycle) × IsWithin old cycles steps new × AreUnmet stops p old.joint.steps new.joint.steps
 StopsSo stops p old cycles steps (ends.Stuck place) new =
-    (state_of (gone_on p (suc new.joint.steps)) ≡ None) × (place ≡ place_of new.joint)
+    (state_of (gone_on p (suc new.joint.steps)) ≡ None) × (place ≡ place_of new.joint) × IsWithin old cycles steps new
     × AreUnmet stops p old.joint.steps new.joint.steps
 
 -- the run has gone on to the first state at which it was to stop, within both limits

@@ -8,8 +8,8 @@ ghost use Rattle.live_board.specs.Calls.{IsActed, IsKeyed, Tells};
 ghost use Rattle.live_board.specs.Heard.{HasToldAll, IsTold, after_next, next_of};
 ghost use Rattle.live_board.specs.Looks.{IsCopied};
 ghost use Rattle.live_board.specs.Pasts.{Past, acted};
-ghost use Rattle.live_board.specs.Ready.{IsReady};
-ghost use Rattle.live_board.specs.Running.{HasRun, IsOpened};
+ghost use Rattle.live_board.specs.Ready.{IsOpened, IsReady};
+ghost use Rattle.live_board.specs.Running.{HasRun};
 ghost use Rattle.live_board.specs.Standing.{Stands};
 
 use crate::answers::{read_in, status_in, taken_in};

@@ -8,8 +8,8 @@ ghost use Rattle.live_board.specs.Answers.{line_in, raises};
 ghost use Rattle.live_board.specs.Heard.{heard_all, rise};
 ghost use Rattle.live_board.specs.Looks.{IsCopied};
 ghost use Rattle.live_board.specs.Pasts.{Past, state_of, untouched};
+ghost use Rattle.live_board.specs.Ready.{IsOpened};
 ghost use Rattle.live_board.specs.Rising.{irq_of};
-ghost use Rattle.live_board.specs.Running.{IsOpened};
 ghost use Rattle.live_board.specs.Standing.{Stands};
 
 use crate::heard::Heard;
@@ -53,7 +53,8 @@ impl Parts {
     /// At power-on, with this program.
     fn power_on(image: &Image, bios: Bios) -> Parts
         requires start { bios ≡ start }
-        ensures { Stands (untouched image.now.bytes 0) result × (result.joint.steps ≡ 0) × (result.joint.cycle ≡ 0) }
+        ensures first { Stands (untouched image.now.bytes 0) result × (result.joint.steps ≡ 0) × (result.joint.cycle ≡ 0) }
+        ensures none_kept { (result.heard.items.items ≡ []) × (result.heard.lost ≡ 0) }
     {
         Parts {
             joint: Joint::power_on(image, bios),

@@ -1,5 +1,7 @@
 use Rattle.live_agrees.proofs.Agreed.{answers_alike, any_use_is_lawful, logs_agree, states_alike, words_alike}
 use Rattle.live_agrees.proofs.Ends.{calls_alike, runs_end_alike}
+use Rattle.live_agrees.proofs.Keys.{keys_alike}
+use Rattle.live_agrees.proofs.Stops.{runs_stop_alike}
 use Rattle.live_agrees.proofs.calls_agree.Goals as goal
 
 pub returns : goal.returns
@@ -9,6 +11,8 @@ returns c = record {
   one_answer = answers_alike;
   one_word = words_alike;
   one_outcome = calls_alike;
+  one_key = keys_alike;
   one_end = runs_end_alike;
+  one_stop = runs_stop_alike;
   any_use = any_use_is_lawful;
 }

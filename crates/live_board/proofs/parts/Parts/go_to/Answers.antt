@@ -106,9 +106,26 @@ returns-then-cycle-ge-LAST-clause-stopped c =
     let inv = c.going.invariant in
     let over = c.if-cycle-ge-LAST.true in
     let at = c.cycle-cycle.ensures.cycle in
+    let test = c.going-test.true in
+    let now = c.cycle.ensures.cycle in
+    let start = inv.start in
+    let later = inv.later in
+    let room = c.is_full.ensures.room c.if-is_full.false in
+    let made = c.steps-made.ensures.steps in
+    let first = inv.first in
+    let above = inv.more in
     λ p s.
     let so = inv.so_far p s in
-    record { stands = so.stands; before = so.before; few = inv.limit; why = (omega (arith, over, at), inv.unmet p s) }
+    record {
+      stands = so.stands;
+      before = so.before;
+      few = inv.limit;
+      why = (
+        omega (arith, over, at),
+        record { soon = omega (arith, test, now, start, later); few = omega (arith, room, made, first, above) },
+        inv.unmet p s,
+      );
+    }
 
 pub returns-then-cycle-ge-LAST-clause-told : goal.returns-then-cycle-ge-LAST-clause-told
 returns-then-cycle-ge-LAST-clause-told c = c.going.invariant.told
@@ -147,6 +164,7 @@ returns-in-Err-clause-stopped c =
       why = (
         r.ends.0,
         r.ends.1,
+        record { soon = r.ends.2; few = omega (arith, few_more, few, made, first, above) },
         stuck_unmet k new most c.in-Err.stuck e.gone c.args.stops.now p old c.args.cycles (inv.so_far p s) (inv.unmet p s)
             c.quiet_room-most.ensures.alone room,
       );

@@ -2,8 +2,8 @@ use Rattle.std.proofs.Common.{ap}
 use Rattle.live_board.proofs.Stepping.{at_first}
 use Rattle.live_board.proofs.parts.Parts.power_on.Goals as goal
 
-pub returns : goal.returns
-returns c =
+pub returns-clause-first : goal.returns-clause-first
+returns-clause-first c =
     let parts = c.power_on.ensures.parts in (
       at_first c.args.image.now.bytes _ parts c.power_on.ensures.run c.new.ensures c.new-2.ensures,
       ap (λ m. m.steps) parts,

@@ -1,0 +1,8 @@
+use Rattle.live_agrees.proofs.Queued.{queued_agree, stays_queued}
+use Rattle.live_agrees.proofs.queued_keys_agree.Goals as goal
+
+pub returns : goal.returns
+returns c = record {
+  queued = stays_queued;
+  agrees = queued_agree c.run_and_model_agree.ensures.agreement c.edges_are_lawful.ensures.lawful;
+}
