@@ -2,6 +2,9 @@
 // the PC asks by a clock held low, then data low, and its bits are there when the clock rises.
 
 export const CLOCK = 1, DATA = 2, BOTH = 3;
+// Who pulls a wire, as one number: the keyboard's pulls, and the PC's from this bit on.
+export const PC_SIDE = 2;
+
 const A_HOLD = 60; // cycles: a clock low for so long is held by the PC
 export const FALLS = 11;
 

@@ -1,15 +1,16 @@
 // The two wires as a picture. Time goes from left to right; while nothing changes for long, it is cut short and dashed.
-import { CLOCK, DATA } from './hearing.js';
+import { CLOCK, DATA, PC_SIDE } from './hearing.js';
 import { hex } from './dom.js';
 
 const LONG = 96; // cycles
 const TOP = { [CLOCK]: 24, [DATA]: 78 }, SWING = 30, LABELS = 132;
 const COLOURS = { wire: '#7dffb0', gap: '#4fa878', name: '#b9e8cd', keyboard: '#ffd866', host: '#8fc7ff' };
+const THIN = 1.5, THICK = 3; // pixels
 const LEAST_ZOOM = 0.125, MOST_ZOOM = 8;
 
 export class Waveform {
-  /** `source()` answers { edges, bytes, cycle }: each edge has a cycle and the levels after it, and which wires the keyboard
-      pulls, if that is known. */
+  /** `source()` answers { edges, bytes, cycle }: each edge has a cycle and the levels after it, and who pulls which wire, if
+      that is known. */
   constructor(canvas, source) {
     Object.assign(this, { canvas, source, zoom: 0.5, back: 0, shown: null });
     canvas.addEventListener('wheel', event => {
@@ -99,25 +100,29 @@ export class Waveform {
   }
 }
 
-/** Who pulls a wire that is low. If both do, only the keyboard's pull is known. */
-export function pullerOf(wire, levels, pulls) {
-  if (levels & wire || pulls === undefined) return null;
-  return pulls & wire ? 'keyboard' : 'host';
+/** Who pulls a wire: the keyboard, the PC (`host`), both, or nobody. */
+export function pullersOf(wire, pulls = 0) {
+  return [...(pulls & wire ? ['keyboard'] : []), ...(pulls & wire << PC_SIDE ? ['host'] : [])];
 }
 
 function drawStretch(pen, { left, right, levels, pulls, before, cut }) {
-  for (const wire of [CLOCK, DATA]) {
-    const y = TOP[wire] + (levels & wire ? 0 : SWING), puller = pullerOf(wire, levels, pulls);
+  const line = (y, colour, wide) => {
     pen.setLineDash(cut ? [2, 4] : []);
-    pen.lineWidth = puller ? 3 : 1.5;
-    pen.strokeStyle = COLOURS[puller] ?? (cut ? COLOURS.gap : COLOURS.wire);
+    pen.lineWidth = wide;
+    pen.strokeStyle = colour;
     pen.beginPath();
     pen.moveTo(right, y);
     pen.lineTo(left, y);
     pen.stroke();
+  };
+  for (const wire of [CLOCK, DATA]) {
+    const y = TOP[wire] + (levels & wire ? 0 : SWING), pullers = pullersOf(wire, pulls);
+    if (pullers.length === 0) line(y, cut ? COLOURS.gap : COLOURS.wire, THIN);
+    // Both sides' pulls have a line each, the PC's below the keyboard's.
+    pullers.forEach((puller, n) => line(y + n * (THICK + 1), COLOURS[puller], THICK));
     if ((levels ^ before) & wire) {
       pen.setLineDash([]);
-      pen.lineWidth = 1.5;
+      pen.lineWidth = THIN;
       pen.strokeStyle = COLOURS.wire;
       pen.beginPath();
       pen.moveTo(left, TOP[wire]);

@@ -1,19 +1,17 @@
 // What passes between keyboard and PC while one types, and what the PC says.
-import { byId, fill, hex, make, tell } from './dom.js';
+import { byId, fill, hex, make, setText, tell } from './dom.js';
 import { named, onFile, put } from './files.js';
 import { CLOCK, DATA } from './hearing.js';
 import { CYCLES_OF_A_MS, FIRST_STAMP } from './live.js';
 import { explained, kbd48 } from './program.js';
 import { readTrace } from './vcd.js';
-import { Waveform, pullerOf } from './waveform.js';
+import { Waveform, pullersOf } from './waveform.js';
 
 const SHOWN = 200; // lines
-const TEXTS_APART = 100; // ms
 const LIVE = 'what I type';
 const STEP = 160; // pixels
-const NOISY = 'noise.keys';
 const BITS = [...Array.from({ length: 8 }, (_, bit) => `data bit ${bit + 1}`), 'the parity bit'];
-const PULLERS = { keyboard: 'the keyboard pulls it', host: 'the PC pulls it' };
+const PULLERS = { keyboard: 'the keyboard', host: 'the PC' };
 // Each command with the bytes that the PC writes: to port 60h, or to 64h.
 const COMMANDS = [
   ['ED 07: all lights', [0x60, 0xED], [0x60, 0x07]], ['ED 00: no light', [0x60, 0xED], [0x60, 0x00]],
@@ -28,7 +26,7 @@ const SCREEN = 1500; // characters
 export class WiresPane {
   /** `live()` answers the keyboard that runs. */
   constructor(live, layoutName) {
-    Object.assign(this, { live, layoutName, drawn: -1, still: null, written: -Infinity });
+    Object.assign(this, { live, layoutName, drawn: -1, still: null });
     this.wave = new Waveform(byId('wave'), live);
     for (const [words, ...bytes] of COMMANDS) {
       const button = make('button', { type: 'button', textContent: words });
@@ -58,7 +56,7 @@ export class WiresPane {
     };
     byId('judge').onclick = () => this.#judge();
     byId('noisy-bit').append(...BITS.map((words, at) => new Option(words, at + 1)));
-    byId('noise').onclick = () => this.#noise(byId('noisy-bit').value);
+    byId('noise').onclick = () => live().flip(Number(byId('noisy-bit').value));
   }
 
   /** Another keyboard runs. */
@@ -89,19 +87,6 @@ export class WiresPane {
     }
   }
 
-  // This session once more, with noise on the last frame: a run of the program, which is shown like that of any key file.
-  #noise(bit) {
-    const keys = this.live().noisyFile(bit);
-    if (keys === null) {
-      tell(byId('judged'), 'the keyboard has sent no byte yet', false);
-      return;
-    }
-    put(NOISY, keys);
-    byId('shown').value = NOISY;
-    this.#show(NOISY);
-    tell(byId('judged'), `this is ${NOISY}, which is in the workbench too; “${LIVE}” goes back`);
-  }
-
   // What was done so far as a key file, under the model and under the firmware.
   #judge() {
     const keys = { 'session.keys': this.live().keyFile() }, layout = this.layoutName();
@@ -113,21 +98,18 @@ export class WiresPane {
 
   #pulled() {
     if (this.still) return 'a run of a key file, in which that isn\'t said';
-    const { levels, pulls } = this.live(), said = (wire, name) => `${name}: ${PULLERS[pullerOf(wire, levels, pulls)] ?? 'high'}`;
+    const { levels, pulls } = this.live(), said = (wire, name) => {
+      const sides = pullersOf(wire, pulls).map(side => PULLERS[side]).join(' and ');
+      return `${name}: ${levels & wire ? 'high' : `low by ${sides}`}`;
+    };
     return `${said(CLOCK, 'clock')}; ${said(DATA, 'data')}`;
   }
 
   draw() {
     const { bytes, items, stamp } = this.live();
     this.wave.draw();
-    // Texts change ten times a second at most: nobody reads faster, and each costs a layout.
-    const now = performance.now();
-    if (now - this.written < TEXTS_APART) return;
-    this.written = now;
-    const clock = `${(stamp / CYCLES_OF_A_MS / 1000).toFixed(1)} s of keyboard time`;
-    if (byId('clock-text').textContent !== clock) byId('clock-text').textContent = clock;
-    const pulled = this.#pulled();
-    if (byId('pulled').textContent !== pulled) byId('pulled').textContent = pulled;
+    setText(byId('clock-text'), `${timeOf(stamp)} of keyboard time`);
+    setText(byId('pulled'), this.#pulled());
     const many = this.still ? 0 : bytes.length + items.length;
     if (many === this.drawn) return;
     this.drawn = many;
@@ -135,6 +117,9 @@ export class WiresPane {
     write(byId('log'), this.still?.lines ?? items.slice(-SHOWN).map(item => `${at(item.cycle)}  ${item.words}`));
   }
 }
+
+// Whole seconds at full speed: each text that changes costs a picture.
+const timeOf = stamp => `${(stamp / CYCLES_OF_A_MS / 1000).toFixed(byId('speed').value === '1' ? 0 : 4)} s`;
 
 const at = cycle => `${((cycle - FIRST_STAMP) / CYCLES_OF_A_MS).toFixed(2).padStart(10)} ms`;
 
