@@ -116,7 +116,7 @@ export class Live {
 
   // The levels of the wires, and which of those that are low the keyboard pulls.
   #look() {
-    const now = this.keyboard.wires(), pulls = now === BOTH ? 0 : this.keyboard.pulls();
+    const now = this.keyboard.wires(), pulls = now === BOTH ? 0 : this.keyboard.pulls().keyboard;
     if (now === this.levels && pulls === this.pulls) return;
     Object.assign(this, { levels: now, pulls });
     this.edges.push({ cycle: this.cycle, levels: now, pulls });
