@@ -7,8 +7,8 @@
 
    Each function but kbd48_text and kbd48_version returns a status. With an empty handle each returns KBD48_NOT_OPEN
    and does nothing (kbd48_run then says that 0 cycles passed). A call that is refused leaves the keyboard as it was:
-   the statuses are KBD48_NO_SUCH_PLACE, KBD48_NO_SUCH_PORT, KBD48_FULL, KBD48_EARLY, and of a call that makes one step
-   also KBD48_STUCK and KBD48_OVER. A call writes through its pointers if the status is KBD48_DONE. If it also writes
+   the statuses are KBD48_NO_SUCH_PLACE, KBD48_NO_SUCH_PORT, KBD48_NO_SUCH_BIT, KBD48_FULL, KBD48_EARLY, and of a call
+   that makes one step also KBD48_STUCK and KBD48_OVER. A call writes through its pointers if the status is KBD48_DONE. If it also writes
    with another status, its comment says so.
 
    The caller ensures that
@@ -54,7 +54,8 @@ enum {
     KBD48_LOST = 15,          /* more was said than is kept */
     KBD48_REPEATED = 16,      /* the key is already down, or already up, after the edges that wait */
     KBD48_KEY_DUE = 17,       /* the next edge of the queue is due: call again with the cycles that are left */
-    KBD48_NO_SUCH_KEY = 18    /* no key has the name, or the layout has no such key */
+    KBD48_NO_SUCH_KEY = 18,   /* no key has the name, or the layout has no such key */
+    KBD48_NO_SUCH_BIT = 19    /* noise turns round the bits 1 to 9 of a frame */
 };
 
 /* The status in words; there is a text for every number. */
@@ -64,7 +65,7 @@ static inline const char *kbd48_text(int32_t status) {
         "no such place", "no such port", "no room", "the processor is stuck", "stuck before stamp 0",
         "the count of cycles is at its end", "no word", "the interrupt line rose", "no such cell",
         "nothing was said", "more was said than is kept", "the key is so already", "the next edge is due",
-        "no such key",
+        "no such key", "no such bit",
     };
     return status >= 0 && (size_t)status < sizeof texts / sizeof *texts ? texts[status] : "no such status";
 }
@@ -199,6 +200,11 @@ int32_t kbd48_status(kbd48 *handle, uint8_t *byte);
    put out. At first it is off, and the host is the caller. */
 int32_t kbd48_bios(kbd48 *handle, bool on);
 
+/* Noise turns round a bit of the next frame that the keyboard begins, in one step: a data bit, 1 to 8, or the parity, 9.
+   Another call before that frame replaces it. The byte then comes wrong, and the controller asks for it again. It is
+   what `flip` of a key file does. Returns KBD48_NO_SUCH_BIT for any other bit. */
+int32_t kbd48_flip(kbd48 *handle, uint8_t bit);
+
 /* A program takes the next word from the buffer of INT 09h: the scan code is the high byte, the character the low one.
    This makes one step, also if the buffer is empty, for which it returns KBD48_NO_WORD. */
 int32_t kbd48_take(kbd48 *handle, uint16_t *word);
@@ -256,6 +262,9 @@ int32_t kbd48_lights(kbd48 *handle, uint8_t *lights);
 /* The levels of the two wires after the last cycle, true for high. A wire is low if the keyboard or the controller
    pulls it. kbd48_run_to stops at each change. */
 int32_t kbd48_wires(kbd48 *handle, bool *clock, bool *data);
+
+/* Which wires the keyboard pulls and which the controller pulls, both after the last cycle: 1 the clock, 2 data. */
+int32_t kbd48_pulls(kbd48 *handle, uint8_t *keyboard, uint8_t *controller);
 
 /* How many cycles have passed since power-on. A stamp of a key file counts from cycle 4,096. */
 int32_t kbd48_cycle(kbd48 *handle, uint64_t *cycle);

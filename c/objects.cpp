@@ -39,6 +39,8 @@ int main() {
         CHECK(copy.run_keys(400000, true).rose && copy.read60() == byte);
     CHECK(copy.queued() == 0 && sample.queued() == 4 && sample.run_keys(40000).rises == 1);
     Kbd48 ready = Kbd48::ready_of_layout(text);
+    ready.flip(9);
+    CHECK(ready.pulls().keyboard == 0 && ready.pulls().controller == 1);
     CHECK(ready.interrupt() && ready.lost() == 0 && ready.run_to(0, 400000, 1) == 0);
     CHECK(ready.run_to(KBD48_STOP_PLACE, 4096, UINT64_MAX, KBD48_TICK) == KBD48_STOP_PLACE);
     CHECK(ready.processor().counter == KBD48_TICK);

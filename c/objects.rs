@@ -33,6 +33,7 @@ fn main() -> Result<(), Box<dyn std::error::Error>> {
     assert_eq!((sample.queued(), sample.run_keys(4000, false)?.rises), (0, 0));
     let mut ready = Keyboard::ready_of_layout(&std::fs::read("examples/us84.toml")?)?;
     assert!(ready.interrupt() && ready.lost() == 0);
+    assert_eq!((ready.flip(10), ready.flip(9), ready.pulls()), (Err(Error::NoSuchBit), Ok(()), (0, 1)));
     assert_eq!(ready.run_to(0, 0, 400_000, 1)?.1, 0);
     assert_eq!(ready.run_to(8, 7, 4096, u64::MAX)?.1, 8);
     assert_eq!(first.key(96, true), Err(Error::NoSuchPlace));

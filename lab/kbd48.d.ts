@@ -2,7 +2,7 @@
 export declare const Status: Readonly<{
   DONE: 0; NOT_OPEN: 1; NO_MEMORY: 2; BAD_TEXT: 3; TOO_LONG: 4; NO_SUCH_PLACE: 5; NO_SUCH_PORT: 6; FULL: 7; STUCK: 8;
   EARLY: 9; OVER: 10; NO_WORD: 11; ROSE: 12; NO_SUCH_CELL: 13; NOTHING_SAID: 14; LOST: 15; REPEATED: 16; KEY_DUE: 17;
-  NO_SUCH_KEY: 18;
+  NO_SUCH_KEY: 18; NO_SUCH_BIT: 19;
 }>;
 export type StatusNumber = (typeof Status)[keyof typeof Status];
 
@@ -37,6 +37,12 @@ export interface Said {
   readonly cycle: number;
   readonly kind: (typeof Item)[keyof typeof Item];
   readonly value: number;
+}
+
+/** Which wires each side pulls: 1 the clock, 2 data. */
+export interface Pulls {
+  readonly keyboard: number;
+  readonly controller: number;
 }
 
 /** What ports 0x64 and 0x60 would read, the command byte, and the output port. */
@@ -112,6 +118,7 @@ export declare class Keyboard {
   read60(): number;
   status(): number;
   bios(on: boolean): void;
+  flip(bit: number): void;
   take(): number | null;
   next(): Said | null;
   items(): Generator<Said, void>;
@@ -125,7 +132,7 @@ export declare class Keyboard {
   waiting(): { edges: number; words: number };
   column(number: number): number;
   inside(): Processor;
-  pulls(): number;
+  pulls(): Pulls;
   cell(number: number): number;
 }
 

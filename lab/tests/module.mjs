@@ -118,9 +118,10 @@ async function looks() {
   assert.equal(kept.column(3), 0xDF);
   let pulled = 0;
   for (let end = keyboard.cycle() + 8000; keyboard.cycle() < end; keyboard.step()) {
-    assert.equal(keyboard.wires() & keyboard.pulls(), 0, 'a wire that is pulled is low');
-    assert.equal(keyboard.pulls(), ~keyboard.inside().p2 & 3);
-    pulled |= keyboard.pulls();
+    const pulls = keyboard.pulls();
+    assert.equal(keyboard.wires(), ~(pulls.keyboard | pulls.controller) & 3, 'a wire is low if a side pulls it');
+    assert.equal(pulls.keyboard, ~keyboard.inside().p2 & 3);
+    pulled |= pulls.keyboard;
   }
   assert.equal(pulled, 3, 'it pulls both wires when it sends');
   assert.equal(keyboard.take(), 0x1E61);

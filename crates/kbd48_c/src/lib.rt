@@ -13,6 +13,7 @@ mod items;
 mod keyed;
 mod looks;
 mod names;
+mod noise;
 mod opening;
 mod pointer;
 #[cfg(test)]

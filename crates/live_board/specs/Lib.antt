@@ -3,6 +3,7 @@ pub mod Pasts
 pub mod Standing
 pub mod Answers
 pub mod Looks
+pub mod Sides
 pub mod Acts
 pub mod Calls
 pub mod Rising

@@ -14,9 +14,11 @@ mod irq;
 mod keyboard;
 mod law;
 mod looks;
+mod noise;
 mod parts;
 mod ran;
 mod refused;
+mod sides;
 mod stopping;
 mod stops;
 
@@ -26,6 +28,7 @@ pub use law::stories_grow_at_end;
 pub use looks::Registers;
 pub use ran::{Ran, RunEnd};
 pub use refused::Refused;
+pub use sides::Sides;
 pub use stops::{Ending, Met, Stopped, Stops};
 
 #[cfg(test)]

@@ -33,6 +33,7 @@ class Status(IntEnum):
     REPEATED = 16
     KEY_DUE = 17
     NO_SUCH_KEY = 18
+    NO_SUCH_BIT = 19
 
 
 TEXTS = {
@@ -48,6 +49,7 @@ TEXTS = {
     Status.NO_SUCH_CELL: "data memory has the cells 0 to 127",
     Status.LOST: "more was said than is kept",
     Status.NO_SUCH_KEY: "no key has this name",
+    Status.NO_SUCH_BIT: "noise turns round the bits 1 to 9 of a frame",
 }
 
 
@@ -148,6 +150,13 @@ class Wires(NamedTuple):
 
     clock: bool
     data: bool
+
+
+class Pulls(NamedTuple):
+    """Which wires each side pulls: 1 the clock, 2 data."""
+
+    keyboard: int
+    controller: int
 
 
 class Waiting(NamedTuple):
@@ -347,6 +356,11 @@ class Keyboard:
         """INT 09h of this project reads each byte, or no longer, from the next step on. One step. At first it is off."""
         self._done("bios", on)
 
+    def flip(self, bit: int) -> None:
+        """Noise turns round a bit of the next frame that the keyboard begins: a data bit, 1 to 8, or the parity, 9. One
+        step. Another call before that frame replaces it."""
+        self._done("flip", _unsigned(bit, 8, "a bit"))
+
     def take(self) -> Optional[int]:
         """A program takes the next word from the buffer of INT 09h, in one step: scan code above, character below. None
         if there is no word."""
@@ -393,6 +407,11 @@ class Keyboard:
     def wires(self) -> Wires:
         """The levels of the two wires after the last cycle."""
         return Wires(*self._all_shown("wires", c.c_bool, c.c_bool))
+
+    @property
+    def pulls(self) -> Pulls:
+        """Which wires the keyboard pulls and which the controller pulls, both after the last cycle: 1 the clock, 2 data."""
+        return Pulls(*self._all_shown("pulls", c.c_uint8, c.c_uint8))
 
     @property
     def cycle(self) -> int:
