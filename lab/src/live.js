@@ -122,8 +122,8 @@ export class Live {
 
   // The levels of the wires, and which side pulls which. The last look was at the cycle `before`, if it is given.
   #look(before = this.cycle - 1) {
-    const levels = this.keyboard.wires(), pulls = levels === BOTH ? 0 : bothSides(this.keyboard.pulls());
-    if (levels === this.levels && pulls === this.pulls) return;
+    const { keyboard, controller } = this.keyboard.pulls(), levels = BOTH & ~(keyboard | controller), pulls = bothSides({ keyboard, controller });
+    if (pulls === this.pulls) return;
     let cycle = this.cycle;
     if (levels === this.levels && cycle - before > MOST_OF_A_STEP) {
       // Within a stride: the past says when.

@@ -28,11 +28,11 @@ addEventListener('error', event => trouble(event.error ?? event));
 addEventListener('unhandledrejection', event => trouble(event.reason));
 
 class Lab {
-  constructor(keyboard) {
+  constructor(keyboard, program) {
     this.keyboard = keyboard;
     this.owed = 0;
     this.drawn = -Infinity;
-    Object.assign(this, { files, fromKle });
+    Object.assign(this, { files, fromKle, program });
     this.keys = new KeyboardPane({
       open: (layout, names) => this.open(layout, names), press: (place, down) => this.live.press(place, down),
       bench: words => {
@@ -129,7 +129,7 @@ async function begin() {
     trouble(error);
   }
   for (const [name, text] of Object.entries(shared ?? {})) put(name, text);
-  const lab = new Lab(keyboard);
+  const lab = new Lab(keyboard, program);
   globalThis.lab = lab;
   if (shared) {
     lab.show('workbench', true);

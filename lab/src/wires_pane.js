@@ -2,12 +2,12 @@
 import { byId, fill, hex, make, setText, tell } from './dom.js';
 import { named, onFile, put } from './files.js';
 import { CLOCK, DATA } from './hearing.js';
+import { Lines } from './lines.js';
 import { CYCLES_OF_A_MS, FIRST_STAMP } from './live.js';
 import { explained, kbd48 } from './program.js';
 import { readTrace } from './vcd.js';
 import { Waveform, pullersOf } from './waveform.js';
 
-const SHOWN = 200; // lines
 const LIVE = 'what I type';
 const STEP = 160; // pixels
 const BITS = [...Array.from({ length: 8 }, (_, bit) => `data bit ${bit + 1}`), 'the parity bit'];
@@ -26,7 +26,9 @@ const SCREEN = 1500; // characters
 export class WiresPane {
   /** `live()` answers the keyboard that runs. */
   constructor(live, layoutName) {
-    Object.assign(this, { live, layoutName, drawn: -1, still: null });
+    Object.assign(this, { live, layoutName, still: null });
+    this.bytes = new Lines(byId('bytes'), ({ begin, sender, byte }) => `${at(begin)}  ${sender === 'host' ? 'PC → keyboard' : 'keyboard → PC'}  ${hex(byte)}`);
+    this.log = new Lines(byId('log'), entry => (typeof entry === 'string' ? entry : `${at(entry.cycle)}  ${entry.words}`));
     this.wave = new Waveform(byId('wave'), live);
     for (const [words, ...bytes] of COMMANDS) {
       const button = make('button', { type: 'button', textContent: words });
@@ -73,9 +75,9 @@ export class WiresPane {
 
   // The run of a key file on the layout that is open: its wires, bytes and log, as the program prints them.
   #show(keys) {
-    this.drawn = -1;
     this.still = null;
-    for (const id of ['bytes', 'log']) byId(id).replaceChildren();
+    this.bytes.clear();
+    this.log.clear();
     this.wave.show(null);
     if (keys === LIVE) return;
     const trace = kbd48(['trace', this.layoutName(), keys]), run = kbd48(['run', this.layoutName(), keys]);
@@ -110,11 +112,8 @@ export class WiresPane {
     this.wave.draw();
     setText(byId('clock-text'), `${timeOf(stamp)} of keyboard time`);
     setText(byId('pulled'), this.#pulled());
-    const many = this.still ? 0 : bytes.length + items.length;
-    if (many === this.drawn) return;
-    this.drawn = many;
-    write(byId('bytes'), (this.still?.bytes ?? bytes).slice(-SHOWN).map(byte => `${at(byte.begin)}  ${byte.sender === 'host' ? 'PC → keyboard' : 'keyboard → PC'}  ${hex(byte.byte)}`));
-    write(byId('log'), this.still?.lines ?? items.slice(-SHOWN).map(item => `${at(item.cycle)}  ${item.words}`));
+    this.bytes.show(this.still?.bytes ?? bytes);
+    this.log.show(this.still?.lines ?? items);
   }
 }
 
@@ -122,20 +121,6 @@ export class WiresPane {
 const timeOf = stamp => `${(stamp / CYCLES_OF_A_MS / 1000).toFixed(byId('speed').value === '1' ? 0 : 4)} s`;
 
 const at = cycle => `${((cycle - FIRST_STAMP) / CYCLES_OF_A_MS).toFixed(2).padStart(10)} ms`;
-
-// The lines, with the last one in sight. Lines that are there already stay: each new one costs a layout of its own alone.
-function write(element, lines) {
-  const rows = lines.map(line => `${line}\n`), had = rows.lastIndexOf(element.lastChild?.textContent);
-  const add = from => element.append(...rows.slice(from).map(row => make('div', { textContent: row })));
-  add(had + 1);
-  while (element.childElementCount > rows.length) element.firstChild.remove();
-  // Two lines may be equal: then the list may be another than it should be.
-  if (element.childElementCount < rows.length || (rows.length && element.firstChild.textContent !== rows[0])) {
-    element.replaceChildren();
-    add(0);
-  }
-  element.scrollTop = element.scrollHeight;
-}
 
 /** A program on the PC: it shows what is typed, and sets the lights after a lock key, as the AT's BIOS did. */
 export class Pc {
