@@ -112,7 +112,7 @@ static void a_rise_within_a_step(kbd48 *k) {
     CHECK(kbd48_write(k, 0x60, 0xdf) == KBD48_DONE && kbd48_run(k, 8, false, &passed, &place) == KBD48_DONE);
     CHECK(kbd48_write(k, 0x64, 0xfe) == KBD48_DONE && kbd48_run(k, 8, false, &passed, &place) == KBD48_DONE);
     static const struct { uint8_t kind, value; } said[] = {
-        {KBD48_ITEM_READ, 0xaa}, {KBD48_ITEM_READ, 0x55},
+        {KBD48_ITEM_SENT, 0xaa}, {KBD48_ITEM_READ, 0xaa}, {KBD48_ITEM_READ, 0x55},
         {KBD48_ITEM_OUTPUT, 0xdf}, {KBD48_ITEM_PULSE, 0x0e},
     };
     for (size_t i = 0; i < sizeof said / sizeof *said; i++) {
@@ -147,6 +147,17 @@ static void a_noisy_byte(const uint8_t *hex, size_t length) {
     CHECK(up && pulled_by_keyboard == 3 && pulled_by_controller == 3);
     CHECK(until - cycle < 40000 - 6000); /* the byte, FE and the byte again take three frames */
     CHECK(kbd48_read60(&k, &byte) == KBD48_DONE && byte == 0x23);
+    static const struct { uint8_t kind, value; } happened[] = {
+        {KBD48_ITEM_SENT, 0xaa}, {KBD48_ITEM_READ, 0xaa}, {KBD48_ITEM_SENT, 0x33}, {KBD48_ITEM_GIVEN, 0xfe},
+        {KBD48_ITEM_SENT, 0x33}, {KBD48_ITEM_READ, 0x23}, /* make code 33 comes wrong, and then right; 23 is translated */
+    };
+    kbd48_item item;
+    cycle = 0;
+    for (size_t i = 0; i < sizeof happened / sizeof *happened; i++, cycle = item.cycle) {
+        CHECK(kbd48_next(&k, &item) == KBD48_DONE && item.cycle > cycle);
+        CHECK(item.kind == happened[i].kind && item.value == happened[i].value);
+    }
+    CHECK(kbd48_next(&k, &item) == KBD48_NOTHING_SAID);
     CHECK(kbd48_close(&k) == KBD48_DONE);
 }
 

@@ -209,7 +209,7 @@ int32_t kbd48_flip(kbd48 *handle, uint8_t bit);
    This makes one step, also if the buffer is empty, for which it returns KBD48_NO_WORD. */
 int32_t kbd48_take(kbd48 *handle, uint16_t *word);
 
-/* What the log says, item by item. */
+/* What happened: what the log says, item by item, and the bytes that pass over the wires. */
 enum {
     KBD48_ITEM_PORT = 0,        /* INT 09h read this byte from port 0x60 */
     KBD48_ITEM_READ = 1,        /* kbd48_read60 read this byte */
@@ -228,18 +228,20 @@ enum {
     KBD48_ITEM_PRINT = 14,      /* Shift with the print key */
     KBD48_ITEM_BOOT = 15,       /* Ctrl, Alt and Del */
     KBD48_ITEM_SYS_MAKE = 16,   /* SysReq went down */
-    KBD48_ITEM_SYS_BREAK = 17   /* SysReq went up */
+    KBD48_ITEM_SYS_BREAK = 17,  /* SysReq went up */
+    KBD48_ITEM_SENT = 18,       /* the keyboard has sent this byte over the wires, as it was there before any noise */
+    KBD48_ITEM_GIVEN = 19       /* the controller has sent the keyboard this byte */
 };
 
 typedef struct {
-    uint64_t cycle; /* the cycle in which it was said */
+    uint64_t cycle; /* the cycle in which it happened */
     uint8_t kind;   /* one of KBD48_ITEM_... */
     uint16_t value; /* the byte or the word, or 0 */
 } kbd48_item;
 
-/* Hands out what was said next, in the order of the log, and makes no step. Returns KBD48_NOTHING_SAID when all was
-   handed out. Sixty-four items are kept. If more are said, all after them are lost, until KBD48_LOST says so, once,
-   after the 64th. */
+/* Hands out what happened next, in order, and makes no step. In one step the byte that passes comes before what is said.
+   Returns KBD48_NOTHING_SAID when all was handed out. Sixty-four items are kept. If there are more, all after them are
+   lost, until KBD48_LOST says so, once, after the 64th. */
 int32_t kbd48_next(kbd48 *handle, kbd48_item *item);
 
 /* The calls from here on make no step and change nothing. */

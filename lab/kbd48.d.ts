@@ -9,7 +9,7 @@ export type StatusNumber = (typeof Status)[keyof typeof Status];
 /** The kinds of items, as `c/kbd48.h` has them. */
 export declare const Item: Readonly<{
   PORT: 0; READ: 1; WORD: 2; BEEP: 3; OVERRUN: 4; LIGHTS: 5; TAKEN: 6; TAKEN_NONE: 7; STATUS: 8; OUTPUT: 9; PULSE: 10;
-  BROKE: 11; PAUSE: 12; RESUME: 13; PRINT: 14; BOOT: 15; SYS_MAKE: 16; SYS_BREAK: 17;
+  BROKE: 11; PAUSE: 12; RESUME: 13; PRINT: 14; BOOT: 15; SYS_MAKE: 16; SYS_BREAK: 17; SENT: 18; GIVEN: 19;
 }>;
 
 /** What `runTo` may be asked to stop for: a sum of these. */
@@ -32,7 +32,7 @@ export interface Stopped {
   readonly passed: number;
 }
 
-/** An item of the log: the cycle in which it was said, and its byte or word, or 0. */
+/** What happened: the cycle in which it did, its kind, and its byte or word, or 0. */
 export interface Said {
   readonly cycle: number;
   readonly kind: (typeof Item)[keyof typeof Item];

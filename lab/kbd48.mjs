@@ -13,10 +13,10 @@ export const Stop = Object.freeze({ RISE: 1, ITEM: 2, WIRES: 4, PLACE: 8 });
 /** The place at which a tick of a layout's firmware begins. */
 export const TICK = 0x007;
 
-/** What the log says, item by item. */
+/** What happened: what the log says, item by item, and the bytes that the keyboard sent over the wires, or was given. */
 export const Item = Object.freeze({
   PORT: 0, READ: 1, WORD: 2, BEEP: 3, OVERRUN: 4, LIGHTS: 5, TAKEN: 6, TAKEN_NONE: 7, STATUS: 8, OUTPUT: 9, PULSE: 10, BROKE: 11,
-  PAUSE: 12, RESUME: 13, PRINT: 14, BOOT: 15, SYS_MAKE: 16, SYS_BREAK: 17,
+  PAUSE: 12, RESUME: 13, PRINT: 14, BOOT: 15, SYS_MAKE: 16, SYS_BREAK: 17, SENT: 18, GIVEN: 19,
 });
 
 const STATUS_TEXTS = ['done', 'the handle is empty', 'there is no memory left', 'the text has a fault', 'the text is too long',
@@ -313,7 +313,7 @@ export class Keyboard {
     return this.#short(PLACES.word);
   }
 
-  /** What was said next, { cycle, kind, value }, or null if all was handed out. After the 64th of more an error says LOST. */
+  /** What happened next, { cycle, kind, value }, or null if all was handed out. After the 64th of more an error says LOST. */
   next() {
     const status = this.machine.call('kbd48_next', this.to.handle, this.to.item);
     if (status === Status.NOTHING_SAID) return null;

@@ -153,7 +153,7 @@ def sources() -> str:
     for name in MODULES:
         take(name)
     files = [path for name in mine for path in (ROOT / "crates" / name / "src").rglob("*.rt")]
-    files += [*(LAB / "wasm").glob("*.[cp]*"), LAB / "wasm/keeping_clang", ROOT / "c/kbd48.h"]
+    files += [*(LAB / "wasm").glob("*.[cp]*"), ROOT / "launcher/bitcode.py", ROOT / "launcher/keeping_clang", ROOT / "c/kbd48.h"]
     counted = hashlib.sha256()
     for path in sorted(it for it in files if it.is_file()):
         counted.update(f"\0{path.relative_to(ROOT)}\0".encode() + path.read_bytes())

@@ -98,13 +98,14 @@ async function looks() {
   assert.deepEqual(keyboard.look(), { status: 0x15, output: 0xAA, commandByte: 0x45, outputPort: 0xCF });
   const kept = keyboard.copy();
   keyboard.run(200);
-  const [said] = [...keyboard.items()];
+  const [sent, said] = [...keyboard.items()];
+  assert.deepEqual({ ...sent, cycle: 0 }, { cycle: 0, kind: Item.SENT, value: 0xAA });
   assert.deepEqual({ ...said, cycle: 0 }, { cycle: 0, kind: Item.PORT, value: 0xAA });
   assert.ok(said.cycle < keyboard.cycle() && said.cycle >= keyboard.cycle() - 200, 'an item has its cycle');
   assert.equal(keyboard.next(), null);
   kept.run(200);
   assert.deepEqual(seen(kept), seen(keyboard));
-  assert.deepEqual([...kept.items()], [said]);
+  assert.deepEqual([...kept.items()], [sent, said]);
   assert.equal(keyboard.key(29, true), Status.DONE);
   assert.deepEqual(keyboard.waiting(), { edges: 1, words: 0 });
   assert.equal(keyboard.column(3), 0xFF);
@@ -226,6 +227,7 @@ async function runs() {
   assert.ok(few.status === Status.DONE && few.met === 0 && few.passed >= 9 && few.passed <= 18, 'nine steps');
   const copy = keyboard.copy(), said = keyboard.runTo(Stop.ITEM, 400_000);
   assert.equal(said.met, Stop.ITEM);
+  assert.equal(keyboard.next().kind, Item.SENT);
   const item = keyboard.next();
   assert.deepEqual([item.kind, item.value, keyboard.next()], [Item.PORT, 0xAA, null]);
   assert.ok(keyboard.cycle() - item.cycle < 2, 'it ends in the step in which that is said');

@@ -14,6 +14,8 @@ mod keyed;
 mod looks;
 mod names;
 mod noise;
+#[cfg(test)]
+mod noise_tests;
 mod opening;
 mod pointer;
 #[cfg(test)]

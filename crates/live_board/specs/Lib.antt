@@ -10,4 +10,5 @@ pub mod Rising
 pub mod Running
 pub mod Ready
 pub mod Stopping
+pub mod Passing
 pub mod Heard

@@ -9,6 +9,7 @@
 mod adding;
 mod answers;
 mod going;
+mod happened;
 mod heard;
 mod irq;
 mod keyboard;
@@ -16,12 +17,14 @@ mod law;
 mod looks;
 mod noise;
 mod parts;
+mod passing;
 mod ran;
 mod refused;
 mod sides;
 mod stopping;
 mod stops;
 
+pub use happened::{Happened, Transfer, What};
 pub use heard::Next;
 pub use keyboard::Keyboard;
 pub use law::stories_grow_at_end;

@@ -54,7 +54,7 @@ TEXTS = {
 
 
 class ItemKind(IntEnum):
-    """What an item of the log says."""
+    """What an item says: what the log does, or a byte that the keyboard sent over the wires, or was given."""
 
     PORT = 0
     READ = 1
@@ -74,6 +74,8 @@ class ItemKind(IntEnum):
     BOOT = 15
     SYS_MAKE = 16
     SYS_BREAK = 17
+    SENT = 18
+    GIVEN = 19
 
 
 class Error(Exception):
@@ -133,7 +135,7 @@ class Stopped(NamedTuple):
 
 
 class Item(NamedTuple):
-    """An item of the log: the cycle in which it was said, what it says, and its byte or word, or 0."""
+    """What happened: the cycle in which it did, what it was, and its byte or word, or 0."""
 
     cycle: int
     kind: ItemKind
