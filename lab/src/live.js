@@ -3,7 +3,7 @@
 // a session is a key file too.
 import { Item, Status } from '../kbd48.mjs';
 import { hex } from './dom.js';
-import { BOTH, Hearing, PC_SIDE } from './hearing.js';
+import { BOTH, PC_SIDE, beginOf } from './wires.js';
 import { COPIES_APART, History } from './history.js';
 
 export const CYCLES_OF_A_MS = 400, FIRST_STAMP = 4096;
@@ -17,6 +17,9 @@ const SAYS = {
   [Item.BOOT]: () => 'boot', [Item.SYS_MAKE]: () => 'sysreq make', [Item.SYS_BREAK]: () => 'sysreq break',
 };
 
+// Who sent a byte over the wires.
+const SENT_BY = { [Item.SENT]: 'keyboard', [Item.GIVEN]: 'host' };
+
 // If no wire has changed for so long, no bit is under way. A wire may be held low for seconds; a side that lets go of it, or
 // begins to pull it too, is then looked for once in so many cycles.
 const CALM = 96, STRIDE = 12, MOST_OF_A_STEP = 2;
@@ -28,7 +31,6 @@ export class Live {
   /** `names` has the key of each place. */
   constructor(keyboard, layout, names) {
     Object.assign(this, { keyboard, names, pushed: [], orders: [], events: [], edges: [], bytes: [], items: [] });
-    this.hearing = new Hearing();
     this.up = false;
     this.masked = false;
     keyboard.openLayout(new TextEncoder().encode(layout));
@@ -85,9 +87,9 @@ export class Live {
   steps(many, isEnd) {
     for (let made = 0; made < many; made++) {
       this.#goOn(1);
+      this.#drain();
       if (isEnd()) break;
     }
-    this.#drain();
   }
 
   // One step; or more of them, for so many cycles, up to the next change of a wire, if nothing is to be handed in.
@@ -132,9 +134,13 @@ export class Live {
     Object.assign(this, { levels, pulls, changed: this.cycle });
     this.edges.push({ cycle, levels, pulls });
     if (this.edges.length > KEPT) this.edges.splice(0, KEPT - TRIMMED);
-    const byte = this.hearing.hear(cycle, levels);
-    if (byte) this.bytes.push(byte);
-    if (this.bytes.length > KEPT) this.bytes.splice(0, KEPT - TRIMMED);
+  }
+
+  // A byte has passed over the wires, in the step that ends with an edge.
+  #passed(cycle, sender, byte) {
+    const { edges, bytes } = this, last = edges.findLastIndex(edge => edge.cycle < cycle) + 1;
+    bytes.push({ begin: beginOf(edges, last), end: edges[last]?.cycle ?? cycle, sender, byte });
+    if (bytes.length > KEPT) bytes.splice(0, KEPT - TRIMMED);
   }
 
   // One step, before which the queue hands over the edge that is due. Its status.
@@ -165,6 +171,7 @@ export class Live {
     let words = 0;
     try {
       for (const { cycle, kind, value } of this.keyboard.items()) {
+        if (SENT_BY[kind]) this.#passed(cycle, SENT_BY[kind], value);
         if (SAYS[kind]) this.#say(SAYS[kind](value), cycle);
         if (kind === Item.PORT) this.onByte(value);
         if (kind !== Item.WORD) continue;

@@ -1,5 +1,5 @@
 // The two wires as a picture. Time goes from left to right; while nothing changes for long, it is cut short and dashed.
-import { CLOCK, DATA, PC_SIDE } from './hearing.js';
+import { CLOCK, DATA, PC_SIDE } from './wires.js';
 import { hex } from './dom.js';
 
 const LONG = 96; // cycles

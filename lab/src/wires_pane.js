@@ -1,7 +1,7 @@
 // What passes between keyboard and PC while one types, and what the PC says.
 import { byId, fill, hex, make, setText, tell } from './dom.js';
 import { named, onFile, put } from './files.js';
-import { CLOCK, DATA } from './hearing.js';
+import { CLOCK, DATA } from './wires.js';
 import { Lines } from './lines.js';
 import { CYCLES_OF_A_MS, FIRST_STAMP } from './live.js';
 import { explained, kbd48 } from './program.js';

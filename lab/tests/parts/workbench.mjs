@@ -79,9 +79,11 @@ export async function brokenFiles(browser, folder) {
   await browser.choose('#open-file', [file('long.asm', Buffer.alloc(5 << 20, 0x20))]);
   await browser.says('shared', /long\.asm is longer than any file that the program reads/);
   await browser.choose('#open-file', [file('short.hex', ':0100000001FF\n:00000001FF\n')]);
+  await browser.until('"short.hex" in lab.files');
   await run(browser, 'list short.hex');
   await browser.says('told', /^exit 3: line 1: /);
   await browser.choose('#open-file', [file('name with spaces.keys', '10ms press nothing\n20ms end\n')]);
+  await browser.until('"name_with_spaces.keys" in lab.files');
   await run(browser, 'run us84.toml name_with_spaces.keys');
   await browser.says('told', /^exit [34]: line 1: /);
   await browser.evaluate('lab.workbench.open("sixty.toml")');
