@@ -8,4 +8,5 @@ pub mod Watching
 pub mod Meeting
 pub mod Passed
 pub mod Gliding
+mod LastBit
 mod Tallying

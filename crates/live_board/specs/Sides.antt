@@ -1,5 +1,4 @@
 -- Which side pulls which wire.
-use Rattle.board_lines.specs.declared.lines.Lines.{Lines}
 use Rattle.ctl_wire.specs.Wire.{drive}
 use Rattle.joint_run.specs.Joint.{Beside, latch_of}
 use Rattle.joint_run.specs.Run.{World}
