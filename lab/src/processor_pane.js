@@ -124,6 +124,7 @@ export class ProcessorPane {
     }
     this.before = null;
     this.chosen = null;
+    tell(byId('at'), this.session ? wordsOf(this.session.state) : '');
     this.#list();
     this.#show();
   }

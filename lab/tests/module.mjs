@@ -287,16 +287,49 @@ async function checksum() {
     return Number((state >> 33n) % BigInt(below));
   };
   const add = value => { for (let bit = 0n; bit < 64n; bit += 8n) sum = (sum ^ BigInt(value) >> bit & 255n) * 1099511628211n & all; };
+  // What calls.c adds of a call, as one number.
+  const both = (status, passed) => BigInt(status) * 1_000_000n + BigInt(passed);
+  const said = {
+    flip: bit => {
+      try {
+        keyboard.flip(bit);
+        return Status.DONE;
+      } catch (error) {
+        return error.status;
+      }
+    },
+    pulls: () => (({ keyboard: one, controller }) => one | controller << 2)(keyboard.pulls()),
+    next: () => {
+      try {
+        const item = keyboard.next();
+        return item ? BigInt(item.cycle * 100 + item.kind) + (BigInt(item.value) << 40n) : Status.NOTHING_SAID;
+      } catch (error) {
+        return error.status;
+      }
+    },
+    keys: (cycles, watched) => {
+      const { machine, to } = keyboard, status = machine.call('kbd48_run_keys', to.handle, to.queue, BigInt(cycles), watched, to.passed, to.place);
+      return both(status, keyboard.passed);
+    },
+    to: (cycles, x) => {
+      const { status, met, passed } = keyboard.runTo(x & 15, cycles, { steps: 500, at: x * 8 });
+      return both(status, passed) + (BigInt(met) << 32n);
+    },
+    look: cell => {
+      const { status, output, commandByte } = keyboard.look(), { counter, a } = keyboard.inside();
+      return BigInt(status | output << 8 | commandByte << 16) + (BigInt(counter) << 24n) + (BigInt(a) << 36n) + (BigInt(keyboard.cell(cell)) << 44n);
+    },
+  };
   keyboard.openLayout(layout);
   for (let n = 0; n < CALLS; n++) {
-    const what = random(10), x = random(256), cycles = random(3000), flag = random(2);
-    add({
-      0: () => keyboard.key(x % 96, flag === 1), 1: () => keyboard.key(x % 96, flag === 1),
-      2: () => keyboard.write(flag ? 0x60 : 0x64, x), 3: () => keyboard.read60(), 4: () => keyboard.status(),
-      5: () => keyboard.take() ?? 99999, 6: () => (n % 50 ? keyboard.lights() : (keyboard.bios(flag === 1), 0)),
-      7: () => keyboard.wires(), 8: () => keyboard.run(cycles, flag === 1) * 1000000 + keyboard.passed,
-      9: () => keyboard.run(cycles, flag === 1) * 1000000 + keyboard.passed,
-    }[what]());
+    const what = random(16), x = random(256), cycles = random(3000), flag = random(2), run = () => keyboard.run(cycles, flag === 1) * 1000000 + keyboard.passed;
+    add([
+      () => keyboard.key(x % 96, flag === 1), () => keyboard.key(x % 96, flag === 1),
+      () => keyboard.write(flag ? 0x60 : 0x64, x), () => keyboard.read60(), () => keyboard.status(), () => keyboard.take() ?? 99999,
+      () => (n % 50 ? keyboard.lights() : (keyboard.bios(flag === 1), 0)), () => keyboard.wires(),
+      () => said.flip(x % 11), said.pulls, said.next, () => keyboard.queueKey(x % 96, flag === 1),
+      () => said.keys(cycles, flag), () => said.to(cycles, x), () => said.look(x % 128), run,
+    ][what]());
     add(keyboard.cycle() * 4 + keyboard.wires());
   }
   return `${sum.toString(16).padStart(16, '0')} cycle ${keyboard.cycle()}`;

@@ -40,10 +40,10 @@ export async function focus(browser) {
       const now = await browser.evaluate(`(() => {
         const it = document.activeElement, box = it.closest('.button') ?? it, style = getComputedStyle(box);
         it.dataset.n ??= String(document.querySelectorAll('[data-n]').length);
-        return { n: it.dataset.n, name: it.id || it.textContent.slice(0, 30), dull: style.outlineStyle === 'none' || Number.parseFloat(style.outlineWidth) < 2, body: it === document.body };
+        return { n: it.dataset.n, name: it.id || it.textContent.slice(0, 30), dull: document.hasFocus() && (style.outlineStyle === 'none' || Number.parseFloat(style.outlineWidth) < 2), body: it === document.body };
       })()`);
       if (!now.body) seen.add(now.n);
-      // The first got the focus from a script, of which browsers show nothing.
+      // The first got the focus from a script, of which browsers show nothing; nor does a window that isn't the active one.
       if (now.dull && !now.body && count > 0) dull.push(now.name);
       if (seen.size === wanted) break;
       await browser.stroke('Tab', 2);
