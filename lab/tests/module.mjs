@@ -1,6 +1,6 @@
 // usage: node module.mjs LAB.html EXAMPLES [CHECKSUM]: the two modules of the page, in Node. Each line of examples/commands
 // gives its text and status byte for byte; typing gives the log of `run`; a broken text is an error; what is typed at once
-// arrives; a run ends at what it was asked for; random calls have the checksum of the native library, when that is given.
+// arrives; a run ends at what it was asked for; noise is asked away; random calls have the checksum of the native library, when that is given.
 import assert from 'node:assert/strict';
 import { existsSync, readFileSync } from 'node:fs';
 import { gunzipSync } from 'node:zlib';
@@ -278,6 +278,24 @@ async function runs() {
   refused(() => { copy.close(); copy.runTo(0, 1); }, Status.NOT_OPEN);
 }
 
+/** Noise turns a bit of a byte: the PC asks for it again, and gets it. The wires have the byte as the keyboard sent it. */
+async function noise() {
+  const keyboard = await Keyboard.load(keyboardModule), passed = () => [...keyboard.items()].filter(it => it.kind === Item.SENT || it.kind === Item.GIVEN).map(it => [it.kind, it.value]);
+  keyboard.openReadyLayout(layout);
+  keyboard.bios(true);
+  keyboard.run(4000);
+  assert.deepEqual(passed(), [[Item.SENT, 0xAA]]);
+  for (const bit of [0, 10, 255]) refused(() => keyboard.flip(bit), Status.NO_SUCH_BIT);
+  for (let bit = 1; bit <= 9; bit++) {
+    keyboard.flip(bit);
+    keyboard.queueKey(29, bit % 2 === 1);
+    keyboard.runKeys(12_000);
+    const code = [[Item.SENT, 0x1C]], broken = bit % 2 ? code : [[Item.SENT, 0xF0]], rest = bit % 2 ? [] : code;
+    assert.deepEqual(passed(), [...broken, [Item.GIVEN, 0xFE], ...broken, ...rest], `bit ${bit}`);
+  }
+  refused(() => { keyboard.close(); keyboard.flip(1); }, Status.NOT_OPEN);
+}
+
 /** The calls of calls.c, and the checksum of their answers. */
 async function checksum() {
   const keyboard = await Keyboard.load(keyboardModule), all = (1n << 64n) - 1n;
@@ -341,6 +359,7 @@ await refusals();
 await looks();
 await queue();
 await runs();
+await noise();
 const sum = await checksum();
 if (native) assert.equal(sum, native.trim(), 'the native library answers otherwise');
-console.log(`${calls} calls, ${commands} commands, typing, refusals, looks and copies, the queue, runs to something${native ? ', and the checksum of the native library' : ''}`);
+console.log(`${calls} calls, ${commands} commands, typing, refusals, looks and copies, the queue, runs to something, noise${native ? ', and the checksum of the native library' : ''}`);

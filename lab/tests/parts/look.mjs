@@ -3,6 +3,7 @@ import assert from 'node:assert/strict';
 
 const LEAST_CONTRAST = 4.5; // WCAG 2, AA
 const MOST_AT_REST = 15; // per cent of one processor
+const LEAST_HEIGHT = 90; // pixels of a text or a picture
 export const PANES = ['keyboard', 'wires', 'processor', 'workbench', 'lessons'];
 const PHONES = { narrow: [360, 800, 2], iphone: [390, 844, 3], android: [412, 915, 2.625], lying: [844, 390, 3] };
 
@@ -63,6 +64,8 @@ export async function phones(browser, shot) {
       await browser.only(pane);
       const wide = await browser.evaluate('document.documentElement.scrollWidth');
       assert.ok(wide <= width, `${pane} is ${wide} pixels wide on ${name}`);
+      const low = await browser.evaluate(`[...document.querySelectorAll('pre, textarea, canvas, #code')].filter(it => it.checkVisibility() && it.clientHeight < ${LEAST_HEIGHT}).map(it => it.id)`);
+      assert.deepEqual(low, [], `${pane} on ${name}: nothing is squeezed`);
       await shot(`${name}_${pane}`);
     }
     await browser.only('keyboard');
