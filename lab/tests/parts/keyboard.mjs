@@ -151,7 +151,7 @@ export async function macintosh(browser, url) {
   await browser.says('screen', /^cd+▁$/);
   await browser.down('CapsLock', { key: 'CapsLock' });
   await browser.until('document.querySelector("[data-lamp=\\"4\\"]").classList.contains("on")');
-  assert.equal(await held(), '');
+  await browser.until('document.querySelectorAll("#board .down").length === 0');
   await browser.stroke('KeyE');
   await browser.says('screen', /E▁$/);
   await browser.up('CapsLock', { key: 'CapsLock' });
