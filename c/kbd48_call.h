@@ -10,7 +10,7 @@
 extern "C" {
 #endif
 
-/* A piece of `bytes`: where it begins, and where it ends. */
+/* A piece of `bytes`: the number of its first byte, and that of the first byte after it. */
 typedef struct {
     size_t start, end;
 } kbd48_piece;

@@ -1,12 +1,15 @@
 /* The program kbd48 by the one call of kbd48_call.h: each word that names a file here is handed over with what that file
-   holds, and `-` with what standard input does. */
+   holds, and `-` with what standard input does. With BOTH it also opens a keyboard of the other library. */
 #include "kbd48_call.h"
+#ifdef BOTH
+#include "kbd48.h"
+#endif
 #include <stdbool.h>
 #include <stdio.h>
 #include <stdlib.h>
 #include <string.h>
 
-enum { DONE = 0, EXIT_WRITE = 6, MOST_ROOM = 1 << 28 };
+enum { DONE = 0, NO_SUCH_PIECE = 5, EXIT_WRITE = 6, MOST_ROOM = 1 << 28 };
 
 static uint8_t *bytes;
 static size_t used, room;
@@ -38,6 +41,10 @@ static bool put_file(const char *name, kbd48_piece *piece) {
 }
 
 int main(int argc, char **argv) {
+#ifdef BOTH
+    kbd48 keyboard = KBD48_EMPTY;
+    if (kbd48_open_sample(&keyboard) != KBD48_DONE || kbd48_close(&keyboard) != KBD48_DONE) return 71;
+#endif
     bytes = grown(NULL, room = 1 << 16);
     kbd48_piece *words = grown(NULL, (size_t)argc * sizeof *words);
     kbd48_named *files = grown(NULL, (size_t)argc * sizeof *files);
@@ -52,6 +59,11 @@ int main(int argc, char **argv) {
         uint8_t *text = grown(NULL, most);
         kbd48_said said = {0, 0};
         int32_t status = kbd48_call(bytes, used, words, word_count, files, file_count, text, most, &said);
+        if (status == NO_SUCH_PIECE && word_count > 0) {
+            word_count = file_count = 0; /* a word that is no text: no form of a call has it */
+            free(text);
+            continue;
+        }
         if (status != DONE) return 64 + status;
         if (said.exit != EXIT_WRITE || most >= MOST_ROOM) {
             fwrite(text, 1, said.length, stdout);
