@@ -168,6 +168,14 @@ export async function live(browser, shot) {
     await browser.says('at', new RegExp(`: stopped at ${kind}$`));
     await browser.put(field, '');
   }
+  // One instruction a second.
+  await browser.put('pace', '1');
+  const from = await browser.evaluate('lab.live.cycle');
+  await browser.click('#run');
+  await browser.wait(3000);
+  await browser.click('#run');
+  const passed = await browser.evaluate('lab.live.cycle') - from;
+  assert.ok(passed >= 2 && passed <= 10, `${passed} cycles in three seconds`);
   await browser.evaluate('lab.keys.hold("a", false, "test")');
   await browser.only('keyboard');
   await browser.click('#go-on');
