@@ -10,6 +10,7 @@ const heard = browser => browser.evaluate('lab.live.bytes.map(it => (it.sender =
 /** Each button of the PC's, and what comes of it. */
 export async function commands(browser) {
   const says = async (words, form) => {
+    await quiet(browser);
     await browser.pressed('commands', words);
     for (const end = Date.now() + 30_000; !form.test(await heard(browser)); await browser.wait(50)) {
       assert.ok(Date.now() < end, `${words}: ${await heard(browser)}`);
