@@ -50,6 +50,7 @@ try {
   await part('breakpoints', () => processor.breakpoints(browser));
   await part('cursor', () => processor.cursor(browser));
   await part('steps back', () => processor.stepsBack(browser));
+  await part('calls', () => processor.calls(browser, folder));
   await part('paces', () => processor.paces(browser, shot));
   await part('contrast of the processor', () => look.contrast(browser));
   await part('live processor', () => processor.live(browser, shot));

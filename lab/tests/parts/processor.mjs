@@ -1,5 +1,7 @@
 // The processor pane: steps, runs and breakpoints in a run of a key file, and in the keyboard that one types on.
 import assert from 'node:assert/strict';
+import { writeFileSync } from 'node:fs';
+import { join } from 'node:path';
 
 const here = browser => browser.evaluate('document.querySelector("#code .here").textContent');
 const stepOf = async browser => Number(/^step (\d+)/.exec(await browser.textOf('at'))[1]);
@@ -79,7 +81,21 @@ export async function stepsBack(browser) {
   assert.ok(runs <= 5, `${runs} runs for 400 steps`);
 }
 
-/** A call is stepped over, at any pace; the run ends, and goes on to a step by its number. */
+/** Step goes into a call, Step over to what follows it; what is no call is a step. */
+export async function calls(browser, folder) {
+  const file = join(folder, 'calls.asm'), now = () => browser.evaluate('[lab.processor.session.state.counter, lab.processor.session.state.stack.length]');
+  writeFileSync(file, 'MOV R0,#3\nagain: CALL down\nJMP again\ndown: DEC R0\nRET\n');
+  await browser.choose('#open-file', [file]);
+  await browser.until('"calls.asm" in lab.files');
+  await browser.put('program', 'calls.asm');
+  for (const [id, counter, depth] of [['step', 2, 0], ['step', 6, 1], ['back', 2, 0], ['over', 4, 0], ['over', 2, 0], ['over', 4, 0]]) {
+    await browser.click(`#${id}`);
+    assert.deepEqual(await now(), [counter, depth], id);
+  }
+  await browser.put('program', 'four_keys.asm');
+}
+
+/** Any pace; a breakpoint on a register of the kernel; the run ends, and goes on to a step by its number. */
 export async function paces(browser, shot) {
   await browser.put('goto', '60119');
   await browser.says('said', /4440 word 1E61[^]*40879 word 2E63$/);
@@ -92,27 +108,6 @@ export async function paces(browser, shot) {
   await browser.says('at', /stopped at register/);
   await shot('processor');
   await browser.put('stop-register', '');
-  // The kernel's next call: Step over goes behind it, Step goes into it.
-  const call = await browser.evaluate(`(() => {
-    const { lines } = lab.processor.code, it = lines.find(line => /^\\s*CALL\\b/i.test(line.text.replace(/;.*/, '')) && line.place !== null);
-    return it && it.place;
-  })()`);
-  if (call !== undefined && call !== null) {
-    await browser.click('#power');
-    await browser.put('stop-place', call.toString(16).toUpperCase().padStart(3, '0'));
-    await browser.click('#run');
-    await browser.says('at', /stopped at place/);
-    await browser.put('stop-place', '');
-    const from = await stepOf(browser);
-    await browser.click('#step');
-    const depth = await browser.evaluate('lab.processor.session.state.stack.length');
-    await browser.click('#back');
-    await browser.says('at', new RegExp(`^step ${from},`));
-    await browser.click('#over');
-    await browser.says('at', /stopped at place/);
-    const over = await browser.evaluate('[lab.processor.session.state.counter, lab.processor.session.state.stack.length]');
-    assert.deepEqual(over, [call + 2, depth - 1], 'it is after the call, and the stack as before');
-  }
   for (const [pace, least, most] of [['1', 2, 5], ['10', 15, 45], ['100', 150, 450], ['10000', 8000, 45000], ['218000', 100000, 900000]]) {
     await browser.click('#power');
     await browser.put('pace', pace);
@@ -150,17 +145,29 @@ export async function live(browser, shot) {
   await press('step', 1);
   assert.equal(await shown(), states[1]);
   // A key goes down while the time is stopped: the program comes to the place that sends its code.
+  const before = await browser.evaluate('lab.live.cycle');
   await browser.evaluate('lab.keys.hold("a", true, "test")');
   await browser.put('stop-byte', 'keyboard 1C');
   await browser.put('pace', AT_ONCE);
   await browser.click('#run');
   await browser.says('at', /: stopped at byte$/);
-  const sent = await shown();
+  const sent = await shown(), again = await browser.evaluate(`(() => {
+    const look = it => [it.cycle(), JSON.stringify(it.inside())].join();
+    return [look(lab.keyboard), lab.live.history.on(${before}, (copy, now) => now >= lab.live.cycle, look)];
+  })()`);
+  assert.equal(again[1], again[0], 'a copy from before the key is handed the key too');
   await press('back', 5);
   await browser.put('stop-byte', '');
   await press('step', 5);
   assert.equal(await shown(), sent, 'what was handed in is handed in again');
   await shot('live_processor');
+  // The PC's EE isn't the keyboard's.
+  await browser.put('stop-byte', 'keyboard EE');
+  await browser.evaluate('lab.live.order(0x60, 0xEE)');
+  await browser.click('#run');
+  await browser.says('at', /: stopped at byte$/);
+  assert.deepEqual(await browser.evaluate('lab.live.bytes.slice(-2).map(it => it.sender)'), ['host', 'keyboard']);
+  await browser.put('stop-byte', '');
   // A place, a register and a cell stop it too.
   for (const [field, value, kind] of [['stop-place', '007', 'place'], ['stop-register', 'R4=00', 'register'], ['stop-cell', '20=00', 'cell']]) {
     await browser.put(field, value);
