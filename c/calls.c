@@ -137,12 +137,13 @@ static void a_noisy_byte(const uint8_t *hex, size_t length) {
     CHECK(kbd48_flip(&k, 0) == KBD48_NO_SUCH_BIT && kbd48_flip(&k, 10) == KBD48_NO_SUCH_BIT);
     CHECK(kbd48_flip(&k, 9) == KBD48_DONE);
     CHECK(kbd48_key(&k, 34, true) == KBD48_DONE && kbd48_cycle(&k, &cycle) == KBD48_DONE);
-    for (until = cycle + 40000; !up && cycle < until; CHECK(kbd48_cycle(&k, &cycle) == KBD48_DONE)) {
+    until = cycle + 40000;
+    while (!up && cycle < until) {
         CHECK(kbd48_run(&k, 1, false, &passed, &place) == KBD48_DONE);
         CHECK(kbd48_pulls(&k, &keyboard, &controller) == KBD48_DONE && kbd48_wires(&k, &clock, &data) == KBD48_DONE);
         CHECK(clock == !((keyboard | controller) & 1) && data == !((keyboard | controller) & 2));
         pulled_by_keyboard |= keyboard, pulled_by_controller |= controller;
-        CHECK(kbd48_interrupt(&k, &up) == KBD48_DONE);
+        CHECK(kbd48_interrupt(&k, &up) == KBD48_DONE && kbd48_cycle(&k, &cycle) == KBD48_DONE);
     }
     CHECK(up && pulled_by_keyboard == 3 && pulled_by_controller == 3);
     CHECK(until - cycle < 40000 - 6000); /* the byte, FE and the byte again take three frames */
