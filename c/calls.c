@@ -36,7 +36,7 @@ static void empty_handle(void) {
     CHECK(kbd48_write(&k, 0x60, 0) == KBD48_NOT_OPEN);
     CHECK(kbd48_read60(&k, &byte) == KBD48_NOT_OPEN && byte == 7);
     CHECK(kbd48_status(&k, &byte) == KBD48_NOT_OPEN && byte == 7);
-    CHECK(kbd48_bios(&k, true) == KBD48_NOT_OPEN);
+    CHECK(kbd48_bios(&k, true) == KBD48_NOT_OPEN && kbd48_flip(&k, 1) == KBD48_NOT_OPEN);
     CHECK(kbd48_take(&k, &word) == KBD48_NOT_OPEN && word == 7);
     CHECK(kbd48_interrupt(&k, &up) == KBD48_NOT_OPEN && up);
     CHECK(kbd48_lights(&k, &byte) == KBD48_NOT_OPEN && byte == 7);
@@ -48,6 +48,7 @@ static void empty_handle(void) {
     kbd48_processor inside = {.counter = 7};
     kbd48_item item = {7, 7, 7};
     uint8_t edges = 7;
+    CHECK(kbd48_pulls(&k, &edges, &byte) == KBD48_NOT_OPEN && edges == 7 && byte == 7);
     number = 7;
     CHECK(kbd48_rises(&k, &number) == KBD48_NOT_OPEN && number == 7);
     CHECK(kbd48_next(&k, &item) == KBD48_NOT_OPEN && item.kind == 7);
@@ -111,7 +112,7 @@ static void a_rise_within_a_step(kbd48 *k) {
     CHECK(kbd48_write(k, 0x60, 0xdf) == KBD48_DONE && kbd48_run(k, 8, false, &passed, &place) == KBD48_DONE);
     CHECK(kbd48_write(k, 0x64, 0xfe) == KBD48_DONE && kbd48_run(k, 8, false, &passed, &place) == KBD48_DONE);
     static const struct { uint8_t kind, value; } said[] = {
-        {KBD48_ITEM_READ, 0xaa}, {KBD48_ITEM_READ, 0x55},
+        {KBD48_ITEM_SENT, 0xaa}, {KBD48_ITEM_READ, 0xaa}, {KBD48_ITEM_READ, 0x55},
         {KBD48_ITEM_OUTPUT, 0xdf}, {KBD48_ITEM_PULSE, 0x0e},
     };
     for (size_t i = 0; i < sizeof said / sizeof *said; i++) {
@@ -119,6 +120,46 @@ static void a_rise_within_a_step(kbd48 *k) {
         CHECK(item.kind == said[i].kind && item.value == said[i].value);
     }
     CHECK(kbd48_next(k, &item) == KBD48_NOTHING_SAID);
+}
+
+/* A bit of the keyboard's next frame is turned round: the controller asks for the byte again, and then it comes right. Both
+   sides pull the wires meanwhile, and what neither pulls is high. */
+static void a_noisy_byte(const uint8_t *hex, size_t length) {
+    kbd48 k = KBD48_EMPTY;
+    kbd48_fault fault;
+    kbd48_place place;
+    uint64_t passed, cycle, until;
+    uint8_t byte, keyboard, controller, pulled_by_keyboard = 0, pulled_by_controller = 0;
+    bool clock, data, up = false;
+    CHECK(kbd48_open_ready_hex(hex, length, &k, &fault) == KBD48_DONE);
+    CHECK(kbd48_pulls(&k, &keyboard, &controller) == KBD48_DONE && controller == 1); /* it holds the clock: AA waits */
+    CHECK(kbd48_read60(&k, &byte) == KBD48_DONE && byte == 0xaa);
+    CHECK(kbd48_flip(&k, 0) == KBD48_NO_SUCH_BIT && kbd48_flip(&k, 10) == KBD48_NO_SUCH_BIT);
+    CHECK(kbd48_flip(&k, 9) == KBD48_DONE);
+    CHECK(kbd48_key(&k, 34, true) == KBD48_DONE && kbd48_cycle(&k, &cycle) == KBD48_DONE);
+    until = cycle + 40000;
+    while (!up && cycle < until) {
+        CHECK(kbd48_run(&k, 1, false, &passed, &place) == KBD48_DONE);
+        CHECK(kbd48_pulls(&k, &keyboard, &controller) == KBD48_DONE && kbd48_wires(&k, &clock, &data) == KBD48_DONE);
+        CHECK(clock == !((keyboard | controller) & 1) && data == !((keyboard | controller) & 2));
+        pulled_by_keyboard |= keyboard, pulled_by_controller |= controller;
+        CHECK(kbd48_interrupt(&k, &up) == KBD48_DONE && kbd48_cycle(&k, &cycle) == KBD48_DONE);
+    }
+    CHECK(up && pulled_by_keyboard == 3 && pulled_by_controller == 3);
+    CHECK(until - cycle < 40000 - 6000); /* the byte, FE and the byte again take three frames */
+    CHECK(kbd48_read60(&k, &byte) == KBD48_DONE && byte == 0x23);
+    static const struct { uint8_t kind, value; } happened[] = {
+        {KBD48_ITEM_SENT, 0xaa}, {KBD48_ITEM_READ, 0xaa}, {KBD48_ITEM_SENT, 0x33}, {KBD48_ITEM_GIVEN, 0xfe},
+        {KBD48_ITEM_SENT, 0x33}, {KBD48_ITEM_READ, 0x23}, /* make code 33 comes wrong, and then right; 23 is translated */
+    };
+    kbd48_item item;
+    cycle = 0;
+    for (size_t i = 0; i < sizeof happened / sizeof *happened; i++, cycle = item.cycle) {
+        CHECK(kbd48_next(&k, &item) == KBD48_DONE && item.cycle > cycle);
+        CHECK(item.kind == happened[i].kind && item.value == happened[i].value);
+    }
+    CHECK(kbd48_next(&k, &item) == KBD48_NOTHING_SAID);
+    CHECK(kbd48_close(&k) == KBD48_DONE);
 }
 
 /* Six items more than are kept: so many are lost. */
@@ -291,6 +332,7 @@ int main(void) {
     CHECK(a_session() == KBD48_DONE);
     a_stuck_one();
     a_ready_one(hex, hex_length);
+    a_noisy_byte(hex, hex_length);
     a_run_to(hex, hex_length);
 }
 #else
@@ -335,6 +377,7 @@ int main(void) {
     CHECK(refused == all);
     a_stuck_one();
     a_ready_one(hex, hex_length);
+    a_noisy_byte(hex, hex_length);
     a_run_to(hex, hex_length);
     CHECK(live == 0);
     printf("calls: each of %ld allocations was refused in turn\n", all);

@@ -7,8 +7,8 @@
 
    Each function but kbd48_text and kbd48_version returns a status. With an empty handle each returns KBD48_NOT_OPEN
    and does nothing (kbd48_run then says that 0 cycles passed). A call that is refused leaves the keyboard as it was:
-   the statuses are KBD48_NO_SUCH_PLACE, KBD48_NO_SUCH_PORT, KBD48_FULL, KBD48_EARLY, and of a call that makes one step
-   also KBD48_STUCK and KBD48_OVER. A call writes through its pointers if the status is KBD48_DONE. If it also writes
+   the statuses are KBD48_NO_SUCH_PLACE, KBD48_NO_SUCH_PORT, KBD48_NO_SUCH_BIT, KBD48_FULL, KBD48_EARLY, and of a call
+   that makes one step also KBD48_STUCK and KBD48_OVER. A call writes through its pointers if the status is KBD48_DONE. If it also writes
    with another status, its comment says so.
 
    The caller ensures that
@@ -54,7 +54,8 @@ enum {
     KBD48_LOST = 15,          /* more was said than is kept */
     KBD48_REPEATED = 16,      /* the key is already down, or already up, after the edges that wait */
     KBD48_KEY_DUE = 17,       /* the next edge of the queue is due: call again with the cycles that are left */
-    KBD48_NO_SUCH_KEY = 18    /* no key has the name, or the layout has no such key */
+    KBD48_NO_SUCH_KEY = 18,   /* no key has the name, or the layout has no such key */
+    KBD48_NO_SUCH_BIT = 19    /* noise turns round the bits 1 to 9 of a frame */
 };
 
 /* The status in words; there is a text for every number. */
@@ -64,7 +65,7 @@ static inline const char *kbd48_text(int32_t status) {
         "no such place", "no such port", "no room", "the processor is stuck", "stuck before stamp 0",
         "the count of cycles is at its end", "no word", "the interrupt line rose", "no such cell",
         "nothing was said", "more was said than is kept", "the key is so already", "the next edge is due",
-        "no such key",
+        "no such key", "no such bit",
     };
     return status >= 0 && (size_t)status < sizeof texts / sizeof *texts ? texts[status] : "no such status";
 }
@@ -199,11 +200,16 @@ int32_t kbd48_status(kbd48 *handle, uint8_t *byte);
    put out. At first it is off, and the host is the caller. */
 int32_t kbd48_bios(kbd48 *handle, bool on);
 
+/* Noise turns round a bit of the next frame that the keyboard begins, in one step: a data bit, 1 to 8, or the parity, 9.
+   Another call before that frame replaces it. The byte then comes wrong, and the controller asks for it again. It is
+   what `flip` of a key file does. Returns KBD48_NO_SUCH_BIT for any other bit. */
+int32_t kbd48_flip(kbd48 *handle, uint8_t bit);
+
 /* A program takes the next word from the buffer of INT 09h: the scan code is the high byte, the character the low one.
    This makes one step, also if the buffer is empty, for which it returns KBD48_NO_WORD. */
 int32_t kbd48_take(kbd48 *handle, uint16_t *word);
 
-/* What the log says, item by item. */
+/* What happened: what the log says, item by item, and the bytes that pass over the wires. */
 enum {
     KBD48_ITEM_PORT = 0,        /* INT 09h read this byte from port 0x60 */
     KBD48_ITEM_READ = 1,        /* kbd48_read60 read this byte */
@@ -222,18 +228,20 @@ enum {
     KBD48_ITEM_PRINT = 14,      /* Shift with the print key */
     KBD48_ITEM_BOOT = 15,       /* Ctrl, Alt and Del */
     KBD48_ITEM_SYS_MAKE = 16,   /* SysReq went down */
-    KBD48_ITEM_SYS_BREAK = 17   /* SysReq went up */
+    KBD48_ITEM_SYS_BREAK = 17,  /* SysReq went up */
+    KBD48_ITEM_SENT = 18,       /* the keyboard has sent this byte over the wires, as it was there before any noise */
+    KBD48_ITEM_GIVEN = 19       /* the controller has sent the keyboard this byte */
 };
 
 typedef struct {
-    uint64_t cycle; /* the cycle in which it was said */
+    uint64_t cycle; /* the cycle in which it happened */
     uint8_t kind;   /* one of KBD48_ITEM_... */
     uint16_t value; /* the byte or the word, or 0 */
 } kbd48_item;
 
-/* Hands out what was said next, in the order of the log, and makes no step. Returns KBD48_NOTHING_SAID when all was
-   handed out. Sixty-four items are kept. If more are said, all after them are lost, until KBD48_LOST says so, once,
-   after the 64th. */
+/* Hands out what happened next, in order, and makes no step. In one step the byte that passes comes before what is said.
+   Returns KBD48_NOTHING_SAID when all was handed out. Sixty-four items are kept. If there are more, all after them are
+   lost, until KBD48_LOST says so, once, after the 64th. */
 int32_t kbd48_next(kbd48 *handle, kbd48_item *item);
 
 /* The calls from here on make no step and change nothing. */
@@ -256,6 +264,9 @@ int32_t kbd48_lights(kbd48 *handle, uint8_t *lights);
 /* The levels of the two wires after the last cycle, true for high. A wire is low if the keyboard or the controller
    pulls it. kbd48_run_to stops at each change. */
 int32_t kbd48_wires(kbd48 *handle, bool *clock, bool *data);
+
+/* Which wires the keyboard pulls and which the controller pulls, both after the last cycle: 1 the clock, 2 data. */
+int32_t kbd48_pulls(kbd48 *handle, uint8_t *keyboard, uint8_t *controller);
 
 /* How many cycles have passed since power-on. A stamp of a key file counts from cycle 4,096. */
 int32_t kbd48_cycle(kbd48 *handle, uint64_t *cycle);

@@ -64,6 +64,7 @@ public:
     uint8_t read60() { return shown<uint8_t>(kbd48_read60); }
     uint8_t status() { return shown<uint8_t>(kbd48_status); }
     void bios(bool on) { need(kbd48_bios(&handle, on)); }
+    void flip(uint8_t bit) { need(kbd48_flip(&handle, bit)); }
     bool run(uint64_t cycles, bool watched = false) {
         uint64_t passed;
         kbd48_place place;
@@ -117,6 +118,15 @@ public:
     uint64_t lost() const { return shown<uint64_t>(kbd48_lost); }
     uint64_t cycle() const { return shown<uint64_t>(kbd48_cycle); }
     uint8_t lights() const { return shown<uint8_t>(kbd48_lights); }
+    // Which wires each side pulls: 1 the clock, 2 data.
+    struct Pulls {
+        uint8_t keyboard, controller;
+    };
+    Pulls pulls() const {
+        Pulls pulls;
+        need(kbd48_pulls(&handle, &pulls.keyboard, &pulls.controller));
+        return pulls;
+    }
     kbd48_registers registers() const { return shown<kbd48_registers>(kbd48_look); }
     kbd48_processor processor() const { return shown<kbd48_processor>(kbd48_inside); }
 

@@ -27,6 +27,8 @@ pub enum Error {
     Lost,
     /// No key has the name, or the layout has none of it.
     NoSuchKey,
+    /// Noise turns round the bits 1 to 9 of a frame.
+    NoSuchBit,
 }
 
 impl fmt::Display for Error {
@@ -133,6 +135,7 @@ unsafe extern "C" {
     fn kbd48_write(handle: *mut Handle, port: u8, byte: u8) -> i32;
     fn kbd48_read60(handle: *mut Handle, byte: *mut u8) -> i32;
     fn kbd48_bios(handle: *mut Handle, on: bool) -> i32;
+    fn kbd48_flip(handle: *mut Handle, bit: u8) -> i32;
     fn kbd48_take(handle: *mut Handle, word: *mut u16) -> i32;
     fn kbd48_next(handle: *mut Handle, item: *mut Item) -> i32;
     fn kbd48_look(handle: *mut Handle, registers: *mut Registers) -> i32;
@@ -140,6 +143,7 @@ unsafe extern "C" {
     fn kbd48_lost(handle: *mut Handle, lost: *mut u64) -> i32;
     fn kbd48_rises(handle: *mut Handle, rises: *mut u64) -> i32;
     fn kbd48_lights(handle: *mut Handle, lights: *mut u8) -> i32;
+    fn kbd48_pulls(handle: *mut Handle, keyboard: *mut u8, controller: *mut u8) -> i32;
     fn kbd48_cycle(handle: *mut Handle, cycle: *mut u64) -> i32;
 }
 
@@ -159,6 +163,7 @@ fn judged(status: i32, fault: Fault) -> Result<(), Error> {
         13 => Error::NoSuchCell,
         15 => Error::Lost,
         18 => Error::NoSuchKey,
+        19 => Error::NoSuchBit,
         other => unreachable!("status {other} of an open keyboard"),
     })
 }
@@ -300,6 +305,11 @@ impl Keyboard {
         done(unsafe { kbd48_bios(self.handle.get(), on) })
     }
 
+    /// Noise turns round a bit of the next frame that the keyboard begins: a data bit, 1 to 8, or the parity, 9.
+    pub fn flip(&mut self, bit: u8) -> Result<(), Error> {
+        done(unsafe { kbd48_flip(self.handle.get(), bit) })
+    }
+
     /// The next word of the buffer of INT 09h, if there is one.
     pub fn take(&mut self) -> Result<Option<u16>, Error> {
         let mut word = 0;
@@ -337,6 +347,14 @@ impl Keyboard {
 
     pub fn lights(&self) -> u8 {
         self.look(kbd48_lights)
+    }
+
+    /// The wires that the keyboard pulls, and those that the controller pulls: 1 the clock, 2 data.
+    pub fn pulls(&self) -> (u8, u8) {
+        let (mut keyboard, mut controller) = (0, 0);
+        let status = unsafe { kbd48_pulls(self.handle.get(), &mut keyboard, &mut controller) };
+        debug_assert_eq!(status, 0);
+        (keyboard, controller)
     }
 
     pub fn cycle(&self) -> u64 {

@@ -26,6 +26,7 @@ int main() {
     copy = first;
     CHECK(moved.read60() == 0xaa && moved.cycle() == first.cycle());
     kbd48_item item;
+    CHECK(moved.next(item) && item.kind == KBD48_ITEM_SENT && item.value == 0xaa);
     CHECK(moved.next(item) && item.kind == KBD48_ITEM_READ && item.value == 0xaa && !moved.next(item));
     CHECK(moved.key(34, true) && moved.run(400000, true) && moved.read60() == 0x23 && !copy.run(4000, true));
     Kbd48 sample = Kbd48::of_sample();
@@ -39,6 +40,8 @@ int main() {
         CHECK(copy.run_keys(400000, true).rose && copy.read60() == byte);
     CHECK(copy.queued() == 0 && sample.queued() == 4 && sample.run_keys(40000).rises == 1);
     Kbd48 ready = Kbd48::ready_of_layout(text);
+    ready.flip(9);
+    CHECK(ready.pulls().controller == 1);
     CHECK(ready.interrupt() && ready.lost() == 0 && ready.run_to(0, 400000, 1) == 0);
     CHECK(ready.run_to(KBD48_STOP_PLACE, 4096, UINT64_MAX, KBD48_TICK) == KBD48_STOP_PLACE);
     CHECK(ready.processor().counter == KBD48_TICK);

@@ -12,6 +12,7 @@ fn main() -> Result<(), Box<dyn std::error::Error>> {
     assert!(!first.interrupt() && copy.interrupt());
     assert_eq!(copy.read60()?, 0xaa);
     assert_eq!(copy.cycle(), first.cycle());
+    assert_eq!(copy.next_said()?.map(|it| (it.kind, it.value)), Some((18, 0xaa)));
     let said = copy.next_said()?.expect("the read was said");
     assert_eq!((said.kind, said.value, copy.next_said()?), (1, 0xaa, None));
     copy.key(34, true)?;
@@ -33,6 +34,7 @@ fn main() -> Result<(), Box<dyn std::error::Error>> {
     assert_eq!((sample.queued(), sample.run_keys(4000, false)?.rises), (0, 0));
     let mut ready = Keyboard::ready_of_layout(&std::fs::read("examples/us84.toml")?)?;
     assert!(ready.interrupt() && ready.lost() == 0);
+    assert_eq!((ready.flip(10), ready.flip(9), ready.pulls().1), (Err(Error::NoSuchBit), Ok(()), 1));
     assert_eq!(ready.run_to(0, 0, 400_000, 1)?.1, 0);
     assert_eq!(ready.run_to(8, 7, 4096, u64::MAX)?.1, 8);
     assert_eq!(first.key(96, true), Err(Error::NoSuchPlace));

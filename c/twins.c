@@ -30,6 +30,7 @@ typedef struct {
     uint8_t met, byte, lights, edges, words, rows, cell;
     uint16_t word;
     bool up, clock, data;
+    uint8_t pulls[2];
     kbd48_registers registers;
     kbd48_processor inside;
     kbd48_item items[65];
@@ -40,7 +41,7 @@ typedef struct {
 static void look(kbd48 *k, seen *s, uint8_t column, uint8_t cell) {
     kbd48_rises(k, &s->rises), kbd48_cycle(k, &s->cycle), kbd48_lights(k, &s->lights), kbd48_interrupt(k, &s->up);
     kbd48_wires(k, &s->clock, &s->data), kbd48_waiting(k, &s->edges, &s->words), kbd48_look(k, &s->registers);
-    kbd48_lost(k, &s->lost), kbd48_inside(k, &s->inside), kbd48_column(k, column, &s->rows), kbd48_cell(k, cell, &s->cell);
+    kbd48_pulls(k, &s->pulls[0], &s->pulls[1]), kbd48_lost(k, &s->lost), kbd48_inside(k, &s->inside), kbd48_column(k, column, &s->rows), kbd48_cell(k, cell, &s->cell);
 }
 
 static void act(kbd48 *k, seen *s, uint32_t what, uint32_t a, uint32_t b) {
@@ -52,7 +53,8 @@ static void act(kbd48 *k, seen *s, uint32_t what, uint32_t a, uint32_t b) {
     case 4: s->status = kbd48_take(k, &s->word); break;
     case 5: s->status = kbd48_bios(k, b & 1); break;
     case 6: s->status = kbd48_run(k, a % 100, b & 1, &s->passed, &s->place); break;
-    case 7:
+    case 7: s->status = kbd48_flip(k, (uint8_t)(a % 11)); break;
+    case 8:
         s->status = kbd48_run_to(k, (uint8_t)(b % 16), (uint16_t)(a % 2048), a % 4000, b % 4096, &s->met, &s->passed, &s->place);
         break;
     default: s->status = kbd48_run(k, a % 20000, b & 1, &s->passed, &s->place); break;
@@ -75,7 +77,7 @@ int main(int argc, char **argv) {
     size_t length = file ? fread(hex, 1, sizeof hex, file) : 0;
     CHECK(kbd48_open_hex(hex, length, &k, &fault) == KBD48_DONE);
     for (call = 0; call < count; call++) {
-        uint32_t what = random_below(9), a = random_below(65536), b = random_below(65536);
+        uint32_t what = random_below(10), a = random_below(65536), b = random_below(65536);
         uint8_t column = (uint8_t)random_below(12), cell = (uint8_t)random_below(128);
         if (call % 97 == 0) CHECK(kbd48_copy(&k, &copy) == KBD48_DONE);
         if (call % 89 == 0) drain(&k, &one), drain(&copy, &other), items += one.count;
@@ -86,10 +88,11 @@ int main(int argc, char **argv) {
         CHECK(!memcmp(&one, &other, sizeof one));
         again = one, look(&k, &again, column, cell);
         CHECK(!memcmp(&one, &again, sizeof one));
-        bool steps = what != 0 && one.status != KBD48_FULL;
+        bool steps = what != 0 && one.status != KBD48_FULL && one.status != KBD48_NO_SUCH_BIT;
+        CHECK(one.clock == !((one.pulls[0] | one.pulls[1]) & 1) && one.data == !((one.pulls[0] | one.pulls[1]) & 2));
         if (steps && !was && one.up) CHECK(one.rises > 0);
         if (one.status == KBD48_ROSE) CHECK(one.rises == 1 && one.up);
-        if (what == 7 && (b & KBD48_STOP_RISE)) CHECK(one.rises == (one.met & KBD48_STOP_RISE));
+        if (what == 8 && (b & KBD48_STOP_RISE)) CHECK(one.rises == (one.met & KBD48_STOP_RISE));
         if (steps) rises += one.rises;
         one.count = other.count = 0;
         memset(one.items, 0, sizeof one.items), memset(other.items, 0, sizeof other.items);

@@ -2,14 +2,14 @@
 export declare const Status: Readonly<{
   DONE: 0; NOT_OPEN: 1; NO_MEMORY: 2; BAD_TEXT: 3; TOO_LONG: 4; NO_SUCH_PLACE: 5; NO_SUCH_PORT: 6; FULL: 7; STUCK: 8;
   EARLY: 9; OVER: 10; NO_WORD: 11; ROSE: 12; NO_SUCH_CELL: 13; NOTHING_SAID: 14; LOST: 15; REPEATED: 16; KEY_DUE: 17;
-  NO_SUCH_KEY: 18;
+  NO_SUCH_KEY: 18; NO_SUCH_BIT: 19;
 }>;
 export type StatusNumber = (typeof Status)[keyof typeof Status];
 
 /** The kinds of items, as `c/kbd48.h` has them. */
 export declare const Item: Readonly<{
   PORT: 0; READ: 1; WORD: 2; BEEP: 3; OVERRUN: 4; LIGHTS: 5; TAKEN: 6; TAKEN_NONE: 7; STATUS: 8; OUTPUT: 9; PULSE: 10;
-  BROKE: 11; PAUSE: 12; RESUME: 13; PRINT: 14; BOOT: 15; SYS_MAKE: 16; SYS_BREAK: 17;
+  BROKE: 11; PAUSE: 12; RESUME: 13; PRINT: 14; BOOT: 15; SYS_MAKE: 16; SYS_BREAK: 17; SENT: 18; GIVEN: 19;
 }>;
 
 /** What `runTo` may be asked to stop for: a sum of these. */
@@ -32,11 +32,17 @@ export interface Stopped {
   readonly passed: number;
 }
 
-/** An item of the log: the cycle in which it was said, and its byte or word, or 0. */
+/** What happened: the cycle in which it did, its kind, and its byte or word, or 0. */
 export interface Said {
   readonly cycle: number;
   readonly kind: (typeof Item)[keyof typeof Item];
   readonly value: number;
+}
+
+/** Which wires each side pulls: 1 the clock, 2 data. */
+export interface Pulls {
+  readonly keyboard: number;
+  readonly controller: number;
 }
 
 /** What ports 0x64 and 0x60 would read, the command byte, and the output port. */
@@ -112,6 +118,7 @@ export declare class Keyboard {
   read60(): number;
   status(): number;
   bios(on: boolean): void;
+  flip(bit: number): void;
   take(): number | null;
   next(): Said | null;
   items(): Generator<Said, void>;
@@ -125,7 +132,7 @@ export declare class Keyboard {
   waiting(): { edges: number; words: number };
   column(number: number): number;
   inside(): Processor;
-  pulls(): number;
+  pulls(): Pulls;
   cell(number: number): number;
 }
 

@@ -4,6 +4,7 @@
 export const Status = Object.freeze({
   DONE: 0, NOT_OPEN: 1, NO_MEMORY: 2, BAD_TEXT: 3, TOO_LONG: 4, NO_SUCH_PLACE: 5, NO_SUCH_PORT: 6, FULL: 7, STUCK: 8, EARLY: 9,
   OVER: 10, NO_WORD: 11, ROSE: 12, NO_SUCH_CELL: 13, NOTHING_SAID: 14, LOST: 15, REPEATED: 16, KEY_DUE: 17, NO_SUCH_KEY: 18,
+  NO_SUCH_BIT: 19,
 });
 
 /** What `runTo` may be asked to stop for: a rise of the interrupt line, something said, a wire that changed, a place. */
@@ -12,16 +13,16 @@ export const Stop = Object.freeze({ RISE: 1, ITEM: 2, WIRES: 4, PLACE: 8 });
 /** The place at which a tick of a layout's firmware begins. */
 export const TICK = 0x007;
 
-/** What the log says, item by item. */
+/** What happened: what the log says, item by item, and the bytes that the keyboard sent over the wires, or was given. */
 export const Item = Object.freeze({
   PORT: 0, READ: 1, WORD: 2, BEEP: 3, OVERRUN: 4, LIGHTS: 5, TAKEN: 6, TAKEN_NONE: 7, STATUS: 8, OUTPUT: 9, PULSE: 10, BROKE: 11,
-  PAUSE: 12, RESUME: 13, PRINT: 14, BOOT: 15, SYS_MAKE: 16, SYS_BREAK: 17,
+  PAUSE: 12, RESUME: 13, PRINT: 14, BOOT: 15, SYS_MAKE: 16, SYS_BREAK: 17, SENT: 18, GIVEN: 19,
 });
 
 const STATUS_TEXTS = ['done', 'the handle is empty', 'there is no memory left', 'the text has a fault', 'the text is too long',
   'there is no such place', 'there is no such port', 'there is no room', 'the processor is stuck',
   'the processor stuck before stamp 0', 'the count of cycles is at its end', 'there is no word', 'the interrupt line rose', 'there is no such cell', 'nothing was said',
-  'more was said than is kept', 'the key is so already', 'the next edge is due', 'there is no such key'];
+  'more was said than is kept', 'the key is so already', 'the next edge is due', 'there is no such key', 'there is no such bit'];
 
 /** A call that was refused. `place` and `number` say which rule a text breaks, and at which entry or line. */
 export class Kbd48Error extends Error {
@@ -93,7 +94,6 @@ const PLACES = {
 };
 const QUEUE_SIZE = 2672, PLACES_SIZE = PLACES.queue + QUEUE_SIZE;
 const ONE = 1n, ANY_NUMBER = (1n << 64n) - 1n;
-const P2_AT = 20; // in what kbd48_inside shows
 const COUNTS = ['off', 'cycles', 'falls of T1'];
 
 /** One keyboard, as `c/kbd48.h` has it. Time is counted in cycles of 2.5 microseconds. */
@@ -302,6 +302,9 @@ export class Keyboard {
   /** INT 09h reads each byte, if on; at first the caller is the host. */
   bios(on) { this.#done(this.machine.call('kbd48_bios', this.to.handle, on ? 1 : 0)); }
 
+  /** Noise turns round a bit of the next frame that the keyboard begins: a data bit, 1 to 8, or the parity, 9. One step. */
+  flip(bit) { this.#done(this.machine.call('kbd48_flip', this.to.handle, bit)); }
+
   /** The next word of the BIOS buffer, or null if there is none. */
   take() {
     const status = this.machine.call('kbd48_take', this.to.handle, this.to.word);
@@ -310,7 +313,7 @@ export class Keyboard {
     return this.#short(PLACES.word);
   }
 
-  /** What was said next, { cycle, kind, value }, or null if all was handed out. After the 64th of more an error says LOST. */
+  /** What happened next, { cycle, kind, value }, or null if all was handed out. After the 64th of more an error says LOST. */
   next() {
     const status = this.machine.call('kbd48_next', this.to.handle, this.to.item);
     if (status === Status.NOTHING_SAID) return null;
@@ -386,10 +389,10 @@ export class Keyboard {
     };
   }
 
-  /** Which wires the keyboard's processor pulls low: 1 the clock, 2 data. It is bits 0 and 1 of its port 2, and no more. */
+  /** Which wires the keyboard pulls and which the controller pulls, both at this moment: 1 the clock, 2 data. */
   pulls() {
-    this.#done(this.machine.call('kbd48_inside', this.to.handle, this.to.shown));
-    return ~this.#byte(PLACES.shown + P2_AT) & 3;
+    this.#done(this.machine.call('kbd48_pulls', this.to.handle, this.to.one, this.to.two));
+    return { keyboard: this.#byte(PLACES.one), controller: this.#byte(PLACES.two) };
   }
 
   /** A byte of its data memory, 0 to 127. */

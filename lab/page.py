@@ -26,7 +26,9 @@ EXAMPLES = """
     wrong_parity.script unset_cell.asm run_on.asm timer.asm delay.asm delay.hex delay.cert us84.hex
     kernel_delay.cert every_instruction.asm
 """.split()
-NAME = re.compile(r"^(?:async )?(?:const|let|class|function\*?) ([A-Za-z_]\w*)", re.MULTILINE)
+NAME = re.compile(r"^(?:async )?(?:class|function\*?) ([A-Za-z_]\w*)", re.MULTILINE)
+# A line may begin several constants.
+LINE, CONSTANT = re.compile(r"^(?:const|let) .*$", re.MULTILINE), re.compile(r"(?:^const|^let|,) ([A-Za-z_]\w*) = ")
 IMPORT = re.compile(r"^import [^;]*? from '(\.[^']+)';\n", re.MULTILINE)
 
 
@@ -45,6 +47,12 @@ def modules_in_order(entry: Path, done: list[Path]) -> list[Path]:
     return done
 
 
+def names_of(script: str) -> list[str]:
+    """The names at the top of a script."""
+    constants = [name for line in LINE.findall(script) for name in CONSTANT.findall(line)]
+    return [*NAME.findall(script), *constants]
+
+
 def script() -> str:
     """All scripts as one. Two of them may not have one name at their top: the browser would refuse it."""
     parts = []
@@ -54,7 +62,7 @@ def script() -> str:
         if re.search(r"^(import|export)\b", text, re.MULTILINE):
             raise Broken(f"{path.name}: an import or export of a form that isn't known")
         parts.append(text)
-    names = [name for part in parts for name in NAME.findall(part)]
+    names = [name for part in parts for name in names_of(part)]
     if twice := sorted({name for name in names if names.count(name) > 1}):
         raise Broken(f"two scripts have the same name at their top: {', '.join(twice)}")
     return "\n".join(parts)
@@ -145,7 +153,7 @@ def sources() -> str:
     for name in MODULES:
         take(name)
     files = [path for name in mine for path in (ROOT / "crates" / name / "src").rglob("*.rt")]
-    files += [*(LAB / "wasm").glob("*.[cp]*"), LAB / "wasm/keeping_clang", ROOT / "c/kbd48.h"]
+    files += [*(LAB / "wasm").glob("*.[cp]*"), ROOT / "launcher/bitcode.py", ROOT / "launcher/keeping_clang", ROOT / "c/kbd48.h"]
     counted = hashlib.sha256()
     for path in sorted(it for it in files if it.is_file()):
         counted.update(f"\0{path.relative_to(ROOT)}\0".encode() + path.read_bytes())

@@ -79,10 +79,15 @@ def type_hi(layout):
             keyboard.run(left)
             if place is not None:
                 assert keyboard.key(place, down)
-            yield from keyboard.items()
+            yield from logged(keyboard)
         while keyboard.take() is not None:
             pass
-        yield from keyboard.items()
+        yield from logged(keyboard)
+
+
+def logged(keyboard):
+    """The items that the log has; bytes on the wires are no part of it."""
+    return (item for item in keyboard.items() if item.kind not in (ItemKind.SENT, ItemKind.GIVEN))
 
 
 def text(item):

@@ -9,6 +9,12 @@ export function make(tag, properties = {}, ...children) {
   return element;
 }
 
+// A property that is set anew costs a picture, even if its value is the old one.
+
+export function setHidden(element, hidden) { if (element.hidden !== hidden) element.hidden = hidden; }
+
+export function setText(element, text) { if (element.textContent !== text) element.textContent = text; }
+
 export const hex = (number, digits = 2) => number.toString(16).toUpperCase().padStart(digits, '0');
 
 /** The options of a select; the chosen one stays, or becomes `first`. */

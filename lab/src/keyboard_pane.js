@@ -8,13 +8,15 @@ import { explained, kbd48 } from './program.js';
 const TAP = 60; // ms that a key is held if its release isn't reported
 const LEAVE = 500; // ms between the two Escapes that leave the keyboard
 const STICKS = new Set(['lshift', 'rshift', 'ctrl', 'alt']);
+const NOTES = ['Click the keyboard, and type. Your keys go to it while it has the focus. Escape twice, and Tab leaves it.',
+  'Tab leaves the keyboard now, Shift and Tab go back. With any other key you go on typing.'];
 const FEW = 20; // a layout with fewer keys is drawn as its matrix
 
 export class KeyboardPane {
   /** `open(layout, names)` begins a live keyboard; `press(place, down)` hands it an edge; `bench(words)` shows words in the
       workbench. */
   constructor({ open, press, bench }) {
-    Object.assign(this, { open, press, drawn: new Map(), held: new Map(), stuck: new Set() });
+    Object.assign(this, { open, press, drawn: new Map(), held: new Map(), stuck: new Set(), hasLeft: false });
     this.board = byId('board');
     this.select = byId('layout');
     fill(this.select, named('.toml'), 'us84.toml');
@@ -148,6 +150,10 @@ export class KeyboardPane {
   #listen() {
     let escaped = -Infinity;
     this.board.addEventListener('keydown', event => {
+      if (event.code === 'Tab' && this.hasLeft) {
+        this.#leave(false);
+        return;
+      }
       const name = this.#nameOf(event.code);
       if (!name) return;
       event.preventDefault();
@@ -156,9 +162,9 @@ export class KeyboardPane {
       // No release is reported of a key under Command, nor on a Mac of Caps Lock.
       if (event.metaKey || (name === 'caps' && isMac)) setTimeout(() => this.hold(name, false, event.code), TAP);
       if (event.code === 'Escape') {
-        if (event.timeStamp - escaped < LEAVE) byId('layout').focus();
+        this.#leave(event.timeStamp - escaped < LEAVE);
         escaped = event.timeStamp;
-      }
+      } else if (!event.code.startsWith('Shift')) this.#leave(false);
     });
     this.board.addEventListener('keyup', event => {
       const name = this.#nameOf(event.code);
@@ -170,8 +176,18 @@ export class KeyboardPane {
         setTimeout(() => this.hold(name, false, event.code), TAP);
       } else this.hold(name, false, event.code);
     });
-    this.board.addEventListener('blur', () => this.releaseAll());
+    this.board.addEventListener('blur', () => {
+      this.releaseAll();
+      this.#leave(false);
+    });
     addEventListener('blur', () => this.releaseAll());
+  }
+
+  // After two Escapes Tab goes on to what follows the keyboard, or with Shift to what is before it.
+  #leave(hasLeft) {
+    if (this.hasLeft === hasLeft) return;
+    this.hasLeft = hasLeft;
+    byId('board-note').textContent = NOTES[Number(hasLeft)];
   }
 
   // The layout's key that does what a real key says: the key of that name, or else one that sends it.

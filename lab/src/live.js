@@ -1,9 +1,9 @@
-// The keyboard that runs while one types: it stops at each change of a wire, and makes single steps while a wire is low. Its
+// The keyboard that runs while one types: it stops at each change of a wire, and makes single steps while bits pass. Its
 // queue hands each key over when it can be seen, and writes go in as soon as they may. Both are kept with their stamps, so that
 // a session is a key file too.
 import { Item, Status } from '../kbd48.mjs';
 import { hex } from './dom.js';
-import { BOTH, Hearing } from './hearing.js';
+import { BOTH, PC_SIDE, beginOf } from './wires.js';
 import { COPIES_APART, History } from './history.js';
 
 export const CYCLES_OF_A_MS = 400, FIRST_STAMP = 4096;
@@ -17,26 +17,27 @@ const SAYS = {
   [Item.BOOT]: () => 'boot', [Item.SYS_MAKE]: () => 'sysreq make', [Item.SYS_BREAK]: () => 'sysreq break',
 };
 
-// Noise is on the frame that begins next; a frame begins some cycles before its first fall of the clock.
-const BEFORE_A_FRAME = 100;
-// How long a run with noise goes on: the frame is asked for and sent again.
-const AFTER_NOISE = 80 * CYCLES_OF_A_MS;
+// Who sent a byte over the wires.
+const SENT_BY = { [Item.SENT]: 'keyboard', [Item.GIVEN]: 'host' };
 
-const keyFileOf = (events, end) => [...events.map(({ stamp, words }) => `${stamp} ${words}`), `${end} end`, ''].join('\n');
+// If no wire has changed for so long, no bit is under way. A wire may be held low for seconds; a side that lets go of it, or
+// begins to pull it too, is then looked for once in so many cycles.
+const CALM = 96, STRIDE = 12, MOST_OF_A_STEP = 2;
+
+// Both sides' pulls as one number: the keyboard's are its low two bits.
+const bothSides = ({ keyboard, controller }) => keyboard | controller << PC_SIDE;
 
 export class Live {
   /** `names` has the key of each place. */
   constructor(keyboard, layout, names) {
     Object.assign(this, { keyboard, names, pushed: [], orders: [], events: [], edges: [], bytes: [], items: [] });
-    this.hearing = new Hearing();
     this.up = false;
     this.masked = false;
     keyboard.openLayout(new TextEncoder().encode(layout));
     keyboard.bios(true);
     this.history = new History(keyboard);
     this.cycle = keyboard.cycle();
-    this.levels = BOTH;
-    this.pulls = 0;
+    Object.assign(this, { levels: BOTH, pulls: 0, changed: this.cycle });
     this.onByte = () => {};
     this.onWord = () => {};
   }
@@ -57,6 +58,12 @@ export class Live {
     this.masked = masked;
     this.#told(masked ? 'mask' : 'unmask', keyboard => keyboard.bios(!masked));
     this.#say(masked ? 'INT 09h is masked' : 'INT 09h is let through');
+  }
+
+  /** Noise turns a bit of the next byte that the keyboard sends: 1 to 8, or 9 for the parity. */
+  flip(bit) {
+    this.#told(`flip ${bit}`, keyboard => keyboard.flip(bit));
+    this.#say(`noise will turn ${bit === 9 ? 'the parity' : `bit ${bit}`} of the next byte from the keyboard`);
   }
 
   read60() {
@@ -80,20 +87,21 @@ export class Live {
   steps(many, isEnd) {
     for (let made = 0; made < many; made++) {
       this.#goOn(1);
+      this.#drain();
       if (isEnd()) break;
     }
-    this.#drain();
   }
 
   // One step; or more of them, for so many cycles, up to the next change of a wire, if nothing is to be handed in.
   #goOn(cycles) {
-    const { keyboard } = this;
-    this.history.pass(this.cycle);
+    const { keyboard, cycle } = this;
+    this.history.pass(cycle);
     if (this.orders.length && this.#hand()) return;
     const isBusy = this.levels !== BOTH || this.up || this.orders.length > 0;
-    const said = this.pushed.length ? this.#handEdge() : isBusy || cycles <= 1 ? keyboard.step() : keyboard.watch(cycles);
+    const most = !isBusy ? cycles : cycle - this.changed > CALM ? Math.min(cycles, STRIDE) : 1;
+    const said = this.pushed.length ? this.#handEdge() : most <= 1 ? keyboard.step() : keyboard.watch(most);
     this.cycle += keyboard.passed;
-    this.#look();
+    this.#look(cycle);
     if (said === Status.ROSE) this.up = true;
     else if (said !== Status.DONE) throw new Error(`the run ended with status ${said}`);
     else if (this.up && !keyboard.interrupt()) {
@@ -114,16 +122,25 @@ export class Live {
     return said;
   }
 
-  // The levels of the wires, and which of those that are low the keyboard pulls.
-  #look() {
-    const now = this.keyboard.wires(), pulls = now === BOTH ? 0 : this.keyboard.pulls();
-    if (now === this.levels && pulls === this.pulls) return;
-    Object.assign(this, { levels: now, pulls });
-    this.edges.push({ cycle: this.cycle, levels: now, pulls });
+  // The levels of the wires, and which side pulls which. The last look was at the cycle `before`, if it is given.
+  #look(before = this.cycle - 1) {
+    const { keyboard, controller } = this.keyboard.pulls(), levels = BOTH & ~(keyboard | controller), pulls = bothSides({ keyboard, controller });
+    if (pulls === this.pulls) return;
+    let cycle = this.cycle;
+    if (levels === this.levels && cycle - before > MOST_OF_A_STEP) {
+      // Within a stride: the past says when.
+      cycle = this.history.on(before, copy => bothSides(copy.pulls()) === pulls, copy => copy.cycle()) ?? cycle;
+    }
+    Object.assign(this, { levels, pulls, changed: this.cycle });
+    this.edges.push({ cycle, levels, pulls });
     if (this.edges.length > KEPT) this.edges.splice(0, KEPT - TRIMMED);
-    const byte = this.hearing.hear(this.cycle, now);
-    if (byte) this.bytes.push(byte);
-    if (this.bytes.length > KEPT) this.bytes.splice(0, KEPT - TRIMMED);
+  }
+
+  // A byte has passed over the wires, in the step that ends with an edge.
+  #passed(cycle, sender, byte) {
+    const { edges, bytes } = this, last = edges.findLastIndex(edge => edge.cycle < cycle) + 1;
+    bytes.push({ begin: beginOf(edges, last), end: edges[last]?.cycle ?? cycle, sender, byte });
+    if (bytes.length > KEPT) bytes.splice(0, KEPT - TRIMMED);
   }
 
   // One step, before which the queue hands over the edge that is due. Its status.
@@ -154,6 +171,7 @@ export class Live {
     let words = 0;
     try {
       for (const { cycle, kind, value } of this.keyboard.items()) {
+        if (SENT_BY[kind]) this.#passed(cycle, SENT_BY[kind], value);
         if (SAYS[kind]) this.#say(SAYS[kind](value), cycle);
         if (kind === Item.PORT) this.onByte(value);
         if (kind !== Item.WORD) continue;
@@ -173,14 +191,5 @@ export class Live {
   }
 
   /** What was done so far, as a key file. */
-  keyFile() { return keyFileOf(this.events, Math.max(this.stamp, 1)); }
-
-  /** The same, but that noise inverts a bit of the last byte that the keyboard sent; or null if it sent none. */
-  noisyFile(bit) {
-    const last = this.bytes.findLast(byte => byte.sender === 'keyboard');
-    if (!last || last.begin <= FIRST_STAMP + BEFORE_A_FRAME) return null;
-    const stamp = last.begin - FIRST_STAMP - BEFORE_A_FRAME, later = this.events.findIndex(event => event.stamp > stamp), events = [...this.events];
-    events.splice(later < 0 ? events.length : later, 0, { stamp, words: `flip ${bit}` });
-    return keyFileOf(events, this.stamp + AFTER_NOISE);
-  }
+  keyFile() { return [...this.events.map(({ stamp, words }) => `${stamp} ${words}`), `${Math.max(this.stamp, 1)} end`, ''].join('\n'); }
 }

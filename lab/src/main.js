@@ -1,7 +1,7 @@
 // The page: it starts the two modules, and shows the panes that are chosen.
 import { Keyboard, Program } from '../kbd48.mjs';
 import { fromKle } from './boards/from_kle.js';
-import { byId } from './dom.js';
+import { byId, setHidden } from './dom.js';
 import { files, put } from './files.js';
 import { KeyboardPane } from './keyboard_pane.js';
 import { LessonsPane } from './lessons_pane.js';
@@ -12,8 +12,9 @@ import { bytesOf, filesOf, unpacked } from './share.js';
 import { Pc, WiresPane } from './wires_pane.js';
 import { WorkbenchPane } from './workbench_pane.js';
 
-const LONGEST = 100; // ms of a picture that are made up for
-const BETWEEN = 20; // ms: some thirty pictures a second, since each costs the browser more than it costs this page
+const LONGEST = 100; // ms that are made up for, after a time in which the page wasn't called
+// The keyboard goes on 25 times a second, and is drawn less often: a picture costs the browser ten times what a stretch costs.
+const STRETCH = 40, BETWEEN_PICTURES = 160; // ms
 
 const moduleOf = async id => unpacked(bytesOf(byId(id).textContent));
 
@@ -27,10 +28,11 @@ addEventListener('error', event => trouble(event.error ?? event));
 addEventListener('unhandledrejection', event => trouble(event.reason));
 
 class Lab {
-  constructor(keyboard) {
+  constructor(keyboard, program) {
     this.keyboard = keyboard;
     this.owed = 0;
-    Object.assign(this, { files, fromKle });
+    this.drawn = -Infinity;
+    Object.assign(this, { files, fromKle, program });
     this.keys = new KeyboardPane({
       open: (layout, names) => this.open(layout, names), press: (place, down) => this.live.press(place, down),
       bench: words => {
@@ -77,10 +79,10 @@ class Lab {
     if (scrolled) pane.scrollIntoView({ block: 'start' });
   }
 
-  /** Lets the time pass that passed since the last picture, and draws. */
-  picture(ms) {
+  /** Lets so many milliseconds pass for the keyboard, at the speed that is chosen. */
+  pass(ms) {
     const speed = Number(byId('speed').value);
-    byId('stopped').hidden = speed !== 0;
+    setHidden(byId('stopped'), speed !== 0);
     this.owed += Math.min(ms, LONGEST) * CYCLES_OF_A_MS * speed;
     const cycles = Math.floor(this.owed), before = this.live.cycle;
     if (cycles > 0) {
@@ -88,23 +90,32 @@ class Lab {
       this.owed -= this.live.cycle - before;
     }
     this.keys.lamps(this.keyboard.lights());
+  }
+
+  /** Draws what changed in the panes that are shown. */
+  draw() {
     if (!byId('wires').hidden) this.wires.draw();
     if (!byId('processor').hidden) this.processor.draw();
   }
 
   start() {
     let last = performance.now();
-    const next = now => {
+    const next = () => {
+      const now = performance.now();
       try {
-        this.picture(now - last);
+        this.pass(now - last);
+        last = now;
+        if (now - this.drawn >= BETWEEN_PICTURES) {
+          this.drawn = now;
+          this.draw();
+        }
       } catch (error) {
         trouble(error);
         return;
       }
-      last = now;
-      setTimeout(() => requestAnimationFrame(next), BETWEEN);
+      setTimeout(next, STRETCH);
     };
-    requestAnimationFrame(next);
+    next();
   }
 }
 
@@ -118,7 +129,7 @@ async function begin() {
     trouble(error);
   }
   for (const [name, text] of Object.entries(shared ?? {})) put(name, text);
-  const lab = new Lab(keyboard);
+  const lab = new Lab(keyboard, program);
   globalThis.lab = lab;
   if (shared) {
     lab.show('workbench', true);

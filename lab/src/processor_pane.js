@@ -1,11 +1,12 @@
 // The processor, step by step: a program on the board, under a layout and a key file.
-import { byId, fill, hex, make, tell } from './dom.js';
+import { byId, fill, hex, make, setText, tell } from './dom.js';
 import { files, named, onFile } from './files.js';
 import { FIRST_STAMP } from './live.js';
 import { LiveSession } from './live_session.js';
 import { explained, kbd48 } from './program.js';
 import { FOREVER, Session } from './session.js';
 import { listLines, placeOf, sourceLines } from './source.js';
+import { StateTables } from './state_tables.js';
 
 const KERNEL = 'kernel.asm';
 const STOPS = ['place', 'register', 'cell', 'byte']; // the probes, by their numbers
@@ -15,9 +16,8 @@ const FORMS = {
   cell: /^([0-7][0-9A-F])\s*=\s*([0-9A-F]{2})$/i,
   byte: /^(keyboard|host|PC)\s+([0-9A-F]{2})$/i,
 };
-const ROW = 16;
-const LIVE_ONE = 'the keyboard that I type on';
-const LOOKS_APART = 200; // ms between two pictures of a keyboard that runs
+const LIVE_ONE = 'the keyboard that I type on', RUNS = 'it runs; Step stops its time';
+const LOOKS_APART = 300; // ms between two pictures of a keyboard that runs
 const STRIDES_APART = 30; // ms
 const MOST_STRIDES = 8, LIVE_STRIDE = 20000;
 const A_SECOND = 220000; // steps
@@ -29,6 +29,7 @@ export class ProcessorPane {
     this.looked = 0;
     this.timer = null;
     this.chosen = null;
+    this.tables = new StateTables();
     this.#fill();
     onFile(({ name, isNew }) => {
       if (isNew) this.#fill();
@@ -91,7 +92,7 @@ export class ProcessorPane {
     if (!this.#isLive() || !this.session || isStopped() || now - this.looked < LOOKS_APART) return;
     this.looked = now;
     this.#now(this.session.now());
-    tell(byId('at'), 'it runs; Step stops its time');
+    setText(byId('at'), RUNS);
   }
 
   /** Begins a session at power-on. */
@@ -104,7 +105,7 @@ export class ProcessorPane {
       this.code = sourceLines(files[KERNEL]);
       this.before = null;
       tell(byId('program-fault'), '');
-      tell(byId('at'), isStopped() ? wordsOf(this.session.state) : 'it runs; Step stops its time');
+      tell(byId('at'), isStopped() ? wordsOf(this.session.state) : RUNS);
       this.#list();
       this.#show();
       return;
@@ -123,6 +124,7 @@ export class ProcessorPane {
     }
     this.before = null;
     this.chosen = null;
+    tell(byId('at'), this.session ? wordsOf(this.session.state) : '');
     this.#list();
     this.#show();
   }
@@ -193,7 +195,7 @@ export class ProcessorPane {
     this.#show();
   }
 
-  // A call is over when the place behind it is reached.
+  // A call is over when the place after it is reached.
   #over() {
     if (!this.session) return;
     this.#halt();
@@ -292,7 +294,7 @@ export class ProcessorPane {
   }
 
   #show() {
-    for (const id of ['back', 'step', 'over', 'cursor', 'run']) byId(id).disabled = !this.session;
+    for (const id of ['back', 'step', 'over', 'cursor', 'run']) if (byId(id).disabled === Boolean(this.session)) byId(id).disabled = !this.session;
     this.#mark();
     if (!this.session) return;
     const { state, log } = this.session;
@@ -300,10 +302,10 @@ export class ProcessorPane {
     if (row && (row.offsetTop < code.scrollTop || row.offsetTop > code.scrollTop + code.clientHeight - 40)) {
       code.scrollTop = row.offsetTop - code.clientHeight / 2;
     }
-    byId('registers').replaceChildren(registersTable(state, this.before));
-    byId('cells').replaceChildren(cellsTable(state, this.before));
-    const said = byId('said');
-    said.textContent = log.join('\n');
+    this.tables.show(state, this.before);
+    const said = byId('said'), lines = log.join('\n');
+    if (said.textContent === lines) return;
+    said.textContent = lines;
     said.scrollTop = said.scrollHeight;
   }
 }
@@ -317,32 +319,3 @@ function wordsOf({ steps, cycles }) {
 // The time of the keyboard that one types on.
 const STOPPED = '0';
 const isStopped = () => byId('speed').value === STOPPED;
-
-function cell(text, changed) {
-  return make('td', { textContent: text, className: changed ? 'changed' : '' });
-}
-
-function registersTable(state, before) {
-  const { named, flags, banks, stack } = state;
-  const rows = [
-    ['PC', hex(state.counter, 3), before && hex(before.counter, 3)], ['A', named.a, before?.named.a], ['PSW', named.psw, before?.named.psw],
-    ...Object.entries(flags).map(([name, bit]) => [name, bit, before?.flags[name]]), ['F1', named.f1, before?.named.f1],
-    ['memory bank', named.mb, before?.named.mb], ['T', named.t, before?.named.t], ['prescaler', named.pre, before?.named.pre],
-    ['timer flag', named.tf, before?.named.tf], ['T runs', named.run, before?.named.run], ['timer interrupt', named.tim, before?.named.tim],
-    ['in service', named.svc, before?.named.svc], ['P1', named.p1, before?.named.p1], ['P2', named.p2, before?.named.p2],
-    ['R0 to R7', banks[0].map(byte => hex(byte)).join(' '), before?.banks[0].map(byte => hex(byte)).join(' ')],
-    ['the same, bank 1', banks[1].map(byte => hex(byte)).join(' '), before?.banks[1].map(byte => hex(byte)).join(' ')],
-    ['stack', stack.map(place => hex(place, 3)).join(' ') || 'empty', before && (before.stack.map(place => hex(place, 3)).join(' ') || 'empty')],
-  ];
-  return make('table', {}, ...rows.map(([name, now, was]) =>
-    make('tr', {}, make('th', { scope: 'row', textContent: name }), cell(String(now), was !== undefined && was !== null && String(was) !== String(now)))));
-}
-
-function cellsTable({ cells }, before) {
-  const rows = [];
-  for (let at = 0; at < cells.length; at += ROW) {
-    rows.push(make('tr', {}, make('th', { scope: 'row', textContent: hex(at) }),
-      ...cells.slice(at, at + ROW).map((byte, n) => cell(hex(byte), before && before.cells[at + n] !== byte))));
-  }
-  return make('table', {}, ...rows);
-}

@@ -9,7 +9,7 @@ const DEPTH = 7, STACK = 8, BANKS = [0x00, 0x18];
 export const FOREVER = 999_999_999;
 
 // A script has at most 65,536 bytes, and what shows a state has 901.
-const STATES_OF_A_RUN = 60;
+const STATES_OF_A_RUN = 60, A_FEW = 5, MOST_KEPT = 6000;
 const SHOW = ['show', ...Array.from({ length: CELLS }, (_, cell) => `ram ${hex(cell)}`)];
 
 const LINES_OF_A_STATE = SHOW.length + 4;
@@ -45,7 +45,7 @@ export class Session {
   /** The texts of an image, a layout and a key file; refused as the program refuses them. */
   constructor(image, layout, keys) {
     this.files = { 'session.image': image, 'session.layout': layout, 'session.keys': keys };
-    this.near = new Map();
+    this.kept = new Map();
     this.ahead = { gone: [] };
     this.state = this.at(0);
     const said = kbd48(['board', 'session.image', 'session.layout', 'session.keys'], this.files);
@@ -56,16 +56,18 @@ export class Session {
   /** What the log said up to now. */
   get log() { return this.said.filter(item => item.stamp <= this.state.cycles - FIRST_STAMP).map(item => item.line); }
 
-  /** The state after so many steps. The program answers those around it in one run, so that the next ones are there. */
+  /** The state after so many steps. The program answers the next ones in the same run, or the ones before it for somebody who
+      goes back; and all of these are kept, so that they need no other run. */
   at(steps) {
-    if (!this.near.has(steps)) {
-      const first = Math.max(0, steps - STATES_OF_A_RUN / 2), way = Array.from({ length: STATES_OF_A_RUN - 1 }, () => 'step 1');
-      const states = this.#run(first ? [`step ${first}`] : [], way).map(({ state }) => state);
-      this.near = new Map(states.map(state => [state.steps, state]));
+    if (!this.kept.has(steps)) {
+      const first = Math.max(0, this.kept.has(steps + 1) ? steps - STATES_OF_A_RUN + 2 : steps - A_FEW);
+      const way = Array.from({ length: STATES_OF_A_RUN - 1 }, () => 'step 1'), states = this.#run(first ? [`step ${first}`] : [], way).map(({ state }) => state);
+      if (this.kept.size > MOST_KEPT) this.kept.clear();
+      for (const state of states) this.kept.set(state.steps, state);
       // After the end of the run nothing changes.
-      if (!this.near.has(steps)) return states.at(-1);
+      if (!this.kept.has(steps)) return states.at(-1);
     }
-    return this.near.get(steps);
+    return this.kept.get(steps);
   }
 
   /** Goes on by at most so many steps, up to the first that one of the probes' lines (`arm ..`) meets. */

@@ -2,8 +2,11 @@
 
 const KEY = '#files=';
 
+// Read by hand: a Response that can't be read makes Firefox report an error on the console, though it is caught.
 async function through(bytes, transform) {
-  return new Uint8Array(await new Response(new Blob([bytes]).stream().pipeThrough(transform)).arrayBuffer());
+  const reader = new Blob([bytes]).stream().pipeThrough(transform).getReader(), parts = [];
+  for (let part = await reader.read(); !part.done; part = await reader.read()) parts.push(part.value);
+  return new Uint8Array(await new Blob(parts).arrayBuffer());
 }
 
 export const unpacked = bytes => through(bytes, new DecompressionStream('gzip'));
@@ -25,7 +28,7 @@ export async function filesOf(hash) {
     const shared = JSON.parse(text);
     if (Object.entries(shared).every(([name, file]) => /^[A-Za-z0-9][\w.-]*$/.test(name) && typeof file === 'string')) return shared;
   } catch {
-    // It is told below, whatever was wrong with it.
+    // Below it is said, whatever was wrong with it.
   }
   throw new Error('the link is broken: no file could be read from it');
 }

@@ -1,15 +1,16 @@
 // The two wires as a picture. Time goes from left to right; while nothing changes for long, it is cut short and dashed.
-import { CLOCK, DATA } from './hearing.js';
+import { CLOCK, DATA, PC_SIDE } from './wires.js';
 import { hex } from './dom.js';
 
 const LONG = 96; // cycles
 const TOP = { [CLOCK]: 24, [DATA]: 78 }, SWING = 30, LABELS = 132;
 const COLOURS = { wire: '#7dffb0', gap: '#4fa878', name: '#b9e8cd', keyboard: '#ffd866', host: '#8fc7ff' };
+const THIN = 1.5, THICK = 3, DASHES = [2, 4]; // pixels
 const LEAST_ZOOM = 0.125, MOST_ZOOM = 8;
 
 export class Waveform {
-  /** `source()` answers { edges, bytes, cycle }: each edge has a cycle and the levels after it, and which wires the keyboard
-      pulls, if that is known. */
+  /** `source()` answers { edges, bytes, cycle }: each edge has a cycle and the levels after it, and who pulls which wire, if
+      that is known. */
   constructor(canvas, source) {
     Object.assign(this, { canvas, source, zoom: 0.5, back: 0, shown: null });
     canvas.addEventListener('wheel', event => {
@@ -65,8 +66,14 @@ export class Waveform {
     const pen = canvas.getContext('2d');
     pen.setTransform(scale, 0, 0, scale, 0, 0);
     pen.clearRect(0, 0, width, height);
-    this.#stretches(edges, cycle, width, stretch => drawStretch(pen, stretch));
-    this.#labels(pen, bytes, edges);
+    const paths = new Map();
+    this.#stretches(edges, cycle, width, stretch => addStretch(paths, stretch));
+    for (const { colour, wide, dash, path } of paths.values()) {
+      Object.assign(pen, { lineWidth: wide, strokeStyle: colour });
+      pen.setLineDash(dash);
+      pen.stroke(path);
+    }
+    this.#labels(pen, bytes);
     pen.fillStyle = COLOURS.name;
     pen.font = '12px system-ui, sans-serif';
     pen.fillText('clock', 6, TOP[CLOCK] - 8);
@@ -99,30 +106,24 @@ export class Waveform {
   }
 }
 
-/** Who pulls a wire that is low. If both do, only the keyboard's pull is known. */
-export function pullerOf(wire, levels, pulls) {
-  if (levels & wire || pulls === undefined) return null;
-  return pulls & wire ? 'keyboard' : 'host';
+/** Who pulls a wire: the keyboard, the PC (`host`), both, or nobody. */
+export function pullersOf(wire, pulls = 0) {
+  return [...(pulls & wire ? ['keyboard'] : []), ...(pulls & wire << PC_SIDE ? ['host'] : [])];
 }
 
-function drawStretch(pen, { left, right, levels, pulls, before, cut }) {
+// Adds the lines of a stretch to the paths: one for each way of drawing, since each stroke costs as much as a hundred lines.
+function addStretch(paths, { left, right, levels, pulls, before, cut }) {
+  const line = (colour, wide, dash, ...points) => {
+    const name = [colour, wide, dash].join();
+    if (!paths.has(name)) paths.set(name, { colour, wide, dash, path: new Path2D() });
+    const { path } = paths.get(name);
+    points.forEach(([x, y], n) => (n ? path.lineTo(x, y) : path.moveTo(x, y)));
+  };
   for (const wire of [CLOCK, DATA]) {
-    const y = TOP[wire] + (levels & wire ? 0 : SWING), puller = pullerOf(wire, levels, pulls);
-    pen.setLineDash(cut ? [2, 4] : []);
-    pen.lineWidth = puller ? 3 : 1.5;
-    pen.strokeStyle = COLOURS[puller] ?? (cut ? COLOURS.gap : COLOURS.wire);
-    pen.beginPath();
-    pen.moveTo(right, y);
-    pen.lineTo(left, y);
-    pen.stroke();
-    if ((levels ^ before) & wire) {
-      pen.setLineDash([]);
-      pen.lineWidth = 1.5;
-      pen.strokeStyle = COLOURS.wire;
-      pen.beginPath();
-      pen.moveTo(left, TOP[wire]);
-      pen.lineTo(left, TOP[wire] + SWING);
-      pen.stroke();
-    }
+    const y = TOP[wire] + (levels & wire ? 0 : SWING), pullers = pullersOf(wire, pulls), dash = cut ? DASHES : [];
+    if (pullers.length === 0) line(cut ? COLOURS.gap : COLOURS.wire, THIN, dash, [right, y], [left, y]);
+    // Both sides' pulls have a line each, the PC's below the keyboard's.
+    pullers.forEach((puller, n) => line(COLOURS[puller], THICK, dash, [right, y + n * (THICK + 1)], [left, y + n * (THICK + 1)]));
+    if ((levels ^ before) & wire) line(COLOURS.wire, THIN, [], [left, TOP[wire]], [left, TOP[wire] + SWING]);
   }
 }

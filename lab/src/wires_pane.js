@@ -1,19 +1,17 @@
 // What passes between keyboard and PC while one types, and what the PC says.
-import { byId, fill, hex, make, tell } from './dom.js';
+import { byId, fill, hex, make, setText, tell } from './dom.js';
 import { named, onFile, put } from './files.js';
-import { CLOCK, DATA } from './hearing.js';
+import { CLOCK, DATA } from './wires.js';
+import { Lines } from './lines.js';
 import { CYCLES_OF_A_MS, FIRST_STAMP } from './live.js';
 import { explained, kbd48 } from './program.js';
 import { readTrace } from './vcd.js';
-import { Waveform, pullerOf } from './waveform.js';
+import { Waveform, pullersOf } from './waveform.js';
 
-const SHOWN = 200; // lines
-const TEXTS_APART = 100; // ms
 const LIVE = 'what I type';
 const STEP = 160; // pixels
-const NOISY = 'noise.keys';
 const BITS = [...Array.from({ length: 8 }, (_, bit) => `data bit ${bit + 1}`), 'the parity bit'];
-const PULLERS = { keyboard: 'the keyboard pulls it', host: 'the PC pulls it' };
+const PULLERS = { keyboard: 'the keyboard', host: 'the PC' };
 // Each command with the bytes that the PC writes: to port 60h, or to 64h.
 const COMMANDS = [
   ['ED 07: all lights', [0x60, 0xED], [0x60, 0x07]], ['ED 00: no light', [0x60, 0xED], [0x60, 0x00]],
@@ -28,7 +26,9 @@ const SCREEN = 1500; // characters
 export class WiresPane {
   /** `live()` answers the keyboard that runs. */
   constructor(live, layoutName) {
-    Object.assign(this, { live, layoutName, drawn: -1, still: null, written: -Infinity });
+    Object.assign(this, { live, layoutName, still: null });
+    this.bytes = new Lines(byId('bytes'), ({ begin, sender, byte }) => `${at(begin)}  ${sender === 'host' ? 'PC → keyboard' : 'keyboard → PC'}  ${hex(byte)}`);
+    this.log = new Lines(byId('log'), entry => (typeof entry === 'string' ? entry : `${at(entry.cycle)}  ${entry.words}`));
     this.wave = new Waveform(byId('wave'), live);
     for (const [words, ...bytes] of COMMANDS) {
       const button = make('button', { type: 'button', textContent: words });
@@ -58,7 +58,7 @@ export class WiresPane {
     };
     byId('judge').onclick = () => this.#judge();
     byId('noisy-bit').append(...BITS.map((words, at) => new Option(words, at + 1)));
-    byId('noise').onclick = () => this.#noise(byId('noisy-bit').value);
+    byId('noise').onclick = () => live().flip(Number(byId('noisy-bit').value));
   }
 
   /** Another keyboard runs. */
@@ -75,9 +75,9 @@ export class WiresPane {
 
   // The run of a key file on the layout that is open: its wires, bytes and log, as the program prints them.
   #show(keys) {
-    this.drawn = -1;
     this.still = null;
-    for (const id of ['bytes', 'log']) byId(id).replaceChildren();
+    this.bytes.clear();
+    this.log.clear();
     this.wave.show(null);
     if (keys === LIVE) return;
     const trace = kbd48(['trace', this.layoutName(), keys]), run = kbd48(['run', this.layoutName(), keys]);
@@ -87,19 +87,6 @@ export class WiresPane {
       this.still = { bytes, lines: run.text.trimEnd().split('\n').map(line => `tick ${line}`) };
       this.wave.show({ edges, bytes, cycle });
     }
-  }
-
-  // This session once more, with noise on the last frame: a run of the program, which is shown like that of any key file.
-  #noise(bit) {
-    const keys = this.live().noisyFile(bit);
-    if (keys === null) {
-      tell(byId('judged'), 'the keyboard has sent no byte yet', false);
-      return;
-    }
-    put(NOISY, keys);
-    byId('shown').value = NOISY;
-    this.#show(NOISY);
-    tell(byId('judged'), `this is ${NOISY}, which is in the workbench too; “${LIVE}” goes back`);
   }
 
   // What was done so far as a key file, under the model and under the firmware.
@@ -113,44 +100,27 @@ export class WiresPane {
 
   #pulled() {
     if (this.still) return 'a run of a key file, in which that isn\'t said';
-    const { levels, pulls } = this.live(), said = (wire, name) => `${name}: ${PULLERS[pullerOf(wire, levels, pulls)] ?? 'high'}`;
+    const { levels, pulls } = this.live(), said = (wire, name) => {
+      const sides = pullersOf(wire, pulls).map(side => PULLERS[side]).join(' and ');
+      return `${name}: ${levels & wire ? 'high' : `low by ${sides}`}`;
+    };
     return `${said(CLOCK, 'clock')}; ${said(DATA, 'data')}`;
   }
 
   draw() {
     const { bytes, items, stamp } = this.live();
     this.wave.draw();
-    // Texts change ten times a second at most: nobody reads faster, and each costs a layout.
-    const now = performance.now();
-    if (now - this.written < TEXTS_APART) return;
-    this.written = now;
-    const clock = `${(stamp / CYCLES_OF_A_MS / 1000).toFixed(1)} s of keyboard time`;
-    if (byId('clock-text').textContent !== clock) byId('clock-text').textContent = clock;
-    const pulled = this.#pulled();
-    if (byId('pulled').textContent !== pulled) byId('pulled').textContent = pulled;
-    const many = this.still ? 0 : bytes.length + items.length;
-    if (many === this.drawn) return;
-    this.drawn = many;
-    write(byId('bytes'), (this.still?.bytes ?? bytes).slice(-SHOWN).map(byte => `${at(byte.begin)}  ${byte.sender === 'host' ? 'PC → keyboard' : 'keyboard → PC'}  ${hex(byte.byte)}`));
-    write(byId('log'), this.still?.lines ?? items.slice(-SHOWN).map(item => `${at(item.cycle)}  ${item.words}`));
+    setText(byId('clock-text'), `${timeOf(stamp)} of keyboard time`);
+    setText(byId('pulled'), this.#pulled());
+    this.bytes.show(this.still?.bytes ?? bytes);
+    this.log.show(this.still?.lines ?? items);
   }
 }
+
+// Whole seconds at full speed: each text that changes costs a picture.
+const timeOf = stamp => `${(stamp / CYCLES_OF_A_MS / 1000).toFixed(byId('speed').value === '1' ? 0 : 4)} s`;
 
 const at = cycle => `${((cycle - FIRST_STAMP) / CYCLES_OF_A_MS).toFixed(2).padStart(10)} ms`;
-
-// The lines, with the last one in sight. Lines that are there already stay: each new one costs a layout of its own alone.
-function write(element, lines) {
-  const rows = lines.map(line => `${line}\n`), had = rows.lastIndexOf(element.lastChild?.textContent);
-  const add = from => element.append(...rows.slice(from).map(row => make('div', { textContent: row })));
-  add(had + 1);
-  while (element.childElementCount > rows.length) element.firstChild.remove();
-  // Two lines may be equal: then the list may be another than it should be.
-  if (element.childElementCount < rows.length || (rows.length && element.firstChild.textContent !== rows[0])) {
-    element.replaceChildren();
-    add(0);
-  }
-  element.scrollTop = element.scrollHeight;
-}
 
 /** A program on the PC: it shows what is typed, and sets the lights after a lock key, as the AT's BIOS did. */
 export class Pc {

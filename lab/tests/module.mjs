@@ -1,6 +1,6 @@
 // usage: node module.mjs LAB.html EXAMPLES [CHECKSUM]: the two modules of the page, in Node. Each line of examples/commands
 // gives its text and status byte for byte; typing gives the log of `run`; a broken text is an error; what is typed at once
-// arrives; a run ends at what it was asked for; random calls have the checksum of the native library, when that is given.
+// arrives; a run ends at what it was asked for; noise is asked away; random calls have the checksum of the native library, when that is given.
 import assert from 'node:assert/strict';
 import { existsSync, readFileSync } from 'node:fs';
 import { gunzipSync } from 'node:zlib';
@@ -98,13 +98,14 @@ async function looks() {
   assert.deepEqual(keyboard.look(), { status: 0x15, output: 0xAA, commandByte: 0x45, outputPort: 0xCF });
   const kept = keyboard.copy();
   keyboard.run(200);
-  const [said] = [...keyboard.items()];
+  const [sent, said] = [...keyboard.items()];
+  assert.deepEqual({ ...sent, cycle: 0 }, { cycle: 0, kind: Item.SENT, value: 0xAA });
   assert.deepEqual({ ...said, cycle: 0 }, { cycle: 0, kind: Item.PORT, value: 0xAA });
   assert.ok(said.cycle < keyboard.cycle() && said.cycle >= keyboard.cycle() - 200, 'an item has its cycle');
   assert.equal(keyboard.next(), null);
   kept.run(200);
   assert.deepEqual(seen(kept), seen(keyboard));
-  assert.deepEqual([...kept.items()], [said]);
+  assert.deepEqual([...kept.items()], [sent, said]);
   assert.equal(keyboard.key(29, true), Status.DONE);
   assert.deepEqual(keyboard.waiting(), { edges: 1, words: 0 });
   assert.equal(keyboard.column(3), 0xFF);
@@ -118,9 +119,10 @@ async function looks() {
   assert.equal(kept.column(3), 0xDF);
   let pulled = 0;
   for (let end = keyboard.cycle() + 8000; keyboard.cycle() < end; keyboard.step()) {
-    assert.equal(keyboard.wires() & keyboard.pulls(), 0, 'a wire that is pulled is low');
-    assert.equal(keyboard.pulls(), ~keyboard.inside().p2 & 3);
-    pulled |= keyboard.pulls();
+    const pulls = keyboard.pulls();
+    assert.equal(keyboard.wires(), ~(pulls.keyboard | pulls.controller) & 3, 'a wire is low if a side pulls it');
+    assert.equal(pulls.keyboard, ~keyboard.inside().p2 & 3);
+    pulled |= pulls.keyboard;
   }
   assert.equal(pulled, 3, 'it pulls both wires when it sends');
   assert.equal(keyboard.take(), 0x1E61);
@@ -225,6 +227,7 @@ async function runs() {
   assert.ok(few.status === Status.DONE && few.met === 0 && few.passed >= 9 && few.passed <= 18, 'nine steps');
   const copy = keyboard.copy(), said = keyboard.runTo(Stop.ITEM, 400_000);
   assert.equal(said.met, Stop.ITEM);
+  assert.equal(keyboard.next().kind, Item.SENT);
   const item = keyboard.next();
   assert.deepEqual([item.kind, item.value, keyboard.next()], [Item.PORT, 0xAA, null]);
   assert.ok(keyboard.cycle() - item.cycle < 2, 'it ends in the step in which that is said');
@@ -275,6 +278,24 @@ async function runs() {
   refused(() => { copy.close(); copy.runTo(0, 1); }, Status.NOT_OPEN);
 }
 
+/** Noise turns a bit of a byte: the PC asks for it again, and gets it. The wires have the byte as the keyboard sent it. */
+async function noise() {
+  const keyboard = await Keyboard.load(keyboardModule), passed = () => [...keyboard.items()].filter(it => it.kind === Item.SENT || it.kind === Item.GIVEN).map(it => [it.kind, it.value]);
+  keyboard.openReadyLayout(layout);
+  keyboard.bios(true);
+  keyboard.run(4000);
+  assert.deepEqual(passed(), [[Item.SENT, 0xAA]]);
+  for (const bit of [0, 10, 255]) refused(() => keyboard.flip(bit), Status.NO_SUCH_BIT);
+  for (let bit = 1; bit <= 9; bit++) {
+    keyboard.flip(bit);
+    keyboard.queueKey(29, bit % 2 === 1);
+    keyboard.runKeys(12_000);
+    const code = [[Item.SENT, 0x1C]], broken = bit % 2 ? code : [[Item.SENT, 0xF0]], rest = bit % 2 ? [] : code;
+    assert.deepEqual(passed(), [...broken, [Item.GIVEN, 0xFE], ...broken, ...rest], `bit ${bit}`);
+  }
+  refused(() => { keyboard.close(); keyboard.flip(1); }, Status.NOT_OPEN);
+}
+
 /** The calls of calls.c, and the checksum of their answers. */
 async function checksum() {
   const keyboard = await Keyboard.load(keyboardModule), all = (1n << 64n) - 1n;
@@ -284,16 +305,49 @@ async function checksum() {
     return Number((state >> 33n) % BigInt(below));
   };
   const add = value => { for (let bit = 0n; bit < 64n; bit += 8n) sum = (sum ^ BigInt(value) >> bit & 255n) * 1099511628211n & all; };
+  // What calls.c adds of a call, as one number.
+  const both = (status, passed) => BigInt(status) * 1_000_000n + BigInt(passed);
+  const said = {
+    flip: bit => {
+      try {
+        keyboard.flip(bit);
+        return Status.DONE;
+      } catch (error) {
+        return error.status;
+      }
+    },
+    pulls: () => (({ keyboard: one, controller }) => one | controller << 2)(keyboard.pulls()),
+    next: () => {
+      try {
+        const item = keyboard.next();
+        return item ? BigInt(item.cycle * 100 + item.kind) + (BigInt(item.value) << 40n) : Status.NOTHING_SAID;
+      } catch (error) {
+        return error.status;
+      }
+    },
+    keys: (cycles, watched) => {
+      const { machine, to } = keyboard, status = machine.call('kbd48_run_keys', to.handle, to.queue, BigInt(cycles), watched, to.passed, to.place);
+      return both(status, keyboard.passed);
+    },
+    to: (cycles, x) => {
+      const { status, met, passed } = keyboard.runTo(x & 15, cycles, { steps: 500, at: x * 8 });
+      return both(status, passed) + (BigInt(met) << 32n);
+    },
+    look: cell => {
+      const { status, output, commandByte } = keyboard.look(), { counter, a } = keyboard.inside();
+      return BigInt(status | output << 8 | commandByte << 16) + (BigInt(counter) << 24n) + (BigInt(a) << 36n) + (BigInt(keyboard.cell(cell)) << 44n);
+    },
+  };
   keyboard.openLayout(layout);
   for (let n = 0; n < CALLS; n++) {
-    const what = random(10), x = random(256), cycles = random(3000), flag = random(2);
-    add({
-      0: () => keyboard.key(x % 96, flag === 1), 1: () => keyboard.key(x % 96, flag === 1),
-      2: () => keyboard.write(flag ? 0x60 : 0x64, x), 3: () => keyboard.read60(), 4: () => keyboard.status(),
-      5: () => keyboard.take() ?? 99999, 6: () => (n % 50 ? keyboard.lights() : (keyboard.bios(flag === 1), 0)),
-      7: () => keyboard.wires(), 8: () => keyboard.run(cycles, flag === 1) * 1000000 + keyboard.passed,
-      9: () => keyboard.run(cycles, flag === 1) * 1000000 + keyboard.passed,
-    }[what]());
+    const what = random(16), x = random(256), cycles = random(3000), flag = random(2), run = () => keyboard.run(cycles, flag === 1) * 1000000 + keyboard.passed;
+    add([
+      () => keyboard.key(x % 96, flag === 1), () => keyboard.key(x % 96, flag === 1),
+      () => keyboard.write(flag ? 0x60 : 0x64, x), () => keyboard.read60(), () => keyboard.status(), () => keyboard.take() ?? 99999,
+      () => (n % 50 ? keyboard.lights() : (keyboard.bios(flag === 1), 0)), () => keyboard.wires(),
+      () => said.flip(x % 11), said.pulls, said.next, () => keyboard.queueKey(x % 96, flag === 1),
+      () => said.keys(cycles, flag), () => said.to(cycles, x), () => said.look(x % 128), run,
+    ][what]());
     add(keyboard.cycle() * 4 + keyboard.wires());
   }
   return `${sum.toString(16).padStart(16, '0')} cycle ${keyboard.cycle()}`;
@@ -305,6 +359,7 @@ await refusals();
 await looks();
 await queue();
 await runs();
+await noise();
 const sum = await checksum();
 if (native) assert.equal(sum, native.trim(), 'the native library answers otherwise');
-console.log(`${calls} calls, ${commands} commands, typing, refusals, looks and copies, the queue, runs to something${native ? ', and the checksum of the native library' : ''}`);
+console.log(`${calls} calls, ${commands} commands, typing, refusals, looks and copies, the queue, runs to something, noise${native ? ', and the checksum of the native library' : ''}`);

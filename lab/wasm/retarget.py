@@ -6,10 +6,10 @@ x86-64."""
 
 from __future__ import annotations
 
-import re
-import subprocess
 import tempfile
 from pathlib import Path
+
+from bitcode import retargeted, run, text_of
 
 HERE = Path(__file__).resolve().parent
 PARTS = ("heap.c", "wide.c")
@@ -20,31 +20,6 @@ FLAGS = [TARGET, "-mcpu=lime1", "-O3", "-ffunction-sections", "-fdata-sections",
 OF_LLVM = "expand-div-rem-bits=64 expand-fp-convert-bits=64 disable-machine-licm disable-postra-machine-licm"
 for _flag in f"{OF_LLVM} sink-common-insts=false".split():
     FLAGS += ["-mllvm", f"-{_flag}"]
-OF_X86 = re.compile(r' "(probe-stack|stack-probe-size|target-cpu|target-features)"="[^"]*"')
-FOREIGN = re.compile(r"llvm\.x86[\w.]*|\bmodule asm\b.*|\basm (?:sideeffect|alignstack|inteldialect|\")")
-
-
-class Stopped(Exception):
-    """The module isn't one that may be compiled for another processor."""
-
-
-def run(*words: str | Path, text: str | None = None) -> str:
-    """What a tool prints; it must end well."""
-    return subprocess.run([str(word) for word in words], input=text, stdout=subprocess.PIPE, text=True, check=True).stdout
-
-
-def retargeted(text: str, asked: str) -> str:
-    """The module's text for WebAssembly; `asked` is any module of that target."""
-    for what in ("datalayout", "triple"):
-        form = re.compile(rf"^target {what} = .*$", re.MULTILINE)
-        wanted = form.search(asked)
-        text, count = form.subn(lambda _: wanted[0], text)
-        if count != 1:
-            raise Stopped(f"the module has {count} lines `target {what}`")
-    text = OF_X86.sub("", text)
-    if found := FOREIGN.search(text):
-        raise Stopped(f"the module is for x86-64: {found[0]}")
-    return text
 
 
 def retarget(toolchain: Path, module: Path, out: Path, exports: list[str]) -> None:
@@ -53,9 +28,7 @@ def retarget(toolchain: Path, module: Path, out: Path, exports: list[str]) -> No
     asked = run(clang, TARGET, "-xc", "-", "-S", "-emit-llvm", "-o", "-", text="int nothing;")
     with tempfile.TemporaryDirectory() as folder:
         work = Path(folder)
-        text = ["-S", "-emit-llvm", "-Xclang", "-disable-llvm-passes"]
-        run(clang, "-Wno-override-module", "-x", "ir", module, *text, "-o", work / "x86.ll")
-        (work / "wasm.ll").write_text(retargeted((work / "x86.ll").read_text(), asked))
+        (work / "wasm.ll").write_text(retargeted(text_of(clang, module, work), asked))
         run(clang, *FLAGS, "-c", "-x", "ir", work / "wasm.ll", "-o", work / "library.o")
         objects = [work / "library.o"]
         for part in PARTS:

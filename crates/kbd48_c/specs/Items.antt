@@ -1,6 +1,5 @@
--- What C is handed of the log.
-use Rattle.std.specs.Prelude.{◌≡◌, ℕ, ℤ, Some, None}
-use Rattle.host_turn.specs.declared.stamped.Stamped.{Stamped}
+-- What C is handed of what happened.
+use Rattle.std.specs.Prelude.{◌≡◌, ℕ, ℤ, Some, None, if◌then◌else◌}
 use Rattle.pc_tables.specs.declared.item.Item.{Item}
 use Rattle.pc_tables.specs.declared.item.Item.TheVariants.{
   Port,
@@ -22,6 +21,9 @@ use Rattle.pc_tables.specs.declared.item.Item.TheVariants.{
   SysBreak,
 }
 use Rattle.live_board.specs.Heard.{after_next, next_of}
+use Rattle.live_board.specs.declared.happened.Happened.{Happened}
+use Rattle.live_board.specs.declared.happened.What.{What}
+use Rattle.live_board.specs.declared.happened.What.TheVariants as whats
 use Rattle.live_board.specs.declared.heard.Next.{Next}
 use Rattle.live_board.specs.declared.heard.Next.TheVariants as nexts
 use Rattle.live_board.specs.declared.parts.Parts.{Parts as Keyboard}
@@ -69,21 +71,30 @@ value_of Boot = 0
 value_of SysMake = 0
 value_of SysBreak = 0
 
-abbrev pub said_of : Stamped → Said
-said_of s = record { cycle = s.cycle; kind = kind_of s.item; value = value_of s.item }
+-- a byte that passed over the wires is of two more kinds: the keyboard sent it, or the controller gave it to the keyboard
+abbrev pub what_kind : What → ℕ
+what_kind (whats.Said item) = kind_of item
+what_kind (whats.Passed byte) = if byte.from_host then 19 else 18
+
+abbrev pub what_value : What → ℕ
+what_value (whats.Said item) = value_of item
+what_value (whats.Passed byte) = byte.byte
+
+abbrev pub said_of : Happened → Said
+said_of it = record { cycle = it.cycle; kind = what_kind it.what; value = what_value it.what }
 
 -- what C is told of what it is handed
 abbrev pub next_status : Next → ℤ
-next_status (nexts.Said said) = done
+next_status (nexts.Said it) = done
 next_status (nexts.Lost lost) = lost_some
 next_status nexts.Nothing = nothing_said
 
 abbrev pub item_after : Next → Said → Said
-item_after (nexts.Said said) before = said_of said
+item_after (nexts.Said it) before = said_of it
 item_after (nexts.Lost lost) before = before
 item_after nexts.Nothing before = before
 
--- what was said next is handed out, and kept no longer
+-- what happened next is handed out, and kept no longer
 pub record HasHandedOut (before item : Said) (k : Keyboard) (status : ℤ) (after : Keyboard) : Type 0 where
   pub tells : status ≡ next_status (next_of k.heard)
   pub handed : item ≡ item_after (next_of k.heard) before

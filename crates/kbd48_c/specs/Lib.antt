@@ -3,6 +3,7 @@ pub mod Held
 pub mod Spots
 pub mod Exports
 pub mod Looks
+pub mod Noise
 pub mod Copies
 pub mod Items
 pub mod Opening

@@ -13,7 +13,7 @@ use live_board::{Keyboard, Refused};
 use std::alloc::Global;
 
 /// The status of a call that answers nothing else.
-fn status_of(answer: Result<(), Refused>) -> i32
+pub(crate) fn status_of(answer: Result<(), Refused>) -> i32
     ensures { result ≡ status_of answer }
 {
     match answer {

@@ -1,18 +1,17 @@
-//! What was said since the caller was last handed something.
+//! What happened since the caller was last handed something.
 
 ghost use Rattle.std.specs.Prelude.{◌≡◌, None};
 ghost use Rattle.kbd48_c.specs.Exports.{Through, held_status, shown_of};
-ghost use Rattle.kbd48_c.specs.Items.{HasHandedOut, item_after, kind_of, next_status, said_of, value_of};
+ghost use Rattle.kbd48_c.specs.Items.{HasHandedOut, item_after, kind_of, next_status, said_of, value_of, what_kind, what_value};
 ghost use Rattle.kbd48_c.specs.Statuses.{done};
 
 use crate::handle::Handle;
 use crate::status::{DONE, LOST, NOT_OPEN, NOTHING_SAID};
-use host_turn::Stamped;
-use live_board::{Keyboard, Next};
+use live_board::{Happened, Keyboard, Next, What};
 use pc_tables::Item;
 use std::alloc::Global;
 
-/// An item of the log: the cycle in which it was said, its kind, and its byte or word.
+/// What happened: the cycle in which it did, its kind, and its byte or word.
 #[repr(C)]
 #[derive(Drop)]
 pub struct Said {
@@ -20,6 +19,12 @@ pub struct Said {
     pub kind: u8,
     pub value: u16,
 }
+
+/// The keyboard has sent a byte over the wires, as a kind.
+const SENT: u8 = 18;
+
+/// The controller has sent the keyboard a byte, as a kind.
+const GIVEN: u8 = 19;
 
 /// The kind of an item, as a number.
 fn kind(item: Item) -> u8
@@ -73,14 +78,34 @@ fn value(item: Item) -> u16
     }
 }
 
-/// An item with its cycle, as C has it.
-fn as_said(said: Stamped) -> Said
-    ensures { result ≡ said_of said }
+/// The kind of what happened, as a number: that of the log's item, or a byte that passed over the wires.
+fn what_kind(what: What) -> u8
+    ensures { result ≡ what_kind what }
+{
+    match what {
+        What::Said(item) => kind(item),
+        What::Passed(byte) => { if byte.from_host { GIVEN } else { SENT } }
+    }
+}
+
+/// Its byte or word, or 0.
+fn what_value(what: What) -> u16
+    ensures { result ≡ what_value what }
+{
+    match what {
+        What::Said(item) => value(item),
+        What::Passed(byte) => u16::from(byte.byte),
+    }
+}
+
+/// What happened, as C has it.
+fn as_said(it: Happened) -> Said
+    ensures { result ≡ said_of it }
 {
     Said {
-        cycle: said.cycle,
-        kind: kind(said.item),
-        value: value(said.item),
+        cycle: it.cycle,
+        kind: what_kind(it.what),
+        value: what_value(it.what),
     }
 }
 
@@ -90,8 +115,8 @@ fn put_item(next: Next, item: &mut Said) -> i32
     ensures handed { item.new ≡ item_after next item.old }
 {
     match next {
-        Next::Said(said) => {
-            *item = as_said(said);
+        Next::Said(it) => {
+            *item = as_said(it);
             DONE
         }
         Next::Lost(_) => LOST,
@@ -99,7 +124,7 @@ fn put_item(next: Next, item: &mut Said) -> i32
     }
 }
 
-/// What was said next.
+/// What happened next.
 fn put_next(keyboard: &mut Keyboard, item: &mut Said) -> i32
     ensures handed { HasHandedOut item.old item.new keyboard.old result keyboard.new }
 {
@@ -107,7 +132,7 @@ fn put_next(keyboard: &mut Keyboard, item: &mut Said) -> i32
     put_item(next, item)
 }
 
-/// Hands out what was said next since something was last handed out.
+/// Hands out what happened next since something was last handed out.
 #[unsafe(no_mangle)]
 pub extern "C" fn kbd48_next(alloc: Global, handle: &mut Handle, item: &mut Said) -> i32
     ensures handed { Through (HasHandedOut item.old item.new) handle.old.keyboard result handle.new.keyboard }

@@ -13,6 +13,9 @@ mod items;
 mod keyed;
 mod looks;
 mod names;
+mod noise;
+#[cfg(test)]
+mod noise_tests;
 mod opening;
 mod pointer;
 #[cfg(test)]

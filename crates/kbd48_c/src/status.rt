@@ -43,6 +43,8 @@ pub(crate) const KEY_DUE: i32 = 17;
 
 pub(crate) const NO_SUCH_KEY: i32 = 18;
 
+pub(crate) const NO_SUCH_BIT: i32 = 19;
+
 /// The status of a call that was refused.
 pub(crate) fn refused_status(refused: Refused) -> i32
     ensures { result ≡ refused_status refused }

@@ -247,6 +247,8 @@ fn a_rise_within_a_step_is_counted_and_what_is_said_is_handed_out(
     assert!(rt; kbd48_read60(alloc, &mut handle, &mut byte) == DONE && byte == 0xaa);
     assert!(rt; kbd48_rises(alloc, &mut handle, &mut rises) == DONE && rises == 1);
     assert!(rt; kbd48_next(alloc, &mut handle, &mut said) == DONE);
+    assert!(rt; said.kind == 18 && said.value == 0xaa && said.cycle < SECOND);
+    assert!(rt; kbd48_next(alloc, &mut handle, &mut said) == DONE);
     assert!(rt; said.kind == 1 && said.value == 0xaa && said.cycle > SECOND);
     assert!(rt; kbd48_next(alloc, &mut handle, &mut said) == NOTHING_SAID && said.kind == 1);
     for _ in 0..70u8 {

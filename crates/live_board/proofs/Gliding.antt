@@ -75,8 +75,11 @@ goes_quietly p old cycles watched k tick (suc n) m so h room =
 
 -- quiet steps, which end before so many cycles have passed
 module _ (k : Keyboard) (count : ℕ) (last : Machine) (quiet : AreQuiet k.due 2048 count k.joint last) where
+  pub same_outside : last.outside ≡ k.joint.outside
+  same_outside = (quiet_after k.due 2048 count k.joint last quiet).outside
+
   pub same_line : irq_of last.outside.desk.port ≡ irq_of k.joint.outside.desk.port
-  same_line = ap (λ (o : Outside). irq_of o.desk.port) (quiet_after k.due 2048 count k.joint last quiet).outside
+  same_line = ap (λ (o : Outside). irq_of o.desk.port) same_outside
 
   pub only_later : k.joint.cycle ≤ last.cycle
   only_later = (quiet_after k.due 2048 count k.joint last quiet).later

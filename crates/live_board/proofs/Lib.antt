@@ -6,5 +6,7 @@ pub mod Stepping
 pub mod Calling
 pub mod Watching
 pub mod Meeting
+pub mod Passed
 pub mod Gliding
+mod LastBit
 mod Tallying

@@ -1,7 +1,7 @@
--- What a run says is kept, and the rises of the line are counted.
-use Rattle.std.proofs.Common.{◌≡◌, ◌≤◌, ◌<◌, ℕ, zero, suc, ◌+◌, Bool, true, false, List, [], ◌∷◌, ◌++◌, drop, append_assoc}
+-- What happens in a run is kept, and the rises of the line are counted.
+use Rattle.std.proofs.Common.{◌≡◌, ◌≤◌, ◌<◌, ℕ, zero, suc, ◌+◌, ◌-◌, Bool, true, false, List, [], ◌++◌, drop, append_assoc}
 use Rattle.std.proofs.Common.{Ok, Err, refl, ap, sym, subst, ◌∙◌, arith}
-use Rattle.std.specs.Prelude.{if◌then◌else◌}
+use Rattle.std.specs.Prelude.{if◌then◌else◌, map}
 use Rattle.std.proofs.lemmas.List.{append-nil}
 use Rattle.host_turn.specs.declared.stamped.Stamped.{Stamped}
 use Rattle.joint_glide.specs.Quiet.{AreQuiet, HasGone}
@@ -13,16 +13,18 @@ use Rattle.joint_run.specs.Run.{World}
 use Rattle.joint_run.specs.declared.machine.Machine.{Machine}
 use Rattle.joint_run.specs.declared.outside.Outside.{Outside}
 use Rattle.mcs48_core.specs.declared.stepping.Stuck.{Stuck}
-use Rattle.live_board.proofs.Gliding.{goes_quietly, one_step, same_line, so_last, stands_on, steady, stuck_same}
+use Rattle.live_board.proofs.Gliding.{goes_quietly, one_step, same_line, same_outside, so_last, stands_on, steady, stuck_same}
+use Rattle.live_board.proofs.Passed.{heard_more, passed_on, said_more, still_none}
 use Rattle.live_board.proofs.Stepping.{counted, here, one_on, says_one}
 use Rattle.live_board.proofs.Watching.{GoesOnSo, rise_is}
 use Rattle.live_board.specs.Calls.{Says}
-use Rattle.live_board.specs.Heard.{HasToldAll, heard_all, heard_one, rise, rises_in}
+use Rattle.live_board.specs.Heard.{HasToldAll, heard_all, rise, rises_in, said_among, said_so}
+use Rattle.live_board.specs.Passing.{at_fall, passed_at, passed_by}
 use Rattle.live_board.specs.Pasts.{Past, gone_on, story_of}
 use Rattle.live_board.specs.Rising.{irq_of, rose}
 use Rattle.live_board.specs.Running.{rises}
 use Rattle.live_board.specs.Standing.{Stands}
-use Rattle.live_board.specs.declared.heard.Heard.{Heard}
+use Rattle.live_board.specs.declared.happened.Happened.{Happened}
 use Rattle.live_board.specs.declared.irq.Irq.{Irq}
 use Rattle.live_board.specs.declared.parts.Parts.{Parts as Keyboard}
 
@@ -37,11 +39,6 @@ once false = omega arith
 pub rise_few : (was is : Irq) → rise was is ≤ 1
 rise_few was is = once (rose was is)
 
--- what is said in two parts is said
-heard_more : (h : Heard) (a b : List Stamped) → heard_all (heard_all h a) b ≡ heard_all h (a ++ b)
-heard_more h [] b = refl
-heard_more h (said ∷ a) b = heard_more (heard_one h said) a b
-
 -- before the first step
 pub tally_first : (p : Past) (old k : Keyboard) → k.joint ≡ old.joint → k.heard ≡ old.heard → k.rises ≡ 0 → HasToldAll p old k
 tally_first p old k joint heard none =
@@ -49,7 +46,8 @@ tally_first p old k joint heard none =
     record {
       steps = 0;
       made = omega (arith, at);
-      items = [];
+      all = [];
+      happened = refl;
       said = λ w v from to.
           let same : w ≡ v = same_state (sym from ∙ ap (λ n. state_at (story_of p) n) (sym at) ∙ to) in
           ap (λ (u : World Beside). log_of u.board) (sym same) ∙ sym (append-nil (log_of w.board));
@@ -65,8 +63,9 @@ tally_still p old k new joint heard same h =
     record {
       steps = h.steps;
       made = at ∙ h.made;
-      items = h.items;
-      said = subst (λ n. Says (gone_on p old.joint.steps) (gone_on p n) h.items) (sym at) h.said;
+      all = h.all;
+      happened = h.happened;
+      said = subst (λ n. Says (gone_on p old.joint.steps) (gone_on p n) (said_among h.all)) (sym at) h.said;
       kept = heard ∙ h.kept;
       risen = same ∙ h.risen;
     }
@@ -74,20 +73,34 @@ tally_still p old k new joint heard same h =
 -- one step more
 tally_more : (p : Past) (old k new : Keyboard) (s : Stands (gone_on p k.joint.steps) k) (t : Stands (gone_on p new.joint.steps) new)
     → new.joint.steps ≡ suc k.joint.steps → (items : List Stamped) → Says (gone_on p k.joint.steps) (gone_on p new.joint.steps) items
-    → new.heard ≡ heard_all k.heard items
+    → new.heard ≡ heard_all k.heard (passed_by (at_fall k.joint.outside) k.joint.cycle new.joint.outside.clock ++ map said_so items)
     → new.rises ≡ k.rises + rise (irq_of k.joint.outside.desk.port) (irq_of new.joint.outside.desk.port)
     → HasToldAll p old k → HasToldAll p old new
 tally_more p old k new s t steps items said kept risen h =
     let made = h.made in
+    let passed : List Happened = passed_by (at_fall k.joint.outside) k.joint.cycle new.joint.outside.clock in
+    let more : List Happened = passed ++ map said_so items in
     let mid = here (gone_on p k.joint.steps) k s in
     let is : rises p (old.joint.steps + h.steps) ≡ _ = ap (rises p) (sym made) ∙ rise_is p k new s t steps in
     record {
       steps = suc h.steps;
       made = omega (arith, made, steps);
-      items = h.items ++ items;
+      all = h.all ++ more;
+      happened = (
+        h.all,
+        items,
+        h.happened,
+        subst (λ n. Says (gone_on p n) (gone_on p (suc n)) items) made
+            (subst (λ n. Says (gone_on p k.joint.steps) (gone_on p n) items) steps said),
+        ap (λ (v : List Happened). h.all ++ (v ++ map said_so items))
+            (sym (ap (passed_at p) (sym made) ∙ passed_on p k new s t steps)),
+      );
       said = λ w v from to.
-          said s.world v mid to ∙ ap (λ l. l ++ items) (h.said w s.world from mid) ∙ append_assoc (log_of w.board) h.items items;
-      kept = kept ∙ ap (λ x. heard_all x items) h.kept ∙ heard_more old.heard h.items items;
+          said s.world v mid to ∙ ap (λ l. l ++ items) (h.said w s.world from mid)
+          ∙ append_assoc (log_of w.board) (said_among h.all) items
+          ∙ ap (λ (l : List Stamped). log_of w.board ++ l)
+          (sym (said_more h.all (at_fall k.joint.outside) k.joint.cycle new.joint.outside.clock items));
+      kept = kept ∙ ap (λ x. heard_all x more) h.kept ∙ heard_more old.heard h.all more;
       risen = risen
           ∙ ap (λ n. n + rise (irq_of k.joint.outside.desk.port) (irq_of new.joint.outside.desk.port)) h.risen
           ∙ ap (λ (b : Bool). rises_in p old.joint.steps h.steps + (if b then 1 else 0)) (sym is);
@@ -117,15 +130,35 @@ tally_quiet p old cycles watched k tick (suc n) m so told h room =
     let flat : rise (irq_of between.outside.desk.port) (irq_of m.outside.desk.port) ≡ 0 =
     ap (λ (o : Outside). rise (irq_of between.outside.desk.port) (irq_of o.desk.port)) (ap (λ (x : Machine). x.outside) q.parts)
     ∙ still_rise (irq_of between.outside.desk.port) in
+    let none : passed_by (at_fall between.outside) between.cycle m.outside.clock ≡ [] =
+    ap (λ (x : Machine). passed_by (at_fall between.outside) between.cycle x.outside.clock) q.parts
+    ∙ still_none between.outside between.cycle in
     tally_still p old next (record k { joint = m }) refl refl refl
-    (tally_more p old first next before.stands t steps [] said refl (omega (arith, flat)) told_before)
+    (tally_more p old first next before.stands t steps [] said
+    (sym (ap (λ (v : List Happened). heard_all k.heard (v ++ [])) none)) (omega (arith, flat)) told_before)
+
+-- the step behind quiet steps begins with what is outside as it was before them
+began : (k new : Keyboard) (most : ℕ) (g : HasGone k.due 2048 most k.joint (Ok new.seen) new.joint)
+    → heard_all k.heard
+    (passed_by (at_fall k.joint.outside) (new.joint.cycle - new.seen.cycles) new.joint.outside.clock ++ map said_so new.seen.items.items)
+    ≡ heard_all k.heard (passed_by (at_fall g.last.outside) g.last.cycle new.joint.outside.clock ++ map said_so new.seen.items.items)
+began k new most g =
+    let cycles = (counted k.due g.last new.joint new.seen g.step).0 in
+    let at : new.joint.cycle - new.seen.cycles ≡ g.last.cycle = omega (arith, cycles) in
+    ap (λ (o : Outside). heard_all k.heard
+    (passed_by (at_fall o) (new.joint.cycle - new.seen.cycles) new.joint.outside.clock ++ map said_so new.seen.items.items))
+    (sym (same_outside k g.count g.last g.quiet))
+    ∙ ap (λ (n : ℕ). heard_all k.heard
+    (passed_by (at_fall g.last.outside) n new.joint.outside.clock ++ map said_so new.seen.items.items)) at
 
 -- quiet steps and a step behind them
 pub tally_on : (k new : Keyboard) (most : ℕ) (g : HasGone k.due 2048 most k.joint (Ok new.seen) new.joint)
     (p : Past) (old : Keyboard) (cycles : ℕ) (watched : Bool) (so : GoesOnSo p old cycles watched k)
     (room : k.joint.cycle + most < old.joint.cycle + cycles)
     (left : new.due.edges.items ≡ drop new.seen.edges k.due.edges.items) (same : new.due.host ≡ k.due.host) (was : Irq)
-    → was ≡ irq_of k.joint.outside.desk.port → new.heard ≡ heard_all k.heard new.seen.items.items
+    → was ≡ irq_of k.joint.outside.desk.port
+    → new.heard ≡ heard_all k.heard
+    (passed_by (at_fall k.joint.outside) (new.joint.cycle - new.seen.cycles) new.joint.outside.clock ++ map said_so new.seen.items.items)
     → new.rises ≡ k.rises + rise was (irq_of new.joint.outside.desk.port) → HasToldAll p old k → HasToldAll p old new
 tally_on k new most g p old cycles watched so room left same was line kept risen told =
     let before : Keyboard = record k { joint = g.last } in
@@ -135,7 +168,8 @@ tally_on k new most g p old cycles watched so room left same was line kept risen
     tally_quiet p old cycles watched k 2048 g.count g.last so told g.quiet (omega (arith, within, room)) in
     tally_more p old before new last.stands (stands_on k new most g p old cycles watched so room left same)
     (one_step k new most g p old cycles watched so room left same) new.seen.items.items
-    (says_one (gone_on p g.last.steps) before last.stands new g.step g.run left same) kept
+    (says_one (gone_on p g.last.steps) before last.stands new g.step g.run left same)
+    (kept ∙ began k new most g)
     (risen ∙ ap (λ (x : Irq). k.rises + rise x (irq_of new.joint.outside.desk.port)) (line ∙ sym (same_line k g.count g.last g.quiet)))
     told_last
 

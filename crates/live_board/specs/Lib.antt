@@ -3,10 +3,12 @@ pub mod Pasts
 pub mod Standing
 pub mod Answers
 pub mod Looks
+pub mod Sides
 pub mod Acts
 pub mod Calls
 pub mod Rising
 pub mod Running
 pub mod Ready
 pub mod Stopping
+pub mod Passing
 pub mod Heard

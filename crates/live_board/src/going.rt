@@ -1,9 +1,10 @@
 //! What goes on for some time.
 
-ghost use Rattle.std.specs.Prelude.{◌≡◌, ◌≤◌, ◌<◌, ◌^◌, ◌+◌, drop, ◌&&◌, OnErr, OnOk};
+ghost use Rattle.std.specs.Prelude.{◌≡◌, ◌≤◌, ◌<◌, ◌^◌, ◌+◌, ◌-◌, ◌++◌, drop, map, ◌&&◌, OnErr, OnOk};
 ghost use Rattle.joint_glide.specs.Quiet.{HasGone};
 ghost use Rattle.joint_run.specs.Due.{told};
-ghost use Rattle.live_board.specs.Heard.{HasToldAll, heard_all, rise};
+ghost use Rattle.live_board.specs.Heard.{HasToldAll, heard_all, rise, said_so};
+ghost use Rattle.live_board.specs.Passing.{at_fall, passed_by};
 ghost use Rattle.live_board.specs.Pasts.{Past};
 ghost use Rattle.live_board.specs.Rising.{irq_of, rose};
 ghost use Rattle.live_board.specs.Running.{HasRun};
@@ -46,13 +47,16 @@ impl Parts {
         ensures some { OnOk result (0 < self.new.seen.cycles) }
         ensures edges { OnOk result (self.new.due.edges.items ≡ drop self.new.seen.edges self.old.due.edges.items) }
         ensures host { self.new.due.host ≡ self.old.due.host }
-        ensures kept { OnOk result (self.new.heard ≡ heard_all self.old.heard self.new.seen.items.items) }
+        ensures kept { OnOk result (self.new.heard ≡ heard_all self.old.heard
+            (passed_by (at_fall self.old.joint.outside) (self.new.joint.cycle - self.new.seen.cycles) self.new.joint.outside.clock
+            ++ map said_so self.new.seen.items.items)) }
         ensures risen { OnOk result (self.new.rises ≡ self.old.rises + rise was (irq_of self.new.joint.outside.desk.port)) }
         ensures unchanged { OnErr result (self.new.due ≡ self.old.due) }
         ensures untold { OnErr result ((self.new.heard ≡ self.old.heard) × (self.new.rises ≡ self.old.rises)) }
     {
+        let at_fall = self.at_fall();
         joint_glide::go_on(&mut self.joint, &self.due, &mut self.seen, NO_PLACE, most)?;
-        self.end_step(was);
+        self.end_step(was, at_fall);
         Ok(())
     }
 

@@ -1,34 +1,36 @@
-//! What is kept of the log until the caller takes it.
+//! What is kept of what happened until the caller takes it.
 
-ghost use Rattle.std.specs.Prelude.{◌≡◌, []};
-ghost use Rattle.live_board.specs.Heard.{after_next, has_room, heard_all, heard_one, next_of};
+ghost use Rattle.std.specs.Prelude.{◌≡◌, [], map};
+ghost use Rattle.live_board.specs.Heard.{after_next, has_room, heard_all, heard_one, next_of, said_so};
+ghost use Rattle.live_board.specs.Passing.{passed_by};
 
+use crate::happened::{Happened, Transfer, What};
 use arrayvec::ArrayVec;
 use host_turn::Stamped;
 
-/// How many items are kept.
+/// How much is kept.
 const MOST: usize = 64;
 
-/// What a caller is handed of what was said.
+/// What a caller is handed of what happened.
 #[derive(Clone, Copy, Debug, PartialEq, Eq)]
 pub enum Next {
-    /// This was said next.
-    Said(Stamped),
-    /// So many more were said than were kept. From now on items are kept again.
+    /// This happened next.
+    Said(Happened),
+    /// So much more happened than was kept. From now on it is kept again.
     Lost(u64),
-    /// Nothing was said since.
+    /// Nothing happened since.
     Nothing,
 }
 
-/// The first items of the log that the caller hasn't taken yet, at most 64, and how many others after them were lost.
+/// What happened first that the caller hasn't taken yet, at most 64, and how much else after that was lost.
 #[derive(Drop)]
 pub struct Heard {
-    pub items: ArrayVec<Stamped, 64>,
+    pub items: ArrayVec<Happened, 64>,
     pub lost: u64,
 }
 
 impl Heard {
-    /// Nothing was said yet.
+    /// Nothing happened yet.
     pub(crate) fn nothing() -> Heard
         ensures { (result.items.items ≡ []) × (result.lost ≡ 0) }
     {
@@ -67,32 +69,50 @@ impl Heard {
         }
     }
 
-    /// Whether an item more can be kept.
+    /// Whether one more can be kept.
     fn has_room(&self) -> bool
         ensures { result ≡ has_room self.now }
     {
         self.lost == 0 && self.items.len() < MOST
     }
 
-    /// An item more is said.
-    fn add(&mut self, said: Stamped)
-        ensures { self.new ≡ heard_one self.old said }
+    /// One thing more happens.
+    fn add(&mut self, happened: Happened)
+        ensures { self.new ≡ heard_one self.old happened }
     {
         if self.has_room() {
-            self.items.push(said);
+            self.items.push(happened);
         } else {
             self.lost = self.lost.saturating_add(1);
         }
     }
 
+    /// The byte that ends if the clock falls has passed, if the clock is low after the step that began at a cycle.
+    #[inline(always)]
+    pub(crate) fn add_passed(&mut self, at_fall: Option<Transfer>, cycle: u64, clock: bool)
+        ensures { self.new ≡ heard_all self.old (passed_by at_fall cycle clock) }
+    {
+        if let Some(byte) = at_fall {
+            if !clock {
+                self.add(Happened {
+                    cycle,
+                    what: What::Passed(byte),
+                });
+            }
+        }
+    }
+
     /// These are said, in order.
     pub(crate) fn add_all(&mut self, items: &[Stamped])
-        ensures { self.new ≡ heard_all self.old items.now }
+        ensures { self.new ≡ heard_all self.old (map said_so items.now) }
     {
         match items {
             [] => {}
             [said, later @ ..] => {
-                self.add(*said);
+                self.add(Happened {
+                    cycle: said.cycle,
+                    what: What::Said(said.item),
+                });
                 self.add_all(later);
             }
         }

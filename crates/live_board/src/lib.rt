@@ -9,23 +9,29 @@
 mod adding;
 mod answers;
 mod going;
+mod happened;
 mod heard;
 mod irq;
 mod keyboard;
 mod law;
 mod looks;
+mod noise;
 mod parts;
+mod passing;
 mod ran;
 mod refused;
+mod sides;
 mod stopping;
 mod stops;
 
+pub use happened::{Happened, Transfer, What};
 pub use heard::Next;
 pub use keyboard::Keyboard;
 pub use law::stories_grow_at_end;
 pub use looks::Registers;
 pub use ran::{Ran, RunEnd};
 pub use refused::Refused;
+pub use sides::Sides;
 pub use stops::{Ending, Met, Stopped, Stops};
 
 #[cfg(test)]

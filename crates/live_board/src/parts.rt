@@ -1,17 +1,19 @@
 //! The keyboard's parts, and their joint step.
 
-ghost use Rattle.std.specs.Prelude.{◌≡◌, ◌≤◌, ◌<◌, ◌+◌, ◌^◌, ◌∷◌, [], drop, length, IfOk, OnErr, OnOk};
+ghost use Rattle.std.specs.Prelude.{◌≡◌, ◌≤◌, ◌<◌, ◌+◌, ◌-◌, ◌^◌, ◌++◌, ◌∷◌, [], drop, length, map, IfOk, OnErr, OnOk};
 ghost use Rattle.int09.specs.Bios.{start};
 ghost use Rattle.joint_run.specs.Due.{due_step, told, IsJointStep};
 ghost use Rattle.joint_run.specs.History.{IsStepOfRun};
 ghost use Rattle.live_board.specs.Answers.{line_in, raises};
-ghost use Rattle.live_board.specs.Heard.{heard_all, rise};
+ghost use Rattle.live_board.specs.Heard.{heard_all, rise, said_so};
 ghost use Rattle.live_board.specs.Looks.{IsCopied};
+ghost use Rattle.live_board.specs.Passing.{at_fall, passed_by};
 ghost use Rattle.live_board.specs.Pasts.{Past, state_of, untouched};
 ghost use Rattle.live_board.specs.Ready.{IsOpened};
 ghost use Rattle.live_board.specs.Rising.{irq_of};
 ghost use Rattle.live_board.specs.Standing.{Stands};
 
+use crate::happened::Transfer;
 use crate::heard::Heard;
 use crate::irq::Irq;
 use arrayvec::ArrayVec;
@@ -114,19 +116,25 @@ impl Parts {
         }
     }
 
-    /// A step is done, before which the interrupt line was so: the edges that it made wait no longer, what it said
-    /// is kept, and whether the line rose is counted.
-    pub(crate) fn end_step(&mut self, was: Irq)
+    /// A step is done, before which the interrupt line was so, and a fall of the clock would have ended this byte: the
+    /// edges that it made wait no longer, the byte that passed and what it said are kept, and whether the line rose is
+    /// counted.
+    pub(crate) fn end_step(&mut self, was: Irq, at_fall: Option<Transfer>)
         requires made { self.old.seen.edges ≤ length self.old.due.edges.items }
+        requires cycles { self.old.seen.cycles ≤ self.old.joint.cycle }
         requires near { self.old.rises < 2 ^ 63 }
         ensures edges { self.new.due.edges.items ≡ drop self.old.seen.edges self.old.due.edges.items }
         ensures host { self.new.due.host ≡ self.old.due.host }
         ensures joint { self.new.joint ≡ self.old.joint }
         ensures seen { self.new.seen ≡ self.old.seen }
-        ensures kept { self.new.heard ≡ heard_all self.old.heard self.old.seen.items.items }
+        ensures kept { self.new.heard ≡ heard_all self.old.heard
+            (passed_by at_fall (self.old.joint.cycle - self.old.seen.cycles) self.old.joint.outside.clock ++ map said_so self.old.seen.items.items) }
         ensures risen { self.new.rises ≡ self.old.rises + rise was (irq_of self.old.joint.outside.desk.port) }
     {
         self.drop_made();
+        let began = self.joint.cycle() - u64::from(self.seen.cycles);
+        self.heard
+            .add_passed(at_fall, began, self.joint.outside().clock);
         self.heard.add_all(self.seen.items.as_slice());
         self.count_rise(was);
     }
@@ -152,15 +160,18 @@ impl Parts {
         ensures few { OnOk result (self.new.seen.cycles < 3) }
         ensures edges { OnOk result (self.new.due.edges.items ≡ drop self.new.seen.edges self.old.due.edges.items) }
         ensures host { self.new.due.host ≡ self.old.due.host }
-        ensures kept { OnOk result (self.new.heard ≡ heard_all self.old.heard self.new.seen.items.items) }
+        ensures kept { OnOk result (self.new.heard ≡ heard_all self.old.heard
+            (passed_by (at_fall self.old.joint.outside) (self.new.joint.cycle - self.new.seen.cycles) self.new.joint.outside.clock
+            ++ map said_so self.new.seen.items.items)) }
         ensures risen { OnOk result (self.new.rises ≡ rise (irq_of self.old.joint.outside.desk.port) (irq_of self.new.joint.outside.desk.port)) }
         ensures unchanged { OnErr result ((self.new.joint ≡ self.old.joint) × (self.new.due ≡ self.old.due)) }
         ensures untold { OnErr result ((self.new.heard ≡ self.old.heard) × (self.new.rises ≡ self.old.rises)) }
     {
         let was = self.irq();
+        let at_fall = self.at_fall();
         self.joint.step_into(&self.due, &mut self.seen)?;
         self.rises = 0;
-        self.end_step(was);
+        self.end_step(was, at_fall);
         Ok(())
     }
 

@@ -1,4 +1,4 @@
-use crate::{Ending, Keyboard, Met, Next, Refused, RunEnd, Stops};
+use crate::{Ending, Keyboard, Met, Next, Refused, RunEnd, Stops, Transfer, What};
 use board_lines::Place;
 use ctl_core::Port;
 use fw_kernel::KERNEL;
@@ -9,6 +9,12 @@ use std::alloc::AllocError;
 
 /// The cycles of a second.
 const SECOND: u64 = 400_000;
+
+/// What the keyboard sends after its power-on test.
+const SELF_TEST: Transfer = Transfer {
+    from_host: false,
+    byte: 0xaa,
+};
 
 #[test]
 fn the_keyboard_tests_itself_and_is_read_and_told(rt: HostRuntime) -> Result<(), AllocError> {
@@ -77,14 +83,23 @@ fn what_is_said_is_handed_out_in_order_and_rises_are_counted(
     let mut keyboard = Keyboard::open(&image, Bios::new(rt.alloc())?);
     assert!(rt; keyboard.hand_out() == Next::Nothing);
     assert!(rt; keyboard.run(SECOND, false).end == RunEnd::Passed && keyboard.rises() == 1);
+    assert!(rt;
+        matches!(keyboard.hand_out(), Next::Said(it) if it.what == What::Passed(SELF_TEST))
+    );
     assert!(rt; keyboard.hand_out() == Next::Nothing);
     assert!(rt; keyboard.write(Port::P64, 0xaa).is_ok() && keyboard.rises() == 0);
     assert!(rt; keyboard.read60() == Ok(0xaa) && keyboard.rises() == 1 && keyboard.interrupt());
-    assert!(rt; matches!(keyboard.hand_out(), Next::Said(said) if said.item == Item::Read(0xaa)));
+    assert!(rt;
+        matches!(keyboard.hand_out(), Next::Said(it) if it.what == What::Said(Item::Read(0xaa)))
+    );
     assert!(rt; keyboard.read60() == Ok(0x55) && keyboard.rises() == 0 && !keyboard.interrupt());
     assert!(rt; keyboard.write(Port::P64, 0xfe).is_ok() && keyboard.run(64, false).cycles > 63);
-    assert!(rt; matches!(keyboard.hand_out(), Next::Said(said) if said.item == Item::Read(0x55)));
-    assert!(rt; matches!(keyboard.hand_out(), Next::Said(said) if said.item == Item::Pulse(0x0e)));
+    assert!(rt;
+        matches!(keyboard.hand_out(), Next::Said(it) if it.what == What::Said(Item::Read(0x55)))
+    );
+    assert!(rt;
+        matches!(keyboard.hand_out(), Next::Said(it) if it.what == What::Said(Item::Pulse(0x0e)))
+    );
     assert!(rt; keyboard.hand_out() == Next::Nothing);
     for _ in 0..70u8 {
         assert!(rt; keyboard.status().is_ok());
@@ -182,5 +197,37 @@ fn a_program_that_sticks_stays_where_it_is(rt: HostRuntime) -> Result<(), AllocE
     assert!(rt; ran.cycles == 0 && keyboard.cycle() == 2);
     assert!(rt; matches!(ran.end, RunEnd::Stuck(stuck) if stuck.pc == 2 && stuck.byte == 1));
     assert!(rt; keyboard.read60().is_err() && keyboard.key(Place::default(), true).is_err());
+    Ok(())
+}
+
+/// The byte that is handed out next, and whether the controller sent it.
+fn next_passed(keyboard: &mut Keyboard) -> Option<(bool, u8)> {
+    match keyboard.hand_out() {
+        Next::Said(it) => match it.what {
+            What::Passed(byte) => Some((byte.from_host, byte.byte)),
+            What::Said(_) => None,
+        },
+        _ => None,
+    }
+}
+
+#[test]
+fn bytes_on_the_wires_are_handed_out_with_their_direction_and_noise_is_not_theirs(
+    rt: HostRuntime,
+) -> Result<(), AllocError> {
+    let image = Image { bytes: KERNEL };
+    let mut keyboard = Keyboard::open_ready(&image, Bios::new(rt.alloc())?);
+    assert!(rt; next_passed(&mut keyboard) == Some((false, 0xaa)));
+    assert!(rt; !keyboard.sides().controller.clk && keyboard.sides().controller.dat);
+    assert!(rt; keyboard.read60() == Ok(0xaa) && next_passed(&mut keyboard).is_none());
+    assert!(rt; keyboard.flip(3).is_ok() && keyboard.write(Port::P60, 0xee).is_ok());
+    assert!(rt; keyboard.run(SECOND, true).end == RunEnd::Rose && keyboard.read60() == Ok(0xee));
+    for wanted in [(true, 0xee), (false, 0xee), (true, 0xfe), (false, 0xee)] {
+        assert!(rt; next_passed(&mut keyboard) == Some(wanted));
+    }
+    assert!(rt;
+        matches!(keyboard.hand_out(), Next::Said(it) if it.what == What::Said(Item::Read(0xee)))
+    );
+    assert!(rt; keyboard.hand_out() == Next::Nothing);
     Ok(())
 }

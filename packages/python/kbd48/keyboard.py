@@ -33,6 +33,7 @@ class Status(IntEnum):
     REPEATED = 16
     KEY_DUE = 17
     NO_SUCH_KEY = 18
+    NO_SUCH_BIT = 19
 
 
 TEXTS = {
@@ -48,11 +49,12 @@ TEXTS = {
     Status.NO_SUCH_CELL: "data memory has the cells 0 to 127",
     Status.LOST: "more was said than is kept",
     Status.NO_SUCH_KEY: "no key has this name",
+    Status.NO_SUCH_BIT: "noise turns round the bits 1 to 9 of a frame",
 }
 
 
 class ItemKind(IntEnum):
-    """What an item of the log says."""
+    """What an item says: what the log does, or a byte that the keyboard sent over the wires, or was given."""
 
     PORT = 0
     READ = 1
@@ -72,6 +74,8 @@ class ItemKind(IntEnum):
     BOOT = 15
     SYS_MAKE = 16
     SYS_BREAK = 17
+    SENT = 18
+    GIVEN = 19
 
 
 class Error(Exception):
@@ -131,7 +135,7 @@ class Stopped(NamedTuple):
 
 
 class Item(NamedTuple):
-    """An item of the log: the cycle in which it was said, what it says, and its byte or word, or 0."""
+    """What happened: the cycle in which it did, what it was, and its byte or word, or 0."""
 
     cycle: int
     kind: ItemKind
@@ -148,6 +152,13 @@ class Wires(NamedTuple):
 
     clock: bool
     data: bool
+
+
+class Pulls(NamedTuple):
+    """Which wires each side pulls: 1 the clock, 2 data."""
+
+    keyboard: int
+    controller: int
 
 
 class Waiting(NamedTuple):
@@ -347,6 +358,11 @@ class Keyboard:
         """INT 09h of this project reads each byte, or no longer, from the next step on. One step. At first it is off."""
         self._done("bios", on)
 
+    def flip(self, bit: int) -> None:
+        """Noise turns round a bit of the next frame that the keyboard begins: a data bit, 1 to 8, or the parity, 9. One
+        step. Another call before that frame replaces it."""
+        self._done("flip", _unsigned(bit, 8, "a bit"))
+
     def take(self) -> Optional[int]:
         """A program takes the next word from the buffer of INT 09h, in one step: scan code above, character below. None
         if there is no word."""
@@ -393,6 +409,11 @@ class Keyboard:
     def wires(self) -> Wires:
         """The levels of the two wires after the last cycle."""
         return Wires(*self._all_shown("wires", c.c_bool, c.c_bool))
+
+    @property
+    def pulls(self) -> Pulls:
+        """Which wires the keyboard pulls and which the controller pulls, both after the last cycle: 1 the clock, 2 data."""
+        return Pulls(*self._all_shown("pulls", c.c_uint8, c.c_uint8))
 
     @property
     def cycle(self) -> int:

@@ -1,13 +1,18 @@
-use Rattle.std.proofs.Common.{◌≡◌, ◌≤◌, ◌<◌, ◌^◌, ◌-◌, [], ◌∷◌, false, refl, ap, sym, ◌∙◌, arith}
+use Rattle.std.proofs.Common.{◌≡◌, ◌≤◌, ◌<◌, ◌^◌, ◌-◌, ℕ, List, [], ◌∷◌, ◌++◌, false, refl, ap, sym, ◌∙◌, arith}
+use Rattle.std.specs.Prelude.{map}
 use Rattle.host_turn.specs.Host.{waits}
 use Rattle.joint_run.specs.Due.{due_step}
 use Rattle.joint_run.specs.declared.due.Due.{Due}
 use Rattle.live_board.proofs.Calling.{acted_on, acted_stuck, answered_here, says_on, stands_still, stuck_at}
+use Rattle.live_board.proofs.Passed.{passed_over}
+use Rattle.live_board.proofs.Stepping.{counted}
 use Rattle.live_board.proofs.Watching.{line_here}
-use Rattle.live_board.specs.Heard.{rise}
+use Rattle.live_board.specs.Heard.{heard_all, rise, said_so}
+use Rattle.live_board.specs.Passing.{at_fall, passed_by}
 use Rattle.live_board.specs.Pasts.{acted, state_of}
 use Rattle.live_board.specs.Rising.{irq_in, irq_of}
 use Rattle.live_board.specs.Standing.{Stands}
+use Rattle.live_board.specs.declared.happened.Happened.{Happened}
 use Rattle.live_board.specs.declared.irq.Irq.{Irq}
 use Rattle.live_board.specs.declared.parts.Parts.{Parts as Keyboard}
 use Rattle.live_board.proofs.parts.Parts.act.Goals as goal
@@ -65,7 +70,14 @@ returns-in-Ok-clause-told c =
     record {
       items = c.step.new.self.seen.items.items;
       said = says_on k act late room due c.step.new.self.joint c.step.new.self.seen only e.some e.step p s refl e.run;
-      kept = e.kept;
+      kept =
+          let cycles = (counted due k.joint c.step.new.self.joint c.step.new.self.seen e.step).0 in
+          let at : c.step.new.self.joint.cycle - c.step.new.self.seen.cycles ≡ k.joint.cycle = omega (arith, cycles) in
+          let items : List Happened = map said_so c.step.new.self.seen.items.items in
+          e.kept
+          ∙ ap (λ (n : ℕ). heard_all k.heard (passed_by (at_fall k.joint.outside) n new.joint.outside.clock ++ items)) at
+          ∙ ap (λ (v : List Happened). heard_all k.heard (v ++ items))
+          (sym (passed_over p (acted p (k.joint.cycle - 4096) act) k new s t));
       risen = e.risen ∙ ap (λ (x : Irq). rise x (irq_of new.joint.outside.desk.port)) (line_here p k s)
           ∙ ap (rise (irq_in (state_of p))) (line_here (acted p (k.joint.cycle - 4096) act) new t);
     }

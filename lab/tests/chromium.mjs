@@ -1,16 +1,17 @@
-// A headless Chromium, driven by its own pipe: no package is needed.
+// A headless Chromium, driven by its own pipe: no package is needed. `firefox.mjs` has the same for Firefox.
 import { spawn } from 'node:child_process';
 import { mkdtempSync, rmSync, writeFileSync } from 'node:fs';
 import { tmpdir } from 'node:os';
 import { join } from 'node:path';
+import { hands } from './hands.mjs';
 
-const PATIENCE = 20_000; // ms
+const FLAGS = ['--headless=new', '--no-sandbox', '--disable-gpu', '--remote-debugging-pipe', '--no-first-run'];
 
 /** Opens a page. What it logs, what it throws, and what it asks for from elsewhere, is in `seen`. */
 export async function open(program, url, [width, height]) {
   const profile = mkdtempSync(join(tmpdir(), 'kbd48-lab-'));
-  const child = spawn(program, ['--headless=new', '--no-sandbox', '--disable-gpu', '--remote-debugging-pipe', '--no-first-run',
-    `--user-data-dir=${profile}`, `--window-size=${width},${height}`, 'about:blank'], { stdio: ['ignore', 'ignore', 'ignore', 'pipe', 'pipe'] });
+  const child = spawn(program, [...FLAGS, `--user-data-dir=${profile}`, `--window-size=${width},${height}`, 'about:blank'],
+    { stdio: ['ignore', 'ignore', 'ignore', 'pipe', 'pipe'] });
   const [, , , to, from] = child.stdio, waits = new Map(), seen = [];
   let rest = '', next = 1, session;
   from.setEncoding('utf8').on('data', data => {
@@ -37,40 +38,39 @@ export async function open(program, url, [width, height]) {
   ({ sessionId: session } = await send('Target.attachToTarget', { targetId: targetInfos.find(it => it.type === 'page').targetId, flatten: true }));
   for (const domain of ['Runtime', 'Page', 'Log', 'Network']) await send(`${domain}.enable`);
   await send('Page.navigate', { url });
-  const browser = {
-    seen, send,
-    wait: ms => new Promise(yes => setTimeout(yes, ms)),
+  const key = (type, code, more) => send('Input.dispatchKeyEvent', { type, code, key: code, windowsVirtualKeyCode: VIRTUAL[code] ?? 65, ...more });
+  return hands({
+    name: 'Chromium', pid: child.pid, seen, send,
     async evaluate(expression) {
       const { result, exceptionDetails } = await send('Runtime.evaluate', { expression, awaitPromise: true, returnByValue: true });
       if (exceptionDetails) throw new Error(exceptionDetails.exception?.description ?? exceptionDetails.text);
       return result.value;
     },
-    /** Waits until an expression holds. */
-    async until(expression) {
-      for (const end = Date.now() + PATIENCE; Date.now() < end; await browser.wait(25)) if (await browser.evaluate(expression)) return;
-      throw new Error(`it never came to be: ${expression}; ${seen.join('; ')}`);
+    down: (code, more = {}) => key('keyDown', code, more),
+    up: (code, more = {}) => key('keyUp', code, more),
+    async mouse(type, { x, y }) {
+      const [name, buttons] = { down: ['mousePressed', 1], up: ['mouseReleased', 0], drag: ['mouseMoved', 1] }[type];
+      await send('Input.dispatchMouseEvent', { type: name, x, y, button: 'left', buttons, clickCount: 1 });
     },
-    key: (type, code, more = {}) => send('Input.dispatchKeyEvent', { type, code, key: code, windowsVirtualKeyCode: 65, ...more }),
-    async stroke(code, hold = 60) {
-      await browser.key('keyDown', code);
-      await browser.wait(hold);
-      await browser.key('keyUp', code);
-      await browser.wait(30);
+    async touch(type, point) {
+      await send('Input.dispatchTouchEvent', { type: type === 'down' ? 'touchStart' : 'touchEnd', touchPoints: type === 'down' ? [point] : [] });
     },
-    async place(selector) {
-      return browser.evaluate(`(() => { const it = document.querySelector(${JSON.stringify(selector)}); it.scrollIntoView({ block: 'center', inline: 'center' }); const r = it.getBoundingClientRect(); return { x: r.x + r.width / 2, y: r.y + r.height / 2 }; })()`);
-    },
-    async mouse(type, { x, y }) { await send('Input.dispatchMouseEvent', { type, x, y, button: 'left', buttons: type === 'mouseReleased' ? 0 : 1, clickCount: 1 }); },
-    async click(selector) {
-      const at = await browser.place(selector);
-      await browser.mouse('mousePressed', at);
-      await browser.mouse('mouseReleased', at);
-    },
-    /** Chooses files in an input. */
     async choose(selector, files) {
       const { root } = await send('DOM.getDocument');
       const { nodeId } = await send('DOM.querySelector', { nodeId: root.nodeId, selector });
       await send('DOM.setFileInputFiles', { nodeId, files });
+    },
+    /** A screen of this size; a phone's has fingers. */
+    async size(size, scale, isPhone) {
+      if (size) await send('Emulation.setDeviceMetricsOverride', { width: size[0], height: size[1], deviceScaleFactor: scale, mobile: isPhone });
+      else await send('Emulation.clearDeviceMetricsOverride');
+      await send('Emulation.setTouchEmulationEnabled', { enabled: isPhone === true });
+    },
+    /** A script that runs before those of each page that is opened from now on. */
+    before: source => send('Page.addScriptToEvaluateOnNewDocument', { source }),
+    async go(to) {
+      await send('Page.navigate', { url: 'about:blank' });
+      await send('Page.navigate', { url: to });
     },
     async screenshot(path) { writeFileSync(path, Buffer.from((await send('Page.captureScreenshot')).data, 'base64')); },
     async close() {
@@ -79,6 +79,7 @@ export async function open(program, url, [width, height]) {
       await gone;
       rmSync(profile, { recursive: true, force: true, maxRetries: 5 });
     },
-  };
-  return browser;
+  });
 }
+
+const VIRTUAL = { Tab: 9, Enter: 13, Escape: 27, Space: 32 };

@@ -1,0 +1,38 @@
+//! What happens, as a caller is handed it.
+
+use pc_tables::Item;
+
+/// A byte that passed over the two wires.
+#[derive(Clone, Copy, Debug, PartialEq, Eq)]
+pub struct Transfer {
+    /// Whether the controller sent it, and not the keyboard.
+    pub from_host: bool,
+    /// The byte. The keyboard's is that of bits 1 to 8 of its frame, as they were on the wires before any noise.
+    pub byte: u8,
+}
+
+/// What happened: something that the log says, or a byte that passed over the two wires.
+#[derive(Clone, Copy, Debug, PartialEq, Eq)]
+pub enum What {
+    /// The log says this.
+    Said(Item),
+    /// This byte passed.
+    Passed(Transfer),
+}
+
+/// What happened, and the cycle in which it did.
+#[derive(Clone, Copy, Debug, PartialEq, Eq)]
+pub struct Happened {
+    pub cycle: u64,
+    pub what: What,
+}
+
+/// Zeros throughout, so that a list of them is made fast.
+impl Default for Happened {
+    fn default() -> Happened {
+        Happened {
+            cycle: 0,
+            what: What::Said(Item::Port(0)),
+        }
+    }
+}

@@ -1,0 +1,171 @@
+// The keyboard pane: what is pressed arrives, from keys, the mouse and fingers, on layouts and on boards of other tools.
+import assert from 'node:assert/strict';
+import { readFileSync } from 'node:fs';
+import { join } from 'node:path';
+
+const COMMAND = { modifiers: 4 };
+
+export async function typing(browser, shot) {
+  await browser.says('log', /port AA/);
+  assert.equal(await browser.evaluate('document.activeElement.id'), 'board', 'one can type at once');
+  assert.equal(await browser.evaluate('document.querySelectorAll("#board > div").length'), 84);
+  await browser.down('ShiftLeft');
+  await browser.stroke('KeyH');
+  await browser.up('ShiftLeft');
+  for (const code of ['KeyI', 'Comma', 'Space', 'KeyP', 'KeyC', 'Enter']) await browser.stroke(code);
+  await browser.says('screen', /^Hi, pc\n▁$/);
+  // Strokes between two pictures arrive, and Shift comes before its letter.
+  const strokes = ['lshift +', 'a +', 'a -', 'lshift -', 'o +', 'o -'].map(it => it.split(' '));
+  await browser.evaluate(`for (const [name, way] of ${JSON.stringify(strokes)}) lab.keys.hold(name, way === '+', 'test')`);
+  await browser.says('screen', /^Hi, pc\nAo▁$/);
+  await browser.stroke('CapsLock');
+  await browser.until('document.querySelector("[data-lamp=\\"4\\"]").classList.contains("on")');
+  await browser.stroke('KeyQ');
+  await browser.says('screen', /Q▁$/);
+  await browser.says('bytes', /PC → keyboard {2}ED[^]*keyboard → PC {2}FA[^]*PC → keyboard {2}04/);
+  // The mouse holds a key, and so does a hand; the repeats of the window system aren't taken.
+  const drawn = await browser.place('[data-key=x]');
+  await browser.mouse('down', drawn);
+  await browser.says('screen', /QXXX/);
+  assert.ok(await browser.evaluate('document.querySelector("[data-key=x]").classList.contains("down")'));
+  await browser.mouse('up', drawn);
+  await browser.down('KeyZ');
+  for (let count = 0; count < 3; count++) await browser.down('KeyZ', { autoRepeat: true });
+  await browser.says('screen', /ZZZ/);
+  await browser.up('KeyZ');
+  assert.equal(await browser.evaluate('document.querySelectorAll("#board .down").length'), 0);
+  const pressed = await browser.evaluate('lab.live.events.filter(it => it.words === "press z").length');
+  assert.equal(pressed, 1, 'the keyboard alone repeats');
+  // A key is known by its place, whatever letter the system says.
+  await browser.stroke('CapsLock');
+  await browser.until('!document.querySelector("[data-lamp=\\"4\\"]").classList.contains("on")');
+  await browser.stroke('KeyY', 60, { key: 'z' });
+  await browser.says('screen', /Zy▁$/);
+  await shot('keyboard');
+}
+
+/** Two Escapes, and Tab leaves the keyboard on either side. */
+export async function leaving(browser) {
+  await browser.evaluate('document.getElementById("board").focus()');
+  for (const [tab, more, to] of [['Tab', {}, 'speed'], ['Tab', { modifiers: 8 }, 'sticky']]) {
+    await browser.evaluate('document.getElementById("board").focus()');
+    await browser.stroke('Tab', 10);
+    assert.equal(await browser.evaluate('document.activeElement.id'), 'board', 'Tab is a key of the keyboard');
+    // The two must come within half a second, which a loaded machine may miss.
+    for (let tries = 0; tries < 10 && !await browser.evaluate('lab.keys.hasLeft'); tries++) {
+      await browser.stroke('Escape', 10);
+      await browser.stroke('Escape', 10);
+    }
+    await browser.says('board-note', /Tab leaves the keyboard now/);
+    if (browser.name === 'Firefox' && more.modifiers) {
+      await browser.down('ShiftLeft');
+      await browser.stroke(tab, 10);
+      await browser.up('ShiftLeft');
+    } else await browser.stroke(tab, 10, more);
+    assert.equal(await browser.evaluate('document.activeElement.id'), to);
+  }
+  await browser.says('board-note', /^Click the keyboard/);
+}
+
+/** A layout with a second layer: what the keys say, and what they send. */
+export async function secondLayer(browser) {
+  await browser.only('keyboard');
+  await browser.put('layout', 'sixty_fn.toml');
+  await browser.until('lab.live.stamp > 200000');
+  await browser.click('#sticky');
+  await browser.click('[data-key=sysreq]');
+  assert.equal(await browser.evaluate('document.querySelector("[data-key=\\"1\\"]").textContent'), 'F1');
+  await browser.click('[data-key="1"]');
+  await browser.until('lab.live.items.some(item => item.words === "word 3B00")');
+  assert.equal(await browser.evaluate('document.querySelectorAll("#board .down").length'), 0, 'what sticks is let go after the next key');
+  await browser.click('#sticky');
+}
+
+/** Every board that examples/from_kle is tried with gives the same status, text and remarks in the page. */
+export async function everyBoard(browser, answers) {
+  const cases = JSON.parse(readFileSync(answers, 'utf8'));
+  await browser.evaluate(`globalThis.cases = ${JSON.stringify(cases)}; 0`);
+  const others = await browser.evaluate(`cases.filter(({ words, files, status, text, told }) => {
+    const said = lab.fromKle(words, files);
+    return said.status !== status || said.text !== text || JSON.stringify(said.told) !== JSON.stringify(told);
+  }).map(({ words }) => words.join(' '))`);
+  assert.deepEqual(others, [], 'from_kle answers otherwise');
+  assert.ok(cases.length > 180, 'there are boards');
+  return cases.length;
+}
+
+/** A board file is opened beside the keyboard, its keymap after it, and somebody types on it. */
+export async function boardFiles(browser, shot, boards) {
+  await browser.only('keyboard');
+  await browser.choose('#open-board', [join(boards, 'editor/unknown_words.json')]);
+  await browser.says('board-told', /isn't known.*--without unknown/);
+  await browser.pressed('board-told', 'Leave every such key out');
+  await browser.says('board-told', /unknown_words\.toml is made of unknown_words\.json/);
+  await browser.choose('#open-board', [join(boards, 'editor/full_size.json')]);
+  await browser.says('board-told', /so 13 must be left out/);
+  await browser.pressed('board-told', 'Leave keys out that are there twice');
+  await browser.says('board-told', /full_size\.toml is made of full_size\.json/);
+  await browser.choose('#open-board', [join(boards, 'ortho48/keyboard.json')]);
+  await browser.says('board-told', /it has the layouts LAYOUT_/);
+  await browser.choose('#open-board', [join(boards, 'ortho48/keymap.json')]);
+  await browser.says('board-told', /keyboard\.toml is made of keyboard\.json and keymap\.json\./);
+  assert.equal(await browser.valueOf('layout'), 'keyboard.toml');
+  const stored = readFileSync(join(boards, 'ortho48.toml'), 'utf8');
+  assert.equal(await browser.evaluate('lab.files["keyboard.toml"]'), stored);
+  await browser.until('lab.live.stamp > 200000');
+  const [q, a] = [await browser.place('[data-key=q]'), await browser.place('[data-key=a]')];
+  assert.ok(a.y > q.y && Math.abs(a.x - q.x) < 2, 'the keys lie as the board has them');
+  await shot('board');
+  await browser.click('[data-key=k]');
+  await browser.says('screen', /^k▁$/);
+  await browser.pressed('board-told', 'The words in the workbench');
+  await browser.says('answer', /^# Made by from_kle of keyboard.json and keymap.json/);
+  await browser.evaluate('lab.workbench.open("keyboard.json")');
+  assert.match(await browser.textOf('offers'), /from_kle keyboard\.json keymap\.json/);
+  await browser.put('words', 'from_kle --table keyboard.json keymap.json');
+  await browser.click('#do');
+  await browser.says('answer', /^key +column,row +switch/);
+}
+
+/** What macOS doesn't report: a release under Command, and the two edges of Caps Lock, of which it reports one each time. */
+export async function macintosh(browser, url) {
+  await browser.before('Object.defineProperty(Navigator.prototype, "platform", { get: () => "MacIntel" })');
+  await browser.go(`${url}#mac`);
+  await browser.ready();
+  await browser.until('lab.live.stamp > 200000');
+  assert.equal(await browser.evaluate('navigator.platform'), 'MacIntel');
+  await browser.evaluate('document.getElementById("board").focus()');
+  const held = () => browser.evaluate('[...document.querySelectorAll("#board .down")].map(it => it.dataset.key).join(" ")');
+  // Command goes down, then a key, whose release isn't reported.
+  await browser.down('MetaLeft', { ...COMMAND, key: 'Meta' });
+  await browser.down('KeyC', COMMAND);
+  await browser.until('document.querySelectorAll("#board .down").length === 0');
+  await browser.up('MetaLeft', { key: 'Meta' });
+  await browser.says('screen', /^c▁$/);
+  // A key goes down, then Command, and the key goes up while Command is down.
+  await browser.down('KeyD', { key: 'd' });
+  assert.equal(await held(), 'd');
+  await browser.down('MetaLeft', { ...COMMAND, key: 'Meta' });
+  await browser.up('MetaLeft', { key: 'Meta' });
+  assert.equal(await held(), '');
+  await browser.says('screen', /^cd+▁$/);
+  await browser.down('CapsLock', { key: 'CapsLock' });
+  await browser.until('document.querySelector("[data-lamp=\\"4\\"]").classList.contains("on")');
+  await browser.until('document.querySelectorAll("#board .down").length === 0');
+  await browser.stroke('KeyE');
+  await browser.says('screen', /E▁$/);
+  await browser.up('CapsLock', { key: 'CapsLock' });
+  await browser.until('!document.querySelector("[data-lamp=\\"4\\"]").classList.contains("on")');
+  await browser.stroke('KeyF');
+  await browser.says('screen', /Ef▁$/);
+}
+
+/** The window loses the focus: no key stays down. */
+export async function lostFocus(browser) {
+  await browser.evaluate('document.getElementById("board").focus()');
+  await browser.down('KeyG');
+  assert.equal(await browser.evaluate('document.querySelectorAll("#board .down").length'), 1);
+  await browser.evaluate('dispatchEvent(new Event("blur"))');
+  assert.equal(await browser.evaluate('document.querySelectorAll("#board .down").length'), 0);
+  await browser.up('KeyG');
+}

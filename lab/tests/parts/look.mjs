@@ -1,0 +1,134 @@
+// How the page looks and behaves whatever it shows: contrast, focus, small screens, fingers, its policy, its load, a trap.
+import assert from 'node:assert/strict';
+
+const LEAST_CONTRAST = 4.5; // WCAG 2, AA
+const MOST_AT_REST = 15; // per cent of one processor
+const LEAST_HEIGHT = 90; // pixels of a text or a picture
+export const PANES = ['keyboard', 'wires', 'processor', 'workbench', 'lessons'];
+const PHONES = { narrow: [360, 800, 2], iphone: [390, 844, 3], android: [412, 915, 2.625], lying: [844, 390, 3] };
+
+/** Each visible text has enough contrast with what lies under it. */
+export async function contrast(browser) {
+  const poor = await browser.evaluate(`(() => {
+    const luminance = rgb => rgb.map(c => (c /= 255) <= 0.03928 ? c / 12.92 : ((c + 0.055) / 1.055) ** 2.4).reduce((sum, c, n) => sum + c * [0.2126, 0.7152, 0.0722][n], 0);
+    const colour = text => text.match(/[\\d.]+/g).map(Number);
+    const under = it => { for (; it; it = it.parentElement) { const c = colour(getComputedStyle(it).backgroundColor); if (c.length < 4 || c[3] > 0) return c.slice(0, 3); } return [255, 255, 255]; };
+    const poor = [], walk = document.createTreeWalker(document.body, NodeFilter.SHOW_TEXT);
+    while (walk.nextNode()) {
+      const it = walk.currentNode.parentElement;
+      if (!walk.currentNode.data.trim() || !it.checkVisibility() || it.closest('script, button:disabled')) continue;
+      const box = it.closest('.screen-box')?.querySelector('pre') ?? it;
+      const [a, b] = [luminance(colour(getComputedStyle(it).color).slice(0, 3)), luminance(under(box))].sort((x, y) => y - x);
+      if ((a + 0.05) / (b + 0.05) < ${LEAST_CONTRAST}) poor.push(it.textContent.trim().slice(0, 40));
+    }
+    return poor;
+  })()`);
+  assert.deepEqual(poor, [], 'contrast');
+}
+
+/** Each control of each pane is come to by Tab alone, in the order of the page, and shows that it has the focus. */
+export async function focus(browser) {
+  let many = 0;
+  for (const pane of PANES) {
+    await browser.only(pane);
+    await browser.evaluate('document.querySelector("#panes button").focus()');
+    const wanted = await browser.evaluate(`[...document.querySelectorAll('button, select, input, textarea, [tabindex="0"], summary')].filter(it => it.checkVisibility() && !it.disabled).length`);
+    const seen = new Set(), dull = [];
+    for (let count = 0; count < wanted + 5; count++) {
+      if (await browser.evaluate('document.activeElement.id') === 'board') {
+        for (let tries = 0; tries < 10 && !await browser.evaluate('lab.keys.hasLeft'); tries++) for (let n = 0; n < 2; n++) await browser.stroke('Escape', 5);
+      }
+      const now = await browser.evaluate(`(() => {
+        const it = document.activeElement, box = it.closest('.button') ?? it, style = getComputedStyle(box);
+        it.dataset.n ??= String(document.querySelectorAll('[data-n]').length);
+        return { n: it.dataset.n, name: it.id || it.textContent.slice(0, 30), dull: document.hasFocus() && (style.outlineStyle === 'none' || Number.parseFloat(style.outlineWidth) < 2), body: it === document.body };
+      })()`);
+      if (!now.body) seen.add(now.n);
+      // The first got the focus from a script, of which browsers show nothing; nor does a window that isn't the active one.
+      if (now.dull && !now.body && count > 0) dull.push(now.name);
+      if (seen.size === wanted) break;
+      await browser.stroke('Tab', 2);
+    }
+    assert.deepEqual(dull, [], 'the focus is seen');
+    assert.equal(seen.size, wanted, `Tab comes to all controls of ${pane}`);
+    many += seen.size;
+  }
+  return many;
+}
+
+/** On small screens nothing is wider than the screen, and fingers type: Shift sticks until the next key is let go. */
+export async function phones(browser, shot) {
+  for (const [name, [width, height, scale]] of Object.entries(PHONES)) {
+    await browser.size([width, height], scale, true);
+    for (const pane of PANES) {
+      await browser.only(pane);
+      const wide = await browser.evaluate('document.documentElement.scrollWidth');
+      assert.ok(wide <= width, `${pane} is ${wide} pixels wide on ${name}`);
+      const low = await browser.evaluate(`[...document.querySelectorAll('pre, textarea, canvas, #code')].filter(it => it.checkVisibility() && it.clientHeight < ${LEAST_HEIGHT}).map(it => it.id)`);
+      assert.deepEqual(low, [], `${pane} on ${name}: nothing is squeezed`);
+      await shot(`${name}_${pane}`);
+    }
+    await browser.only('keyboard');
+    await browser.click('#restart');
+    await browser.until('lab.live.stamp > 200000');
+    for (const key of ['lshift', 't', 'o', 'kp5']) await browser.tap(`[data-key=${key}]`);
+    await browser.says('screen', /^To5?▁$/);
+    assert.equal(await browser.evaluate('document.querySelectorAll("#board .down").length'), 0);
+  }
+  await browser.size(null);
+}
+
+/** The policy allows this page's own script and style by their sums, the modules, and nothing else. */
+export async function policy(browser) {
+  const said = await browser.evaluate('document.querySelector("meta[http-equiv=Content-Security-Policy]").content');
+  assert.match(said, /^default-src 'none'; script-src 'sha256-[^' ]+' 'wasm-unsafe-eval'; style-src 'sha256-[^' ]+'; img-src data:; base-uri 'none'; form-action 'none'$/);
+  assert.deepEqual(await browser.evaluate('performance.getEntriesByType("resource").map(it => it.name).filter(name => !/^(data|blob):/.test(name))'), [], 'nothing is loaded');
+  // What the policy refuses, the browser does too: a script and a request of somebody else's.
+  const before = browser.seen.length;
+  const refused = await browser.evaluate(`(async () => {
+    const script = document.createElement('script');
+    script.textContent = 'globalThis.strange = true';
+    document.body.append(script);
+    const reached = await fetch('https://example.invalid/').then(() => true, () => false);
+    return [globalThis.strange === undefined, !reached];
+  })()`);
+  assert.deepEqual(refused, [true, true]);
+  await browser.wait(200);
+  const said2 = browser.seen.splice(before);
+  assert.ok(said2.length > 0 && said2.every(line => /Content.Security.Policy/i.test(line)), said2.join('\n'));
+}
+
+/** The part of one processor that the browser takes, with all its processes and all panes open. */
+export async function load(browser, act = () => browser.wait(200), ms = 5000) {
+  for (const pane of PANES) await browser.evaluate(`lab.show(${JSON.stringify(pane)}, true)`);
+  await browser.evaluate('document.getElementById("board").focus(); scrollTo(0, 0)');
+  await browser.wait(1500);
+  const before = browser.processorSeconds(), began = Date.now();
+  if (before === null) return null;
+  while (Date.now() - began < ms) await act();
+  return 100 * (browser.processorSeconds() - before) / ((Date.now() - began) / 1000);
+}
+
+/** The load in each state that a page may be left in. */
+export async function loads(browser) {
+  const rest = await load(browser), typing = await load(browser, () => browser.stroke('KeyA', 70).then(() => browser.wait(100)));
+  await browser.put('program', 'the keyboard that I type on');
+  const live = await load(browser);
+  await browser.put('program', 'four_keys.asm');
+  await browser.click('#masked');
+  await browser.evaluate('lab.keys.hold("b", true, "test"); lab.keys.hold("b", false, "test")');
+  const masked = await load(browser);
+  await browser.click('#masked');
+  if (rest === null) return 'its load wasn\'t measured here';
+  for (const [name, share] of Object.entries({ rest, live })) assert.ok(share <= MOST_AT_REST, `${share.toFixed(1)} % of one processor: ${name}`);
+  const per = [rest, typing, live, masked].map(share => share.toFixed(0));
+  return `${per[0]} % of one processor at rest with all panes, ${per[1]} % while one types, ${per[2]} % with the live processor, ${per[3]} % while a byte waits`;
+}
+
+/** A trap drops the module, and the page says so. */
+export async function trap(browser) {
+  const said = await browser.evaluate('(() => { try { lab.keyboard.machine.call("kbd48_lights", 0xFFFFFF00n, 0xFFFFFF00n); } catch (error) { return error.name; } })()');
+  assert.equal(said, 'Trapped');
+  await browser.says('trouble', /trapped and was dropped/);
+  assert.ok(await browser.evaluate('!document.getElementById("trouble").hidden'));
+}

@@ -1,0 +1,147 @@
+// The workbench and the lessons: files, commands, what they print, links, and files that are broken.
+import assert from 'node:assert/strict';
+import { readFileSync, writeFileSync } from 'node:fs';
+import { join } from 'node:path';
+
+const run = async (browser, words) => {
+  await browser.put('words', words);
+  await browser.click('#do');
+};
+
+/** Files: a new one, its faults in words at the line, its image, a run; what is downloaded is what was made. */
+export async function sources(browser) {
+  await browser.only('workbench');
+  await browser.click('#new-file');
+  await browser.put('text', 'MOV A,#5\nloop: DEC B\nJMP loop\n');
+  await run(browser, 'asm own1.asm');
+  await browser.says('told', /exit 3: line 2: the instruction has no such operands/);
+  assert.equal(await browser.evaluate('(it => it.value.slice(it.selectionStart, it.selectionEnd))(document.getElementById("text"))'), 'loop: DEC B');
+  await browser.put('text', 'MOV A,#5\nloop: DEC A\nJMP loop\n');
+  await browser.click('#do');
+  await browser.says('answer', /^:100000002305070402/);
+  assert.equal(await browser.textOf('download'), 'Download own1.hex');
+  await browser.click('#keep');
+  await run(browser, 'step own1.hex 3');
+  await browser.says('answer', /pc 002 a 04 /);
+  await browser.evaluate('lab.workbench.open("own1.asm")');
+  await browser.put('text', 'MOV A,#9\nloop: DEC A\nJMP loop\n');
+  await browser.click('#do');
+  await browser.says('answer', /pc 002 a 08 /);
+}
+
+/** What is saved and downloaded, as the page hands it to the browser. */
+export async function downloads(browser, examples) {
+  await browser.evaluate(`globalThis.saved = []; globalThis.blobs = new Map();
+    globalThis.madeBy = URL.createObjectURL;
+    URL.createObjectURL = blob => { const url = madeBy.call(URL, blob); blobs.set(url, blob); return url; };
+    HTMLAnchorElement.prototype.click = function () { saved.push([this.download, blobs.get(this.href)]); }; 0`);
+  await run(browser, 'compile us84.toml');
+  assert.equal(await browser.textOf('download'), 'Download us84.hex');
+  await browser.click('#download');
+  await browser.evaluate('lab.workbench.open("capital_a.keys")');
+  await browser.click('#save-file');
+  const saved = await browser.evaluate('Promise.all(saved.map(async ([name, blob]) => [name, await blob.text()]))');
+  assert.deepEqual(saved, ['us84.hex', 'capital_a.keys'].map(name => [name, readFileSync(join(examples, name), 'utf8')]));
+  await browser.evaluate('URL.createObjectURL = madeBy; delete HTMLAnchorElement.prototype.click; 0');
+}
+
+/** run beside expect, a trace as a picture, a certificate, and a refusal. */
+export async function runs(browser, shot) {
+  await browser.evaluate('lab.workbench.open("typing_hi.keys"); document.querySelector("#offers button").click()');
+  await browser.says('told', /both print the same/);
+  assert.equal(await browser.textOf('answer'), await browser.textOf('other'));
+  await run(browser, 'trace us84.toml typing_hi.keys');
+  assert.equal(await browser.evaluate('lab.workbench.traced.bytes.map(it => it.byte.toString(16)).join(" ")'), 'aa 12 33 f0 33 f0 12 43 f0 43 5a f0 5a');
+  assert.ok(await browser.evaluate('!document.getElementById("trace").hidden && document.getElementById("trace").height > 0'));
+  await shot('workbench');
+  await run(browser, 'cert four_keys.hex four_keys.cert');
+  await browser.says('told', /^exit 0/);
+  await browser.evaluate('lab.workbench.open("four_keys.cert")');
+  const whole = await browser.valueOf('text');
+  await browser.put('text', whole.replace('01D 398', '01D 397'));
+  await browser.click('#do');
+  await browser.says('told', /^exit 3: line \d+: /);
+  await browser.put('text', whole);
+  await run(browser, 'run us84.toml nothing.keys');
+  await browser.says('told', /exit 5: a file that the words name is not here/);
+  await run(browser, 'no such command');
+  await browser.says('told', /exit 2: these words are no command of kbd48/);
+}
+
+/** Files that are broken: each is refused in words, and what ran goes on. */
+export async function brokenFiles(browser, folder) {
+  const file = (name, bytes) => {
+    writeFileSync(join(folder, name), bytes);
+    return join(folder, name);
+  };
+  await browser.choose('#open-file', [file('latin.asm', Buffer.from([0x3B, 0xE9, 0x0A]))]);
+  await browser.says('shared', /latin\.asm is no UTF-8 text/);
+  await browser.choose('#open-file', [file('long.asm', Buffer.alloc(5 << 20, 0x20))]);
+  await browser.says('shared', /long\.asm is longer than any file that the program reads/);
+  await browser.choose('#open-file', [file('short.hex', ':0100000001FF\n:00000001FF\n')]);
+  await browser.until('"short.hex" in lab.files');
+  await run(browser, 'list short.hex');
+  await browser.says('told', /^exit 3: line 1: /);
+  await browser.choose('#open-file', [file('name with spaces.keys', '10ms press nothing\n20ms end\n')]);
+  await browser.until('"name_with_spaces.keys" in lab.files');
+  await run(browser, 'run us84.toml name_with_spaces.keys');
+  await browser.says('told', /^exit [34]: line 1: /);
+  await browser.evaluate('lab.workbench.open("sixty.toml")');
+  const whole = await browser.valueOf('text');
+  await browser.put('text', whole.replace('column = 0', 'column = 12'));
+  await browser.only('keyboard');
+  const before = await browser.evaluate('lab.live.stamp');
+  await browser.put('layout', 'sixty.toml');
+  await browser.says('layout-fault', /sixty\.toml wasn't opened: entry 1 of the layout: /);
+  await browser.until(`lab.live.stamp > ${before}`);
+  await browser.choose('#open-board', [file('torn.json', '[["a",')]);
+  await browser.says('board-told', /torn\.json/);
+  assert.equal(await browser.evaluate('document.querySelector("#board-told p").className'), 'wrong');
+  await browser.choose('#open-board', [file('board.toml', 'format = 1\n')]);
+  await browser.says('layout-fault', /board\.toml wasn't opened: the layout: /);
+  await browser.put('layout', 'us84.toml');
+}
+
+/** A link carries the open file and those that the command names; a broken one is said to be broken. */
+export async function shareLink(browser, url) {
+  await browser.only('workbench');
+  await browser.evaluate('lab.workbench.open("own1.asm")');
+  await browser.evaluate(`lab.files['mine.toml'] = lab.files['four_keys.toml'].replace('"a"', '"z"')`);
+  await browser.put('words', 'board own1.hex mine.toml four_keys.keys');
+  await browser.click('#share');
+  await browser.says('shared', /carries own1\.asm, own1\.hex, mine\.toml, four_keys\.keys/);
+  const link = await browser.evaluate('location.href');
+  assert.ok(link.startsWith(`${url}#files=`), 'the files are in the fragment');
+  await browser.go(link);
+  await browser.ready();
+  assert.equal(await browser.valueOf('text'), 'MOV A,#9\nloop: DEC A\nJMP loop\n');
+  assert.match(await browser.evaluate('lab.files["mine.toml"]'), /"z"/);
+  for (const broken of ['AAAA', 'H4sIAAAAAAAAA', '%']) {
+    await browser.go(`${url}#files=${broken}`);
+    await browser.ready();
+    await browser.says('trouble', /the link is broken/);
+  }
+  await browser.click('#trouble-gone');
+}
+
+/** Each lesson's first file fails its check, and its solution passes. */
+export async function lessons(browser, shot) {
+  await browser.only('lessons');
+  const many = await browser.evaluate('document.querySelectorAll("#lesson-list button").length');
+  for (let number = 0; number < many; number++) {
+    await browser.evaluate(`document.querySelectorAll("#lesson-list button")[${number}].click()`);
+    await browser.click('#lesson-check');
+    await browser.says('lesson-result', /^Not yet/);
+    await browser.put('lesson-file', await browser.evaluate(`lab.lessons.solutionOf(${number})`));
+    await browser.click('#lesson-check');
+    await browser.says('lesson-result', /^Done/);
+  }
+  assert.equal(await browser.evaluate('document.querySelectorAll("#lesson-list .done").length'), many);
+  await shot('lessons');
+  await browser.click('#lesson-reset');
+  await browser.click('#lesson-check');
+  await browser.says('lesson-result', /^Not yet/);
+  await browser.click('#lesson-bench');
+  assert.equal(await browser.valueOf('file'), `lesson${many}.cert`);
+  return many;
+}
