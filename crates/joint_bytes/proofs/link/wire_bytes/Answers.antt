@@ -8,4 +8,4 @@ pub returns-in-Recv-clause-read : goal.returns-in-Recv-clause-read
 returns-in-Recv-clause-read c =
     subst (λ w. link_in c.link_row.result ≡ Some (Busy w)) (sym c.in-Recv.is)
     (recv_as c.link_row.result _ _ (search rules)
-        (subst (λ (b : List Bool). length b ≤ 10) c.as_slice-bits.ensures.bits c.as_slice-bits.ensures.few))
+    (subst (λ (b : List Bool). length b ≤ 10) c.as_slice-bits.ensures.bits c.as_slice-bits.ensures.few))

@@ -13,7 +13,7 @@ returns-in-len1-up-clause-bytes t c =
     (edges_bytes (c.args.places - 1) (take (length es - 1) (drop 1 es))) (edges_bytes c.args.places es)
     c.append-in-len1-up.ensures c.push_edges-in-len1-up.ensures.bytes
     (edges_more c.args.places es c.edge-item.result c.edge_bytes.result (omega (arith, some)) (omega (arith, up)) c.edge-item.is
-        c.edge_bytes.ensures.bytes)
+    c.edge_bytes.ensures.bytes)
 
 pub returns-in-len1-up-clause-read : goal.returns-in-len1-up-clause-read
 returns-in-len1-up-clause-read t c =
