@@ -1,14 +1,13 @@
 -- What is saved of a keyboard is loaded from its bytes.
-use Rattle.std.proofs.Common.{◌≡◌, ◌<◌, ◌≤◌, ◌^◌, ◌+◌, ◌%◌, ◌==◌, ◌&&◌, ◌++◌, ℕ, Bool, true, false, List, take, drop, length, Some, Ok, Err}
-use Rattle.std.proofs.Common.{refl, ap, sym, ◌∙◌, arith}
-use Rattle.std.specs.Prelude.{nat_le, slice_range, if◌then◌else◌}
+use Rattle.std.proofs.Common.{◌≡◌, ◌<◌, ◌≤◌, ◌^◌, ◌==◌, ◌&&◌, ◌++◌, ℕ, Bool, true, false, List, take, drop, length, Ok}
+use Rattle.std.proofs.Common.{refl, ap, ◌∙◌, arith}
+use Rattle.std.specs.Prelude.{nat_le, slice_range}
 use Rattle.std.specs.declared.option.Option.{Option}
 use Rattle.std.specs.declared.result.Result.{Result}
 use Rattle.std.specs.Int.{w64, to_le_bytes, from_le_bytes}
 use Rattle.std.proofs.lemmas.Bool.Decides.{nat_tests}
 use Rattle.std.proofs.lemmas.List.{drop-append-le, drop_all, take-append-le, take_all}
 use Rattle.std.proofs.lemmas.Nat.{from_le_bytes-to_le_bytes_8}
-use Rattle.ctl_link.specs.Empty.{fits}
 use Rattle.ctl_link.specs.declared.link.Link.{Link}
 use Rattle.ctl_wire.specs.declared.wire.Wire.{Wire}
 use Rattle.joint_bytes.specs.Links.{link_in}
@@ -18,7 +17,7 @@ use Rattle.joint_bytes.specs.Sides.{controller_bytes, side_bytes, side_in}
 use Rattle.joint_run.specs.Sound.{IsSound}
 use Rattle.joint_run.specs.declared.machine.Machine.{Machine}
 use Rattle.mcs48_core.specs.Cpu.{Cpu}
-use Rattle.joint_saved.specs.Saved.{IsRead, Kept, checked, counts_fit, is_sound, kept_by, loaded, loaded_by, machine_in, magic}
+use Rattle.joint_saved.specs.Saved.{IsRead, Kept, checked, counts_fit, is_sound, kept_by, loaded, loaded_by, machine_in}
 use Rattle.joint_saved.specs.Saved.{needs, saved_bytes, with_some}
 use Rattle.joint_saved.specs.declared.unloaded.Unloaded.{Unloaded}
 use Rattle.joint_saved.specs.declared.unloaded.Unloaded.TheVariants as U

@@ -1,6 +1,6 @@
 -- What a load read is what the bytes mean.
-use Rattle.std.proofs.Common.{◌≡◌, ℕ, true, false, List, Some, None, Ok, Err, ap, sym, ◌∙◌, inl, inr}
-use Rattle.std.specs.Prelude.{◌⊎◌, IfOk, IfErr, slice_index, slice_range}
+use Rattle.std.proofs.Common.{◌≡◌, ℕ, true, false, List, Some, None, Ok, Err, ap, sym, ◌∙◌, inl}
+use Rattle.std.specs.Prelude.{IfOk, IfErr, slice_index, slice_range}
 use Rattle.std.specs.declared.option.Option.{Option}
 use Rattle.std.specs.declared.result.Result.{Result}
 use Rattle.ctl_link.specs.declared.link.Link.{Link}

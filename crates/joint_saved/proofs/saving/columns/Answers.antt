@@ -1,4 +1,4 @@
-use Rattle.std.proofs.Common.{rules, subst, ◌∙◌}
+use Rattle.std.proofs.Common.{rules}
 use Rattle.joint_saved.proofs.Columns.{keys_are, rows_are}
 use Rattle.joint_saved.proofs.saving.columns.Goals as goal
 
