@@ -1,7 +1,7 @@
 //! The key matrix.
 
 ghost use Rattle.std.specs.Prelude.{◌≡◌, ◌<◌, slice_set};
-ghost use Rattle.board_lines.specs.Columns.{column_keys};
+ghost use Rattle.board_lines.specs.Columns.{column_keys, keys_in};
 ghost use Rattle.board_lines.specs.Matrix.{all_up, rows_of, turned};
 
 use crate::place::Place;
@@ -40,6 +40,20 @@ impl Matrix {
     {
         let column = (place.number() / 8) as usize;
         self.columns[column] = turn_row(self.columns[column], place.number() % 8, down);
+    }
+
+    /// The matrix whose columns read so.
+    pub fn of_columns(columns: [u8; 12]) -> Matrix
+        ensures keys { result ≡ keys_in columns }
+    {
+        Matrix { columns }
+    }
+
+    /// The rows of each column, as the bus reads them.
+    pub fn columns(&self) -> [u8; 12]
+        ensures keys { keys_in result ≡ self.now }
+    {
+        self.columns
     }
 
     /// A matrix of its own in which the same keys are down.

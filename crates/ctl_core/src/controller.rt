@@ -4,6 +4,7 @@ ghost use Rattle.std.specs.Prelude.{◌≡◌, ◌↔◌, ◌<◌, ◌≤◌, fa
 ghost use Rattle.ctl_core.specs.Commands.{after_taken, commanded, passed, taken};
 ghost use Rattle.ctl_core.specs.Controller.{at_start, emptied, interrupt_enabled, is_disabled, is_idle, put_out};
 ghost use Rattle.ctl_core.specs.Controller.{asks_again, status_of, written};
+ghost use Rattle.ctl_core.specs.Parts.{controller_of, parts_of};
 ghost use Rattle.ctl_core.specs.Translation.{after_received, after_wrong, received_as};
 
 use crate::command::{Command, Parameter, decode_command};
@@ -73,7 +74,61 @@ impl Model for Controller {
     } };
 }
 
+/// The controller's parts, each by itself: the byte in the input buffer with its port; whether the output buffer is full,
+/// and its last byte; the command byte; the parameter that a command awaits; the last byte for the output port; whether
+/// a break was begun; the status's parity bit; whether the last write was to port 64h; and how often in a row the
+/// keyboard's byte came wrong and was asked for again.
+#[derive(Clone, Copy, Debug, PartialEq, Eq, Drop)]
+pub struct Buffers {
+    pub input: Option<Input>,
+    pub output_full: bool,
+    pub output: u8,
+    pub command_byte: u8,
+    pub awaited: Option<Parameter>,
+    pub output_port: u8,
+    pub break_mark: bool,
+    pub parity: bool,
+    pub last_to_64: bool,
+    pub resends: u8,
+}
+
 impl Controller {
+    /// The controller of these parts.
+    pub fn of_parts(parts: &Buffers) -> Controller
+        ensures parts { result ≡ controller_of parts.now }
+    {
+        Controller {
+            input: parts.input,
+            output_full: parts.output_full,
+            output: parts.output,
+            command_byte: CommandByte::from_bits_retain(parts.command_byte),
+            awaited: parts.awaited,
+            output_port: parts.output_port,
+            break_mark: parts.break_mark,
+            parity: parts.parity,
+            last_to_64: parts.last_to_64,
+            resends: parts.resends,
+        }
+    }
+
+    /// The parts.
+    pub fn parts(&self) -> Buffers
+        ensures parts { result ≡ parts_of self.now }
+    {
+        Buffers {
+            input: self.input,
+            output_full: self.output_full,
+            output: self.output,
+            command_byte: self.command_byte.bits(),
+            awaited: self.awaited,
+            output_port: self.output_port,
+            break_mark: self.break_mark,
+            parity: self.parity,
+            last_to_64: self.last_to_64,
+            resends: self.resends,
+        }
+    }
+
     /// The controller at its start: both buffers empty, the command byte 45.
     pub fn new() -> Controller
         ensures start { result ≡ at_start }

@@ -13,6 +13,6 @@ mod port;
 mod translation;
 
 pub use command::Parameter;
-pub use controller::{Controller, Did, Received};
+pub use controller::{Buffers, Controller, Did, Received};
 pub use port::{Input, InputFull, Port};
 pub use translation::translate;

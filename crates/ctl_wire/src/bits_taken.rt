@@ -33,6 +33,27 @@ impl Bits {
         Bits { bits, count: 1 }
     }
 
+    /// These bits, at most ten.
+    pub fn of(taken: &[bool]) -> Bits
+        requires few { length taken.now ≤ 10 }
+        ensures bits { result ≡ taken.now }
+    {
+        let mut bits = [false; 11];
+        bits[..taken.len()].copy_from_slice(taken);
+        Bits {
+            bits,
+            count: taken.len(),
+        }
+    }
+
+    /// The bits, in the order in which they came.
+    pub fn as_slice(&self) -> &[bool]
+        ensures bits { result.now ≡ self.now }
+        ensures few { length result.now ≤ 10 }
+    {
+        &self.bits[..self.count]
+    }
+
     /// Bits of their own that are the same.
     pub fn copied(&self) -> Bits
         ensures same { result ≡ self.now }

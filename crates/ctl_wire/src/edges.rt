@@ -31,6 +31,14 @@ impl Edges {
         Edges { count: 1 }
     }
 
+    /// So many edges have been.
+    pub fn of(count: u8) -> Edges
+        requires few { count ≤ 10 }
+        ensures number { result ≡ count }
+    {
+        Edges { count }
+    }
+
     /// Whether one edge alone is missing.
     pub fn lack_one(&self) -> bool
         ensures lack { result ≡ (self.now == 10) }

@@ -53,7 +53,7 @@ pub struct Flags9 {
 
 impl Bios {
     ghost use Rattle.int09.specs.Bios.{start, first_word, without_first};
-    ghost use Rattle.int09.specs.Flags.{flags_of};
+    ghost use Rattle.int09.specs.Flags.{flags_of, state_of};
     ghost use Rattle.int09.specs.Rules.{fed};
 
     /// The state at the start, all clear, with the memory for 15 words. No other call takes memory.
@@ -69,6 +69,21 @@ impl Bios {
             resend: false,
             words,
         })
+    }
+
+    /// The state of these parts and these words, at most 15, the one to be taken next first.
+    pub fn of_parts(alloc: Global, flags: Flags9, words: &[u16]) -> Result<Bios, AllocError>
+        requires few { length words.now ≤ 15 }
+        ensures parts { IfOk result (λ bios. bios ≡ state_of flags words.now) }
+    {
+        let mut bios = Bios::new(alloc)?;
+        bios.shifts = Shifts(flags.b17);
+        bios.downs = Downs(flags.b18);
+        bios.number = flags.number;
+        bios.ack = flags.ack;
+        bios.resend = flags.resend;
+        let _ = bios.words.fill_from_slice(words);
+        Ok(bios)
     }
 
     /// A state of its own that is the same, with memory of its own for 15 words.
@@ -135,6 +150,18 @@ impl Bios {
         ensures range { result ≤ 15 }
     {
         self.words.len()
+    }
+
+    /// The words that the buffer holds, the one to be taken next first.
+    pub fn words(&self) -> ArrayVec<u16, 15>
+        ensures words { result.items ≡ self.now.words }
+    {
+        prove!(self.words.len() <= 15);
+        let (front, back) = self.words.as_slices();
+        let mut words = ArrayVec::new();
+        let _ = words.try_extend_from_slice(front);
+        let _ = words.try_extend_from_slice(back);
+        words
     }
 
     /// The word at this place, from 0, the one to be taken next; None exactly from `count` on.

@@ -7,6 +7,7 @@ ghost use Rattle.joint_run.specs.Due.{due_step, ended, machine_after, powered_on
 ghost use Rattle.joint_run.specs.Edgeless.{without_edges};
 ghost use Rattle.joint_run.specs.Filled.{filled};
 ghost use Rattle.joint_run.specs.History.{IsFirstOfRun, IsFirstOfRunFrom, IsStepOfRun};
+ghost use Rattle.joint_run.specs.Sound.{IsSound};
 ghost use Rattle.mcs48_core.specs.Leap.{spun};
 ghost use Rattle.mcs48_core.specs.Reset.{reset_in};
 ghost use Rattle.mcs48_core.specs.Step.{stepped, IsStep};
@@ -103,6 +104,22 @@ impl Joint {
                 steps: 0,
             },
         }
+    }
+
+    /// The machine of these parts, if they fit together.
+    pub fn of_parts(machine: Machine) -> Joint
+        requires sound { IsSound machine }
+        ensures parts { result ≡ machine }
+    {
+        Joint { machine }
+    }
+
+    /// All parts, which fit together.
+    pub fn parts(&self) -> &Machine
+        ensures parts { result.now ≡ self.now }
+        ensures sound { IsSound self.now }
+    {
+        &self.machine
     }
 
     /// A machine of its own in the same state, with this INT 09h, which is in the state of this one's.

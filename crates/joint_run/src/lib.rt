@@ -17,4 +17,5 @@ pub use due::{Due, Seen};
 pub use host_turn::Stamped;
 pub use joint::Joint;
 pub use law::starts_are_numbered;
+pub use machine::Machine;
 pub use outside::{Outside, lights};

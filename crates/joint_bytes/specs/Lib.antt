@@ -1,0 +1,6 @@
+pub mod Numbers
+pub mod Processors
+pub mod Links
+pub mod Sides
+pub mod Kinds
+pub mod Lists

@@ -1,0 +1,158 @@
+//! The bytes of what is said.
+
+ghost use Rattle.std.specs.Prelude.{◌≡◌, ◌≤◌, ◌+◌, ◌*◌, ◌++◌, ◌∷◌, length, slice_index};
+ghost use Rattle.std.specs.Int.{w16, to_le_bytes};
+ghost use Rattle.arrayvec.specs.ArrayVec.{array_vec_len};
+ghost use Rattle.joint_bytes.specs.Kinds.{item_by, kind_of, value_of};
+ghost use Rattle.joint_bytes.specs.Numbers.{word_at};
+ghost use Rattle.joint_bytes.specs.Lists.{item_bytes, item_in, items_bytes, items_in};
+
+use crate::numbers::{number_at, word_at};
+use arrayvec::ArrayVec;
+use host_turn::Stamped;
+use pc_tables::Item;
+use short_text::append;
+
+/// The kind of an item, as a number.
+pub fn item_kind(item: Item) -> u8
+    ensures { result ≡ kind_of item }
+{
+    match item {
+        Item::Port(_) => 0,
+        Item::Read(_) => 1,
+        Item::Word(_) => 2,
+        Item::Beep => 3,
+        Item::Overrun => 4,
+        Item::Lights(_) => 5,
+        Item::Taken(Some(_)) => 6,
+        Item::Taken(None) => 7,
+        Item::Status(_) => 8,
+        Item::Output(_) => 9,
+        Item::Pulse(_) => 10,
+        Item::Broke => 11,
+        Item::Pause => 12,
+        Item::Resume => 13,
+        Item::Print => 14,
+        Item::Boot => 15,
+        Item::SysMake => 16,
+        Item::SysBreak => 17,
+    }
+}
+
+/// The byte or the word of an item, or 0.
+pub fn item_value(item: Item) -> u16
+    ensures { result ≡ value_of item }
+{
+    match item {
+        Item::Port(byte) => u16::from(byte),
+        Item::Read(byte) => u16::from(byte),
+        Item::Word(word) => word,
+        Item::Beep => 0,
+        Item::Overrun => 0,
+        Item::Lights(lights) => u16::from(lights),
+        Item::Taken(Some(word)) => word,
+        Item::Taken(None) => 0,
+        Item::Status(byte) => u16::from(byte),
+        Item::Output(byte) => u16::from(byte),
+        Item::Pulse(lines) => u16::from(lines),
+        Item::Broke => 0,
+        Item::Pause => 0,
+        Item::Resume => 0,
+        Item::Print => 0,
+        Item::Boot => 0,
+        Item::SysMake => 0,
+        Item::SysBreak => 0,
+    }
+}
+
+/// The item of a kind, with this byte, or with this word if its kind has one.
+fn item_by(kind: u8, byte: u8, word: u16) -> Item
+    ensures { result ≡ item_by kind byte word }
+{
+    match kind {
+        0 => Item::Port(byte),
+        1 => Item::Read(byte),
+        2 => Item::Word(word),
+        3 => Item::Beep,
+        4 => Item::Overrun,
+        5 => Item::Lights(byte),
+        6 => Item::Taken(Some(word)),
+        7 => Item::Taken(None),
+        8 => Item::Status(byte),
+        9 => Item::Output(byte),
+        10 => Item::Pulse(byte),
+        11 => Item::Broke,
+        12 => Item::Pause,
+        13 => Item::Resume,
+        14 => Item::Print,
+        15 => Item::Boot,
+        16 => Item::SysMake,
+        _ => Item::SysBreak,
+    }
+}
+
+/// An item is read from its kind and its value's two bytes.
+fn kind_and_value(item: Item) -> [u8; 3]
+    ensures bytes { result ≡ kind_of item ∷ to_le_bytes w16 (value_of item) }
+    ensures read { item_by (slice_index result 0) (slice_index result 1) (word_at 1 result) ≡ item }
+{
+    let [low, high] = item_value(item).to_le_bytes();
+    [item_kind(item), low, high]
+}
+
+/// The bytes of what was said. They are read as this.
+fn item_bytes(said: &Stamped) -> [u8; 11]
+    ensures bytes { result ≡ item_bytes said.now }
+    ensures read { item_in result ≡ said.now }
+{
+    let [a, b, c, d, e, f, g, h] = said.cycle.to_le_bytes();
+    let [kind, low, high] = kind_and_value(said.item);
+    [a, b, c, d, e, f, g, h, kind, low, high]
+}
+
+/// What these bytes mean.
+fn item_in(bytes: &[u8]) -> Stamped
+    requires { 11 ≤ length bytes.now }
+    ensures { result ≡ item_in bytes.now }
+{
+    Stamped {
+        cycle: number_at(bytes, 0),
+        item: item_by(bytes[8], bytes[9], word_at(bytes, 9)),
+    }
+}
+
+/// Appends the places for items. What is appended is read as these items.
+pub fn push_items(bytes: &mut ArrayVec<u8, 3077>, items: &[Stamped], places: usize)
+    requires room { array_vec_len bytes.old + 11 * places ≤ 3077 }
+    requires few { length items.now ≤ places }
+    ensures bytes { bytes.new.items ≡ bytes.old.items ++ items_bytes places items.now }
+    ensures count { array_vec_len bytes.new ≡ array_vec_len bytes.old + 11 * places }
+    ensures read { items_in (length items.now) (items_bytes places items.now) ≡ items.now }
+{
+    if places == 0 {
+        return;
+    }
+    match items {
+        [] => {
+            append(bytes, &[0; 11]);
+            push_items(bytes, items, places - 1);
+        }
+        [said, later @ ..] => {
+            append(bytes, &item_bytes(said));
+            push_items(bytes, later, places - 1);
+        }
+    }
+}
+
+/// Appends the first of these items to a list that has room for them.
+pub fn take_items(items: &mut ArrayVec<Stamped, 64>, bytes: &[u8], count: usize)
+    requires room { array_vec_len items.old + count ≤ 64 }
+    requires bytes { 11 * count ≤ length bytes.now }
+    ensures items { items.new.items ≡ items.old.items ++ items_in count bytes.now }
+{
+    if count == 0 {
+        return;
+    }
+    items.push(item_in(bytes));
+    take_items(items, &bytes[11..], count - 1);
+}

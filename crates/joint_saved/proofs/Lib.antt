@@ -1,0 +1,4 @@
+pub mod Pieces
+pub mod Columns
+pub mod Loads
+pub mod Understood

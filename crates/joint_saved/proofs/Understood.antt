@@ -1,0 +1,81 @@
+-- What a load read is what the bytes mean.
+use Rattle.std.proofs.Common.{◌≡◌, ℕ, true, false, List, Some, None, Ok, Err, ap, sym, ◌∙◌, inl}
+use Rattle.std.specs.Prelude.{IfOk, IfErr, slice_index, slice_range}
+use Rattle.std.specs.declared.option.Option.{Option}
+use Rattle.std.specs.declared.result.Result.{Result}
+use Rattle.ctl_link.specs.declared.link.Link.{Link}
+use Rattle.ctl_wire.specs.declared.wire.Wire.{Wire}
+use Rattle.joint_bytes.specs.Links.{link_in}
+use Rattle.joint_bytes.specs.Lists.{edges_in, items_in}
+use Rattle.joint_bytes.specs.Numbers.{number_at}
+use Rattle.joint_bytes.specs.Processors.{processor_in}
+use Rattle.joint_run.specs.declared.machine.Machine.{Machine}
+use Rattle.mcs48_core.specs.Cpu.{Cpu}
+use Rattle.joint_saved.specs.Saved.{HasMachine, HasNoMachine, Kept, is_sound, kept_by, kept_of}
+use Rattle.joint_saved.specs.Saved.{machine_in, needs, with_some}
+use Rattle.joint_saved.specs.declared.loading.Loaded.{Loaded}
+use Rattle.joint_saved.specs.declared.unloaded.Unloaded.{Unloaded}
+use Rattle.joint_saved.specs.declared.unloaded.Unloaded.TheVariants as U
+
+-- what the bytes mean by the processor and the link that were read; by the processor, if there is a link
+abbrev judged : List ℕ → Cpu → Link Wire → Result Kept Unloaded
+judged b cpu link = needs (is_sound (kept_by b cpu link).joint) U.State (Ok (kept_by b cpu link))
+
+abbrev linked : List ℕ → Option (Link Wire) → Cpu → Result Kept Unloaded
+linked b o cpu = with_some o U.Link (judged b cpu)
+
+abbrev cpu_of : List ℕ → Option Cpu
+cpu_of b = processor_in (slice_range b 40 59) (slice_range b 901 1029)
+
+abbrev link_of : List ℕ → Option (Link Wire)
+link_of b = link_in (slice_range b 101 124)
+
+pub no_processor : (b : List ℕ) → cpu_of b ≡ None → machine_in b ≡ Err U.Processor
+no_processor b e = ap (λ o. with_some o U.Processor (linked b (link_of b))) e
+
+by_processor : (b : List ℕ) (cpu : Cpu) → cpu_of b ≡ Some cpu → machine_in b ≡ linked b (link_of b) cpu
+by_processor b cpu e = ap (λ o. with_some o U.Processor (linked b (link_of b))) e
+
+pub no_link : (b : List ℕ) (cpu : Cpu) → cpu_of b ≡ Some cpu → link_of b ≡ None → machine_in b ≡ Err U.Link
+no_link b cpu e f = by_processor b cpu e ∙ ap (λ o. linked b o cpu) f
+
+by_both : (b : List ℕ) (cpu : Cpu) (link : Link Wire) → cpu_of b ≡ Some cpu → link_of b ≡ Some link
+    → machine_in b ≡ judged b cpu link
+by_both b cpu link e f = by_processor b cpu e ∙ ap (λ o. linked b o cpu) f
+
+pub unsound : (b : List ℕ) (cpu : Cpu) (link : Link Wire) → cpu_of b ≡ Some cpu → link_of b ≡ Some link
+    → is_sound (kept_by b cpu link).joint ≡ false → machine_in b ≡ Err U.State
+unsound b cpu link e f g =
+    by_both b cpu link e f ∙ ap (λ s. needs s U.State (Ok (kept_by b cpu link))) g
+
+pub a_machine : (b : List ℕ) (cpu : Cpu) (link : Link Wire) → cpu_of b ≡ Some cpu → link_of b ≡ Some link
+    → is_sound (kept_by b cpu link).joint ≡ true → machine_in b ≡ Ok (kept_by b cpu link)
+a_machine b cpu link e f g =
+    by_both b cpu link e f ∙ ap (λ s. needs s U.State (Ok (kept_by b cpu link))) g
+
+-- what is judged of the machine of the bytes
+pub joint_is : (b : List ℕ) (cpu : Cpu) (link : Link Wire) (m : Machine) (r : Result Machine Unloaded) → cpu_of b ≡ Some cpu
+    → link_of b ≡ Some link → m ≡ (kept_by b cpu link).joint → IfOk r (λ j. (j ≡ m) × (is_sound m ≡ true)) → IfOk r (HasMachine b)
+joint_is b cpu link m (Ok j) e f g h = (cpu, link, a_machine b cpu link e f (ap is_sound (sym g) ∙ h.1), h.0 ∙ g)
+joint_is b cpu link m (Err x) e f g h = tt
+
+pub refused_is : (b : List ℕ) (cpu : Cpu) (link : Link Wire) (m : Machine) (r : Result Machine Unloaded) → cpu_of b ≡ Some cpu
+    → link_of b ≡ Some link → m ≡ (kept_by b cpu link).joint → IfErr r (λ x. (x ≡ U.State) × (is_sound m ≡ false))
+    → IfErr r (HasNoMachine b)
+refused_is b cpu link m (Ok j) e f g h = tt
+refused_is b cpu link m (Err x) e f g h =
+    inl (unsound b cpu link e f (ap is_sound (sym g) ∙ h.1) ∙ ap (λ (y : Unloaded). Err y) (sym h.0))
+
+-- the parts that were read are those of the bytes
+pub are_kept : (b : List ℕ) (k : Loaded) → HasMachine b k.joint
+    → k.edges.items ≡ edges_in (slice_index b 125) (slice_range b 157 197)
+    → k.items.items ≡ items_in (slice_index b 126) (slice_range b 197 901)
+    → k.lost ≡ number_at 32 b → k.rises ≡ number_at 24 b → machine_in b ≡ Ok (kept_of k)
+are_kept b k m edges items lost rises =
+    m.2 ∙ (λ i. Ok (record {
+      joint = sym m.3 i;
+      edges = sym edges i;
+      items = sym items i;
+      lost = sym lost i;
+      rises = sym rises i;
+    }))
