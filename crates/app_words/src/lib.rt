@@ -3,6 +3,8 @@
 //!
 //! This layer knows the words' forms, the limits of files, the lines of refusals and the exits. It knows no file, and nothing
 //! of what a command does. Source: our own.
+//!
+//! For other programs: `form`. The repository's own programs read the words by what they command.
 #![tactic(auto)]
 
 mod bytes;

@@ -4,6 +4,8 @@
 //! This layer knows what a byte means that the host wrote or that the keyboard sent. It knows no wire, no bit on a wire
 //! and no time: when the input is taken and when a byte has come, the layer above says. Bytes and ports are
 //! hexadecimal. After the PC/AT Technical Reference, keyboard controller.
+//!
+//! For other programs: `Controller::resends`. The repository's own programs don't call it.
 #![tactic(auto)]
 
 mod command;

@@ -5,6 +5,9 @@
 //! but the calls of the controller's ports, no keyboard and no processor. The keyboard supplies the clock in both
 //! directions; the controller can only hold it low. A cycle is 2.5 microseconds. Source: PC/AT Technical Reference,
 //! keyboard interface; that a falling clock is judged by the controller's own looks is our own.
+//!
+//! For other programs: `CtlWire`, the controller alone at its wires. The repository's own programs call the parts that
+//! it is made of.
 #![tactic(auto)]
 
 mod bits_taken;

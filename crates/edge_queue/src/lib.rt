@@ -5,6 +5,8 @@
 //! looks may change their order. This layer holds each edge back until the one before it has had its time
 //! (`specs/Queue`). It knows places, edges and stamps. It knows no code, no processor and no controller. It takes no
 //! memory, and the structs are C's too. Source: our own.
+//!
+//! For other programs: `EdgeQueue::is_down`. The repository's own programs don't call it.
 #![tactic(auto)]
 
 mod laws;

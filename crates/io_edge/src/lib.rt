@@ -3,6 +3,8 @@
 //! This layer knows bytes and names. It knows nothing of what the bytes mean. A file or a stream fails as it likes, so
 //! each object counts its faults, and a failure is answered only if the count rose. What a shelf holds and what a
 //! sink has taken are told by the objects in memory alone: real files and streams tell nothing of content.
+//!
+//! For other programs: `MemSink::short`. The repository's own programs don't call it.
 #![tactic(auto)]
 
 mod count;

@@ -3,6 +3,8 @@
 //! This layer is the opcode table of the MCS-48 Family User's Manual (8049 profile: no rows of the 8041 and 8042,
 //! no external program memory). It knows bytes and operations. It knows no register, no flag and no cycle of a run:
 //! what an operation does to a processor is the layer above.
+//!
+//! For other programs: `encode` and `op_text`. The repository's own programs don't call them.
 #![tactic(auto)]
 
 mod decoding;

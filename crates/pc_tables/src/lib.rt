@@ -3,6 +3,8 @@
 //! This layer is the key table of the PC/AT Technical Reference (the keyboard's codes, and the scan codes after the
 //! controller's translation), a word table after that of the BIOS (our own), and the spelling of the log (our own).
 //! It knows names, codes, words and texts. It knows no state: what a key or a byte does is up to the layers above.
+//!
+//! For other programs: `item_text`. The repository's own programs write an item by `item_line`.
 #![tactic(auto)]
 
 mod item;

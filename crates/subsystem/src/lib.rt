@@ -4,6 +4,9 @@
 //! notes each tick start, and keeps what is said, with its tick, in a list, or puts it into a sink line by line, with no
 //! list of events or of lines. It knows how the log is written. That the log is the one which the model expects is a law
 //! of the layer below. It knows no instruction, no wire and no rule of the keyboard. Source: our own.
+//!
+//! For other programs: the counts `Ended::ports`, `Ended::words` and `Ended::beeps`. The repository's own programs
+//! read the field.
 #![tactic(auto)]
 
 mod account;
