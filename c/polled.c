@@ -14,7 +14,8 @@
         } \
     } while (0)
 
-enum { SECOND = 400000, TICK = 2048, STAMP_0 = 4096, BETWEEN = 18, BEFORE_READ = 8, STROKES = 12 };
+/* The columns of a tick have been read by AFTER_COLUMNS. */
+enum { SECOND = 400000, TICK = 2048, STAMP_0 = 4096, BETWEEN = 18, BEFORE_READ = 8, AFTER_COLUMNS = 240, STROKES = 12 };
 
 static kbd48 k = KBD48_EMPTY;
 static unsigned long accesses, bytes;
@@ -54,7 +55,11 @@ static void poll_to(uint64_t until, bool shows, uint64_t base) {
     }
 }
 
+/* A key goes down or up, but not while its tick reads the columns. A tick starts at its multiple of 2,048 cycles or one
+   cycle past it, by what was before; so an edge in the very cycle of a reading may be seen a tick earlier or later. */
 static void key(uint8_t place, bool down, uint64_t base) {
+    uint64_t offset = stamp() % TICK;
+    if (offset < AFTER_COLUMNS) poll_to(stamp() + AFTER_COLUMNS - offset, true, base);
     CHECK(kbd48_key(&k, place, down) == KBD48_DONE);
     printf("key %llu %u %d\n", (unsigned long long)(stamp() - base), place, down);
 }
